@@ -1,3 +1,4 @@
 pub mod Rows
 pub mod CrcLemmas
 pub mod FrameLemmas
+pub mod CutLemmas
