@@ -6,6 +6,9 @@ use Rattle.std.proofs.lemmas.List.{take-append-drop, take_all, take-append-le, d
 use Rattle.std.proofs.Math.Seq.{take-append_seam, drop-append_seam, take-append-add}
 use Rattle.std.specs.List.{All, sum_by, concat}
 use Rattle.rtcm_frame.specs.Transport.{preamble, frame_length, is_frame}
+use Rattle.std.proofs.lemmas.List.Sums.{sum_by-cons}
+use Rattle.std.proofs.lemmas.List.Elements.{All-head, All-tail, All-cons}
+use Rattle.rtcm_frame.specs.Order.{IsUnfinishedFrame, HasNoFrameInFront, StandIn, at_rest, at_frame, at_junk}
 use Rattle.rtcm_frame.specs.Cut.{Parts, begins_with_frame, is_unfinished, IsWaiting, only_rest, with_frame, with_junk, cut_after, cut, followed_by}
 use Rattle.rtcm_frame.proofs.FrameLemmas.{frame_claim, frame_least, frame_preamble}
 
@@ -195,3 +198,111 @@ cut-append a b = cut_induction Splits waiting frame junk a b
         ∙ ap with_junk (splits b)
         ∙ ap (λ (n : ℕ). junk_of (followed_by (cut t) q) n) sum
         ∙ ap (parts_with b) (sym (cut_junk x t no_frame finished))
+
+-- every frame of a cut is one
+pub all-frames : (bytes : List ℕ) → All (λ frame. IsTrue (is_frame frame)) (cut bytes).frames
+all-frames = cut_induction (λ bytes. Valid (cut bytes)) waiting frame junk
+  where
+    Valid : Parts → Type 0
+    Valid p = All (λ frame. IsTrue (is_frame frame)) p.frames
+
+    waiting : (bytes : List ℕ) → IsWaiting bytes → Valid (cut bytes)
+    waiting bytes waits = subst Valid (sym (cut_waiting bytes waits)) (λ k d below. absurd (omega arith))
+
+    frame : (f t : List ℕ) → IsTrue (is_frame f) → Valid (cut t) → Valid (cut (f ++ t))
+    frame f t valid others = subst Valid (sym (cut-frame f t valid)) (All-cons (λ g. IsTrue (is_frame g)) f (cut t).frames valid others)
+
+    junk : (x : ℕ) (t : List ℕ) → begins_with_frame (x ∷ t) ≡ false → is_unfinished (x ∷ t) ≡ false → Valid (cut t) → Valid (cut (x ∷ t))
+    junk x t no_frame finished others = subst Valid (sym (cut_junk x t no_frame finished)) others
+
+-- the parts stand in the stream in order
+pub cut_order : (bytes : List ℕ) → StandIn (cut bytes).frames (cut bytes).junk (cut bytes).rest bytes
+cut_order = cut_induction (λ bytes. Stand bytes (cut bytes)) waiting frame junk
+  where
+    Stand : List ℕ → Parts → Type 0
+    Stand bytes p = StandIn p.frames p.junk p.rest bytes
+
+    waiting : (bytes : List ℕ) → IsWaiting bytes → Stand bytes (cut bytes)
+    waiting bytes waits = subst (Stand bytes) (sym (cut_waiting bytes waits)) (at_rest bytes)
+
+    frame : (f t : List ℕ) → IsTrue (is_frame f) → Stand t (cut t) → Stand (f ++ t) (cut (f ++ t))
+    frame f t valid others =
+        subst (Stand (f ++ t)) (sym (cut-frame f t valid)) (at_frame f _ _ _ _ others)
+
+    junk : (x : ℕ) (t : List ℕ) → begins_with_frame (x ∷ t) ≡ false → is_unfinished (x ∷ t) ≡ false → Stand t (cut t) → Stand (x ∷ t) (cut (x ∷ t))
+    junk x t no_frame finished others =
+        subst (Stand (x ∷ t)) (sym (cut_junk x t no_frame finished)) (at_junk x _ _ _ _ others)
+
+-- every byte of a stream is in a frame, is junk, or is in the rest
+counted_in : (frames : List (List ℕ)) (junk : ℕ) (rest bytes : List ℕ) → StandIn frames junk rest bytes
+    → sum_by length frames + junk + length rest ≡ length bytes
+counted_in _ _ _ _ (at_rest rest) = omega arith
+counted_in _ _ _ _ (at_frame frame frames junk rest bytes others) =
+    omega (
+      arith,
+      sum_by-cons length frame frames,
+      length-append frame bytes,
+      counted_in frames junk rest bytes others,
+    )
+counted_in _ _ _ _ (at_junk x frames junk rest bytes others) =
+    omega (arith, counted_in frames junk rest bytes others)
+
+pub cut_counted : (bytes : List ℕ)
+    → sum_by length (cut bytes).frames + (cut bytes).junk + length (cut bytes).rest ≡ length bytes
+cut_counted bytes = counted_in _ _ _ _ (cut_order bytes)
+
+-- frames joined are cut into themselves
+pub cut-frames-joined : (frames : List (List ℕ)) → All (λ frame. IsTrue (is_frame frame)) frames
+    → cut (concat frames) ≡ record { frames = frames; junk = 0; rest = [] }
+cut-frames-joined [] valid = cut_waiting [] refl
+cut-frames-joined (f ∷ frames) valid =
+    cut-frame f (concat frames) (All-head (λ frame. IsTrue (is_frame frame)) f frames valid)
+    ∙ ap (λ (p : Parts). with_frame f p) (cut-frames-joined frames (All-tail (λ frame. IsTrue (is_frame frame)) f frames valid))
+
+-- a frame in front, of whatever length it was found to have
+pub front_frame : (bytes : List ℕ) (count : ℕ) → IsTrue (is_frame (take count bytes))
+    → cut bytes ≡ with_frame (take count bytes) (cut (drop count bytes))
+front_frame bytes count valid =
+    ap cut (sym (take-append-drop count bytes)) ∙ cut-frame (take count bytes) (drop count bytes) valid
+
+-- a byte in front that is in no frame
+pub front_junk : (bytes : List ℕ) → 1 ≤ length bytes → begins_with_frame bytes ≡ false → is_unfinished bytes ≡ false
+    → cut bytes ≡ with_junk (cut (drop 1 bytes))
+front_junk [] some no_frame finished = absurd (omega arith)
+front_junk (x ∷ t) some no_frame finished = cut_junk x t no_frame finished
+
+-- a first byte other than the preamble is in no frame
+pub front_other : (bytes : List ℕ) → 1 ≤ length bytes → (get_or bytes 0 0 ≡ preamble → ⊥)
+    → (begins_with_frame bytes ≡ false) × (is_unfinished bytes ≡ false)
+front_other [] some other = absurd (omega arith)
+front_other (x ∷ t) some other =
+    let test : (x == preamble) ≡ false = grind (arith, nat_tests) in (
+      other_byte x t test,
+      ap (λ (first : Bool). first && nat_lt (length (x ∷ t)) (frame_length (x ∷ t))) test,
+    )
+
+-- a frame that has begun waits
+pub unfinished_waits : (bytes : List ℕ) → IsUnfinishedFrame bytes → IsWaiting bytes
+unfinished_waits [] begun = refl
+unfinished_waits (x ∷ t) begun =
+    let short : length (x ∷ t) < frame_length (x ∷ t) = elim begun.1 [ inl few ↦ omega arith | inr less ↦ less ] in
+    let is_preamble : x ≡ preamble = begun.0 in
+    grind (arith, nat_tests)
+
+-- where no frame stands in front, none is found there
+pub none_begins : (bytes : List ℕ) → HasNoFrameInFront bytes → begins_with_frame bytes ≡ false
+none_begins bytes none = elim (cases_Bool (begins_with_frame bytes)) [
+  | inl begins ↦
+      let count = frame_length bytes in
+      absurd (none (take count bytes) (drop count bytes) begins (sym (take-append-drop count bytes)))
+  | inr no_frame ↦ no_frame
+]
+
+-- where no frame has begun, nothing waits
+pub none_waits : (x : ℕ) (t : List ℕ) → (IsUnfinishedFrame (x ∷ t) → ⊥) → is_unfinished (x ∷ t) ≡ false
+none_waits x t none = elim (cases_Bool (is_unfinished (x ∷ t))) [
+  | inl waits ↦
+      let is_preamble : x ≡ preamble = grind (arith, nat_tests) in
+      absurd (none (is_preamble, inr (waiting_short x t waits)))
+  | inr finished ↦ finished
+]

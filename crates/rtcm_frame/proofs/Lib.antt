@@ -2,3 +2,4 @@ pub mod Rows
 pub mod CrcLemmas
 pub mod FrameLemmas
 pub mod CutLemmas
+pub mod CutSteps
