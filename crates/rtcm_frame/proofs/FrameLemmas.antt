@@ -3,8 +3,7 @@ use Rattle.std.proofs.Common.{◌≡◌, ℕ, ◌-◌, ◌≤◌, List, ◌++◌
 use Rattle.std.proofs.lemmas.Bool.Decides.{nat_tests}
 use Rattle.std.proofs.lemmas.List.{drop-replicate, length-replicate}
 use Rattle.std.proofs.Math.Seq.{take-append_seam, drop-append_seam}
-use Rattle.rtcm_frame.specs.declared.framing.Frame.TheInside.{Inside}
-use Rattle.rtcm_frame.specs.Transport.{preamble, frame_length, checksum, is_frame}
+use Rattle.rtcm_frame.specs.Transport.{preamble, frame_length, is_frame}
 use Rattle.rtcm_frame.specs.Padded.{IsPadded}
 
 -- a frame has the length that it claims

@@ -1,7 +1,7 @@
 -- CRC-24Q, the checksum of RTCM 10403.3's transport layer, bit by bit.
 -- Its generator is the 25-bit polynomial 1864CFB; it starts at 0, takes the most significant bit of each byte first,
 -- reflects nothing and ends with no exclusive or.
-use Rattle.std.specs.Prelude.{ℕ, ◌+◌, ◌*◌, ◌/◌, ◌%◌, ◌^◌, ◌==◌, if◌then◌else◌, bit_xor, List, [], ◌∷◌}
+use Rattle.std.specs.Prelude.{ℕ, ◌*◌, ◌/◌, ◌%◌, ◌^◌, ◌==◌, if◌then◌else◌, bit_xor, List, [], ◌∷◌}
 use Rattle.std.specs.List.{fold, flat_map}
 
 -- the polynomial, with its leading bit

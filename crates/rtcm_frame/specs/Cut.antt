@@ -1,5 +1,5 @@
 -- How a byte stream is cut into frames, always from the front.
-use Rattle.std.specs.Prelude.{ℕ, zero, suc, ◌+◌, ◌-◌, Bool, true, false, ◌&&◌, ◌==◌, nat_lt, List, [], ◌∷◌, ◌++◌, length, take, slice_index, IsTrue}
+use Rattle.std.specs.Prelude.{ℕ, zero, suc, ◌+◌, ◌-◌, Bool, true, false, ◌&&◌, ◌==◌, nat_lt, List, [], ◌∷◌, ◌++◌, length, take, IsTrue}
 use Rattle.rtcm_frame.specs.Transport.{preamble, frame_length, is_frame}
 
 -- the frames of a stream in order, the count of its junk bytes, and the bytes at its end that wait for more
