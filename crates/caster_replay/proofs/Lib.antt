@@ -1,1 +1,4 @@
 mod WorkedRuns
+pub mod BodyLemmas
+pub mod TurnLemmas
+pub mod SourceLemmas

@@ -1,3 +1,4 @@
 pub mod World
 pub mod Receipt
 pub mod Report
+pub mod Live

@@ -2,7 +2,10 @@
 #![tactic(auto)]
 
 mod bare;
+mod body;
 mod ending;
+mod rover;
+mod source;
 
 pub use bare::run_bare;
 pub use ending::{Ending, Last, Role};
