@@ -8,7 +8,7 @@ use Rattle.rtcm_frame.specs.Pending.{Pending, Took}
 use Rattle.rtcm_frame.proofs.CutLemmas.{cut-append, cut_waiting, cut_counted}
 use Rattle.rtcm_frame.proofs.PendingLemmas.{took_none}
 use Rattle.mount_ring.specs.Holding.{PlainValue}
-use Rattle.caster_replay.specs.Live.{after_cut, with_bytes, with_published}
+use Rattle.caster_replay.specs.Steps.{after_cut, with_bytes, with_published}
 
 abbrev pending : List ℕ → ℕ → Pending
 pending bytes junk = record { bytes = bytes; junk = junk }

@@ -1,4 +1,6 @@
 pub mod World
 pub mod Receipt
 pub mod Report
+pub mod Steps
 pub mod Live
+pub mod Well

@@ -5,6 +5,7 @@ mod bare;
 mod body;
 mod ending;
 mod rover;
+mod session;
 mod source;
 
 pub use bare::run_bare;

@@ -1,6 +1,6 @@
 ghost use Rattle.std.specs.Prelude.{◌≡◌, ℕ, ◌+◌, ◌^◌, ◌<◌, List, [], ◌∷◌, ◌++◌, length, OnOk};
 ghost use Rattle.rtcm_frame.specs.Cut.{cut, IsWaiting};
-ghost use Rattle.caster_replay.specs.Live.{after_cut, with_bytes, with_published};
+ghost use Rattle.caster_replay.specs.Steps.{after_cut, with_bytes, with_published};
 
 use mount_ring::Plain;
 use rtcm_frame::Cutter;

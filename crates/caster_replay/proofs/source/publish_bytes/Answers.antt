@@ -2,7 +2,7 @@ use Rattle.std.proofs.Common.{◌≡◌, ◌+◌, ◌≤◌, ◌++◌, ◌∷◌
 use Rattle.rtcm_frame.specs.Pending.{Pending}
 use Rattle.rtcm_frame.specs.Cut.{cut}
 use Rattle.mount_ring.specs.Holding.{PlainValue}
-use Rattle.caster_replay.specs.Live.{after_cut, with_published}
+use Rattle.caster_replay.specs.Steps.{after_cut, with_published}
 use Rattle.caster_replay.proofs.SourceLemmas.{settled_none, no_more_published, settled_more, published_ring_more, settled_few, push_few}
 use Rattle.caster_replay.proofs.source.publish_bytes.Goals as goal
 

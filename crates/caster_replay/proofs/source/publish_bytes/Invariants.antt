@@ -1,7 +1,7 @@
 -- what the bytes so far hold was published, and the cutter waits for more
 use Rattle.std.proofs.Common.{◌≡◌, ◌++◌, take}
 use Rattle.rtcm_frame.specs.Cut.{cut, IsWaiting}
-use Rattle.caster_replay.specs.Live.{after_cut, with_bytes, with_published}
+use Rattle.caster_replay.specs.Steps.{after_cut, with_bytes, with_published}
 use Rattle.caster_replay.proofs.source.publish_bytes.Given as goal
 
 abbrev pub invariant-loop-byte : goal.invariant-loop-byte
