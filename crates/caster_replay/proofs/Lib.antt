@@ -2,3 +2,4 @@ mod WorkedRuns
 pub mod BodyLemmas
 pub mod TurnLemmas
 pub mod SourceLemmas
+pub mod ListLemmas
