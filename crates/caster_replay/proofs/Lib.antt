@@ -3,3 +3,5 @@ pub mod BodyLemmas
 pub mod TurnLemmas
 pub mod SourceLemmas
 pub mod ListLemmas
+pub mod EntriesLemmas
+pub mod HeardLemmas

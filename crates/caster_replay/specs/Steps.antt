@@ -15,6 +15,7 @@ use Rattle.caster_replay.specs.declared.ending.Last.{Last}
 use Rattle.caster_replay.specs.declared.ending.Last.TheVariants as lasts
 use Rattle.caster_replay.specs.declared.ending.Ending.{Ending}
 use Rattle.caster_replay.specs.declared.ending.Ending.TheVariants.{SourceEnd, RoverEnd, Taken, NoMount, ReadFault}
+use Rattle.caster_replay.specs.World.{Happening, arrives, takes_turn, ends}
 use Rattle.caster_replay.specs.declared.session.Session.{Session}
 use Rattle.caster_replay.specs.declared.session.Work.{Work}
 use Rattle.caster_replay.specs.declared.session.Work.TheVariants.{Refused, Source, Rover}
@@ -158,3 +159,17 @@ ring_work_closed (Some ending) work ring = ring
 -- the ring after a connection was closed
 abbrev pub ring_closed : Session → PlainValue → PlainValue
 ring_closed session ring = ring_work_closed session.ending session.work ring
+
+-- ---- whatever happens
+
+-- a connection after what happened
+abbrev pub session_after : Happening → PlainValue → Session → Session
+session_after (arrives more) ring session = fed more session
+session_after (takes_turn budget) ring session = turned ring budget session
+session_after (ends last) ring session = closed last session
+
+-- the ring after what happened
+abbrev pub ring_after : Happening → Session → PlainValue → PlainValue
+ring_after (arrives more) session ring = ring_fed more session ring
+ring_after (takes_turn budget) session ring = ring
+ring_after (ends last) session ring = ring_closed session ring
