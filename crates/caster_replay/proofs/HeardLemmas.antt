@@ -3,6 +3,8 @@ use Rattle.std.proofs.Common.{◌≡◌, ℕ, ◌+◌, Bool, true, false, cond, 
 use Rattle.std.specs.List.{concat}
 use Rattle.std.proofs.lemmas.List.{append-nil}
 use Rattle.std.proofs.Math.Seq.{drop-append_seam}
+use Rattle.std.proofs.lemmas.List.Sums.{fold-append}
+use Rattle.caster_replay.proofs.BodyLemmas.{concat-append}
 use Rattle.rtcm_frame.specs.Cut.{cut, Parts}
 use Rattle.rtcm_frame.specs.Pending.{Pending}
 use Rattle.rtcm_frame.proofs.CutLemmas.{cut-append}
@@ -14,7 +16,7 @@ use Rattle.mount_ring.specs.Reads.{every_frame, read_report, read_frames}
 use Rattle.mount_ring.specs.History.{Shape, State, after, state_of, answer, own_answers, permits_at}
 use Rattle.mount_ring.proofs.HistoryLemmas.{state_of-append}
 use Rattle.rover_cursor.specs.declared.Segment.{Segment}
-use Rattle.rover_cursor.specs.Segments.{newest_segments, read_on}
+use Rattle.rover_cursor.specs.Segments.{newest_segments, after_answer, read_on}
 use Rattle.rover_cursor.specs.Sound.{kept, IsSound}
 use Rattle.rover_cursor.proofs.SoundLemmas.{kept-read}
 use Rattle.caster_replay.specs.declared.ending.Role.{Role}
@@ -109,3 +111,100 @@ source_heard capacity history number mount text claim first later (ends last) is
         ∙ sym after_,
         ap (λ (s : Session). ring_after (ends last) s (ring_of capacity history)) before
         ∙ ap (ring capacity) (sym (state_of-append history ((number, calls.Release claim) ∷ []))))
+
+-- ---- rovers
+
+-- what the run keeps of a rover with its one segment
+pub session_of-rover : (setting : Setting) (history : List (ℕ × RingCall)) (number : ℕ) (mount text : List ℕ) (closed : Option Last) (segment : Segment) →
+    newest_segments 0 (own_answers setting.shape number history) ≡ segment ∷ [] →
+    refusal (is_known setting (connection number roles.Rover mount text closed)) (own_answers setting.shape number history) ≡ None →
+    session_of setting history (connection number roles.Rover mount text closed)
+    ≡ session number (Rover segment (concat (kept (permits_at setting.shape segment.cursor.filter) (state_of history).published segment)))
+        (ending_by None roles.Rover (given_claim (own_answers setting.shape number history)) closed)
+session_of-rover setting history number mount text closed segment segments goes =
+    let answers : List RingAnswer = own_answers setting.shape number history in
+    let refused : Option Ending = refusal (is_known setting (connection number roles.Rover mount text closed)) answers in
+    ap (λ (l : List Segment). session number (rover_work setting.shape (state_of history).published l) (ending_by refused roles.Rover (given_claim answers) closed)) segments
+    ∙ ap (λ (r : Option Ending). session number (Rover segment (concat (kept (permits_at setting.shape segment.cursor.filter) (state_of history).published segment))) (ending_by r roles.Rover (given_claim answers) closed)) goes
+
+-- one more answer
+pub newest_segments-more : (shape : Shape) (me : ℕ) (history : List (ℕ × RingCall)) (call : RingCall) →
+    newest_segments 0 (own_answers shape me (history ++ (me, call) ∷ []))
+    ≡ after_answer 0 (newest_segments 0 (own_answers shape me history)) (answer shape (state_of history) call)
+newest_segments-more shape me history call =
+    ap (newest_segments 0) (own_answers-call shape me history call)
+    ∙ fold-append (after_answer 0) [] (own_answers shape me history) (answer shape (state_of history) call ∷ [])
+
+ended_last-rover : (claim : Option ℕ) (last : Last) → ended_rover last ≡ ended_last roles.Rover claim last
+ended_last-rover claim lasts.End = refl
+ended_last-rover claim lasts.ReadFault = refl
+
+-- a rover's work after a turn
+turned_work : (capacity : ℕ) (published : List (List ℕ)) (number budget : ℕ) (segment : Segment) (permits : List ℕ → Bool) →
+    permits ≡ every_frame → IsSound every_frame capacity published segment →
+    session number (Rover (read_on (read_report every_frame capacity published segment.cursor budget) segment)
+        (concat (kept permits published segment) ++ concat (read_frames every_frame capacity published segment.cursor budget))) None
+    ≡ session number (Rover (read_on (read_report permits capacity published segment.cursor budget) segment)
+        (concat (kept permits published (read_on (read_report permits capacity published segment.cursor budget) segment)))) None
+turned_work capacity published number budget segment permits is sound =
+    let next : (List ℕ → Bool) → Segment = λ p. read_on (read_report p capacity published segment.cursor budget) segment in
+    ap (λ (p : List ℕ → Bool). session number (Rover (next every_frame) (concat (kept p published segment) ++ concat (read_frames every_frame capacity published segment.cursor budget))) None) is
+    ∙ ap (λ (l : List ℕ). session number (Rover (next every_frame) l) None) (sym (concat-append (kept every_frame published segment) (read_frames every_frame capacity published segment.cursor budget)))
+    ∙ ap (λ (l : List (List ℕ)). session number (Rover (next every_frame) (concat l)) None) (sym (kept-read every_frame capacity published segment budget sound))
+    ∙ ap (λ (p : List ℕ → Bool). session number (Rover (next p) (concat (kept p published (next p)))) None) (sym is)
+
+pub rover_heard : (capacity : ℕ) (history : List (ℕ × RingCall)) (number : ℕ) (mount text : List ℕ) (first : RingAnswer) (later : List RingAnswer) (segment : Segment) (what : Happening) →
+    let setting : Setting = bare capacity in
+    let c : Connection = connection number roles.Rover mount text None in
+    let now : List (ℕ × RingCall) = history ++ entries_of number (rover_calls (segment ∷ []) what) in
+    own_answers setting.shape number history ≡ first ∷ later →
+    newest_segments 0 (own_answers setting.shape number history) ≡ segment ∷ [] →
+    IsSound every_frame capacity (state_of history).published segment → segment.cursor.filter ≡ 0 →
+    refusal (is_known setting c) (own_answers setting.shape number history) ≡ None →
+    (session_after what (ring_of capacity history) (session_of setting history c) ≡ session_of setting now (changed what c))
+    × (ring_after what (session_of setting history c) (ring_of capacity history) ≡ ring_of capacity now)
+rover_heard capacity history number mount text first later segment (arrives more) is segments sound filter goes =
+    let setting : Setting = bare capacity in
+    let before = session_of-rover setting history number mount text None segment segments goes in
+    let after_ = session_of-rover setting history number mount (text ++ more) None segment segments goes in
+    (ap (session_after (arrives more) (ring_of capacity history)) before
+        ∙ sym after_
+        ∙ ap (λ (h : List (ℕ × RingCall)). session_of setting h (connection number roles.Rover mount (text ++ more) None)) (sym (append-nil history)),
+        ap (λ (s : Session). ring_after (arrives more) s (ring_of capacity history)) before ∙ ap (ring_of capacity) (sym (append-nil history)))
+rover_heard capacity history number mount text first later segment (takes_turn budget) is segments sound filter goes =
+    let setting : Setting = bare capacity in
+    let call : RingCall = calls.Read segment.cursor budget in
+    let now : List (ℕ × RingCall) = history ++ (number, call) ∷ [] in
+    let permits : List ℕ → Bool = permits_at setting.shape segment.cursor.filter in
+    let all : permits ≡ every_frame = ap (permits_at setting.shape) filter in
+    let published : List (List ℕ) = (state_of history).published in
+    let next : Segment = read_on (read_report permits capacity published segment.cursor budget) segment in
+    let same : state_of now ≡ state_of history = state_of-append history ((number, call) ∷ []) in
+    let segments_now : newest_segments 0 (own_answers setting.shape number now) ≡ next ∷ [] =
+        newest_segments-more setting.shape number history call ∙ ap (λ (l : List Segment). after_answer 0 l (answer setting.shape (state_of history) call)) segments in
+    let before = session_of-rover setting history number mount text None segment segments goes in
+    let after_ = session_of-rover setting now number mount text None next segments_now
+            (refusal-more (is_known setting (connection number roles.Rover mount text None)) setting.shape number history ((number, call) ∷ []) first later is ∙ goes) in
+    (ap (session_after (takes_turn budget) (ring_of capacity history)) before
+        ∙ turned_work capacity published number budget segment permits all sound
+        ∙ ap (λ (s : State). session number (Rover next (concat (kept permits s.published next))) None) (sym same)
+        ∙ sym after_,
+        ap (ring capacity) (sym same))
+rover_heard capacity history number mount text first later segment (ends last) is segments sound filter goes =
+    let setting : Setting = bare capacity in
+    let before = session_of-rover setting history number mount text None segment segments goes in
+    let after_ = session_of-rover setting history number mount text (Some last) segment segments goes in
+    (ap (session_after (ends last) (ring_of capacity history)) before
+        ∙ ap (λ (e : Ending). session number (Rover segment (concat (kept (permits_at setting.shape segment.cursor.filter) (state_of history).published segment))) (Some e)) (ended_last-rover (given_claim (own_answers setting.shape number history)) last)
+        ∙ sym after_
+        ∙ ap (λ (h : List (ℕ × RingCall)). session_of setting h (connection number roles.Rover mount text (Some last))) (sym (append-nil history)),
+        ap (λ (s : Session). ring_after (ends last) s (ring_of capacity history)) before ∙ ap (ring_of capacity) (sym (append-nil history)))
+
+-- ---- connections that have ended
+
+pub ended_heard : (what : Happening) (ring : PlainValue) (number : ℕ) (work : Work) (ending : Ending) →
+    (session_after what ring (session number work (Some ending)) ≡ session number work (Some ending))
+    × (ring_after what (session number work (Some ending)) ring ≡ ring)
+ended_heard (arrives more) ring number work ending = (refl, refl)
+ended_heard (takes_turn budget) ring number work ending = (refl, refl)
+ended_heard (ends last) ring number work ending = (refl, refl)
