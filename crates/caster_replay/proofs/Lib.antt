@@ -5,3 +5,5 @@ pub mod SourceLemmas
 pub mod ListLemmas
 pub mod EntriesLemmas
 pub mod HeardLemmas
+pub mod ConnectionLemmas
+pub mod StandsLemmas
