@@ -62,7 +62,7 @@ completed_is text more =
     ap (λ (p : Parts). drop (length (cut text).frames) p.frames) (cut-append text more)
     ∙ drop-append_seam (cut text).frames (cut ((cut text).rest ++ more)).frames
 
-abbrev ring : ℕ → State → PlainValue
+abbrev pub ring : ℕ → State → PlainValue
 ring capacity state = record { capacity = capacity; state = state }
 
 ended_last-source : (claim : ℕ) (last : Last) → ended_source claim last ≡ ended_last roles.Source (Some claim) last

@@ -7,3 +7,4 @@ pub mod EntriesLemmas
 pub mod HeardLemmas
 pub mod ConnectionLemmas
 pub mod StandsLemmas
+pub mod OpenLemmas

@@ -38,7 +38,7 @@ concerned_elsewhere setting history number connections at d order within here j 
     let apart : c.number ≡ number → ⊥ = λ eq. numbers_apart connections at j e order within below other (eq ∙ sym same) in
     ap (λ b. b && goes_on setting history c) (ne_eqb c.number number apart)
 
-any_false : (test : Connection → Bool) (xs : List Connection) → list_any test xs ≡ false → FailsEverywhere test xs
+pub any_false : (test : Connection → Bool) (xs : List Connection) → list_any test xs ≡ false → FailsEverywhere test xs
 any_false test [] none j d below = absurd (omega (arith, below))
 any_false test (x ∷ xs) none zero d below = first_false (test x) (list_any test xs) none
   where

@@ -1,16 +1,18 @@
 -- What each call on a connection makes of what the run keeps of it, and of the ring.
-use Rattle.std.specs.Prelude.{ℕ, ◌+◌, ◌^◌, ◌<◌, List, [], ◌++◌, length, Option, None, Some}
-use Rattle.std.specs.List.{concat}
+use Rattle.std.specs.Prelude.{ℕ, ◌+◌, ◌^◌, ◌<◌, nat_lt, Bool, true, false, List, [], ◌++◌, length, Option, None, Some}
+use Rattle.std.specs.List.{concat, prefix_len}
 use Rattle.rtcm_frame.specs.Cut.{cut, IsWaiting}
 use Rattle.rtcm_frame.specs.Pending.{Pending}
 use Rattle.mount_ring.specs.declared.RingAnswer.{RingAnswer}
 use Rattle.mount_ring.specs.declared.RingAnswer.TheVariants as answers
 use Rattle.mount_ring.specs.Holding.{PlainValue}
-use Rattle.mount_ring.specs.History.{State, after_claim}
+use Rattle.mount_ring.specs.History.{State, claim_answer, after_claim}
 use Rattle.mount_ring.specs.Reads.{every_frame, read_report, read_frames}
 use Rattle.rover_cursor.specs.declared.Segment.{Segment}
 use Rattle.rover_cursor.specs.Segments.{begun, read_on}
 use Rattle.rover_cursor.specs.Sound.{IsSound}
+use Rattle.caster_replay.specs.declared.ending.Role.{Role}
+use Rattle.caster_replay.specs.declared.ending.Role.TheVariants as roles
 use Rattle.caster_replay.specs.declared.ending.Last.{Last}
 use Rattle.caster_replay.specs.declared.ending.Last.TheVariants as lasts
 use Rattle.caster_replay.specs.declared.ending.Ending.{Ending}
@@ -173,3 +175,21 @@ abbrev pub ring_after : Happening → Session → PlainValue → PlainValue
 ring_after (arrives more) session ring = ring_fed more session ring
 ring_after (takes_turn budget) session ring = ring
 ring_after (ends last) session ring = ring_closed session ring
+
+-- ---- a connection opens
+
+-- what the run keeps of a connection that opens, by what it is and whether it asks for the run's mountpoint
+abbrev pub session_opened : Role → Bool → ℕ → PlainValue → Session
+session_opened role false number ring = refused number NoMount
+session_opened roles.Source true number ring = opened_source number (claim_answer ring.state ring.state.holder)
+session_opened roles.Rover true number ring = opened_rover number ring
+
+-- the ring afterwards
+abbrev pub ring_opened : Role → Bool → ℕ → PlainValue → PlainValue
+ring_opened role false number ring = ring
+ring_opened roles.Source true number ring = after_claiming number ring
+ring_opened roles.Rover true number ring = ring
+
+-- the place of a number among connections: how many stand before it
+abbrev pub place_of_number : ℕ → List Session → ℕ
+place_of_number number sessions = prefix_len (λ (s : Session). nat_lt s.number number) sessions
