@@ -40,9 +40,9 @@ connection_heard setting history what c = cond (goes_on setting history c) (chan
 abbrev pub IsHeard : ℕ → List (ℕ × RingCall) → Happening → Connection → Type 0
 IsHeard capacity history what c =
     (session_after what (ring_of capacity history) (session_of (bare capacity) history c)
-        ≡ session_of (bare capacity) (history ++ entries_heard (bare capacity) history what c) (connection_heard (bare capacity) history what c))
+    ≡ session_of (bare capacity) (history ++ entries_heard (bare capacity) history what c) (connection_heard (bare capacity) history what c))
     × (ring_after what (session_of (bare capacity) history c) (ring_of capacity history)
-        ≡ ring_of capacity (history ++ entries_heard (bare capacity) history what c))
+    ≡ ring_of capacity (history ++ entries_heard (bare capacity) history what c))
 
 idle_heard : (capacity : ℕ) (history : List (ℕ × RingCall)) (what : Happening) (c : Connection) (work : Work) (ending : Ending) →
     session_of (bare capacity) history c ≡ session c.number work (Some ending) → goes_on (bare capacity) history c ≡ false →
@@ -50,31 +50,33 @@ idle_heard : (capacity : ℕ) (history : List (ℕ × RingCall)) (what : Happeni
 idle_heard capacity history what c work ending is stopped =
     let setting : Setting = bare capacity in
     let ended = ended_heard what (ring_of capacity history) c.number work ending in
-    let E : List (ℕ × RingCall) = entries_owed setting history what c in
-    (ap (session_after what (ring_of capacity history)) is ∙ ended.0 ∙ sym is
-        ∙ ap (λ (h : List (ℕ × RingCall)). session_of setting h c) (sym (append-nil history))
-        ∙ ap (λ (b : Bool). session_of setting (history ++ cond b E []) (cond b (changed what c) c)) (sym stopped),
-        ap (λ (s : Session). ring_after what s (ring_of capacity history)) is ∙ ended.1
-        ∙ ap (ring_of capacity) (sym (append-nil history))
-        ∙ ap (λ (b : Bool). ring_of capacity (history ++ cond b E [])) (sym stopped))
+    let E : List (ℕ × RingCall) = entries_owed setting history what c in (
+      ap (session_after what (ring_of capacity history)) is ∙ ended.0 ∙ sym is
+          ∙ ap (λ (h : List (ℕ × RingCall)). session_of setting h c) (sym (append-nil history))
+          ∙ ap (λ (b : Bool). session_of setting (history ++ cond b E []) (cond b (changed what c) c)) (sym stopped),
+      ap (λ (s : Session). ring_after what s (ring_of capacity history)) is ∙ ended.1
+          ∙ ap (ring_of capacity) (sym (append-nil history))
+          ∙ ap (λ (b : Bool). ring_of capacity (history ++ cond b E [])) (sym stopped),
+    )
 
 -- a connection that goes on, with the calls that it owes
 going_heard : (capacity : ℕ) (history : List (ℕ × RingCall)) (what : Happening) (c : Connection) (calls : List RingCall) →
     (session_after what (ring_of capacity history) (session_of (bare capacity) history c)
-        ≡ session_of (bare capacity) (history ++ entries_of c.number calls) (changed what c))
+    ≡ session_of (bare capacity) (history ++ entries_of c.number calls) (changed what c))
     × (ring_after what (session_of (bare capacity) history c) (ring_of capacity history)
-        ≡ ring_of capacity (history ++ entries_of c.number calls)) →
+    ≡ ring_of capacity (history ++ entries_of c.number calls)) →
     owed c.role (answers_of (bare capacity) history c) c.text what ≡ calls → goes_on (bare capacity) history c ≡ true →
     IsHeard capacity history what c
 going_heard capacity history what c calls heard owes goes =
     let setting : Setting = bare capacity in
-    let E : List (ℕ × RingCall) = entries_owed setting history what c in
-    (heard.0
-        ∙ ap (λ (l : List RingCall). session_of setting (history ++ entries_of c.number l) (changed what c)) (sym owes)
-        ∙ ap (λ (b : Bool). session_of setting (history ++ cond b E []) (cond b (changed what c) c)) (sym goes),
-        heard.1
-        ∙ ap (λ (l : List RingCall). ring_of capacity (history ++ entries_of c.number l)) (sym owes)
-        ∙ ap (λ (b : Bool). ring_of capacity (history ++ cond b E [])) (sym goes))
+    let E : List (ℕ × RingCall) = entries_owed setting history what c in (
+      heard.0
+          ∙ ap (λ (l : List RingCall). session_of setting (history ++ entries_of c.number l) (changed what c)) (sym owes)
+          ∙ ap (λ (b : Bool). session_of setting (history ++ cond b E []) (cond b (changed what c) c)) (sym goes),
+      heard.1
+          ∙ ap (λ (l : List RingCall). ring_of capacity (history ++ entries_of c.number l)) (sym owes)
+          ∙ ap (λ (b : Bool). ring_of capacity (history ++ cond b E [])) (sym goes),
+    )
 
 stopped_by : (closed : Option Last) (refused : Option Ending) (last : Last) → closed ≡ Some last → (is_none closed && is_none refused) ≡ false
 stopped_by closed refused last is = ap (λ (o : Option Last). is_none o && is_none refused) is
@@ -175,5 +177,5 @@ session_stays setting history more c well none =
     ap (λ (l : List RingAnswer). session_by setting l (state_of (history ++ more)).published c) (own_answers-others setting.shape c.number history more none)
     ∙ ap (λ (l : List (List ℕ)). session_by setting answers l c) (published-append history more)
     ∙ ap (λ (w : Work). session c.number w (ending_by (refusal (is_known setting c) answers) c.role (given_claim answers) c.closed))
-        (work_stays setting.shape answers published (published_by more) c.text c.role
-            (refusal (is_known setting c) answers) (given_claim answers) well)
+    (work_stays setting.shape answers published (published_by more) c.text c.role
+    (refusal (is_known setting c) answers) (given_claim answers) well)

@@ -83,34 +83,37 @@ source_heard capacity history number mount text claim first later (arrives more)
     let now : List (ℕ × RingCall) = history ++ entries_of number (publishes claim (completed text more)) in
     let before = session_of-source setting history number mount text None claim given goes in
     let after_ = session_of-source setting now number mount (text ++ more) None claim
-            (given_claim-more setting.shape number history (entries_of number (publishes claim (completed text more))) first later is ∙ given)
-            (refusal-more (is_known setting (connection number roles.Source mount text None)) setting.shape number history (entries_of number (publishes claim (completed text more))) first later is ∙ goes) in
-    (ap (session_after (arrives more) (ring_of capacity history)) before
-        ∙ ap (λ (p : Pending). session number (Source claim p) None) (cutter_at-more text more)
-        ∙ sym after_,
-        ap (λ (s : Session). ring_after (arrives more) s (ring_of capacity history)) before
-        ∙ ap (λ (fs : List (List ℕ)). with_published (ring_of capacity history) fs) (sym (completed_is text more))
-        ∙ ap (ring capacity) (sym (state_of-publishes history number claim (completed text more))))
+    (given_claim-more setting.shape number history (entries_of number (publishes claim (completed text more))) first later is ∙ given)
+    (refusal-more (is_known setting (connection number roles.Source mount text None)) setting.shape number history (entries_of number (publishes claim (completed text more))) first later is ∙ goes) in (
+      ap (session_after (arrives more) (ring_of capacity history)) before
+          ∙ ap (λ (p : Pending). session number (Source claim p) None) (cutter_at-more text more)
+          ∙ sym after_,
+      ap (λ (s : Session). ring_after (arrives more) s (ring_of capacity history)) before
+          ∙ ap (λ (fs : List (List ℕ)). with_published (ring_of capacity history) fs) (sym (completed_is text more))
+          ∙ ap (ring capacity) (sym (state_of-publishes history number claim (completed text more))),
+    )
 source_heard capacity history number mount text claim first later (takes_turn budget) is given goes =
     let setting : Setting = bare capacity in
     let c : Connection = connection number roles.Source mount text None in
-    let before = session_of-source setting history number mount text None claim given goes in
-    (ap (session_after (takes_turn budget) (ring_of capacity history)) before
-        ∙ sym before
-        ∙ ap (λ (h : List (ℕ × RingCall)). session_of setting h c) (sym (append-nil history)),
-        ap (ring_of capacity) (sym (append-nil history)))
+    let before = session_of-source setting history number mount text None claim given goes in (
+      ap (session_after (takes_turn budget) (ring_of capacity history)) before
+          ∙ sym before
+          ∙ ap (λ (h : List (ℕ × RingCall)). session_of setting h c) (sym (append-nil history)),
+      ap (ring_of capacity) (sym (append-nil history)),
+    )
 source_heard capacity history number mount text claim first later (ends last) is given goes =
     let setting : Setting = bare capacity in
     let now : List (ℕ × RingCall) = history ++ (number, calls.Release claim) ∷ [] in
     let before = session_of-source setting history number mount text None claim given goes in
     let after_ = session_of-source setting now number mount text (Some last) claim
-            (given_claim-more setting.shape number history ((number, calls.Release claim) ∷ []) first later is ∙ given)
-            (refusal-more (is_known setting (connection number roles.Source mount text None)) setting.shape number history ((number, calls.Release claim) ∷ []) first later is ∙ goes) in
-    (ap (session_after (ends last) (ring_of capacity history)) before
-        ∙ ap (λ (e : Ending). session number (Source claim (cutter_at text)) (Some e)) (ended_last-source claim last)
-        ∙ sym after_,
-        ap (λ (s : Session). ring_after (ends last) s (ring_of capacity history)) before
-        ∙ ap (ring capacity) (sym (state_of-append history ((number, calls.Release claim) ∷ []))))
+    (given_claim-more setting.shape number history ((number, calls.Release claim) ∷ []) first later is ∙ given)
+    (refusal-more (is_known setting (connection number roles.Source mount text None)) setting.shape number history ((number, calls.Release claim) ∷ []) first later is ∙ goes) in (
+      ap (session_after (ends last) (ring_of capacity history)) before
+          ∙ ap (λ (e : Ending). session number (Source claim (cutter_at text)) (Some e)) (ended_last-source claim last)
+          ∙ sym after_,
+      ap (λ (s : Session). ring_after (ends last) s (ring_of capacity history)) before
+          ∙ ap (ring capacity) (sym (state_of-append history ((number, calls.Release claim) ∷ []))),
+    )
 
 -- ---- rovers
 
@@ -120,7 +123,7 @@ pub session_of-rover : (setting : Setting) (history : List (ℕ × RingCall)) (n
     refusal (is_known setting (connection number roles.Rover mount text closed)) (own_answers setting.shape number history) ≡ None →
     session_of setting history (connection number roles.Rover mount text closed)
     ≡ session number (Rover segment (concat (kept (permits_at setting.shape segment.cursor.filter) (state_of history).published segment)))
-        (ending_by None roles.Rover (given_claim (own_answers setting.shape number history)) closed)
+    (ending_by None roles.Rover (given_claim (own_answers setting.shape number history)) closed)
 session_of-rover setting history number mount text closed segment segments goes =
     let answers : List RingAnswer = own_answers setting.shape number history in
     let refused : Option Ending = refusal (is_known setting (connection number roles.Rover mount text closed)) answers in
@@ -143,9 +146,9 @@ ended_last-rover claim lasts.ReadFault = refl
 turned_work : (capacity : ℕ) (published : List (List ℕ)) (number budget : ℕ) (segment : Segment) (permits : List ℕ → Bool) →
     permits ≡ every_frame → IsSound every_frame capacity published segment →
     session number (Rover (read_on (read_report every_frame capacity published segment.cursor budget) segment)
-        (concat (kept permits published segment) ++ concat (read_frames every_frame capacity published segment.cursor budget))) None
+    (concat (kept permits published segment) ++ concat (read_frames every_frame capacity published segment.cursor budget))) None
     ≡ session number (Rover (read_on (read_report permits capacity published segment.cursor budget) segment)
-        (concat (kept permits published (read_on (read_report permits capacity published segment.cursor budget) segment)))) None
+    (concat (kept permits published (read_on (read_report permits capacity published segment.cursor budget) segment)))) None
 turned_work capacity published number budget segment permits is sound =
     let next : (List ℕ → Bool) → Segment = λ p. read_on (read_report p capacity published segment.cursor budget) segment in
     ap (λ (p : List ℕ → Bool). session number (Rover (next every_frame) (concat (kept p published segment) ++ concat (read_frames every_frame capacity published segment.cursor budget))) None) is
@@ -166,11 +169,12 @@ pub rover_heard : (capacity : ℕ) (history : List (ℕ × RingCall)) (number : 
 rover_heard capacity history number mount text first later segment (arrives more) is segments sound filter goes =
     let setting : Setting = bare capacity in
     let before = session_of-rover setting history number mount text None segment segments goes in
-    let after_ = session_of-rover setting history number mount (text ++ more) None segment segments goes in
-    (ap (session_after (arrives more) (ring_of capacity history)) before
-        ∙ sym after_
-        ∙ ap (λ (h : List (ℕ × RingCall)). session_of setting h (connection number roles.Rover mount (text ++ more) None)) (sym (append-nil history)),
-        ap (λ (s : Session). ring_after (arrives more) s (ring_of capacity history)) before ∙ ap (ring_of capacity) (sym (append-nil history)))
+    let after_ = session_of-rover setting history number mount (text ++ more) None segment segments goes in (
+      ap (session_after (arrives more) (ring_of capacity history)) before
+          ∙ sym after_
+          ∙ ap (λ (h : List (ℕ × RingCall)). session_of setting h (connection number roles.Rover mount (text ++ more) None)) (sym (append-nil history)),
+      ap (λ (s : Session). ring_after (arrives more) s (ring_of capacity history)) before ∙ ap (ring_of capacity) (sym (append-nil history)),
+    )
 rover_heard capacity history number mount text first later segment (takes_turn budget) is segments sound filter goes =
     let setting : Setting = bare capacity in
     let call : RingCall = calls.Read segment.cursor budget in
@@ -181,24 +185,26 @@ rover_heard capacity history number mount text first later segment (takes_turn b
     let next : Segment = read_on (read_report permits capacity published segment.cursor budget) segment in
     let same : state_of now ≡ state_of history = state_of-append history ((number, call) ∷ []) in
     let segments_now : newest_segments 0 (own_answers setting.shape number now) ≡ next ∷ [] =
-        newest_segments-more setting.shape number history call ∙ ap (λ (l : List Segment). after_answer 0 l (answer setting.shape (state_of history) call)) segments in
+    newest_segments-more setting.shape number history call ∙ ap (λ (l : List Segment). after_answer 0 l (answer setting.shape (state_of history) call)) segments in
     let before = session_of-rover setting history number mount text None segment segments goes in
     let after_ = session_of-rover setting now number mount text None next segments_now
-            (refusal-more (is_known setting (connection number roles.Rover mount text None)) setting.shape number history ((number, call) ∷ []) first later is ∙ goes) in
-    (ap (session_after (takes_turn budget) (ring_of capacity history)) before
-        ∙ turned_work capacity published number budget segment permits all sound
-        ∙ ap (λ (s : State). session number (Rover next (concat (kept permits s.published next))) None) (sym same)
-        ∙ sym after_,
-        ap (ring capacity) (sym same))
+    (refusal-more (is_known setting (connection number roles.Rover mount text None)) setting.shape number history ((number, call) ∷ []) first later is ∙ goes) in (
+      ap (session_after (takes_turn budget) (ring_of capacity history)) before
+          ∙ turned_work capacity published number budget segment permits all sound
+          ∙ ap (λ (s : State). session number (Rover next (concat (kept permits s.published next))) None) (sym same)
+          ∙ sym after_,
+      ap (ring capacity) (sym same),
+    )
 rover_heard capacity history number mount text first later segment (ends last) is segments sound filter goes =
     let setting : Setting = bare capacity in
     let before = session_of-rover setting history number mount text None segment segments goes in
-    let after_ = session_of-rover setting history number mount text (Some last) segment segments goes in
-    (ap (session_after (ends last) (ring_of capacity history)) before
-        ∙ ap (λ (e : Ending). session number (Rover segment (concat (kept (permits_at setting.shape segment.cursor.filter) (state_of history).published segment))) (Some e)) (ended_last-rover (given_claim (own_answers setting.shape number history)) last)
-        ∙ sym after_
-        ∙ ap (λ (h : List (ℕ × RingCall)). session_of setting h (connection number roles.Rover mount text (Some last))) (sym (append-nil history)),
-        ap (λ (s : Session). ring_after (ends last) s (ring_of capacity history)) before ∙ ap (ring_of capacity) (sym (append-nil history)))
+    let after_ = session_of-rover setting history number mount text (Some last) segment segments goes in (
+      ap (session_after (ends last) (ring_of capacity history)) before
+          ∙ ap (λ (e : Ending). session number (Rover segment (concat (kept (permits_at setting.shape segment.cursor.filter) (state_of history).published segment))) (Some e)) (ended_last-rover (given_claim (own_answers setting.shape number history)) last)
+          ∙ sym after_
+          ∙ ap (λ (h : List (ℕ × RingCall)). session_of setting h (connection number roles.Rover mount text (Some last))) (sym (append-nil history)),
+      ap (λ (s : Session). ring_after (ends last) s (ring_of capacity history)) before ∙ ap (ring_of capacity) (sym (append-nil history)),
+    )
 
 -- ---- connections that have ended
 

@@ -8,3 +8,4 @@ pub mod HeardLemmas
 pub mod ConnectionLemmas
 pub mod StandsLemmas
 pub mod OpenLemmas
+pub mod RunLemmas

@@ -70,7 +70,7 @@ none_later : (number : ℕ) (c : Connection) (cs : List Connection) → InOrder 
 none_later number c cs order above =
     list_any_none (λ (x : Connection). x.number == number) cs
     (λ j d below. ne_eqb (get_or cs j d).number number
-        (λ eq. let later : c.number < (get_or cs j d).number = order 0 (suc j) d (omega arith) (omega (arith, below)) in absurd (omega (arith, later, above, eq))))
+    (λ eq. let later : c.number < (get_or cs j d).number = order 0 (suc j) d (omega arith) (omega (arith, below)) in absurd (omega (arith, later, above, eq))))
 
 not_opened_by : (number : ℕ) (c : Connection) (cs : List Connection) (d : Connection) (test : Bool) → nat_lt c.number number ≡ test → InOrder (c ∷ cs) →
     (cond test (1 + prefix_len (before number) cs) 0 < suc (length cs) → (get_or (c ∷ cs) (cond test (1 + prefix_len (before number) cs) 0) d).number ≡ number → ⊥) →
@@ -80,8 +80,8 @@ not_opened_by number c cs d true is order missing others =
     let p : ℕ = prefix_len (before number) cs in
     let below : c.number < number = ltb-true c.number number is in
     let rest : is_opened number cs ≡ false =
-        others (λ within here. missing (omega (arith, within))
-            (ap (λ (n : ℕ). (get_or (c ∷ cs) n d).number) (sym (one_more p)) ∙ here)) in
+    others (λ within here. missing (omega (arith, within))
+    (ap (λ (n : ℕ). (get_or (c ∷ cs) n d).number) (sym (one_more p)) ∙ here)) in
     ap (λ b. b || list_any (λ (x : Connection). x.number == number) cs) (ne_eqb c.number number (λ eq. absurd (omega (arith, below, eq)))) ∙ rest
 not_opened_by number c cs d false is order missing others =
     let above : number ≤ c.number = ltb-false c.number number is in
@@ -136,44 +136,48 @@ rover_newly capacity number state =
     let cursor : ℕ → Cursor = λ n. record { next = length state.published; passed = n; filter = 0 } in
     ap (λ (n : ℕ). session number (Rover (begun 0 (cursor n)) []) None) (sym (count_by-every state.published))
     ∙ ap (λ (l : List (List ℕ)). session number (Rover (begun 0 (cursor (count_by every_frame state.published))) (concat l)) None)
-        (sym (kept-begun every_frame state.published 0 (cursor (count_by every_frame state.published))))
+    (sym (kept-begun every_frame state.published 0 (cursor (count_by every_frame state.published))))
 
 -- a connection opens
 pub session_of-opened : (capacity : ℕ) (history : List (ℕ × RingCall)) (number : ℕ) (role : Role) (mount : List ℕ) (known : Bool) →
     IsTrue (has_none_of number history) → bytes_eq mount (codes "A") ≡ known →
     (session_opened role known number (ring_of capacity history)
-        ≡ session_of (bare capacity) (history ++ entries_of number (opening_calls role known)) (opened number role mount))
+    ≡ session_of (bare capacity) (history ++ entries_of number (opening_calls role known)) (opened number role mount))
     × (ring_opened role known number (ring_of capacity history) ≡ ring_of capacity (history ++ entries_of number (opening_calls role known)))
 session_of-opened capacity history number roles.Source mount false none is =
-    let same = append-nil history in
-    (sym (session_of-newly capacity history number roles.Source mount false [] is (no_answers capacity history number none))
-        ∙ ap (λ (h : List (ℕ × RingCall)). session_of (bare capacity) h (opened number roles.Source mount)) (sym same),
-        ap (ring_of capacity) (sym same))
+    let same = append-nil history in (
+      sym (session_of-newly capacity history number roles.Source mount false [] is (no_answers capacity history number none))
+          ∙ ap (λ (h : List (ℕ × RingCall)). session_of (bare capacity) h (opened number roles.Source mount)) (sym same),
+      ap (ring_of capacity) (sym same),
+    )
 session_of-opened capacity history number roles.Rover mount false none is =
-    let same = append-nil history in
-    (sym (session_of-newly capacity history number roles.Rover mount false [] is (no_answers capacity history number none))
-        ∙ ap (λ (h : List (ℕ × RingCall)). session_of (bare capacity) h (opened number roles.Rover mount)) (sym same),
-        ap (ring_of capacity) (sym same))
+    let same = append-nil history in (
+      sym (session_of-newly capacity history number roles.Rover mount false [] is (no_answers capacity history number none))
+          ∙ ap (λ (h : List (ℕ × RingCall)). session_of (bare capacity) h (opened number roles.Rover mount)) (sym same),
+      ap (ring_of capacity) (sym same),
+    )
 session_of-opened capacity history number roles.Source mount true none is =
-    let now : List (ℕ × RingCall) = history ++ (number, calls.Claim) ∷ [] in
-    (source_newly capacity number (state_of history) (state_of history).holder (state_of now).published
-        ∙ sym (session_of-newly capacity now number roles.Source mount true _ is (first_answer capacity history number calls.Claim none)),
-        ap (ring capacity) (sym (state_of-append history ((number, calls.Claim) ∷ []))))
+    let now : List (ℕ × RingCall) = history ++ (number, calls.Claim) ∷ [] in (
+      source_newly capacity number (state_of history) (state_of history).holder (state_of now).published
+          ∙ sym (session_of-newly capacity now number roles.Source mount true _ is (first_answer capacity history number calls.Claim none)),
+      ap (ring capacity) (sym (state_of-append history ((number, calls.Claim) ∷ []))),
+    )
 session_of-opened capacity history number roles.Rover mount true none is =
     let now : List (ℕ × RingCall) = history ++ (number, calls.Join 0) ∷ [] in
-    let same : state_of now ≡ state_of history = state_of-append history ((number, calls.Join 0) ∷ []) in
-    (rover_newly capacity number (state_of history)
-        ∙ ap (λ (s : State). newly capacity roles.Rover true number (answer (bare capacity).shape (state_of history) (calls.Join 0) ∷ []) s.published) (sym same)
-        ∙ sym (session_of-newly capacity now number roles.Rover mount true _ is (first_answer capacity history number (calls.Join 0) none)),
-        ap (ring capacity) (sym same))
+    let same : state_of now ≡ state_of history = state_of-append history ((number, calls.Join 0) ∷ []) in (
+      rover_newly capacity number (state_of history)
+          ∙ ap (λ (s : State). newly capacity roles.Rover true number (answer (bare capacity).shape (state_of history) (calls.Join 0) ∷ []) s.published) (sym same)
+          ∙ sym (session_of-newly capacity now number roles.Rover mount true _ is (first_answer capacity history number (calls.Join 0) none)),
+      ap (ring capacity) (sym same),
+    )
 
 -- ---- the run
 
 pub stands_opened : (capacity : ℕ) (w : World) (sessions : List Session) (ring : PlainValue) (number : ℕ) (role : Role) (mount : List ℕ) (known : Bool) →
     IsWell (bare capacity) w → Stands capacity w sessions ring → is_opened number w.connections ≡ false → bytes_eq mount (codes "A") ≡ known →
     Stands capacity (opens (bare capacity) w number role mount)
-        (insert sessions (place_of_number number sessions) (session_opened role known number ring))
-        (ring_opened role known number ring)
+    (insert sessions (place_of_number number sessions) (session_opened role known number ring))
+    (ring_opened role known number ring)
 stands_opened capacity w sessions ring number role mount known well stands new is =
     let setting : Setting = bare capacity in
     let h : List (ℕ × RingCall) = w.history in
@@ -183,25 +187,25 @@ stands_opened capacity w sessions ring number role mount known well stands new i
     let now : List (ℕ × RingCall) = h ++ entries_of number (opening_calls role known) in
     let opened_now = session_of-opened capacity h number role mount known (well.callers number new) is in
     let world_is : opens setting w number role mount ≡ run (insert cs place c) now =
-        ap (λ (b : Bool). cond b w (run (placed c cs) (h ++ entries_of number (opening_calls role (bytes_eq mount (codes "A")))))) new
-        ∙ ap (λ (l : List Connection). run l (h ++ entries_of number (opening_calls role (bytes_eq mount (codes "A"))))) (placed_insert c cs)
-        ∙ ap (λ (b : Bool). run (insert cs place c) (h ++ entries_of number (opening_calls role b))) is in
+    ap (λ (b : Bool). cond b w (run (placed c cs) (h ++ entries_of number (opening_calls role (bytes_eq mount (codes "A")))))) new
+    ∙ ap (λ (l : List Connection). run l (h ++ entries_of number (opening_calls role (bytes_eq mount (codes "A"))))) (placed_insert c cs)
+    ∙ ap (λ (b : Bool). run (insert cs place c) (h ++ entries_of number (opening_calls role b))) is in
     let others : (j : ℕ) (d : Connection) → j < length cs → session_of setting now (get_or cs j d) ≡ session_of setting h (get_or cs j d) =
-        λ j d below. session_stays setting h (entries_of number (opening_calls role known)) (get_or cs j d) (well.segments j d below)
-            (entries_none (get_or cs j d).number number (opening_calls role known)
-                (λ eq. eqb-false (get_or cs j d).number number (any_false (λ (x : Connection). x.number == number) cs new j d below) (sym eq))) in
+    λ j d below. session_stays setting h (entries_of number (opening_calls role known)) (get_or cs j d) (well.segments j d below)
+    (entries_none (get_or cs j d).number number (opening_calls role known)
+    (λ eq. eqb-false (get_or cs j d).number number (any_false (λ (x : Connection). x.number == number) cs new j d below) (sym eq))) in
     let step : session_opened role known number ring ≡ session_of setting now c =
-        ap (session_opened role known number) stands.ring_is ∙ opened_now.0 in
+    ap (session_opened role known number) stands.ring_is ∙ opened_now.0 in
     subst (λ (v : World). Stands capacity v (insert sessions (place_of_number number sessions) (session_opened role known number ring)) (ring_opened role known number ring))
     (sym world_is)
     (record {
-        sessions_are =
-            ap (λ (l : List Session). insert l (place_of_number number l) (session_opened role known number ring)) stands.sessions_are
-            ∙ ap (λ (n : ℕ). insert (map (session_of setting h) cs) n (session_opened role known number ring)) (place_mapped setting h number cs)
-            ∙ ap (λ (l : List Session). insert l place (session_opened role known number ring)) (map_same (session_of setting h) (session_of setting now) cs others)
-            ∙ ap (insert (map (session_of setting now) cs) place) step
-            ∙ sym (map_insert (session_of setting now) cs place c);
-        ring_is = ap (ring_opened role known number) stands.ring_is ∙ opened_now.1;
+      sessions_are =
+          ap (λ (l : List Session). insert l (place_of_number number l) (session_opened role known number ring)) stands.sessions_are
+          ∙ ap (λ (n : ℕ). insert (map (session_of setting h) cs) n (session_opened role known number ring)) (place_mapped setting h number cs)
+          ∙ ap (λ (l : List Session). insert l place (session_opened role known number ring)) (map_same (session_of setting h) (session_of setting now) cs others)
+          ∙ ap (insert (map (session_of setting now) cs) place) step
+          ∙ sym (map_insert (session_of setting now) cs place c);
+      ring_is = ap (ring_opened role known number) stands.ring_is ∙ opened_now.1;
     })
 
 -- a number that was opened before

@@ -24,18 +24,18 @@ pub record PublishedSoFar (old now : Pending) (ring_old ring_now : PlainValue) :
 
 pub published_none : (cutter : Pending) (ring : PlainValue) → PublishedSoFar cutter cutter ring ring
 published_none cutter ring = record {
-    frames = [];
-    took = took_none cutter;
-    ring = ap (published ring) (sym (append-nil ring.state.published));
+  frames = [];
+  took = took_none cutter;
+  ring = ap (published ring) (sym (append-nil ring.state.published));
 }
 
 -- given first these frames and then those
 took_then : (a b c : Pending) (xs ys : List (List ℕ)) → Took a b xs → Took b c ys → Took a c (xs ++ ys)
 took_then a b c xs ys first second = record {
-    in_order = first.in_order ∙ ap (λ l. xs ++ l) second.in_order ∙ sym (append_assoc xs ys (cut c.bytes).frames);
-    junk = first.junk ∙ second.junk;
-    rest = first.rest ∙ second.rest;
-    counted = omega (arith, first.counted, second.counted, sum_by-append length xs ys);
+  in_order = first.in_order ∙ ap (λ l. xs ++ l) second.in_order ∙ sym (append_assoc xs ys (cut c.bytes).frames);
+  junk = first.junk ∙ second.junk;
+  rest = first.rest ∙ second.rest;
+  counted = omega (arith, first.counted, second.counted, sum_by-append length xs ys);
 }
 
 -- one more frame is given and published
@@ -44,10 +44,10 @@ pub published_more : (old now next : Pending) (ring_old ring_now ring_next : Pla
     ring_next ≡ published ring_now (ring_now.state.published ++ frame ∷ []) →
     PublishedSoFar old next ring_old ring_next
 published_more old now next ring_old ring_now ring_next frame so_far took ring = record {
-    frames = so_far.frames ++ frame ∷ [];
-    took = took_then old now next so_far.frames (frame ∷ []) so_far.took took;
-    ring = ring ∙ ap (λ (r : PlainValue). published r (r.state.published ++ frame ∷ [])) so_far.ring
-        ∙ ap (published ring_old) (append_assoc ring_old.state.published so_far.frames (frame ∷ []));
+  frames = so_far.frames ++ frame ∷ [];
+  took = took_then old now next so_far.frames (frame ∷ []) so_far.took took;
+  ring = ring ∙ ap (λ (r : PlainValue). published r (r.state.published ++ frame ∷ [])) so_far.ring
+      ∙ ap (published ring_old) (append_assoc ring_old.state.published so_far.frames (frame ∷ []));
 }
 
 -- one frame fewer is left to give
@@ -81,10 +81,10 @@ settled_ring old now next ring_old ring_now so_far took waits =
 pub settled_none : (cutter : Pending) → IsWaiting cutter.bytes → cutter ≡ after_cut (with_bytes cutter [])
 settled_none cutter waits =
     (took_settles (with_bytes cutter []) cutter [] (record {
-        in_order = ap (λ (l : List ℕ). (cut l).frames) (append-nil cutter.bytes);
-        junk = ap (λ (l : List ℕ). cutter.junk + (cut l).junk) (append-nil cutter.bytes);
-        rest = ap (λ (l : List ℕ). (cut l).rest) (append-nil cutter.bytes);
-        counted = omega (arith, ap length (append-nil cutter.bytes));
+      in_order = ap (λ (l : List ℕ). (cut l).frames) (append-nil cutter.bytes);
+      junk = ap (λ (l : List ℕ). cutter.junk + (cut l).junk) (append-nil cutter.bytes);
+      rest = ap (λ (l : List ℕ). (cut l).rest) (append-nil cutter.bytes);
+      counted = omega (arith, ap length (append-nil cutter.bytes));
     }) waits).0
 
 pub no_frames : (cutter : Pending) → IsWaiting cutter.bytes → (cut (cutter.bytes ++ [])).frames ≡ []
@@ -124,9 +124,9 @@ pub published_ring_more : (start now : Pending) (ring_start ring_now : PlainValu
 published_ring_more start now ring_start ring_now bytes i byte within is so_far ring =
     let before : Parts = cut (start.bytes ++ take i bytes) in
     let frames : (cut (now.bytes ++ byte ∷ [])).frames ≡ (cut (before.rest ++ byte ∷ [])).frames =
-        ap (λ (p : Pending). (cut (p.bytes ++ byte ∷ [])).frames) so_far in
+    ap (λ (p : Pending). (cut (p.bytes ++ byte ∷ [])).frames) so_far in
     let all : before.frames ++ (cut (before.rest ++ byte ∷ [])).frames ≡ (cut (start.bytes ++ take (i + 1) bytes)).frames =
-        ap (λ (p : Parts). p.frames) (sym (cut_more start.bytes bytes i byte within is)) in
+    ap (λ (p : Parts). p.frames) (sym (cut_more start.bytes bytes i byte within is)) in
     ap (λ (r : PlainValue). with_published r (cut (now.bytes ++ byte ∷ [])).frames) ring
     ∙ ap (λ (fs : List (List ℕ)). published ring_start ((ring_start.state.published ++ before.frames) ++ fs)) frames
     ∙ ap (published ring_start) (append_assoc ring_start.state.published before.frames (cut (before.rest ++ byte ∷ [])).frames)
@@ -140,7 +140,7 @@ settled_few start now bytes i within so_far =
     let junk : now.junk ≡ start.junk + (cut text).junk = ap (λ (p : Pending). p.junk) so_far in
     let waits : length now.bytes ≡ length (cut text).rest = ap (λ (p : Pending). length p.bytes) so_far in
     let count : length text ≡ length start.bytes + i =
-        length-append start.bytes (take i bytes) ∙ ap (λ (n : ℕ). length start.bytes + n) (length-take-le i bytes within) in
+    length-append start.bytes (take i bytes) ∙ ap (λ (n : ℕ). length start.bytes + n) (length-take-le i bytes within) in
     omega (arith, junk, waits, count, cut_counted text)
 
 -- so there is room to count as junk what waits with one more byte

@@ -65,16 +65,16 @@ pub happens_here : (setting : Setting) (w : World) (number : ℕ) (what : Happen
     InOrder w.connections → at < length w.connections → (get_or w.connections at d).number ≡ number →
     happens setting w number what
     ≡ run (set w.connections at (connection_heard setting w.history what (get_or w.connections at d)))
-        (w.history ++ entries_heard setting w.history what (get_or w.connections at d))
+    (w.history ++ entries_heard setting w.history what (get_or w.connections at d))
 happens_here setting w number what at d order within here =
     let c : Connection = get_or w.connections at d in
     let concerned : is_concerned setting w.history number c ≡ goes_on setting w.history c =
-        ap (λ b. b && goes_on setting w.history c) (eq-eqb c.number number here) in
+    ap (λ b. b && goes_on setting w.history c) (eq-eqb c.number number here) in
     let elsewhere = concerned_elsewhere setting w.history number w.connections at d order within here in
     ap (λ (l : List Connection). run l (w.history ++ flat_map (λ c. cond (is_concerned setting w.history number c) (entries_owed setting w.history what c) []) w.connections))
-        (map_one (is_concerned setting w.history number) (changed what) w.connections at d within elsewhere)
+    (map_one (is_concerned setting w.history number) (changed what) w.connections at d within elsewhere)
     ∙ ap (λ (l : List (ℕ × RingCall)). run (set w.connections at (cond (is_concerned setting w.history number c) (changed what c) c)) (w.history ++ l))
-        (flat_map_one (is_concerned setting w.history number) (entries_owed setting w.history what) w.connections at d within elsewhere)
+    (flat_map_one (is_concerned setting w.history number) (entries_owed setting w.history what) w.connections at d within elsewhere)
     ∙ ap (λ (b : Bool). run (set w.connections at (cond b (changed what c) c)) (w.history ++ cond b (entries_owed setting w.history what c) [])) concerned
 
 -- where no connection has the number nothing changes
@@ -83,9 +83,9 @@ pub happens_nowhere : (setting : Setting) (w : World) (number : ℕ) (what : Hap
 happens_nowhere setting w number what none =
     let nowhere = concerned_nowhere setting w.history number w.connections none in
     ap (λ (l : List Connection). run l (w.history ++ flat_map (λ c. cond (is_concerned setting w.history number c) (entries_owed setting w.history what c) []) w.connections))
-        (map_none (is_concerned setting w.history number) (changed what) w.connections nowhere)
+    (map_none (is_concerned setting w.history number) (changed what) w.connections nowhere)
     ∙ ap (λ (l : List (ℕ × RingCall)). run w.connections (w.history ++ l))
-        (flat_map_none (is_concerned setting w.history number) (entries_owed setting w.history what) w.connections nowhere)
+    (flat_map_none (is_concerned setting w.history number) (entries_owed setting w.history what) w.connections nowhere)
     ∙ ap (run w.connections) (append-nil w.history)
 
 -- a connection's own entries are none of another's
@@ -101,8 +101,8 @@ heard_none setting history what c other apart =
 pub stands_heard : (capacity : ℕ) (w : World) (sessions : List Session) (ring : PlainValue) (number : ℕ) (what : Happening) (at : ℕ) (d : Connection) (e : Session) →
     IsWell (bare capacity) w → Stands capacity w sessions ring → at < length w.connections → (get_or w.connections at d).number ≡ number →
     Stands capacity (happens (bare capacity) w number what)
-        (set sessions at (session_after what ring (get_or sessions at e)))
-        (ring_after what (get_or sessions at e) ring)
+    (set sessions at (session_after what ring (get_or sessions at e)))
+    (ring_after what (get_or sessions at e) ring)
 stands_heard capacity w sessions ring number what at d e well stands within here =
     let setting : Setting = bare capacity in
     let h : List (ℕ × RingCall) = w.history in
@@ -110,29 +110,29 @@ stands_heard capacity w sessions ring number what at d e well stands within here
     let now : List (ℕ × RingCall) = h ++ entries_heard setting h what c in
     let heard_now = heard capacity h what c (well.segments at d within) in
     let session_is : get_or sessions at e ≡ session_of setting h c =
-        ap (λ (l : List Session). get_or l at e) stands.sessions_are ∙ get_or-map (session_of setting h) w.connections at d e within in
+    ap (λ (l : List Session). get_or l at e) stands.sessions_are ∙ get_or-map (session_of setting h) w.connections at d e within in
     let step : session_after what ring (get_or sessions at e) ≡ session_of setting now (connection_heard setting h what c) =
-        ap (λ (s : Session). session_after what ring s) session_is
-        ∙ ap (λ (r : PlainValue). session_after what r (session_of setting h c)) stands.ring_is
-        ∙ heard_now.0 in
+    ap (λ (s : Session). session_after what ring s) session_is
+    ∙ ap (λ (r : PlainValue). session_after what r (session_of setting h c)) stands.ring_is
+    ∙ heard_now.0 in
     let others : (j : ℕ) (f : Connection) → j < length w.connections → (j ≡ at → ⊥) →
-            session_of setting now (get_or w.connections j f) ≡ session_of setting h (get_or w.connections j f) =
-        λ j f below other.
-            let same : (get_or w.connections at f).number ≡ c.number = ap (λ (x : Connection). x.number) (get_or_default w.connections at f d within) in
-            session_stays setting h (entries_heard setting h what c) (get_or w.connections j f) (well.segments j f below)
-            (heard_none setting h what c (get_or w.connections j f).number
-                (λ eq. numbers_apart w.connections at j f well.ordered within below other (sym eq ∙ sym same))) in
+    session_of setting now (get_or w.connections j f) ≡ session_of setting h (get_or w.connections j f) =
+    λ j f below other.
+    let same : (get_or w.connections at f).number ≡ c.number = ap (λ (x : Connection). x.number) (get_or_default w.connections at f d within) in
+    session_stays setting h (entries_heard setting h what c) (get_or w.connections j f) (well.segments j f below)
+    (heard_none setting h what c (get_or w.connections j f).number
+    (λ eq. numbers_apart w.connections at j f well.ordered within below other (sym eq ∙ sym same))) in
     subst (λ (v : World). Stands capacity v (set sessions at (session_after what ring (get_or sessions at e))) (ring_after what (get_or sessions at e) ring))
     (sym (happens_here setting w number what at d well.ordered within here))
     (record {
-        sessions_are =
-            ap (λ (l : List Session). set l at (session_after what ring (get_or sessions at e))) stands.sessions_are
-            ∙ set_mapped (session_of setting h) (session_of setting now) w.connections at (connection_heard setting h what c)
-                (session_after what ring (get_or sessions at e)) (sym step) others;
-        ring_is =
-            ap (λ (s : Session). ring_after what s ring) session_is
-            ∙ ap (λ (r : PlainValue). ring_after what (session_of setting h c) r) stands.ring_is
-            ∙ heard_now.1;
+      sessions_are =
+          ap (λ (l : List Session). set l at (session_after what ring (get_or sessions at e))) stands.sessions_are
+          ∙ set_mapped (session_of setting h) (session_of setting now) w.connections at (connection_heard setting h what c)
+          (session_after what ring (get_or sessions at e)) (sym step) others;
+      ring_is =
+          ap (λ (s : Session). ring_after what s ring) session_is
+          ∙ ap (λ (r : PlainValue). ring_after what (session_of setting h c) r) stands.ring_is
+          ∙ heard_now.1;
     })
 
 pub stands_unheard : (capacity : ℕ) (w : World) (sessions : List Session) (ring : PlainValue) (number : ℕ) (what : Happening) →

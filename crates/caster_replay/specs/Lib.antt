@@ -4,3 +4,4 @@ pub mod Report
 pub mod Steps
 pub mod Live
 pub mod Well
+pub mod Room

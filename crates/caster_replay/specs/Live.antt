@@ -47,9 +47,9 @@ ending_by None role claim (Some last) = Some (ended_last role claim last)
 
 abbrev pub session_by : Setting → List RingAnswer → List (List ℕ) → Connection → Session
 session_by setting answers published c = record {
-    number = c.number;
-    work = work_by c.role setting.shape answers published c.text;
-    ending = ending_by (refusal (is_known setting c) answers) c.role (given_claim answers) c.closed;
+  number = c.number;
+  work = work_by c.role setting.shape answers published c.text;
+  ending = ending_by (refusal (is_known setting c) answers) c.role (given_claim answers) c.closed;
 }
 
 -- what the run keeps of a connection

@@ -45,13 +45,13 @@ after_claiming number ring = record ring { state = after_claim ring.state number
 -- a rover that joined this ring
 abbrev pub opened_rover : ℕ → PlainValue → Session
 opened_rover number ring = record {
-    number = number;
-    work = Rover (begun 0 (record {
-        next = length ring.state.published;
-        passed = length ring.state.published;
-        filter = 0;
-    })) [];
-    ending = None;
+  number = number;
+  work = Rover (begun 0 (record {
+    next = length ring.state.published;
+    passed = length ring.state.published;
+    filter = 0;
+  })) [];
+  ending = None;
 }
 
 -- ---- bytes
@@ -59,8 +59,8 @@ opened_rover number ring = record {
 -- a cutter when each frame was taken from it that its bytes hold
 abbrev pub after_cut : Pending → Pending
 after_cut pending = record {
-    bytes = (cut pending.bytes).rest;
-    junk = pending.junk + (cut pending.bytes).junk;
+  bytes = (cut pending.bytes).rest;
+  junk = pending.junk + (cut pending.bytes).junk;
 }
 
 -- a cutter with more bytes

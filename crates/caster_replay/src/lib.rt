@@ -5,6 +5,7 @@ mod bare;
 mod body;
 mod ending;
 mod rover;
+mod run;
 mod session;
 mod source;
 

@@ -2,15 +2,14 @@ ghost use Rattle.std.specs.Prelude.{◌≡◌, ◌+◌, ◌^◌, ◌<◌, OnOk};
 ghost use Rattle.mount_ring.specs.History.{claim_answer, after_claim};
 ghost use Rattle.caster_replay.specs.Steps.{ended_source, ended_rover, opened_source, opened_rover, refused, after_claiming, HasRoom, fed, ring_fed, IsReady, turned, closed, ring_closed};
 
-use mount_ring::{Outbox, Plain, RingAnswer};
-use rover_cursor::Segment;
-use rtcm_frame::Cutter;
-use std::alloc::{AllocError, Global};
-
 use crate::body::Body;
 use crate::ending::{Ending, Last};
 use crate::rover::take_turn;
 use crate::source::publish_bytes;
+use mount_ring::{Outbox, Plain, RingAnswer};
+use rover_cursor::Segment;
+use rtcm_frame::Cutter;
+use std::alloc::{AllocError, Global};
 
 /// What a connection does while it goes on, and what is kept of it afterwards.
 #[derive(Drop)]
@@ -34,9 +33,7 @@ pub struct Session {
 /// A source opens: it claims the mountpoint.
 pub fn open_source(number: u32, ring: &mut Plain) -> Session
     requires { ring.old.state.claims + 1 < 2 ^ 64 }
-    ensures session {
-        result ≡ opened_source number (claim_answer ring.old.state ring.old.state.holder)
-    }
+    ensures session { result ≡ opened_source number (claim_answer ring.old.state ring.old.state.holder) }
     ensures ring { ring.new ≡ after_claiming number ring.old }
 {
     match ring.claim(number) {
@@ -48,7 +45,10 @@ pub fn open_source(number: u32, ring: &mut Plain) -> Session
             },
             ending: None,
         },
-        RingAnswer::Taken { caller, claim } => open_refused(number, Ending::Taken { caller, claim }),
+        RingAnswer::Taken { caller, claim } => open_refused(
+            number,
+            Ending::Taken { caller, claim },
+        ),
         _ => unreachable!(),
     }
 }
@@ -96,12 +96,7 @@ impl Session {
     }
 
     /// Takes a turn: a rover reads from its segment.
-    pub fn turn(
-        &mut self,
-        ring: &Plain,
-        budget: u32,
-        outbox: &mut Outbox,
-    ) -> Result<(), AllocError>
+    pub fn turn(&mut self, ring: &Plain, budget: u32, outbox: &mut Outbox) -> Result<(), AllocError>
         requires { IsReady ring.now self.old }
         ensures { OnOk result (self.new ≡ turned ring.now budget self.old) }
     {

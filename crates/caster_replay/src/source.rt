@@ -20,18 +20,12 @@ fn publish_ready(cutter: &mut Cutter, ring: &mut Plain) -> Result<(), AllocError
 }
 
 /// Takes more bytes of a source, and publishes each frame that they complete.
-pub fn publish_bytes(
-    cutter: &mut Cutter,
-    ring: &mut Plain,
-    bytes: &[u8],
-) -> Result<(), AllocError>
+pub fn publish_bytes(cutter: &mut Cutter, ring: &mut Plain, bytes: &[u8]) -> Result<(), AllocError>
     requires waits { IsWaiting cutter.old.bytes }
     requires few { cutter.old.junk + length cutter.old.bytes + length bytes.now < 2 ^ 63 }
     ensures cutter { OnOk result (cutter.new ≡ after_cut (with_bytes cutter.old bytes.now)) }
     ensures waits { OnOk result (IsWaiting cutter.new.bytes) }
-    ensures ring {
-        OnOk result (ring.new ≡ with_published ring.old (cut (cutter.old.bytes ++ bytes.now)).frames)
-    }
+    ensures ring { OnOk result (ring.new ≡ with_published ring.old (cut (cutter.old.bytes ++ bytes.now)).frames) }
 {
     for byte in bytes {
         cutter.push(*byte);

@@ -8,9 +8,9 @@ use Rattle.caster_replay.proofs.source.publish_bytes.Goals as goal
 
 pub loop-byte-init : goal.loop-byte-init
 loop-byte-init c = record {
-    cutter = settled_none c.args.cutter.now c.requires.waits;
-    waits = c.requires.waits;
-    ring = no_more_published c.args.cutter.now c.args.ring.now c.requires.waits;
+  cutter = settled_none c.args.cutter.now c.requires.waits;
+  waits = c.requires.waits;
+  ring = no_more_published c.args.cutter.now c.args.ring.now c.requires.waits;
 }
 
 pub publish_ready-requires : goal.publish_ready-requires
@@ -22,14 +22,14 @@ pub loop-byte-preserved : goal.loop-byte-preserved
 loop-byte-preserved c =
     let byte = get_or c.args.bytes.now c.loop-byte.byte-index 0 in
     record {
-        cutter =
-            c.in_ok-publish_ready.ensures.cutter
-            ∙ ap after_cut c.push.ensures.behind
-            ∙ settled_more c.args.cutter.now c.loop-byte.cutter c.args.bytes.now c.loop-byte.byte-index byte c.loop-byte-test.true refl c.loop-byte.invariant.cutter;
-        waits = c.in_ok-publish_ready.ensures.waits;
-        ring =
-            c.in_ok-publish_ready.ensures.ring
-            ∙ ap (λ (p : Pending). with_published c.loop-byte.ring (cut p.bytes).frames) c.push.ensures.behind
-            ∙ published_ring_more c.args.cutter.now c.loop-byte.cutter c.args.ring.now c.loop-byte.ring c.args.bytes.now c.loop-byte.byte-index byte
-            c.loop-byte-test.true refl c.loop-byte.invariant.cutter c.loop-byte.invariant.ring;
+      cutter =
+          c.in_ok-publish_ready.ensures.cutter
+          ∙ ap after_cut c.push.ensures.behind
+          ∙ settled_more c.args.cutter.now c.loop-byte.cutter c.args.bytes.now c.loop-byte.byte-index byte c.loop-byte-test.true refl c.loop-byte.invariant.cutter;
+      waits = c.in_ok-publish_ready.ensures.waits;
+      ring =
+          c.in_ok-publish_ready.ensures.ring
+          ∙ ap (λ (p : Pending). with_published c.loop-byte.ring (cut p.bytes).frames) c.push.ensures.behind
+          ∙ published_ring_more c.args.cutter.now c.loop-byte.cutter c.args.ring.now c.loop-byte.ring c.args.bytes.now c.loop-byte.byte-index byte
+          c.loop-byte-test.true refl c.loop-byte.invariant.cutter c.loop-byte.invariant.ring;
     }

@@ -6,7 +6,7 @@ use Rattle.caster_replay.proofs.source.publish_bytes.Given as goal
 
 abbrev pub invariant-loop-byte : goal.invariant-loop-byte
 invariant-loop-byte l = record {
-    cutter : l.cutter ≡ after_cut (with_bytes l.fn.cutter (take l.byte-index l.bytes));
-    waits : IsWaiting l.cutter.bytes;
-    ring : l.ring ≡ with_published l.fn.ring (cut (l.fn.cutter.bytes ++ take l.byte-index l.bytes)).frames;
+  cutter : l.cutter ≡ after_cut (with_bytes l.fn.cutter (take l.byte-index l.bytes));
+  waits : IsWaiting l.cutter.bytes;
+  ring : l.ring ≡ with_published l.fn.ring (cut (l.fn.cutter.bytes ++ take l.byte-index l.bytes)).frames;
 }
