@@ -9,3 +9,4 @@ pub mod ConnectionLemmas
 pub mod StandsLemmas
 pub mod OpenLemmas
 pub mod RunLemmas
+pub mod WellLemmas
