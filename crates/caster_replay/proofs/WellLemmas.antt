@@ -6,7 +6,7 @@ use Rattle.std.specs.List.{All, AllPairs, list_any, count_by}
 use Rattle.std.specs.Str.{bytes_eq}
 use Rattle.std.proofs.lemmas.List.{append-nil, length-set, get_or-set_same, get_or-set_other, get_or_default}
 use Rattle.std.proofs.lemmas.List.Sums.{fold-append}
-use Rattle.std.proofs.lemmas.List.Elements.{All-append, All-drop}
+use Rattle.std.proofs.lemmas.List.Elements.{All-append, All-drop, All-cons, All-head, All-tail}
 use Rattle.std.proofs.lemmas.List.Kept.{AllPairs-cons}
 use Rattle.std.proofs.lemmas.Bool.{eqb-true, eqb-false, eq-eqb, ne_eqb, cases_Bool, cases_eq, ltb-true, ltb-false}
 use Rattle.rtcm_frame.specs.Cut.{cut}
@@ -382,3 +382,183 @@ well_happens_by setting w number what true old well =
 -- what happens to a connection keeps the run well
 pub IsWell-happens : (setting : Setting) (w : World) (number : ℕ) (what : Happening) → IsWell setting w → IsWell setting (happens setting w number what)
 IsWell-happens setting w number what well = well_happens_by setting w number what (is_opened number w.connections) refl well
+
+-- ---- a connection opens
+
+All-placed : (P : Connection → Type 0) (c : Connection) (cs : List Connection) → P c → All P cs → All P (placed c cs)
+All-placed P c [] here others = All-cons P c [] here others
+All-placed P c (d ∷ ds) here others =
+    elim (nat_lt d.number c.number) as (λ b. All P (cond b (d ∷ placed c ds) (c ∷ d ∷ ds))) [
+      | true ↦ All-cons P d (placed c ds) (All-head P d ds others) (All-placed P c ds here (All-tail P d ds others))
+      | false ↦ All-cons P c (d ∷ ds) here others
+    ]
+
+order_tail : (c : Connection) (cs : List Connection) → InOrder (c ∷ cs) → InOrder cs
+order_tail c cs order i j d less below = order (suc i) (suc j) d (omega (arith, less)) (omega (arith, below))
+
+order_head : (c : Connection) (cs : List Connection) → InOrder (c ∷ cs) → All (λ (x : Connection). c.number < x.number) cs
+order_head c cs order j d below = order 0 (suc j) d (omega arith) (omega (arith, below))
+
+above_all : (c d : Connection) (ds : List Connection) → c.number < d.number → All (λ (x : Connection). d.number < x.number) ds → All (λ (x : Connection). c.number < x.number) ds
+above_all c d ds less above j e below = let more : d.number < (get_or ds j e).number = above j e below in omega (arith, less, more)
+
+order_placed_by : (c d : Connection) (ds : List Connection) (test : Bool) → nat_lt d.number c.number ≡ test → InOrder (d ∷ ds) → (d.number ≡ c.number → ⊥) →
+    InOrder (placed c ds) → InOrder (cond test (d ∷ placed c ds) (c ∷ d ∷ ds))
+order_placed_by c d ds true is order apart later =
+    AllPairs-cons (λ (x y : Connection). x.number < y.number) d (placed c ds)
+    (All-placed (λ (x : Connection). d.number < x.number) c ds (ltb-true d.number c.number is) (order_head d ds order)) later
+order_placed_by c d ds false is order apart later =
+    let at_least : c.number ≤ d.number = ltb-false d.number c.number is in
+    let less : c.number < d.number = omega (arith, at_least, apart) in
+    AllPairs-cons (λ (x y : Connection). x.number < y.number) c (d ∷ ds)
+    (All-cons (λ (x : Connection). c.number < x.number) d ds less (above_all c d ds less (order_head d ds order))) order
+
+order_placed : (c : Connection) (cs : List Connection) → InOrder cs → is_opened c.number cs ≡ false → InOrder (placed c cs)
+order_placed c [] order new = AllPairs-cons (λ (x y : Connection). x.number < y.number) c [] (λ j d below. absurd (omega (arith, below))) order
+order_placed c (d ∷ ds) order new =
+    order_placed_by c d ds (nat_lt d.number c.number) refl order (eqb-false d.number c.number (first_false (d.number == c.number) (is_opened c.number ds) new))
+    (order_placed c ds (order_tail d ds order) (later_false (d.number == c.number) (is_opened c.number ds) new))
+  where
+    first_false : (a b : Bool) → (a || b) ≡ false → a ≡ false
+    first_false true b h = absurd cc
+    first_false false b h = refl
+
+    later_false : (a b : Bool) → (a || b) ≡ false → b ≡ false
+    later_false true b h = absurd cc
+    later_false false b h = h
+
+or_swap : (a b c : Bool) → (a || (b || c)) ≡ (b || (a || c))
+or_swap true true c = refl
+or_swap true false c = refl
+or_swap false true c = refl
+or_swap false false c = refl
+
+opened_placed : (number : ℕ) (c : Connection) (cs : List Connection) → is_opened number (placed c cs) ≡ ((c.number == number) || is_opened number cs)
+opened_placed number c [] = refl
+opened_placed number c (d ∷ ds) =
+    elim (nat_lt d.number c.number) as (λ b. is_opened number (cond b (d ∷ placed c ds) (c ∷ d ∷ ds)) ≡ ((c.number == number) || ((d.number == number) || is_opened number ds))) [
+      | true ↦ ap (λ b. (d.number == number) || b) (opened_placed number c ds) ∙ or_swap (d.number == number) (c.number == number) (is_opened number ds)
+      | false ↦ refl
+    ]
+
+-- what stands first of a new connection's answers
+new_answers : (shape : Shape) (history : List (ℕ × RingCall)) (number : ℕ) (call : RingCall) → IsTrue (has_none_of number history) →
+    own_answers shape number (history ++ (number, call) ∷ []) ≡ answer shape (state_of history) call ∷ []
+new_answers shape history number call none =
+    own_answers-call shape number history call
+    ∙ ap (λ l. l ++ answer shape (state_of history) call ∷ []) (answers_from-none shape number start history none)
+
+-- how a connection is received, by its first answers
+newly : Role → Bool → Shape → List RingAnswer → List (List ℕ) → Type 0
+newly role known shape own published = IsReceived role (refusal known own) (given_claim own) shape published (newest_segments 0 own)
+
+source_claims : (shape : Shape) (state : State) (holder : Option Holder) (published : List (List ℕ)) → newly roles.Source true shape (claim_answer state holder ∷ []) published
+unfolding newly
+source_claims shape state None published = refl
+source_claims shape state (Some holder) published = refl
+
+rover_joins : (shape : Shape) (state : State) → newly roles.Rover true shape (answers.Joined (joined shape state 0) ∷ []) state.published
+unfolding newly
+rover_joins shape state = record {
+    sound = IsSound-begun (permits_at shape 0) shape.capacity state.published 0 (joined shape state 0) refl refl;
+    filter = refl;
+    mount = refl;
+}
+
+newly_well : (setting : Setting) (history : List (ℕ × RingCall)) (number : ℕ) (role : Role) (mount : List ℕ) (known : Bool) (own : List RingAnswer) →
+    bytes_eq mount setting.mount ≡ known → own_answers setting.shape number history ≡ own → newly role known setting.shape own (state_of history).published →
+    IsWellConnection setting history (opened number role mount)
+unfolding newly
+newly_well setting history number role mount known own is own_is h =
+    subst (λ (l : List RingAnswer). IsReceived role (refusal (bytes_eq mount setting.mount) l) (given_claim l) setting.shape (state_of history).published (newest_segments 0 l)) (sym own_is)
+    (subst (λ (b : Bool). IsReceived role (refusal b own) (given_claim own) setting.shape (state_of history).published (newest_segments 0 own)) (sym is) h)
+
+unknown_well : (role : Role) (shape : Shape) (published : List (List ℕ)) → newly role false shape [] published
+unfolding newly
+unknown_well roles.Source shape published = refl
+unknown_well roles.Rover shape published = refl
+
+opened_well : (setting : Setting) (history : List (ℕ × RingCall)) (number : ℕ) (role : Role) (mount : List ℕ) (known : Bool) →
+    bytes_eq mount setting.mount ≡ known → IsTrue (has_none_of number history) →
+    IsWellConnection setting (history ++ entries_of number (opening_calls role known)) (opened number role mount)
+opened_well setting history number role mount false is none =
+    newly_well setting (history ++ []) number role mount false [] is
+    (ap (own_answers setting.shape number) (append-nil history) ∙ answers_from-none setting.shape number start history none)
+    (unknown_well role setting.shape (state_of (history ++ [])).published)
+opened_well setting history number roles.Source mount true is none =
+    newly_well setting (history ++ (number, calls.Claim) ∷ []) number roles.Source mount true _ is (new_answers setting.shape history number calls.Claim none)
+    (source_claims setting.shape (state_of history) (state_of history).holder (state_of (history ++ (number, calls.Claim) ∷ [])).published)
+opened_well setting history number roles.Rover mount true is none =
+    newly_well setting (history ++ (number, calls.Join 0) ∷ []) number roles.Rover mount true _ is (new_answers setting.shape history number (calls.Join 0) none)
+    (subst (λ (s : State). newly roles.Rover true setting.shape (answers.Joined (joined setting.shape (state_of history) 0) ∷ []) s.published)
+        (sym (state_of-append history ((number, calls.Join 0) ∷ []))) (rover_joins setting.shape (state_of history)))
+
+well_opens_by : (setting : Setting) (w : World) (number : ℕ) (role : Role) (mount : List ℕ) (test : Bool) → is_opened number w.connections ≡ test → IsWell setting w →
+    IsWell setting (cond test w (run (placed (opened number role mount) w.connections) (w.history ++ entries_of number (opening_calls role (bytes_eq mount setting.mount)))))
+well_opens_by setting w number role mount true old well = well
+well_opens_by setting w number role mount false new well =
+    let h : List (ℕ × RingCall) = w.history in
+    let cs : List Connection = w.connections in
+    let c : Connection = opened number role mount in
+    let es : List (ℕ × RingCall) = entries_of number (opening_calls role (bytes_eq mount setting.mount)) in
+    record {
+        ordered = order_placed c cs well.ordered new;
+        callers = λ other fresh.
+            let both : ((number == other) || is_opened other cs) ≡ false = sym (opened_placed other c cs) ∙ fresh in
+            has_none_of-append other h es (well.callers other (later_false (number == other) (is_opened other cs) both))
+            (entries_none other number (opening_calls role (bytes_eq mount setting.mount)) (eqb-false number other (first_false (number == other) (is_opened other cs) both)));
+        frames = frames_more h es well.frames (opening_frames number role (bytes_eq mount setting.mount));
+        segments = All-placed (IsWellConnection setting (h ++ es)) c cs
+            (opened_well setting h number role mount (bytes_eq mount setting.mount) refl (well.callers number new))
+            (λ j d below. well_stays setting h es (get_or cs j d) (well.segments j d below)
+                (entries_none (get_or cs j d).number number (opening_calls role (bytes_eq mount setting.mount))
+                    (λ eq. eqb-false (get_or cs j d).number number (any_false (λ (x : Connection). x.number == number) cs new j d below) (sym eq))));
+    }
+  where
+    first_false : (a b : Bool) → (a || b) ≡ false → a ≡ false
+    first_false true b h = absurd cc
+    first_false false b h = refl
+
+    later_false : (a b : Bool) → (a || b) ≡ false → b ≡ false
+    later_false true b h = absurd cc
+    later_false false b h = h
+
+pub IsWell-opens : (setting : Setting) (w : World) (number : ℕ) (role : Role) (mount : List ℕ) → IsWell setting w → IsWell setting (opens setting w number role mount)
+IsWell-opens setting w number role mount well = well_opens_by setting w number role mount (is_opened number w.connections) refl well
+
+-- ---- whole runs
+
+pub IsWell-nothing : (setting : Setting) → IsWell setting nothing_yet
+IsWell-nothing setting = record {
+    ordered = λ i j d less below. absurd (omega (arith, below));
+    callers = λ number new. refl;
+    frames = no_frames_fail;
+    segments = λ j d below. absurd (omega (arith, below));
+}
+
+pub IsWell-event : (setting : Setting) (w : World) (event : Event) → IsWell setting w → IsWell setting (after_event setting w event)
+IsWell-event setting w (events.Source number mount) well = IsWell-opens setting w number roles.Source mount well
+IsWell-event setting w (events.Rover number mount) well = IsWell-opens setting w number roles.Rover mount well
+IsWell-event setting w (events.Open number) well = well
+IsWell-event setting w (events.Relay number relay) well = well
+IsWell-event setting w (events.In number bytes) well = IsWell-happens setting w number (arrives bytes) well
+IsWell-event setting w (events.Turn number budget) well = IsWell-happens setting w number (takes_turn budget) well
+IsWell-event setting w (events.Break number) well = IsWell-happens setting w number (ends lasts.ReadFault) well
+IsWell-event setting w (events.End number) well = IsWell-happens setting w number (ends lasts.End) well
+
+well_after : (setting : Setting) (w : World) (list : List Event) → IsWell setting w → IsWell setting (fold (after_event setting) w list)
+well_after setting w [] well = well
+well_after setting w (event ∷ list) well = well_after setting (after_event setting w event) list (IsWell-event setting w event well)
+
+-- the run after any events is well
+pub IsWell-events : (setting : Setting) (list : List Event) → IsWell setting (after_events setting list)
+IsWell-events setting list = well_after setting nothing_yet list (IsWell-nothing setting)
+
+pub IsWell-closes : (setting : Setting) (w : World) (numbers : List ℕ) → IsWell setting w → IsWell setting (closes setting w numbers)
+IsWell-closes setting w [] well = well
+IsWell-closes setting w (number ∷ numbers) well = IsWell-closes setting (happens setting w number (ends lasts.End)) numbers (IsWell-happens setting w number (ends lasts.End) well)
+
+-- and so is the whole run
+pub IsWell-world : (setting : Setting) (list : List Event) → IsWell setting (world setting list)
+IsWell-world setting list =
+    IsWell-closes setting (after_events setting list) (map (λ (c : Connection). c.number) (after_events setting list).connections) (IsWell-events setting list)
