@@ -24,6 +24,10 @@ frame_least bytes valid = omega (arith, frame_claim bytes valid)
 pub frame_most : (bytes : List ℕ) → IsTrue (is_frame bytes) → length bytes ≤ 1029
 frame_most bytes valid = omega (arith, frame_claim bytes valid)
 
+-- both bounds of a frame's length
+pub frame_bounds : (bytes : List ℕ) → IsTrue (is_frame bytes) → (6 ≤ length bytes) × (length bytes ≤ 1029)
+frame_bounds bytes valid = (frame_least bytes valid, frame_most bytes valid)
+
 -- a frame that was written over a buffer of zeros is padded
 pub frame_padded : (bytes all : List ℕ) → IsTrue (is_frame bytes)
     → all ≡ bytes ++ drop (length bytes) (replicate 1029 0)

@@ -1,5 +1,6 @@
--- A frame of RTCM 10403.3's transport layer: the preamble, six reserved bits, the payload's length in ten bits,
--- the payload, and the CRC-24Q of all before it in three bytes, most significant first.
+-- A frame of RTCM 10403.3's transport layer: the preamble, six reserved bits, the payload's length
+-- in ten bits, the payload, and the CRC-24Q of all before it in three bytes, most significant
+-- first.
 use Rattle.std.specs.Prelude.{ℕ, ◌+◌, ◌-◌, ◌*◌, ◌/◌, ◌%◌, Bool, ◌&&◌, ◌==◌, nat_lt, if◌then◌else◌, List, length, take, drop, slice_index, Option, Some, None}
 use Rattle.rtcm_frame.specs.Crc.{crc24q_of}
 
@@ -21,7 +22,8 @@ checksum bytes =
     let n = length bytes in
     slice_index bytes (n - 3) * 65536 + slice_index bytes (n - 2) * 256 + slice_index bytes (n - 1)
 
--- these bytes are one whole frame: preamble, length and checksum are right. The reserved bits are free
+-- these bytes are one whole frame: preamble, length and checksum are right. The reserved bits are
+-- free
 unfoldable pub is_frame : List ℕ → Bool
 is_frame bytes =
     (slice_index bytes 0 == preamble)
