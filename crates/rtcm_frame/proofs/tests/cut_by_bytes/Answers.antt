@@ -1,4 +1,4 @@
-use Rattle.std.proofs.Common.{ℕ, List, ◌<◌, length, sym, subst}
+use Rattle.std.proofs.Common.{ℕ, List, sym, subst}
 use Rattle.std.proofs.lemmas.List.{take_more}
 use Rattle.rtcm_frame.specs.Pending.{Gave}
 use Rattle.rtcm_frame.proofs.tests.cut_by_bytes.Goals as goal
