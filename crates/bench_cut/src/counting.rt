@@ -1,6 +1,6 @@
 //! Counting the frames of a stream that comes in pieces.
-ghost use Rattle.std.specs.Prelude.{◌+◌, ◌^◌, ◌<◌, ◌≤◌, ◌++◌, List, [], ◌∷◌, ℕ, length, IfOk};
-ghost use Rattle.rtcm_frame.specs.Cut.{IsWaiting};
+ghost use Rattle.std.specs.Prelude.{◌+◌, ◌^◌, ◌<◌, ◌≤◌, ◌++◌, List, [], ◌∷◌, ℕ, length, ◌≡◌, IfOk, IfSome};
+ghost use Rattle.rtcm_frame.specs.Cut.{IsWaiting, cut};
 ghost use Rattle.bench_cut.specs.Counted.{GaveSoMany, size};
 
 use rtcm_frame::Cutter;
@@ -16,9 +16,11 @@ pub struct Counts {
     pub junk: u64,
 }
 
-/// Reads a stream to its end, a piece at a time, and cuts it.
+/// Reads a stream to its end, a piece at a time, and counts the frames and the junk of its cut.
 pub fn count_stream<R: Read>(input: &mut R, piece: &mut [u8]) -> io::Result<Counts>
-    ensures few { IfOk result (λ counts. counts.frames + counts.junk ≤ 2 ^ 62) }
+    requires { 0 < length piece.old }
+    ensures { IfOk result (λ counts. IfSome (R.remaining input.old) (λ all.
+        (counts.frames ≡ length (cut all).frames) × (counts.junk ≡ (cut all).junk))) }
 {
     let mut cutter = Cutter::new();
     let mut frames: u64 = 0;

@@ -47,7 +47,8 @@ number_of frame =
 abbrev pub three_bytes : ℕ → List ℕ
 three_bytes n = (n / 65536) ∷ (n / 256 % 256) ∷ (n % 256) ∷ []
 
--- a frame before its checksum: the preamble, the reserved bits with the payload's length, the payload
+-- a frame before its checksum: the preamble, the reserved bits with the payload's length, and the
+-- payload
 abbrev pub unchecked : ℕ → List ℕ → List ℕ
 unchecked reserved content =
     preamble ∷ (reserved * 4 + length content / 256) ∷ (length content % 256) ∷ content

@@ -1,6 +1,4 @@
-use Rattle.std.proofs.Common.{◌≡◌, ℕ, ◌+◌, ◌≤◌, List, [], ◌∷◌, ◌++◌, length, arith, length-append}
-use Rattle.rtcm_frame.specs.Pending.{Gave}
-use Rattle.bench_cut.specs.Counted.{GaveSoMany, size}
+use Rattle.std.proofs.Common.{arith}
 use Rattle.bench_cut.proofs.CountLemmas.{one_more, took_one}
 use Rattle.bench_cut.proofs.counting.count_byte.Goals as goal
 
