@@ -100,7 +100,7 @@ if_within limit line = filter (λ l. leb (length l) limit) (line ∷ [])
 lines_more : (limit : ℕ) (bs : List ℕ) → whole_lines limit (bs ++ 10 ∷ []) ≡ whole_lines limit bs ++ if_within limit (strip_carriage_return (unfinished bs))
 lines_more limit bs =
     let e : all_but_last (parts_of (bs ++ 10 ∷ [])) ≡ all_but_last (parts_of bs) ++ unfinished bs ∷ [] =
-        ap all_but_last (split_ends (λ c. eqb c 10) 10 bs refl) ∙ ended_new (parts_of bs) (has_part (λ c. eqb c 10) bs) in
+    ap all_but_last (split_ends (λ c. eqb c 10) 10 bs refl) ∙ ended_new (parts_of bs) (has_part (λ c. eqb c 10) bs) in
     rw (e, map-append, filter-append) refl
 
 -- ---- states

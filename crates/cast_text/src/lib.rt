@@ -13,3 +13,6 @@ pub use lines::Lines;
 pub use name::{GroupName, MountName, UserName};
 pub use number::{push_decimal, push_hex};
 pub use text::Text;
+
+#[cfg(test)]
+mod tests;
