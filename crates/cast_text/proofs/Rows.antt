@@ -1,7 +1,6 @@
 -- Worked rows, which the definitions compute.
-use Rattle.std.proofs.Common.{◌≡◌, ℕ, List, [], ◌∷◌, ◌++◌, Result, Ok, Err, refl, replicate}
+use Rattle.std.proofs.Common.{◌≡◌, [], ◌∷◌, Ok, Err, refl, replicate}
 use Rattle.std.specs.Prelude.{codes}
-use Rattle.cast_text.specs.declared.fault.NameFault.{NameFault}
 use Rattle.cast_text.specs.declared.fault.NameFault.TheVariants.{Empty, Long, Byte}
 use Rattle.cast_text.specs.Name.{name_of}
 use Rattle.cast_text.specs.Lines.{whole_lines, unfinished}

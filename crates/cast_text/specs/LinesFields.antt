@@ -1,5 +1,5 @@
 -- The fields of `Lines`.
-use Rattle.std.specs.Prelude.{◌≡◌, ◌+◌, ◌≤◌, length}
+use Rattle.std.specs.Prelude.{◌+◌, ◌≤◌, length}
 use Rattle.std.specs.Vec.{vec_capacity}
 use Rattle.cast_text.specs.declared.lines.Lines.TheInside.{Inside}
 use Rattle.cast_text.specs.Lines.{LineState}

@@ -1,7 +1,7 @@
 -- The state after the line that was given is forgotten stands for the same bytes, and then the byte comes.
-use Rattle.std.proofs.Common.{◌≡◌, ℕ, ◌+◌, cond, true, false, List, [], ◌∷◌, ◌++◌, length, sym, ap, subst, ◌∙◌, refl}
+use Rattle.std.proofs.Common.{◌≡◌, true, false, sym, subst}
 use Rattle.std.proofs.lemmas.Bool.{ne_eqb}
-use Rattle.cast_text.specs.Lines.{LineState, StandsFor, whole_lines, kept, no_line}
+use Rattle.cast_text.specs.Lines.{LineState, no_line}
 use Rattle.cast_text.proofs.LineLemmas.{Stays, stays_new, stays_same, stands_kept, lines_kept, stands_ended, lines_ended}
 use Rattle.cast_text.proofs.lines.Lines.push.Goals as goal
 use Rattle.cast_text.proofs.lines.Lines.push.Goals.{then-self, else-self}
