@@ -10,28 +10,9 @@ use Rattle.session_script.specs.declared.ScriptKind.TheVariants.{Bare, Replay}
 use Rattle.session_script.specs.declared.ScriptFault.{ScriptFault}
 use Rattle.session_script.specs.declared.ScriptFault.TheVariants.{Line, State, NoStop, Long, Memory}
 use Rattle.session_script.specs.Line.{is_event, event_of_line}
+use Rattle.session_script.specs.Numbers.{Numbers, no_numbers, may_open, may_speak, opening, closing}
 
--- ---- what was opened and closed
-
--- the numbers of the connections that were opened so far, and of those that break or end closed
-pub record Numbers : Type 0 where
-  pub opened : List ℕ
-  pub closed : List ℕ
-
--- nothing was opened yet
-abbrev pub no_numbers : Numbers
-no_numbers = record { opened = []; closed = [] }
-
-abbrev pub is_among : ℕ → List ℕ → Bool
-is_among k numbers = list_any (λ n. n == k) numbers
-
--- the number is new, and fewer than 256 were opened
-abbrev pub may_open : Numbers → ℕ → Bool
-may_open numbers k = not (is_among k numbers.opened) && nat_lt (length numbers.opened) 256
-
--- the number was opened, and not closed since
-abbrev pub may_speak : Numbers → ℕ → Bool
-may_speak numbers k = is_among k numbers.opened && not (is_among k numbers.closed)
+-- ---- the order of events
 
 -- the relay is one of the kind's
 abbrev pub is_relay : ScriptKind → ℕ → Bool
@@ -48,12 +29,6 @@ may_follow kind numbers (In k bytes) = may_speak numbers k
 may_follow kind numbers (Turn k budget) = may_speak numbers k
 may_follow kind numbers (Break k) = may_speak numbers k
 may_follow kind numbers (End k) = may_speak numbers k
-
-abbrev pub opening : Numbers → ℕ → Numbers
-opening numbers k = record numbers { opened = numbers.opened ++ k ∷ [] }
-
-abbrev pub closing : Numbers → ℕ → Numbers
-closing numbers k = record numbers { closed = numbers.closed ++ k ∷ [] }
 
 -- what is opened and closed after the event
 abbrev pub after_event : Numbers → Event → Numbers
