@@ -1,6 +1,7 @@
 -- A whole script: its events, or the first fault.
 use Rattle.std.specs.Prelude.{◌≡◌, ℕ, ◌+◌, Bool, true, not, ◌&&◌, nat_lt, ◌==◌, if◌then◌else◌, List, [], ◌∷◌, ◌++◌, length, codes, Option, Some, None, Result, Ok, Err, IsTrue}
 use Rattle.std.specs.List.{list_any}
+use Rattle.std.specs.Global.{Vec}
 use Rattle.std.specs.Str.{bytes_eq}
 use Rattle.std.specs.Str.Lines.{lines}
 use Rattle.session_script.specs.declared.Event.{Event}
@@ -87,17 +88,22 @@ script_of kind bytes =
 -- ---- what a call returns
 
 -- the call fails so, or for want of memory
-abbrev pub Fails : ScriptFault → Result (List Event) ScriptFault → Type 0
-Fails Memory script = Unit {0}
-Fails (Line n) script = script ≡ Err (Line n)
-Fails (State n) script = script ≡ Err (State n)
-Fails NoStop script = script ≡ Err NoStop
-Fails Long script = script ≡ Err Long
+abbrev pub Fails : {Y : Type 0} → ScriptFault → Result Y ScriptFault → Type 0
+Fails Memory read = Unit {0}
+Fails (Line n) read = read ≡ Err (Line n)
+Fails (State n) read = read ≡ Err (State n)
+Fails NoStop read = read ≡ Err NoStop
+Fails Long read = read ≡ Err Long
 
--- the call returned these events or this fault, unless memory ran out
-abbrev pub Gives : Result (List Event) ScriptFault → Result (List Event) ScriptFault → Type 0
-Gives (Ok events) script = script ≡ Ok events
-Gives (Err fault) script = Fails fault script
+-- the call returned this value or this fault, unless memory ran out
+abbrev pub Gives : {Y : Type 0} → Result Y ScriptFault → Result Y ScriptFault → Type 0
+Gives (Ok value) read = read ≡ Ok value
+Gives (Err fault) read = Fails fault read
+
+-- what a call returned, as the list of events
+abbrev pub items_of : Result (Vec Event) ScriptFault → Result (List Event) ScriptFault
+items_of (Ok events) = Ok events.items
+items_of (Err fault) = Err fault
 
 -- the bytes that come in with an event
 abbrev pub input_length : Event → ℕ

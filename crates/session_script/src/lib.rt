@@ -11,6 +11,7 @@ mod connections;
 mod line;
 mod number;
 mod parts;
+mod reading;
 
 
 use cast_text::{MountName, Text};

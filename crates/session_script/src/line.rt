@@ -118,8 +118,9 @@ pub fn event_of_line(alloc: Global, kind: ScriptKind, line: &[u8]) -> Result<Opt
     let Some(value) = value else {
         return Ok(short_event(kind, word, k));
     };
-    let (value, None) = split_part(value) else {
+    let (value, more) = split_part(value);
+    if more.is_some() {
         return Ok(None);
-    };
+    }
     long_event(alloc, kind, word, k, value)
 }

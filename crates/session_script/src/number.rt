@@ -2,16 +2,21 @@
 
 ghost use Rattle.std.specs.Prelude.{◌≡◌, ◌-◌, ◌^◌, min};
 ghost use Rattle.std.specs.Option.{option_map};
-ghost use Rattle.session_script.specs.Digits.{is_number, number_of, number_from, at_most};
+ghost use Rattle.std.specs.List.{list_all};
+ghost use Rattle.session_script.specs.Digits.{is_digit, is_number, number_of, number_from, at_most};
+
+/// Whether each byte is one of `0` to `9`.
+fn all_digits(text: &[u8]) -> bool
+    ensures { result ≡ list_all is_digit text.now }
+{
+    text.iter().all(|c| b'0' <= *c && *c <= b'9')
+}
 
 /// Whether the text is a decimal number from 1, of any size, with no leading zero.
 fn is_number(text: &[u8]) -> bool
     ensures { result ≡ is_number text.now }
 {
-    match text {
-        [] => false,
-        [first, ..] => *first != b'0' && text.iter().all(|c| (b'0'..=b'9').contains(c)),
-    }
+    !text.is_empty() && text[0] != b'0' && all_digits(text)
 }
 
 /// The number that these digits stand for, or the last `u64` where it is larger.
