@@ -62,14 +62,14 @@ split_at_some p xs place some =
 
 -- ---- lines
 
-data HasPart : List (List ℕ) → Type 0 where
+pub data HasPart : List (List ℕ) → Type 0 where
   part : (x : List ℕ) (more : List (List ℕ)) → HasPart (x ∷ more)
 
 onto_has_part : (c : ℕ) (ps : List (List ℕ)) → HasPart (onto_first c ps)
 onto_has_part c [] = part (c ∷ []) []
 onto_has_part c (x ∷ more) = part (c ∷ x) more
 
-has_part : (p : ℕ → Bool) (bs : List ℕ) → HasPart (slice_split p bs)
+pub has_part : (p : ℕ → Bool) (bs : List ℕ) → HasPart (slice_split p bs)
 has_part p [] = part [] []
 has_part p (c ∷ bs) =
     elim (cases_Bool (p c)) [

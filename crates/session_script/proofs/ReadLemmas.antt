@@ -1,8 +1,9 @@
 -- Reading one line, and then those that follow.
-use Rattle.std.proofs.Common.{◌≡◌, ℕ, ◌+◌, Bool, true, false, cond, List, [], ◌∷◌, ◌++◌, Option, Some, None, Result, Ok, Err, refl, sym, ap, ◌∙◌, inl, inr, append_assoc}
+use Rattle.std.proofs.Common.{◌≡◌, ℕ, ◌+◌, Bool, true, false, cond, List, [], ◌∷◌, ◌++◌, Option, Some, None, Result, Ok, Err, refl, sym, ap, subst, ◌∙◌, ◌<◌, ◌≤◌, length, inl, inr, append_assoc}
 use Rattle.std.specs.Prelude.{codes}
 use Rattle.std.specs.Str.{bytes_eq}
-use Rattle.std.proofs.lemmas.Bool.{cases_Bool}
+use Rattle.std.specs.Str.Lines.{lines}
+use Rattle.std.proofs.lemmas.Bool.{cases_Bool, lt-ltb, le-ltb}
 use Rattle.std.proofs.lemmas.List.{append-nil}
 use Rattle.session_script.specs.declared.Event.{Event}
 use Rattle.session_script.specs.declared.ScriptKind.{ScriptKind}
@@ -11,8 +12,8 @@ use Rattle.session_script.specs.declared.ScriptFault.TheVariants.{Line, State, N
 use Rattle.session_script.specs.declared.reading.LineRead.{LineRead}
 use Rattle.session_script.specs.declared.reading.LineRead.TheVariants.{Skipped, Stop, Happens}
 use Rattle.session_script.specs.Line.{event_of_line}
-use Rattle.session_script.specs.Numbers.{Numbers}
-use Rattle.session_script.specs.Script.{is_skipped, may_follow, after_event, onto_events, events_of_lines, Fails}
+use Rattle.session_script.specs.Numbers.{Numbers, no_numbers}
+use Rattle.session_script.specs.Script.{is_skipped, may_follow, after_event, onto_events, events_of_lines, script_of, Fails}
 use Rattle.session_script.specs.Reading.{event_read, line_read, with_front}
 
 -- what is read once the first line was read
@@ -92,3 +93,20 @@ fails_there kind n numbers line lines front (Line k) fails = faulty kind n numbe
 fails_there kind n numbers line lines front (State k) fails = faulty kind n numbers line lines front (State k) fails
 fails_there kind n numbers line lines front NoStop fails = faulty kind n numbers line lines front NoStop fails
 fails_there kind n numbers line lines front Long fails = faulty kind n numbers line lines front Long fails
+
+-- ---- whole scripts
+
+pub script_small : (kind : ScriptKind) (bytes : List ℕ) → length bytes ≤ 8388608 → script_of kind bytes ≡ events_of_lines kind 1 no_numbers (lines bytes)
+unfolding script_of
+script_small kind bytes small = rw (le-ltb 8388608 (length bytes) small) refl
+
+pub script_long : (kind : ScriptKind) (bytes : List ℕ) → 8388608 < length bytes → script_of kind bytes ≡ Err Long
+unfolding script_of
+script_long kind bytes long = rw (lt-ltb 8388608 (length bytes) long) refl
+
+pub Fails-at : {Y : Type 0} (fault : ScriptFault) (a b : Result Y ScriptFault) → a ≡ b → Fails fault a → Fails fault b
+Fails-at {Y} fault a b same fails = subst (λ (r : Result Y ScriptFault). Fails fault r) same fails
+
+pub no_more : (kind : ScriptKind) (n : ℕ) (numbers : Numbers) (front : List Event) → with_front front (events_of_lines kind n numbers []) ≡ Err NoStop
+unfolding events_of_lines
+no_more kind n numbers front = refl
