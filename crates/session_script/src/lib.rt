@@ -18,6 +18,8 @@ use cast_text::{MountName, Text};
 use std::alloc::{AllocError, AllocFailed};
 use thiserror::Error;
 
+pub use reading::parse;
+
 
 
 /// One event of a script. The first number of each is the connection's, from 1 to 9999.

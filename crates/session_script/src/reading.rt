@@ -1,8 +1,8 @@
 //! Reading a whole script.
 
-ghost use Rattle.std.specs.Prelude.{◌≡◌, ℕ, ◌+◌, ◌^◌, ◌<◌, ◌≤◌, List, [], ◌∷◌, length, IfOk, IfErr, OnOk, IsOk, Ok, if◌then◌else◌};
+ghost use Rattle.std.specs.Prelude.{◌≡◌, ℕ, ◌+◌, ◌^◌, ◌<◌, ◌≤◌, List, [], ◌∷◌, length, IfOk, IfErr, OnOk, IsOk, Ok, if◌then◌else◌, sum_by};
 
-ghost use Rattle.session_script.specs.Script.{Gives, items_of, is_skipped, script_of};
+ghost use Rattle.session_script.specs.Script.{Gives, IsSession, input_length, items_of, is_skipped, script_of};
 ghost use Rattle.session_script.specs.Reading.{line_read};
 
 use crate::connections::Connections;
@@ -124,4 +124,24 @@ fn events_of(alloc: Global, bytes: &[u8], kind: ScriptKind) -> Result<Vec<Event>
         }
     }
     Err(ScriptFault::NoStop)
+}
+
+/// The events of a script of this kind.
+///
+/// # Errors
+/// `Long` exactly where there are more than 8 MiB. Else the first faulty line counts: `Line` where it
+/// is of no form of its kind, `State` where it has a form but opens a number that was opened before,
+/// opens the 257th connection, speaks of a number that was not opened or that `break` or `end`
+/// closed, or names a relay beyond the kind's. `NoStop` where no line is faulty and none is `stop`.
+/// `Memory` at any time.
+pub fn parse(alloc: Global, bytes: &[u8], kind: ScriptKind) -> Result<Vec<Event>, ScriptFault>
+    ensures exact { Gives (items_of result) (script_of kind bytes.now) }
+
+    // What is read is a session of the kind, and small.
+    ensures session { IfOk result (λ events. IsSession kind events.items) }
+    ensures small { IfOk result (λ events. length bytes.now ≤ 8388608) }
+    ensures events { IfOk result (λ events. length events.items ≤ length bytes.now) }
+    ensures input { IfOk result (λ events. sum_by input_length events.items ≤ length bytes.now) }
+{
+    events_of(alloc, bytes, kind)
 }
