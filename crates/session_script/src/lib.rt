@@ -8,6 +8,7 @@ ghost use Rattle.std.specs.Prelude.{◌≡◌};
 ghost use Rattle.session_script.specs.declared.ScriptFault.TheVariants.{Memory};
 
 mod connections;
+mod law;
 mod line;
 mod number;
 mod parts;
@@ -18,6 +19,7 @@ use cast_text::{MountName, Text};
 use std::alloc::{AllocError, AllocFailed};
 use thiserror::Error;
 
+pub use law::reads_what_is_written;
 pub use reading::parse;
 
 
