@@ -141,6 +141,15 @@ pub heard_less : {C A : Type 0} (alone less : Bool) (answer : History C → ℕ 
 heard_less alone less answer old now me pairs from x =
     record { more = x.more; seen = x.seen; mine = x.mine; nothing_else = λ is. x.nothing_else (from is) }
 
+-- The same by other names of equal things. A turn leaves alone and shape as they were, which
+-- generic code knows by equations: `heard_same same.3 (ap answer same.0)`.
+pub heard_same : {C A : Type 0} {alone still : Bool} {answer said : History C → ℕ → C → A}
+    {old now : History C} {me : ℕ} {pairs : List (C × A)}
+    → still ≡ alone → said ≡ answer → Heard still said old now me pairs → Heard alone answer old now me pairs
+heard_same {C} {A} {alone} {still} {answer} {said} {old} {now} {me} {pairs} same names x =
+    subst (λ a. Heard a answer old now me pairs) same
+    (subst (λ f. Heard still f old now me pairs) names x)
+
 -- a place that is alone
 
 pub heard_alone : {C A : Type 0} {answer : History C → ℕ → C → A} {old now : History C} {me : ℕ} {pairs : List (C × A)}
@@ -211,6 +220,12 @@ first_none alone answer h me calls =
 pub first_some : {C A : Type 0} {alone : Bool} {answer : History C → ℕ → C → A} {old now : History C} {me : ℕ} {pairs : List (C × A)} (unmade : List C)
     → Heard alone answer old now me pairs → HeardFirst alone answer old now me (calls_in pairs ++ unmade)
 first_some {pairs} unmade x = record { pairs = pairs; unmade = unmade; split = refl; heard = x }
+
+-- calls that were made, and then a refusal
+pub first_refused : {C A : Type 0} {alone : Bool} {answer : History C → ℕ → C → A} {old mid now : History C} {me : ℕ} {pairs : List (C × A)} (unmade : List C)
+    → Heard alone answer old mid me pairs → now ≡ mid → HeardFirst alone answer old now me (calls_in pairs ++ unmade)
+first_refused {C} {A} {alone} {answer} {old} {mid} {now} {me} {pairs} unmade x same =
+    subst (λ h. HeardFirst alone answer old h me (calls_in pairs ++ unmade)) (sym same) (first_some unmade x)
 
 -- calls that were made, and then the first of some more
 pub first_after : {C A : Type 0} (alone : Bool) (answer : History C → ℕ → C → A) (a b c : History C) (me : ℕ) (pairs : List (C × A)) (calls : List C)
