@@ -19,22 +19,22 @@ pub trait Played {
     /// alone speak of it.
     type Shape;
 
-    // What no call changes.
+    /// What no call changes.
     ghost shape: { Self → Self.Shape };
 
-    // The value is what these calls leave of a new one.
+    /// The value is what these calls leave of a new one.
     ghost stands: { Self → History Self.Call → Type 0 };
 
-    // That a value stands for a history is one fact, and not a choice: so a place can keep it.
+    /// That a value stands for a history is one fact, and not a choice: so a place can keep it.
     ghost stands_once: { (v : Self) (h : History Self.Call) → IsProp (stands v h) };
 
-    // The caller may make this call after the history.
+    /// The caller may make this call after the history.
     ghost fits: { Self.Shape → History Self.Call → ℕ → Self.Call → Bool };
 
-    // What the call is answered after the history.
+    /// What the call is answered after the history.
     ghost answer: { Self.Shape → History Self.Call → ℕ → Self.Call → Self.Answer };
 
-    // What the room holds after the call, from what it held before.
+    /// What the room holds after the call, from what it held before.
     ghost filled: { Self.Shape → History Self.Call → ℕ → Self.Call → Self.Room → Self.Room };
 
     /// Makes one call of the caller `me`. It takes no memory and cannot fail: what a call needs
@@ -52,7 +52,7 @@ pub trait Played {
             × (result ≡ answer (shape self.old) h me call)
             × (room.new ≡ filled (shape self.old) h me call room.old) };
 
-    // What fits a history also fits it followed by a fitting entry of another caller.
+    /// What fits a history also fits it followed by a fitting entry of another caller.
     ghost still_fits: { (s : Self.Shape) (h : History Self.Call) (me by : ℕ) (call other : Self.Call)
         → IsTrue (fits s h me call) → by ≢ me → IsTrue (fits s h by other)
         → IsTrue (fits s (h ++ (by, other) ∷ []) me call) };

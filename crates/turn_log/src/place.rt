@@ -22,25 +22,25 @@ pub enum TurnFault {
 pub trait Turns<V: Played> {
     ghost use Rattle.turn_log.specs.Faults.{IsFault};
 
-    // The history so far, as this place knows it.
+    /// The history so far, as this place knows it.
     ghost seen: { Self → History V.Call };
 
-    // The shape of the place's object.
+    /// The shape of the place's object.
     ghost shape: { Self → V.Shape };
 
-    // The callers that the place speaks for.
+    /// The callers that the place speaks for.
     ghost speaks: { Self → ℕ → Bool };
 
-    // The place may answer Memory.
+    /// The place may answer Memory.
     ghost may_lack: { Self → Bool };
 
-    // Nobody else takes turns on the object: all that is in the history came through this place.
+    /// Nobody else takes turns on the object: all that is in the history came through this place.
     ghost alone: { Self → Bool };
 
-    // The largest number of turns of 2 ^ 62 or more that the place met, or 0.
+    /// The largest number of turns of 2 ^ 62 or more that the place met, or 0.
     ghost worn: { Self → ℕ };
 
-    // Which object this is: a seat is given back to the object that it came from.
+    /// Which object this is: a seat is given back to the object that it came from.
     ghost home: { Self → Gv };
 
     /// Makes one call of the caller `me`, after all calls that came before.
@@ -63,6 +63,6 @@ pub trait Turns<V: Played> {
             (seen self.new ≡ seen self.old) × (room.new ≡ room.old)
             × IsFault (may_lack self.old) (worn self.new) fault) };
 
-    // At every moment each entry of the history fits those before it.
+    /// At every moment each entry of the history fits those before it.
     ghost legal: { (place : Self) → IsLegal (V.fits (shape place)) (seen place) };
 }

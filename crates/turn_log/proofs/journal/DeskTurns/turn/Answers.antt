@@ -1,4 +1,4 @@
-use Rattle.std.proofs.Common.{ℕ, ◌≡◌, ◌<◌, ◌^◌, [], ◌∷◌, ◌++◌, length, sym, subst, ap, ◌∙◌, arith}
+use Rattle.std.proofs.Common.{ℕ, ◌≡◌, ◌<◌, ◌^◌, [], ◌∷◌, ◌++◌, length, sym, subst, arith}
 use Rattle.turn_log.specs.History.{History}
 use Rattle.turn_log.proofs.HistoryLaws.{legal_next}
 use Rattle.turn_log.proofs.journal.DeskTurns.turn.Goals as goal
@@ -9,7 +9,8 @@ invariant_of-self-2 g c =
     let old : History g.row.V-Call.Denot = c.args.self.now.journal.items in
     let entry : ℕ × g.row.V-Call.Denot = (c.args.me, c.args.call) in
     let seen : c.push_reserved.new.self.items ≡ old ++ entry ∷ [] =
-    c.push_reserved.ensures.items ∙ ap (λ l. l ++ entry ∷ []) c.reserve.ensures.items in
+    subst (λ l. c.push_reserved.new.self.items ≡ l ++ entry ∷ []) c.reserve.ensures.items
+    c.push_reserved.ensures.items in
     let few : length old < 2 ^ 63 = omega arith in
     let played = c.play-answer.ensures.played old c.args.self.now.stands few c.requires in
     record {
