@@ -1,0 +1,7 @@
+pub mod Rows
+pub mod CrcLemmas
+pub mod FrameLemmas
+pub mod CutLemmas
+pub mod CutSteps
+pub mod PendingLemmas
+pub mod HeldLemmas
