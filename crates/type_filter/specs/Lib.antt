@@ -1,0 +1,4 @@
+pub mod Permitted
+pub mod Numbers
+pub mod Kinds
+pub mod Faults

@@ -1,0 +1,10 @@
+//! Filters: which frames of a base a rover gets, by their message number.
+#![tactic(auto)]
+
+mod choices;
+mod selection;
+#[cfg(test)]
+mod tests;
+
+pub use choices::Filters;
+pub use selection::{Filter, FilterFault};
