@@ -5,7 +5,7 @@ use std::alloc::AllocError;
 use std::marker::Model;
 
 /// The filters that a ring offers, 1 to 16. A rover names one by its index.
-#[derive(Drop)]
+#[derive(Debug, Drop)]
 pub struct Filters {
     list: Vec<Filter>,
 }

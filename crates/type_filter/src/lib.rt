@@ -3,8 +3,6 @@
 
 mod choices;
 mod selection;
-#[cfg(test)]
-mod tests;
 
 pub use choices::Filters;
 pub use selection::{Filter, FilterFault};

@@ -28,12 +28,12 @@ pub enum FilterFault {
 }
 
 /// A filter: all frames, or those of 1 to 64 message numbers from 0 to 4095.
-#[derive(Drop)]
+#[derive(Debug, Drop)]
 pub struct Filter {
     kind: Kind,
 }
 
-#[derive(Drop)]
+#[derive(Debug, Drop)]
 enum Kind {
     Every,
     Among(Vec<u16>),
@@ -139,3 +139,6 @@ fn in_order(alloc: Global, numbers: &[u16]) -> Result<Vec<u16>, AllocError>
     kept.dedup();
     Ok(kept)
 }
+
+#[cfg(test)]
+mod tests;
