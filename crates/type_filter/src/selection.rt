@@ -41,8 +41,11 @@ enum Kind {
 
 impl Model for Filter {
     ghost use Rattle.type_filter.specs.Permitted.{FilterValue};
+    ghost use Rattle.type_filter.specs.Codes.{filter_code};
 
     ghost Value = { FilterValue };
+
+    ghost coded = { filter_code };
 
     ghost use Rattle.type_filter.specs.Kinds.{value_of, IsValid};
 
