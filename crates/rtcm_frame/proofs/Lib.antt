@@ -5,3 +5,4 @@ pub mod CutLemmas
 pub mod CutSteps
 pub mod PendingLemmas
 pub mod HeldLemmas
+pub mod FramedLemmas

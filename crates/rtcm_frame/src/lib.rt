@@ -12,3 +12,6 @@ pub use checksum::crc24q;
 pub use cutting::{Pieces, cut_all};
 pub use framing::Frame;
 pub use stream::Cutter;
+
+#[cfg(test)]
+mod tests;

@@ -47,12 +47,13 @@ impl Cutter {
         }
     }
 
-    #[tactic(auto, using(crate::proofs::PendingLemmas::waiting_fits))]
     /// Takes the stream's next byte. What waits must be nothing or an unfinished frame, as it is
     /// after `next` answered none.
+    #[tactic(auto, using(crate::proofs::PendingLemmas::waiting_fits))]
     pub fn push(&mut self, byte: u8)
         requires { IsWaiting self.old.bytes }
-        ensures behind { self.new ≡ record { bytes = self.old.bytes ++ byte ∷ []; junk = self.old.junk } }
+        ensures behind { self.new
+            ≡ record { bytes = self.old.bytes ++ byte ∷ []; junk = self.old.junk } }
         ensures stands { (given : List (List ℕ)) (all : List ℕ)
             → Gave given all self.old → Gave given (all ++ byte ∷ []) self.new }
     {
@@ -138,8 +139,8 @@ fn put_behind(buffer: &mut [u8], start: usize, count: usize, byte: u8) -> usize
 }
 
 // Moves the bytes that a buffer holds to its front where they reach its end, and answers where they
-// begin then. That is only where some in front of them were passed over, and a checksum was computed
-// over as many bytes before.
+// begin then. That is only where some in front of them were passed over, after a checksum over as
+// many bytes.
 fn with_room(buffer: &mut [u8], start: usize, count: usize) -> usize
     requires within { start + count ≤ length buffer.old }
     requires room { count < length buffer.old }
