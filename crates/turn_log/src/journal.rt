@@ -64,13 +64,14 @@ impl<V: Played> Turns<V> for Desk<V> {
     fn turn(&mut self, me: u32, call: V::Call, room: &mut V::Room) -> Result<V::Answer, TurnFault>
         requires { let desk = ⟦<Desk<V> as Turns<V>>⟧ in
             IsTrue (V.fits (desk.shape self.old) (desk.seen self.old) me call) }
-        ensures shape { let desk = ⟦<Desk<V> as Turns<V>>⟧ in desk.shape self.new ≡ desk.shape self.old }
-        ensures worn { let desk = ⟦<Desk<V> as Turns<V>>⟧ in desk.worn self.old ≤ desk.worn self.new }
+        ensures shape { let desk = ⟦<Desk<V> as Turns<V>>⟧ in
+            desk.shape self.new ≡ desk.shape self.old }
+        ensures worn { let desk = ⟦<Desk<V> as Turns<V>>⟧ in
+            desk.worn self.old ≤ desk.worn self.new }
 
         // Nobody comes between: the history is exactly the old one, followed by this call.
         ensures ok { let desk = ⟦<Desk<V> as Turns<V>>⟧ in
-            IfOk result (λ reply.
-            (desk.seen self.new ≡ desk.seen self.old ++ (me, call) ∷ [])
+            IfOk result (λ reply. (desk.seen self.new ≡ desk.seen self.old ++ (me, call) ∷ [])
             × (reply ≡ V.answer (desk.shape self.old) (desk.seen self.old) me call)
             × (room.new ≡ V.filled (desk.shape self.old) (desk.seen self.old) me call room.old)) }
         ensures exactly { IsWornAt (length (⟦<Desk<V> as Turns<V>>⟧.seen self.old)) result }

@@ -53,7 +53,8 @@ pub trait Played {
             × (room.new ≡ filled (shape self.old) h me call room.old) };
 
     /// What fits a history also fits it followed by a fitting entry of another caller.
-    ghost still_fits: { (s : Self.Shape) (h : History Self.Call) (me by : ℕ) (call other : Self.Call)
+    ghost still_fits: { (s : Self.Shape) (h : History Self.Call)
+        (me by : ℕ) (call other : Self.Call)
         → IsTrue (fits s h me call) → by ≢ me → IsTrue (fits s h by other)
         → IsTrue (fits s (h ++ (by, other) ∷ []) me call) };
 }

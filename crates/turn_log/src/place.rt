@@ -1,6 +1,6 @@
 ghost use Rattle.std.specs.Prelude.{◌≡◌, ℕ, ◌≤◌, Bool, IsTrue, IfOk, IfErr};
 ghost use Rattle.turn_log.specs.History.{History, IsLegal};
-ghost use Rattle.turn_log.specs.Turn.{Turned};
+ghost use Rattle.turn_log.specs.Turn.{SamePlace, Turned};
 ghost use base.Stored.{Gv};
 
 use crate::object::Played;
@@ -51,9 +51,7 @@ pub trait Turns<V: Played> {
         requires fits { IsTrue (V.fits (shape self.old) (seen self.old) me call) }
 
         // A turn changes what was seen and how worn the place is, and nothing else.
-        ensures same { (shape self.new ≡ shape self.old) × (speaks self.new ≡ speaks self.old)
-            × (may_lack self.new ≡ may_lack self.old) × (alone self.new ≡ alone self.old)
-            × (home self.new ≡ home self.old) }
+        ensures same { SamePlace shape speaks may_lack alone home self.old self.new }
         ensures worn { worn self.old ≤ worn self.new }
         ensures ok { IfOk result (λ reply.
             Turned (alone self.old) (V.fits (shape self.old)) (V.answer (shape self.old))

@@ -1,5 +1,6 @@
 ghost use Rattle.std.specs.Prelude.{◌≡◌, ℕ, ◌+◌, ◌-◌, ◌≤◌, nat_le, IsTrue, List, [], ◌∷◌, length, IfOk, IfErr, OnErr};
 ghost use Rattle.turn_log.specs.Heard.{Heard, HeardFirst};
+ghost use Rattle.turn_log.specs.Turn.{SamePlace};
 ghost use Rattle.turn_log.specs.Faults.{IsHandedOn};
 
 use crate::laws::{fact_stays, fits_stays};
@@ -60,9 +61,7 @@ fn take_two<T: Turns<Tickets>>(
     room: &mut u64,
 ) -> Result<(u64, u64), TurnFault>
     requires speaks { IsTrue (T.speaks place.old me) }
-    ensures same { (T.shape place.new ≡ T.shape place.old) × (T.speaks place.new ≡ T.speaks place.old)
-        × (T.may_lack place.new ≡ T.may_lack place.old) × (T.alone place.new ≡ T.alone place.old)
-        × (T.home place.new ≡ T.home place.old) }
+    ensures same { SamePlace T.shape T.speaks T.may_lack T.alone T.home place.old place.new }
     ensures worn { T.worn place.old ≤ T.worn place.new }
     ensures ok { IfOk result (λ numbers.
         Heard (T.alone place.old) (⟦<Tickets as Played>⟧.answer (T.shape place.old))

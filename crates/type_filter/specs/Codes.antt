@@ -12,10 +12,11 @@ abbrev pub filter_with : Option (List ℕ) → FilterValue
 filter_with None = All
 filter_with (Some numbers) = Listed numbers
 
-pub filter_with-numbers_in : (filter : FilterValue) → filter_with (numbers_in filter) ≡ filter
-filter_with-numbers_in All = refl
-filter_with-numbers_in (Listed numbers) = refl
+-- the numbers give the filter back
+pub given_back : (filter : FilterValue) → filter_with (numbers_in filter) ≡ filter
+given_back All = refl
+given_back (Listed numbers) = refl
 
 abbrev pub filter_code : Coded FilterValue
 filter_code =
-    code_by (Option (List ℕ)) (coded_option (coded_list coded_ℕ)) numbers_in filter_with filter_with-numbers_in
+    code_by (Option (List ℕ)) (coded_option (coded_list coded_ℕ)) numbers_in filter_with given_back

@@ -18,7 +18,8 @@ impl Model for Filters {
 
     ghost view = { λ filters. filters.list.items };
 
-    ghost invariant = { λ filters. (1 ≤ length filters.list.items) × (length filters.list.items ≤ 16) };
+    ghost invariant = { λ filters. (1 ≤ length filters.list.items)
+        × (length filters.list.items ≤ 16) };
 }
 
 impl Filters {
