@@ -248,9 +248,9 @@ first_after alone answer a b c me pairs calls x y = record {
 pub known_told : {C A X : Type 0} {fits : History C → ℕ → C → Bool} (answer : History C → ℕ → C → A) (me : ℕ)
     (knows : X → History C → Type 0) (learn : X → C × A → X)
     → ((x : X) (h : History C) (call : C) → knows x h → IsTrue (fits h me call)
-      → knows (learn x (call, answer h me call)) (h ++ (me, call) ∷ []))
+    → knows (learn x (call, answer h me call)) (h ++ (me, call) ∷ []))
     → ((x : X) (h : History C) (by : ℕ) (other : C) → knows x h → by ≢ me → IsTrue (fits h by other)
-      → knows x (h ++ (by, other) ∷ []))
+    → knows x (h ++ (by, other) ∷ []))
     → (x : X) (h more : History C) → knows x h → IsLegalAfter fits h more
     → knows (fold learn x (told answer me h more)) (h ++ more)
 known_told answer me knows learn mine theirs x h [] known legal = subst (knows x) (sym (append-nil h)) known
@@ -259,16 +259,16 @@ known_told {C} {A} {X} {fits} answer me knows learn mine theirs x h (e ∷ more)
     let pair : C × A = (e.1, answer h me e.1) in
     let fitting = first_fits fits h e more legal in
     let after : (y : X) → knows y on → knows (fold learn y (told answer me on more)) (h ++ e ∷ more) =
-      λ y now. subst (knows (fold learn y (told answer me on more))) (append_assoc h (e ∷ []) more)
-        (known_told {fits = fits} answer me knows learn mine theirs y on more now (rest_fits fits h e more legal)) in
+    λ y now. subst (knows (fold learn y (told answer me on more))) (append_assoc h (e ∷ []) more)
+    (known_told {fits = fits} answer me knows learn mine theirs y on more now (rest_fits fits h e more legal)) in
     let at = elim (eqb e.0 me) as (λ t. eqb e.0 me ≡ t
-      → knows (fold learn x (cond t (pair ∷ told answer me on more) (told answer me on more))) (h ++ e ∷ more)) [
-      true ↦ λ is.
-        let same = eqb-true e.0 me is in
-        after (learn x pair)
+    → knows (fold learn x (cond t (pair ∷ told answer me on more) (told answer me on more))) (h ++ e ∷ more)) [
+      | true ↦ λ is.
+          let same = eqb-true e.0 me is in
+          after (learn x pair)
           (subst (λ by. knows (learn x pair) (h ++ (by, e.1) ∷ [])) (sym same)
-            (mine x h e.1 known (subst (λ by. IsTrue (fits h by e.1)) same fitting)))
-    | false ↦ λ is. after x (theirs x h e.0 e.1 known (eqb-false e.0 me is) fitting)
+          (mine x h e.1 known (subst (λ by. IsTrue (fits h by e.1)) same fitting)))
+      | false ↦ λ is. after x (theirs x h e.0 e.1 known (eqb-false e.0 me is) fitting)
     ]
     in at refl
 
@@ -276,13 +276,13 @@ known_told {C} {A} {X} {fits} answer me knows learn mine theirs x h (e ∷ more)
 pub known_heard : {C A X : Type 0} {alone : Bool} {fits : History C → ℕ → C → Bool} {answer : History C → ℕ → C → A}
     {old now : History C} {me : ℕ} {pairs : List (C × A)} (knows : X → History C → Type 0) (learn : X → C × A → X)
     → ((x : X) (h : History C) (call : C) → knows x h → IsTrue (fits h me call)
-      → knows (learn x (call, answer h me call)) (h ++ (me, call) ∷ []))
+    → knows (learn x (call, answer h me call)) (h ++ (me, call) ∷ []))
     → ((x : X) (h : History C) (by : ℕ) (other : C) → knows x h → by ≢ me → IsTrue (fits h by other)
-      → knows x (h ++ (by, other) ∷ []))
+    → knows x (h ++ (by, other) ∷ []))
     → (x : X) → knows x old → IsLegal fits now → Heard alone answer old now me pairs
     → knows (fold learn x pairs) now
 known_heard {C} {A} {X} {alone} {fits} {answer} {old} {now} {me} {pairs} knows learn mine theirs x known legal heard =
     let after = legal_after fits old heard.more (subst (IsLegal fits) heard.seen legal) in
     let told_now = known_told {fits = fits} answer me knows learn mine theirs x old heard.more known after in
     subst (λ h. knows (fold learn x pairs) h) (sym heard.seen)
-      (subst (λ l. knows (fold learn x l) (old ++ heard.more)) heard.mine told_now)
+    (subst (λ l. knows (fold learn x l) (old ++ heard.more)) heard.mine told_now)

@@ -1,4 +1,4 @@
-ghost use Rattle.std.specs.Prelude.{◌≡◌, ℕ, ◌+◌, ◌-◌, ◌≤◌, nat_le, IsTrue, List, [], ◌∷◌, length, IfOk, IfErr, OnErr};
+ghost use Rattle.std.specs.Prelude.{◌≡◌, ℕ, ◌+◌, ◌-◌, ◌≤◌, nat_le, IsTrue, List, [], ◌∷◌, length, IfOk, IfErr, OnErr, OnOk, map};
 ghost use Rattle.turn_log.specs.Heard.{Heard, HeardFirst};
 ghost use Rattle.turn_log.specs.Turn.{SamePlace};
 ghost use Rattle.turn_log.specs.Faults.{IsHandedOn};
@@ -76,6 +76,26 @@ fn take_two<T: Turns<Tickets>>(
     Ok((first, second))
 }
 
+/// So many tickets for one caller, at any place.
+fn take_many<T: Turns<Tickets>>(
+    place: &mut T,
+    me: u32,
+    n: u32,
+    room: &mut u64,
+) -> Result<(), TurnFault>
+    requires speaks { IsTrue (T.speaks place.old me) }
+    ensures same { SamePlace T.shape T.speaks T.may_lack T.alone T.home place.old place.new }
+    ensures worn { T.worn place.old ≤ T.worn place.new }
+    ensures ok { OnOk result ((numbers : List ℕ) × (length numbers ≡ n) ×
+        Heard (T.alone place.old) (⟦<Tickets as Played>⟧.answer (T.shape place.old))
+        (T.seen place.old) (T.seen place.new) me (map (λ number. (0, number)) numbers)) }
+{
+    for _ in 0..n {
+        place.turn(me, 0, room)?;
+    }
+    Ok(())
+}
+
 /// The same at a desk, where the numbers follow one another.
 fn two_at_desk(desk: &mut Desk<Tickets>, me: u32, room: &mut u64) -> Result<(u64, u64), TurnFault>
     ensures next { IfOk result (λ numbers. numbers.1 ≡ numbers.0 + 1) }
@@ -91,7 +111,9 @@ fn a_desk_answers_by_its_history(rt: HostRuntime) -> Result<(), Fail> {
     assert_eq!(rt; missed, 0);
     assert_eq!(rt; desk.turn(5, 0, &mut missed)?, 9);
     assert_eq!(rt; missed, 2);
-    assert_eq!(rt; desk.value().given, 3);
+    take_many(&mut desk, 3, 2, &mut missed)?;
+    assert_eq!(rt; missed, 4);
+    assert_eq!(rt; desk.value().given, 5);
     fits_stays::<Tickets>();
     fact_stays::<Tickets>();
     Ok(())
