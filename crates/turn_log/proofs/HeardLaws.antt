@@ -102,7 +102,7 @@ heard_turn {answer} {old} {me} {call} t = record {
   nothing_else = λ is. ap (λ h. h ++ (me, call) ∷ []) (t.nothing_between is);
 }
 
--- the same with what the room was given, where it was as `empty` before
+-- the same with what the room held after the call beside the answer
 pub heard_room : {C A R : Type 0} {alone : Bool} {fits : History C → ℕ → C → Bool}
     {answer : History C → ℕ → C → A} {filled : History C → ℕ → C → R → R}
     {old now : History C} {me : ℕ} {call : C} {reply : A} {before after : R}
