@@ -10,3 +10,4 @@ pub mod StandsLemmas
 pub mod OpenLemmas
 pub mod RunLemmas
 pub mod WellLemmas
+pub mod TextLemmas
