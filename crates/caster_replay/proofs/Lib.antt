@@ -11,3 +11,6 @@ pub mod OpenLemmas
 pub mod RunLemmas
 pub mod WellLemmas
 pub mod TextLemmas
+pub mod ReportLemmas
+pub mod SpaceLemmas
+pub mod CloseLemmas
