@@ -64,7 +64,7 @@ numbers_changed : (test : Connection → Bool) (last : Last) (cs : List Connecti
 numbers_changed test last [] = refl
 numbers_changed test last (c ∷ cs) =
     ap (λ (n : ℕ). n ∷ map (λ (c : Connection). c.number) (map (λ c. cond (test c) (changed (ends last) c) c) cs))
-        (elim (test c) as (λ b. (cond b (changed (ends last) c) c).number ≡ c.number) [ | true ↦ refl | false ↦ refl ])
+    (elim (test c) as (λ b. (cond b (changed (ends last) c) c).number ≡ c.number) [ true ↦ refl | false ↦ refl ])
     ∙ ap (λ l. c.number ∷ l) (numbers_changed test last cs)
 
 pub numbers_closes : (setting : Setting) (w : World) (numbers : List ℕ) → numbers_of (closes setting w numbers) ≡ numbers_of w
@@ -98,36 +98,37 @@ closed_more capacity w i sessions ring x next ring_next well so_far below is nex
     let number : ℕ = get_or (numbers_of w) i 0 in
     let v_well : IsWell setting v = IsWell-closes setting w front well in
     let in_v : i < length v.connections =
-        omega (arith, within, ap length (numbers_closes setting w front), length-map v.connections (λ (c : Connection). c.number)) in
+    omega (arith, within, ap length (numbers_closes setting w front), length-map v.connections (λ (c : Connection). c.number)) in
     let kept_here : (d : Session) → get_or sessions i d ≡ session_of setting v.history (get_or v.connections i nobody) =
-        λ d. ap (λ (l : List Session). get_or l i d) so_far.stands.sessions_are ∙ get_or-map (session_of setting v.history) v.connections i nobody d in_v in
+    λ d. ap (λ (l : List Session). get_or l i d) so_far.stands.sessions_are ∙ get_or-map (session_of setting v.history) v.connections i nobody d in_v in
     let named : (d : Session) → (get_or sessions i d).number ≡ number =
-        λ d. ap (λ (s : Session). s.number) (kept_here d)
-            ∙ sym (get_or-map (λ (c : Connection). c.number) v.connections i nobody 0 in_v)
-            ∙ ap (λ (l : List ℕ). get_or l i 0) (numbers_closes setting w front) in
+    λ d. ap (λ (s : Session). s.number) (kept_here d)
+    ∙ sym (get_or-map (λ (c : Connection). c.number) v.connections i nobody 0 in_v)
+    ∙ ap (λ (l : List ℕ). get_or l i 0) (numbers_closes setting w front) in
     let one_more : closes setting w (take (i + 1) (numbers_of w)) ≡ happens setting v number (ends lasts.End) =
-        ap (closes setting w) (take_more (numbers_of w) i 0 within)
-        ∙ fold-append (λ u n. happens setting u n (ends lasts.End)) w front (number ∷ []) in
+    ap (closes setting w) (take_more (numbers_of w) i 0 within)
+    ∙ fold-append (λ u n. happens setting u n (ends lasts.End)) w front (number ∷ []) in
     let now : Stands capacity (happens setting v number (ends lasts.End)) (set sessions i next) ring_next =
-        stands_after capacity v sessions ring number (ends lasts.End) i x next ring_next v_well so_far.stands below is named next_is ring_is in
+    stands_after capacity v sessions ring number (ends lasts.End) i x next ring_next v_well so_far.stands below is named next_is ring_is in
     record {
-        stands = subst (λ (u : World). Stands capacity u (set sessions i next) ring_next) (sym one_more) now;
-        ended = λ j d j_below.
-            elim (cases_eq j i) as (λ _. IsSome (get_or (set sessions i next) j d).ending) [
-              | inl here ↦
-                  subst (λ (s : Session). IsSome s.ending)
-                  (sym (ap (λ (n : ℕ). get_or (set sessions i next) n d) here ∙ get_or-set_same sessions i next d below
-                      ∙ next_is ∙ ap (closed lasts.End) (is ∙ kept_here x)))
-                  (closed_ended setting v.history (get_or v.connections i nobody) lasts.End (v_well.segments i nobody in_v))
-              | inr other ↦
-                  subst (λ (s : Session). IsSome s.ending) (sym (get_or-set_other sessions i j next d other)) (so_far.ended j d (omega (arith, j_below, other)))
-            ];
+      stands = subst (λ (u : World). Stands capacity u (set sessions i next) ring_next) (sym one_more) now;
+      ended = λ j d j_below.
+          elim (cases_eq j i) as (λ _. IsSome (get_or (set sessions i next) j d).ending) [
+            | inl here ↦
+                subst (λ (s : Session). IsSome s.ending)
+                (sym (ap (λ (n : ℕ). get_or (set sessions i next) n d) here ∙ get_or-set_same sessions i next d below
+                ∙ next_is ∙ ap (closed lasts.End) (is ∙ kept_here x)))
+                (closed_ended setting v.history (get_or v.connections i nobody) lasts.End (v_well.segments i nobody in_v))
+            | inr other ↦
+                subst (λ (s : Session). IsSome s.ending) (sym (get_or-set_other sessions i j next d other)) (so_far.ended j d (omega (arith, j_below, other)))
+          ];
     }
 
 -- at the end all are closed
 pub closed_all : (capacity : ℕ) (w : World) (sessions : List Session) (ring : PlainValue) → ClosedSoFar capacity w (length sessions) sessions ring →
     Stands capacity (closes (bare capacity) w (numbers_of w)) sessions ring × All (λ (s : Session). IsSome s.ending) sessions
 closed_all capacity w sessions ring so_far =
-    let count : length sessions ≡ length (numbers_of w) = count_kept capacity w (take (length sessions) (numbers_of w)) sessions ring so_far.stands in
-    (subst (λ (l : List ℕ). Stands capacity (closes (bare capacity) w l) sessions ring) (take_all (length sessions) (numbers_of w) (omega (arith, count))) so_far.stands,
-        λ j d below. so_far.ended j d below)
+    let count : length sessions ≡ length (numbers_of w) = count_kept capacity w (take (length sessions) (numbers_of w)) sessions ring so_far.stands in (
+      subst (λ (l : List ℕ). Stands capacity (closes (bare capacity) w l) sessions ring) (take_all (length sessions) (numbers_of w) (omega (arith, count))) so_far.stands,
+      λ j d below. so_far.ended j d below,
+    )

@@ -14,3 +14,4 @@ pub mod TextLemmas
 pub mod ReportLemmas
 pub mod SpaceLemmas
 pub mod CloseLemmas
+pub mod BareLemmas

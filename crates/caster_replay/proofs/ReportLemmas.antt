@@ -71,10 +71,10 @@ one_says shape published segment well few =
     let sent : segment.sent ≡ min (0 + segment.sent) (2 ^ 64 - 1) = omega (arith, small, within, few) in
     let overrun : segment.overrun ≡ min (0 + segment.overrun) (2 ^ 64 - 1) = omega (arith, small, within, few) in
     record {
-        listed = refl;
-        bytes = ap concat (sym (append-nil (kept (permits_at shape segment.cursor.filter) published segment)));
-        sent = sent;
-        overrun = overrun;
+      listed = refl;
+      bytes = ap concat (sym (append-nil (kept (permits_at shape segment.cursor.filter) published segment)));
+      sent = sent;
+      overrun = overrun;
     }
 
 says_by : (shape : Shape) (answers : List RingAnswer) (published : List (List ℕ)) (text : List ℕ) (role : Role) (refused : Option Ending) (claim : Option ℕ) (segments : List Segment) →
@@ -118,9 +118,9 @@ session_lines_is capacity history c well few some =
     let A : List ℕ = codes "A" in
     let said = says setting history c well few in
     ap (λ (e : Ending). connection_lines A c.number e (work_junk s.work) (work_segments s.work) (work_bytes s.work))
-        (ending_is (refusal (is_known setting c) answers) c.role (given_claim answers) c.closed some)
+    (ending_is (refusal (is_known setting c) answers) c.role (given_claim answers) c.closed some)
     ∙ ap (λ (n : ℕ). connection_lines A c.number (ending_of setting history c) n (work_segments s.work) (work_bytes s.work))
-        (junk_is c.role setting.shape answers (state_of history).published c.text)
+    (junk_is c.role setting.shape answers (state_of history).published c.text)
     ∙ ap (λ (l : List Segment). connection_lines A c.number (ending_of setting history c) (junk_of setting history c) l (work_bytes s.work)) said.listed
     ∙ ap (λ (l : List ℕ). connection_lines A c.number (ending_of setting history c) (junk_of setting history c) (segments_of setting history c) l) said.bytes
 
@@ -178,23 +178,23 @@ run_text_is capacity w sessions ring well stands ended few =
     let short : length P < 2 ^ 64 = subst (λ (r : PlainValue). length r.state.published < 2 ^ 64) stands.ring_is few in
     let count : length sessions ≡ length cs = ap length stands.sessions_are ∙ length-map cs keep in
     let over : (j : ℕ) (d : Connection) → j < length cs → IsSome (keep (get_or cs j d)).ending =
-        λ j d below.
-            let at : get_or sessions j (keep d) ≡ keep (get_or cs j d) =
-                ap (λ (l : List Session). get_or l j (keep d)) stands.sessions_are ∙ get_or-map keep cs j d (keep d) below in
-            subst (λ (s : Session). IsSome s.ending) at (ended j (keep d) (omega (arith, below, count))) in
+    λ j d below.
+    let at : get_or sessions j (keep d) ≡ keep (get_or cs j d) =
+    ap (λ (l : List Session). get_or l j (keep d)) stands.sessions_are ∙ get_or-map keep cs j d (keep d) below in
+    subst (λ (s : Session). IsSome s.ending) at (ended j (keep d) (omega (arith, below, count))) in
     let said : (j : ℕ) (d : Connection) → j < length cs →
-            SaysSegments (keep (get_or cs j d)).work setting.shape P (newest_segments 0 (answers_of setting h (get_or cs j d))) =
-        λ j d below. says setting h (get_or cs j d) (well.segments j d below) short in
+    SaysSegments (keep (get_or cs j d)).work setting.shape P (newest_segments 0 (answers_of setting h (get_or cs j d))) =
+    λ j d below. says setting h (get_or cs j d) (well.segments j d below) short in
     let lines : flat_map session_lines (map keep cs) ≡ flat_map (lines_of setting h) cs =
-        flat_mapped session_lines (lines_of setting h) keep cs
-        (λ j d below. session_lines_is capacity h (get_or cs j d) (well.segments j d below) short (over j d below)) in
+    flat_mapped session_lines (lines_of setting h) keep cs
+    (λ j d below. session_lines_is capacity h (get_or cs j d) (well.segments j d below) short (over j d below)) in
     let rovers : count_by has_segment (map keep cs) ≡ count_by (is_session setting h) cs =
-        sum_mapped (λ s. cond (has_segment s) 1 0) (λ c. cond (is_session setting h c) 1 0) keep cs
-        (λ j d below. ap (λ (b : Bool). cond b 1 0) (has_segment_is setting h (get_or cs j d) (well.segments j d below))) in
+    sum_mapped (λ s. cond (has_segment s) 1 0) (λ c. cond (is_session setting h c) 1 0) keep cs
+    (λ j d below. ap (λ (b : Bool). cond b 1 0) (has_segment_is setting h (get_or cs j d) (well.segments j d below))) in
     let sent : sum_by (λ (s : Session). work_sent s.work) (map keep cs) ≡ sum_by (λ (c : Connection). sent_in (segments_of setting h c)) cs =
-        sum_mapped (λ (s : Session). work_sent s.work) (λ (c : Connection). sent_in (segments_of setting h c)) keep cs (λ j d below. (said j d below).sent) in
+    sum_mapped (λ (s : Session). work_sent s.work) (λ (c : Connection). sent_in (segments_of setting h c)) keep cs (λ j d below. (said j d below).sent) in
     let overrun : sum_by (λ (s : Session). work_overrun s.work) (map keep cs) ≡ sum_by (λ (c : Connection). overrun_in (segments_of setting h c)) cs =
-        sum_mapped (λ (s : Session). work_overrun s.work) (λ (c : Connection). overrun_in (segments_of setting h c)) keep cs (λ j d below. (said j d below).overrun) in
+    sum_mapped (λ (s : Session). work_overrun s.work) (λ (c : Connection). overrun_in (segments_of setting h c)) keep cs (λ j d below. (said j d below).overrun) in
     let closing : ℕ → ℕ → ℕ → List ℕ = λ a b c. closing_lines A (length P) (state_of h).claims a b c in
     ap (λ (l : List Session). run_text l ring.state) stands.sessions_are
     ∙ ap (λ (r : PlainValue). run_text (map keep cs) r.state) stands.ring_is

@@ -47,7 +47,7 @@ mapped_within test what n [] few = λ j d below. absurd (omega (arith, below))
 mapped_within test what n (c ∷ cs) few =
     let here : length c.text ≤ n = All-head (λ (c : Connection). length c.text ≤ n) c cs few in
     All-cons (λ (c : Connection). length c.text ≤ n + added what) (cond (test c) (changed what c) c) (map (λ c. cond (test c) (changed what c) c) cs)
-    (elim (test c) as (λ b. length (cond b (changed what c) c).text ≤ n + added what) [ | true ↦ changed_within what c n here | false ↦ omega (arith, here) ])
+    (elim (test c) as (λ b. length (cond b (changed what c) c).text ≤ n + added what) [ true ↦ changed_within what c n here | false ↦ omega (arith, here) ])
     (mapped_within test what n cs (All-tail (λ (c : Connection). length c.text ≤ n) c cs few))
 
 within_happens : (setting : Setting) (w : World) (number : ℕ) (what : Happening) (n : ℕ) → Within w n → Within (happens setting w number what) (n + added what)
@@ -64,8 +64,8 @@ placed_within P c (d ∷ ds) here others =
 within_opens : (setting : Setting) (w : World) (number : ℕ) (role : Role) (mount : List ℕ) (n : ℕ) → Within w n → Within (opens setting w number role mount) n
 within_opens setting w number role mount n few =
     elim (is_opened number w.connections) as (λ b. Within (cond b w (record {
-        connections = placed (opened number role mount) w.connections;
-        history = w.history ++ entries_of number (opening_calls role (bytes_eq mount setting.mount));
+      connections = placed (opened number role mount) w.connections;
+      history = w.history ++ entries_of number (opening_calls role (bytes_eq mount setting.mount));
     })) n) [
       | true ↦ few
       | false ↦ placed_within (λ (c : Connection). length c.text ≤ n) (opened number role mount) w.connections (omega arith) few
@@ -166,9 +166,13 @@ unfolding claims_in
 no_claims-happens setting history what test [] = refl
 no_claims-happens setting history what test (c ∷ cs) =
     let here : claims_in (cond (test c) (entries_owed setting history what c) []) ≡ 0 =
-        elim (test c) as (λ b. claims_in (cond b (entries_owed setting history what c) []) ≡ 0) [ | true ↦ no_claims-owed c.number c.role (answers_of setting history c) c.text what | false ↦ refl ] in
-    omega (arith, here, no_claims-happens setting history what test cs,
-        claims_in-append (cond (test c) (entries_owed setting history what c) []) (flat_map (λ c. cond (test c) (entries_owed setting history what c) []) cs))
+    elim (test c) as (λ b. claims_in (cond b (entries_owed setting history what c) []) ≡ 0) [ true ↦ no_claims-owed c.number c.role (answers_of setting history c) c.text what | false ↦ refl ] in
+    omega (
+      arith,
+      here,
+      no_claims-happens setting history what test cs,
+      claims_in-append (cond (test c) (entries_owed setting history what c) []) (flat_map (λ c. cond (test c) (entries_owed setting history what c) []) cs),
+    )
 
 claims_of : World → ℕ
 claims_of w = (state_of w.history).claims
@@ -176,8 +180,11 @@ claims_of w = (state_of w.history).claims
 claims_happens : (setting : Setting) (w : World) (number : ℕ) (what : Happening) → claims_of (happens setting w number what) ≤ claims_of w
 unfolding claims_of
 claims_happens setting w number what =
-    omega (arith, claims_more w.history (flat_map (λ c. cond (is_concerned setting w.history number c) (entries_owed setting w.history what c) []) w.connections),
-        no_claims-happens setting w.history what (is_concerned setting w.history number) w.connections)
+    omega (
+      arith,
+      claims_more w.history (flat_map (λ c. cond (is_concerned setting w.history number c) (entries_owed setting w.history what c) []) w.connections),
+      no_claims-happens setting w.history what (is_concerned setting w.history number) w.connections,
+    )
 
 claims_opening : (me : ℕ) (role : Role) (known : Bool) → claims_in (entries_of me (opening_calls role known)) ≤ 1
 unfolding claims_in claim_weight
@@ -189,12 +196,15 @@ claims_opens : (setting : Setting) (w : World) (number : ℕ) (role : Role) (mou
 unfolding claims_of
 claims_opens setting w number role mount =
     elim (is_opened number w.connections) as (λ b. claims_of (cond b w (record {
-        connections = placed (opened number role mount) w.connections;
-        history = w.history ++ entries_of number (opening_calls role (bytes_eq mount setting.mount));
+      connections = placed (opened number role mount) w.connections;
+      history = w.history ++ entries_of number (opening_calls role (bytes_eq mount setting.mount));
     })) ≤ claims_of w + 1) [
       | true ↦ omega arith
-      | false ↦ omega (arith, claims_more w.history (entries_of number (opening_calls role (bytes_eq mount setting.mount))),
-          claims_opening number role (bytes_eq mount setting.mount))
+      | false ↦ omega (
+        arith,
+        claims_more w.history (entries_of number (opening_calls role (bytes_eq mount setting.mount))),
+        claims_opening number role (bytes_eq mount setting.mount),
+      )
     ]
 
 claims_event : (setting : Setting) (w : World) (event : Event) → claims_of (after_event setting w event) ≤ claims_of w + 1
@@ -224,11 +234,11 @@ has_space setting list i event within is bytes_few events_few =
     let front : List Event = take i list in
     let count : length front ≡ i = length-take-le i list (omega (arith, within)) in
     let one : sum_by input_length (take (i + 1) list) ≡ sum_by input_length front + input_length event =
-        ap (sum_by input_length) (take_more list i event within ∙ ap (λ (e : Event). front ++ e ∷ []) (sym is))
-        ∙ sum_by-append input_length front (event ∷ [])
-        ∙ ap (λ (n : ℕ). sum_by input_length front + n) (sum_by-cons input_length event [] ∙ omega arith) in
+    ap (sum_by input_length) (take_more list i event within ∙ ap (λ (e : Event). front ++ e ∷ []) (sym is))
+    ∙ sum_by-append input_length front (event ∷ [])
+    ∙ ap (λ (n : ℕ). sum_by input_length front + n) (sum_by-cons input_length event [] ∙ omega arith) in
     let all : sum_by input_length (take (i + 1) list) + sum_by input_length (drop (i + 1) list) ≡ sum_by input_length list = sum_by-take-drop input_length list (i + 1) in
     record {
-        texts = λ j d below. let h = texts_within setting front j d below in omega (arith, h, one, all, bytes_few);
-        claims = omega (arith, claims_few setting front, count, within, events_few);
+      texts = λ j d below. let h = texts_within setting front j d below in omega (arith, h, one, all, bytes_few);
+      claims = omega (arith, claims_few setting front, count, within, events_few);
     }

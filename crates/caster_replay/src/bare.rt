@@ -4,6 +4,8 @@ ghost use Rattle.session_script.specs.Script.{input_length};
 ghost use Rattle.caster_replay.specs.World.{bare};
 ghost use Rattle.caster_replay.specs.Report.{report};
 
+use crate::run::Run;
+use crate::text::report_text;
 use session_script::Event;
 use std::alloc::{AllocError, Global};
 
@@ -22,5 +24,12 @@ pub fn run_bare(
     ensures ok { OnOk result (out.new.items ≡ out.old.items ++ report (bare capacity) events.now) }
     ensures err { OnErr result (out.new.items ≡ out.old.items) }
 {
-    Err(AllocError)
+    let mut run = Run::new(alloc, capacity);
+    for event in events {
+        run.apply(alloc, event)?;
+    }
+    run.close_all();
+    let text = report_text(alloc, &run.sessions, &run.ring)?;
+    out.extend_from_slice(&text)?;
+    Ok(())
 }

@@ -1,7 +1,8 @@
-ghost use Rattle.std.specs.Prelude.{◌≡◌, ℕ, ◌+◌, ◌^◌, ◌<◌, ◌≤◌, length, codes, OnOk, IfSome, IfNone, slice_index_or, ◌↔◌, IsTrue};
+ghost use Rattle.std.specs.Prelude.{◌≡◌, ℕ, ◌+◌, ◌^◌, ◌<◌, ◌≤◌, length, codes, OnOk, IfSome, IfNone, slice_index_or, map, ◌↔◌, IsSome, IsTrue};
+ghost use Rattle.std.specs.List.{All};
 ghost use Rattle.caster_replay.specs.declared.session.Session.{Session};
 ghost use Rattle.std.specs.Str.{bytes_eq};
-ghost use Rattle.caster_replay.specs.World.{World, bare, nothing_yet, happens, opens, arrives, takes_turn, ends, after_event};
+ghost use Rattle.caster_replay.specs.World.{World, Connection, bare, nothing_yet, happens, opens, closes, arrives, takes_turn, ends, after_event};
 ghost use Rattle.caster_replay.specs.Steps.{place_of_number, session_opened, ring_opened};
 ghost use Rattle.caster_replay.specs.Live.{Stands};
 ghost use Rattle.caster_replay.specs.Well.{IsWell};
@@ -202,6 +203,23 @@ impl Run {
                 close(sessions, ring, *number, Last::End);
                 Ok(())
             }
+        }
+    }
+
+    /// Closes each connection that is open, as its end, in increasing order of number.
+    pub fn close_all(&mut self)
+        ensures closed { (w : World) → IsWell (bare self.old.ring.capacity) w
+            → Stands self.old.ring.capacity w self.old.sessions.items self.old.ring
+            → Stands self.old.ring.capacity
+            (closes (bare self.old.ring.capacity) w (map (λ (c : Connection). c.number) w.connections))
+            self.new.sessions.items self.new.ring
+            × All (λ (s : Session). IsSome s.ending) self.new.sessions.items }
+    {
+        let sessions = &mut self.sessions;
+        let ring = &mut self.ring;
+        for place in 0..sessions.len() {
+            let session = &mut sessions[place];
+            session.close(ring, Last::End);
         }
     }
 }

@@ -191,7 +191,8 @@ fn overrun_in(session: &Session) -> u128
 /// The report's text, when every connection has ended.
 pub fn report_text(alloc: Global, sessions: &[Session], ring: &Plain) -> Result<Vec<u8>, AllocError>
     requires { All (λ (s : Session). IsSome s.ending) sessions.now }
-    ensures { IfOk result (λ text. text.items ≡ run_text sessions.now ring.now.state) }
+    ensures text { IfOk result (λ text. text.items ≡ run_text sessions.now ring.now.state) }
+    ensures few { OnOk result (length ring.now.state.published < 2 ^ 64) }
 {
     let mut text = Vec::new(alloc);
     for session in sessions {
@@ -204,7 +205,8 @@ pub fn report_text(alloc: Global, sessions: &[Session], ring: &Plain) -> Result<
 #[tactic(auto, unfolding(crate::specs::Report::closing_lines))]
 /// Appends the mountpoint's line, and the total of all rovers.
 fn push_closing(out: &mut Vec<u8>, sessions: &[Session], ring: &Plain) -> Result<(), AllocError>
-    ensures { OnOk result (out.new.items ≡ out.old.items ++ sums_text sessions.now ring.now.state) }
+    ensures sums { OnOk result (out.new.items ≡ out.old.items ++ sums_text sessions.now ring.now.state) }
+    ensures few { OnOk result (length ring.now.state.published < 2 ^ 64) }
 {
     push_line(
         out,
