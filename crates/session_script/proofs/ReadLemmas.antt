@@ -47,9 +47,9 @@ events_of_lines-step kind n numbers line lines =
     elim (cases_Bool (is_skipped line)) [
       | inl skipped ↦ rw skipped refl
       | inr other ↦ elim (cases_Bool (bytes_eq line (codes "stop"))) [
-          | inl stops ↦ rw (other, stops) refl
-          | inr event ↦ rw (other, event) (step_event kind n numbers lines (event_of_line kind line))
-        ]
+        | inl stops ↦ rw (other, stops) refl
+        | inr event ↦ rw (other, event) (step_event kind n numbers lines (event_of_line kind line))
+      ]
     ]
 
 -- ---- with the events before

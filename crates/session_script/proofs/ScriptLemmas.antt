@@ -35,7 +35,7 @@ row_front : (text : List ℕ) (carriage : Bool) (rest : List ℕ) → none_of (�
 row_front text false rest none = ap lines (append_assoc text (10 ∷ []) rest) ∙ lines_front text rest none
 row_front text true rest none =
     let regrouped : (text ++ 13 ∷ 10 ∷ []) ++ rest ≡ (text ++ 13 ∷ []) ++ 10 ∷ rest =
-        append_assoc text (13 ∷ 10 ∷ []) rest ∙ sym (append_assoc text (13 ∷ []) (10 ∷ rest)) in
+    append_assoc text (13 ∷ 10 ∷ []) rest ∙ sym (append_assoc text (13 ∷ []) (10 ∷ rest)) in
     ap lines regrouped ∙ lines_front (text ++ 13 ∷ []) rest (none_of-append (λ b. eqb b 10) text (13 ∷ []) none refl)
     ∙ ap (λ (line : List ℕ). line ∷ lines rest) (strip_one text)
 
@@ -113,7 +113,7 @@ rows_read kind n numbers [] events tail none session ends = ends n numbers ∙ a
 rows_read kind n numbers (row ∷ rows) events tail (inl (passed, others)) session ends =
     ap (events_of_lines kind n numbers) (rows_front row rows tail passed.1)
     ∙ passes_over kind n numbers (row_line row) (lines (flat_map row_text rows ++ tail)) events (skipped_line row passed.0)
-      (rows_read kind (n + 1) numbers rows events tail others session ends)
+    (rows_read kind (n + 1) numbers rows events tail others session ends)
 rows_read kind n numbers (row ∷ rows) events tail (inr (event, others, is, line, more)) session ends =
     let both = and_parts (is_event kind event && may_follow kind numbers event) (is_session_after kind (after_event numbers event) others) (rw is at session) in
     let this = and_parts (is_event kind event) (may_follow kind numbers event) both.0 in
@@ -121,7 +121,7 @@ rows_read kind n numbers (row ∷ rows) events tail (inr (event, others, is, lin
     let same : row_line row ≡ row.text = event_line row reads.returns in
     ap (events_of_lines kind n numbers) (rows_front row rows tail reads.feeds ∙ ap (λ (l : List ℕ). l ∷ lines (flat_map row_text rows ++ tail)) same)
     ∙ takes_event kind n numbers row.text (lines (flat_map row_text rows ++ tail)) event others reads this.1
-      (rows_read kind (n + 1) (after_event numbers event) rows others tail more both.1 ends)
+    (rows_read kind (n + 1) (after_event numbers event) rows others tail more both.1 ends)
     ∙ ap (λ (es : List Event). Ok es) (sym is)
 
 -- ---- the laws
@@ -131,7 +131,7 @@ pub reads_any : (kind : ScriptKind) (events : List Event) (bytes : List ℕ) →
 reads_any kind events bytes session written small =
     script_small kind bytes small ∙ ap (λ (bs : List ℕ). events_of_lines kind 1 no_numbers (lines bs)) written.text
     ∙ rows_read kind 1 no_numbers written.rows events (codes "stop" ++ written.ending) written.have session
-      (λ n numbers. stop_ends kind n numbers written.ending written.ends)
+    (λ n numbers. stop_ends kind n numbers written.ending written.ends)
 
 -- ---- the plain text
 

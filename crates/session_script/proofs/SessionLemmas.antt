@@ -43,9 +43,9 @@ read_is kind n numbers line event e =
     elim (cases_Bool (is_skipped line)) [
       | inl skipped ↦ absurd (let h = rw skipped at e in cc)
       | inr a ↦ elim (cases_Bool (bytes_eq line (codes "stop"))) [
-          | inl stops ↦ absurd (let h = rw (a, stops) at e in cc)
-          | inr b ↦ found_is kind n numbers (event_of_line kind line) event (rw (a, b) at e)
-        ]
+        | inl stops ↦ absurd (let h = rw (a, stops) at e in cc)
+        | inr b ↦ found_is kind n numbers (event_of_line kind line) event (rw (a, b) at e)
+      ]
     ]
 
 -- the events are a session, and no longer than this

@@ -142,12 +142,12 @@ short_sound kind word k size event number le e =
     elim (cases_Bool (bytes_eq word (codes "break"))) [
       | inl breaks ↦ IsSound-at kind size (Break k) event (some_is _ _ (rw breaks at e)) (record { in_grammar = number; fits = omega arith })
       | inr a ↦ elim (cases_Bool (bytes_eq word (codes "end"))) [
-          | inl ends ↦ IsSound-at kind size (End k) event (some_is _ _ (rw (a, ends) at e)) (record { in_grammar = number; fits = omega arith })
-          | inr b ↦
-              let h = cond_is (bytes_eq word (codes "open") && is_replay kind) (Open k) event (rw (a, b) at e) in
-              let replay = and_parts (bytes_eq word (codes "open")) (is_replay kind) h.0 in
-              IsSound-at kind size (Open k) event h.1 (record { in_grammar = and_from (is_replay kind) (is_connection k) replay.1 number; fits = omega arith })
-        ]
+        | inl ends ↦ IsSound-at kind size (End k) event (some_is _ _ (rw (a, ends) at e)) (record { in_grammar = number; fits = omega arith })
+        | inr b ↦
+            let h = cond_is (bytes_eq word (codes "open") && is_replay kind) (Open k) event (rw (a, b) at e) in
+            let replay = and_parts (bytes_eq word (codes "open")) (is_replay kind) h.0 in
+            IsSound-at kind size (Open k) event h.1 (record { in_grammar = and_from (is_replay kind) (is_connection k) replay.1 number; fits = omega arith })
+      ]
     ]
 
 mount_sound : (value mount : List ℕ) → mount_of value ≡ Some mount → is_name mount ≡ true
@@ -205,18 +205,18 @@ module _ (kind : ScriptKind) (k size : ℕ) (value : List ℕ) (number : is_conn
       elim (cases_Bool (bytes_eq word (codes "in"))) [
         | inl w ↦ input_sound event (rw w at e)
         | inr a ↦ elim (cases_Bool (bytes_eq word (codes "turn"))) [
-            | inl w ↦ turn_sound event (rw (a, w) at e)
-            | inr b ↦ elim (cases_Bool (bytes_eq word (codes "source") && is_bare kind)) [
-                | inl w ↦ source_sound event (and_parts (bytes_eq word (codes "source")) (is_bare kind) w).1 (rw (a, b, w) at e)
-                | inr d ↦ elim (cases_Bool (bytes_eq word (codes "rover") && is_bare kind)) [
-                    | inl w ↦ rover_sound event (and_parts (bytes_eq word (codes "rover")) (is_bare kind) w).1 (rw (a, b, d, w) at e)
-                    | inr f ↦ elim (cases_Bool (bytes_eq word (codes "relay") && is_replay kind)) [
-                        | inl w ↦ relay_sound event (and_parts (bytes_eq word (codes "relay")) (is_replay kind) w).1 (rw (a, b, d, f, w) at e)
-                        | inr g ↦ absurd (let none = rw (a, b, d, f, g) at e in cc)
-                      ]
-                  ]
+          | inl w ↦ turn_sound event (rw (a, w) at e)
+          | inr b ↦ elim (cases_Bool (bytes_eq word (codes "source") && is_bare kind)) [
+            | inl w ↦ source_sound event (and_parts (bytes_eq word (codes "source")) (is_bare kind) w).1 (rw (a, b, w) at e)
+            | inr d ↦ elim (cases_Bool (bytes_eq word (codes "rover") && is_bare kind)) [
+              | inl w ↦ rover_sound event (and_parts (bytes_eq word (codes "rover")) (is_bare kind) w).1 (rw (a, b, d, w) at e)
+              | inr f ↦ elim (cases_Bool (bytes_eq word (codes "relay") && is_replay kind)) [
+                | inl w ↦ relay_sound event (and_parts (bytes_eq word (codes "relay")) (is_replay kind) w).1 (rw (a, b, d, f, w) at e)
+                | inr g ↦ absurd (let none = rw (a, b, d, f, g) at e in cc)
               ]
+            ]
           ]
+        ]
       ]
 
 parts_sound : (kind : ScriptKind) (ps : List (List ℕ)) (event : Event) → event_of_parts kind ps ≡ Some event → (size : ℕ) → total ps ≤ size → IsSound kind event size

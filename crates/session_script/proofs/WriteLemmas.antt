@@ -123,18 +123,25 @@ three_reads kind word k value event w number v reads =
 
 source_word : IsWord (codes "source")
 source_word = record { plain = record { spaces = refl; feeds = refl; returns = refl }; not_skipped = λ _. refl; not_stop = λ _. refl }
+
 rover_word : IsWord (codes "rover")
 rover_word = record { plain = record { spaces = refl; feeds = refl; returns = refl }; not_skipped = λ _. refl; not_stop = λ _. refl }
+
 open_word : IsWord (codes "open")
 open_word = record { plain = record { spaces = refl; feeds = refl; returns = refl }; not_skipped = λ _. refl; not_stop = λ _. refl }
+
 relay_word : IsWord (codes "relay")
 relay_word = record { plain = record { spaces = refl; feeds = refl; returns = refl }; not_skipped = λ _. refl; not_stop = λ _. refl }
+
 in_word : IsWord (codes "in")
 in_word = record { plain = record { spaces = refl; feeds = refl; returns = refl }; not_skipped = λ _. refl; not_stop = λ _. refl }
+
 turn_word : IsWord (codes "turn")
 turn_word = record { plain = record { spaces = refl; feeds = refl; returns = refl }; not_skipped = λ _. refl; not_stop = λ _. refl }
+
 break_word : IsWord (codes "break")
 break_word = record { plain = record { spaces = refl; feeds = refl; returns = refl }; not_skipped = λ _. refl; not_stop = λ _. refl }
+
 end_word : IsWord (codes "end")
 end_word = record { plain = record { spaces = refl; feeds = refl; returns = refl }; not_skipped = λ _. refl; not_stop = λ _. refl }
 
@@ -176,7 +183,7 @@ relay_reads kind k n fits =
     let small : n < 2 ^ 32 = ltb-true n (2 ^ 32) a.1 in
     let same : relay_number (n + 1) ≡ n = omega arith in
     three_reads kind (codes "relay") k (decimal (n + 1)) (Relay k n) relay_word b.1 (plain_decimal (n + 1) (omega arith))
-        (rw (b.0, number_of-decimal (n + 1) (omega arith) (omega arith), same) refl)
+    (rw (b.0, number_of-decimal (n + 1) (omega arith) (omega arith), same) refl)
 
 in_reads : (kind : ScriptKind) (k : ℕ) (bytes digits : List ℕ) → is_event kind (In k bytes) ≡ true → decode_of digits ≡ Ok bytes
     → ReadsAs kind (join_with_byte 32 (codes "in" ∷ decimal k ∷ digits ∷ [])) (In k bytes)
@@ -191,7 +198,7 @@ turn_reads kind k budget fits =
     let b = and_parts (is_connection k) (leb 1 budget) a.0 in
     let most : budget ≤ 16 = leb-true budget 16 a.1 in
     three_reads kind (codes "turn") k (decimal budget) (Turn k budget) turn_word b.0 (plain_decimal budget (omega arith))
-        (rw (within-decimal 16 budget (leb-true 1 budget b.1) most (omega arith)) refl)
+    (rw (within-decimal 16 budget (leb-true 1 budget b.1) most (omega arith)) refl)
 
 -- a line of an event reads as that event
 pub line_reads : (kind : ScriptKind) (text : List ℕ) (event : Event) → is_event kind event ≡ true → IsLine text event → ReadsAs kind text event
