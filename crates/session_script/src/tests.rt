@@ -95,9 +95,9 @@ fn numbers_are_from_1_to_9999(rt: HostRuntime) {
 #[test]
 fn the_257th_connection_is_refused(rt: HostRuntime) -> Result<(), Fail> {
     let mut script = Vec::new(rt.alloc());
-    for k in 1..257u128 {
+    for k in 1..257u32 {
         script.extend_from_slice(b"open ")?;
-        push_decimal(&mut script, k)?;
+        push_decimal(&mut script, u128::from(k))?;
         script.push(b'\n')?;
     }
     let whole = script.len();
