@@ -38,17 +38,17 @@ number_from-pos (c ∷ cs) number =
     let more = number_from-ge (10 * 0 + (c - 48)) cs in
     omega arith
 
-cond_is : {A : Type 0} (b : Bool) (x y : A) → cond b (Some x) None ≡ Some y → (b ≡ true) × (x ≡ y)
+pub cond_is : {A : Type 0} (b : Bool) (x y : A) → cond b (Some x) None ≡ Some y → (b ≡ true) × (x ≡ y)
 cond_is true x y e = (refl, cc)
 cond_is false x y e = absurd cc
 
-number_of-pos : (text : List ℕ) (n : ℕ) → number_of text ≡ Some n → 1 ≤ n
+pub number_of-pos : (text : List ℕ) (n : ℕ) → number_of text ≡ Some n → 1 ≤ n
 number_of-pos text n e =
     let h = cond_is (is_number text) (number_from 0 text) n e in
     let pos = number_from-pos text h.0 in
     omega (arith, h.1)
 
-at_most-is : (limit n : ℕ) (o : Option ℕ) → at_most limit o ≡ Some n → (o ≡ Some n) × (n ≤ limit)
+pub at_most-is : (limit n : ℕ) (o : Option ℕ) → at_most limit o ≡ Some n → (o ≡ Some n) × (n ≤ limit)
 at_most-is limit n None e = absurd cc
 at_most-is limit n (Some m) e =
     let h = cond_is (leb m limit) m n e in
@@ -63,22 +63,22 @@ in_limits limit n text e =
 
 -- ---- values
 
-map_some : {A B : Type 0} (f : A → B) (o : Option A) (y : B) → option_map f o ≡ Some y → (x : A) × (o ≡ Some x) × (f x ≡ y)
+pub map_some : {A B : Type 0} (f : A → B) (o : Option A) (y : B) → option_map f o ≡ Some y → (x : A) × (o ≡ Some x) × (f x ≡ y)
 map_some f None y e = absurd cc
 map_some f (Some x) y e = (x, refl, cc)
 
-then_is : {A B : Type 0} (f : A → Option B) (o : Option A) (y : B) → option_and_then f o ≡ Some y → (x : A) × (o ≡ Some x) × (f x ≡ Some y)
+pub then_is : {A B : Type 0} (f : A → Option B) (o : Option A) (y : B) → option_and_then f o ≡ Some y → (x : A) × (o ≡ Some x) × (f x ≡ Some y)
 then_is f None y e = absurd cc
 then_is f (Some x) y e = (x, refl, e)
 
-some_is : {A : Type 0} (x y : A) → Some x ≡ Some y → x ≡ y
+pub some_is : {A : Type 0} (x y : A) → Some x ≡ Some y → x ≡ y
 some_is x y e = cc
 
-ok_is_some : {A E : Type 0} (r : Result A E) (x : A) → result_ok r ≡ Some x → r ≡ Ok x
+pub ok_is_some : {A E : Type 0} (r : Result A E) (x : A) → result_ok r ≡ Some x → r ≡ Ok x
 ok_is_some (Ok y) x e = ap (λ z. Ok z) (some_is y x e)
 ok_is_some (Err f) x e = absurd cc
 
-input_is : (o : Option (List ℕ)) (bytes : List ℕ) → input_within o ≡ Some bytes → (o ≡ Some bytes) × (is_input bytes ≡ true)
+pub input_is : (o : Option (List ℕ)) (bytes : List ℕ) → input_within o ≡ Some bytes → (o ≡ Some bytes) × (is_input bytes ≡ true)
 input_is None bytes e = absurd cc
 input_is (Some found) bytes e =
     let h = cond_is (is_input found) found bytes e in

@@ -49,7 +49,7 @@ plain_from p space feed return text all = record { spaces = none_from p 32 space
 
 -- ---- numbers
 
-own : IsNumeralModel (λ ds. list_all is_digit ds ≡ true) (number_from 0)
+pub own : IsNumeralModel (λ ds. list_all is_digit ds ≡ true) (number_from 0)
 own = numerals_by_fold (λ ds. list_all is_digit ds ≡ true) (search rules) number_from (search rules)
 
 plain_decimal : (n : ℕ) → n < 2 ^ 64 → IsPlain (decimal n)

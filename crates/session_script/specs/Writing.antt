@@ -1,5 +1,5 @@
 -- How a session is written as a script, apart from reading: lines, comments, empty lines, the end.
-use Rattle.std.specs.Prelude.{◌≡◌, ℕ, Bool, not, ◌==◌, ◌⊎◌, if◌then◌else◌, List, [], ◌∷◌, ◌++◌, codes, Ok, IsTrue}
+use Rattle.std.specs.Prelude.{◌≡◌, ℕ, ◌-◌, ◌^◌, ◌<◌, Bool, not, ◌==◌, ◌⊎◌, if◌then◌else◌, List, [], ◌∷◌, ◌++◌, codes, Ok, IsTrue}
 use Rattle.std.specs.List.{list_all, join_with_byte, flat_map}
 use Rattle.std.specs.Fmt.{decimal}
 use Rattle.hex.specs.Hex.{decode_of}
@@ -19,6 +19,11 @@ AreParts event parts = parts ≡ parts_of event
 abbrev pub IsLine : List ℕ → Event → Type 0
 IsLine text event =
     (parts : List (List ℕ)) × AreParts event parts × (text ≡ join_with_byte 32 parts)
+
+-- the event names no relay, or one that is not too large for any
+abbrev pub IsNear : Event → Type 0
+IsNear (Relay k n) = n < 2 ^ 32 - 1
+IsNear event = Unit {0}
 
 -- the text is an empty line or a comment, on one line
 abbrev pub IsPassedOver : List ℕ → Type 0

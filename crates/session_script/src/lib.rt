@@ -15,7 +15,7 @@ mod parts;
 mod reading;
 
 use cast_text::{MountName, Text};
-pub use law::reads_what_is_written;
+pub use law::{reads_lines, reads_what_is_written};
 pub use reading::parse;
 use std::alloc::{AllocError, AllocFailed};
 use thiserror::Error;
