@@ -1,8 +1,8 @@
 -- A line that reads as an event is a line of that event.
-use Rattle.std.proofs.Common.{◌≡◌, ℕ, suc, ◌+◌, ◌-◌, ◌^◌, ◌<◌, ◌≤◌, min, Bool, true, false, not, cond, ◌&&◌, eqb, leb, List, [], ◌∷◌, length, get_or, Option, Some, None, Result, Ok, Err, refl, sym, ap, subst, ◌∙◌, arith, inl, inr}
+use Rattle.std.proofs.Common.{◌≡◌, ℕ, ◌+◌, ◌^◌, ◌<◌, true, not, ◌&&◌, eqb, leb, List, [], ◌∷◌, length, get_or, Some, refl, sym, ap, subst, ◌∙◌, arith, inl, inr}
 use Rattle.std.specs.Prelude.{codes}
-use Rattle.std.specs.List.{list_all, slice_split, join_with_byte}
-use Rattle.std.specs.Option.{option_map, option_and_then}
+use Rattle.std.specs.List.{list_all, slice_split}
+use Rattle.std.specs.Option.{option_map}
 use Rattle.std.specs.Result.{result_ok}
 use Rattle.std.specs.Str.{bytes_eq}
 use Rattle.std.specs.Fmt.{decimal}
@@ -61,12 +61,12 @@ short_form kind word number k event n e =
     elim (cases_Bool (bytes_eq word (codes "break"))) [
       | inl w ↦ near_at (word ∷ number ∷ []) (Break k) event (some_is _ _ (rw w at e)) (λ _. two_parts word number (codes "break") k (word_is word (codes "break") w) n)
       | inr a ↦ elim (cases_Bool (bytes_eq word (codes "end"))) [
-          | inl w ↦ near_at (word ∷ number ∷ []) (End k) event (some_is _ _ (rw (a, w) at e)) (λ _. two_parts word number (codes "end") k (word_is word (codes "end") w) n)
-          | inr b ↦
-              let h = cond_is (bytes_eq word (codes "open") && is_replay kind) (Open k) event (rw (a, b) at e) in
-              let w = (and_parts (bytes_eq word (codes "open")) (is_replay kind) h.0).0 in
-              near_at (word ∷ number ∷ []) (Open k) event h.1 (λ _. two_parts word number (codes "open") k (word_is word (codes "open") w) n)
-        ]
+        | inl w ↦ near_at (word ∷ number ∷ []) (End k) event (some_is _ _ (rw (a, w) at e)) (λ _. two_parts word number (codes "end") k (word_is word (codes "end") w) n)
+        | inr b ↦
+            let h = cond_is (bytes_eq word (codes "open") && is_replay kind) (Open k) event (rw (a, b) at e) in
+            let w = (and_parts (bytes_eq word (codes "open")) (is_replay kind) h.0).0 in
+            near_at (word ∷ number ∷ []) (Open k) event h.1 (λ _. two_parts word number (codes "open") k (word_is word (codes "open") w) n)
+      ]
     ]
 
 module _ (kind : ScriptKind) (word number value : List ℕ) (k : ℕ) (n : number ≡ decimal k) where
@@ -100,27 +100,27 @@ module _ (kind : ScriptKind) (word number value : List ℕ) (k : ℕ) (n : numbe
       let pos = number_of-pos value m.0 m.1 in
       near_at (word ∷ number ∷ value ∷ []) (Relay k (relay_number m.0)) event m.2
       (λ near.
-        let same : relay_number m.0 + 1 ≡ m.0 = omega (arith, near, pos) in
-        let text : value ≡ decimal m.0 = number_text value m.0 m.1 (omega (arith, near, pos)) in
-        three_parts word number value (codes "relay") k (decimal (relay_number m.0 + 1)) w n (text ∙ ap decimal (sym same)))
+      let same : relay_number m.0 + 1 ≡ m.0 = omega (arith, near, pos) in
+      let text : value ≡ decimal m.0 = number_text value m.0 m.1 (omega (arith, near, pos)) in
+      three_parts word number value (codes "relay") k (decimal (relay_number m.0 + 1)) w n (text ∙ ap decimal (sym same)))
 
   long_form : (event : Event) → long_event kind word k value ≡ Some event → AreNear event (word ∷ number ∷ value ∷ [])
   long_form event e =
       elim (cases_Bool (bytes_eq word (codes "in"))) [
         | inl w ↦ input_form event (word_is word (codes "in") w) (rw w at e)
         | inr a ↦ elim (cases_Bool (bytes_eq word (codes "turn"))) [
-            | inl w ↦ turn_form event (word_is word (codes "turn") w) (rw (a, w) at e)
-            | inr b ↦ elim (cases_Bool (bytes_eq word (codes "source") && is_bare kind)) [
-                | inl w ↦ source_form event (word_is word (codes "source") (and_parts (bytes_eq word (codes "source")) (is_bare kind) w).0) (rw (a, b, w) at e)
-                | inr d ↦ elim (cases_Bool (bytes_eq word (codes "rover") && is_bare kind)) [
-                    | inl w ↦ rover_form event (word_is word (codes "rover") (and_parts (bytes_eq word (codes "rover")) (is_bare kind) w).0) (rw (a, b, d, w) at e)
-                    | inr f ↦ elim (cases_Bool (bytes_eq word (codes "relay") && is_replay kind)) [
-                        | inl w ↦ relay_form event (word_is word (codes "relay") (and_parts (bytes_eq word (codes "relay")) (is_replay kind) w).0) (rw (a, b, d, f, w) at e)
-                        | inr g ↦ absurd (let none = rw (a, b, d, f, g) at e in cc)
-                      ]
-                  ]
+          | inl w ↦ turn_form event (word_is word (codes "turn") w) (rw (a, w) at e)
+          | inr b ↦ elim (cases_Bool (bytes_eq word (codes "source") && is_bare kind)) [
+            | inl w ↦ source_form event (word_is word (codes "source") (and_parts (bytes_eq word (codes "source")) (is_bare kind) w).0) (rw (a, b, w) at e)
+            | inr d ↦ elim (cases_Bool (bytes_eq word (codes "rover") && is_bare kind)) [
+              | inl w ↦ rover_form event (word_is word (codes "rover") (and_parts (bytes_eq word (codes "rover")) (is_bare kind) w).0) (rw (a, b, d, w) at e)
+              | inr f ↦ elim (cases_Bool (bytes_eq word (codes "relay") && is_replay kind)) [
+                | inl w ↦ relay_form event (word_is word (codes "relay") (and_parts (bytes_eq word (codes "relay")) (is_replay kind) w).0) (rw (a, b, d, f, w) at e)
+                | inr g ↦ absurd (let none = rw (a, b, d, f, g) at e in cc)
               ]
+            ]
           ]
+        ]
       ]
 
 parts_form : (kind : ScriptKind) (ps : List (List ℕ)) (event : Event) → event_of_parts kind ps ≡ Some event → AreNear event ps

@@ -1,25 +1,20 @@
 -- What is written as a script is read as it was.
-use Rattle.std.proofs.Common.{◌≡◌, ℕ, zero, suc, ◌+◌, ◌-◌, ◌<◌, ◌≤◌, Bool, true, false, not, cond, ◌&&◌, eqb, ltb, List, [], ◌∷◌, ◌++◌, length, take, get_or, map, Option, Some, None, Result, Ok, Err, refl, sym, ap, subst, ◌∙◌, arith, inl, inr, ◌⊎◌, append_assoc}
+use Rattle.std.proofs.Common.{◌≡◌, ℕ, zero, suc, ◌+◌, ◌-◌, ◌≤◌, Bool, true, false, cond, ◌&&◌, eqb, ltb, List, [], ◌∷◌, ◌++◌, length, take, get_or, map, Ok, refl, sym, ap, ◌∙◌, arith, inl, inr, append_assoc}
 use Rattle.std.specs.Prelude.{codes}
-use Rattle.std.specs.List.{list_all, flat_map, join_with_byte}
-use Rattle.std.specs.Str.{bytes_eq}
+use Rattle.std.specs.List.{list_all, flat_map}
 use Rattle.std.specs.Str.Lines.{lines, strip_carriage_return}
 use Rattle.std.proofs.lemmas.Bool.{cases_Bool, and_parts, ltb-true}
-use Rattle.std.proofs.lemmas.List.{append-nil}
-use Rattle.std.proofs.lemmas.List.Concat.{flat_map-cons}
-use Rattle.hex.specs.Hex.{IsBytes, encode_lower, decode_of}
+use Rattle.hex.specs.Hex.{IsBytes, encode_lower}
 use Rattle.hex.proofs.HexLemmas.{decode_of-encode_lower}
 use Rattle.session_script.specs.declared.Event.{Event}
 use Rattle.session_script.specs.declared.Event.TheVariants.{Source, Rover, Open, Relay, In, Turn, Break, End}
 use Rattle.session_script.specs.declared.ScriptKind.{ScriptKind}
-use Rattle.session_script.specs.declared.ScriptFault.{ScriptFault}
-use Rattle.session_script.specs.declared.reading.LineRead.{LineRead}
-use Rattle.session_script.specs.declared.reading.LineRead.TheVariants.{Skipped, Stop, Happens}
-use Rattle.session_script.specs.Line.{parts_of, line_text, is_connection, is_input, is_event, event_of_line}
+use Rattle.session_script.specs.declared.reading.LineRead.TheVariants.{Skipped, Happens}
+use Rattle.session_script.specs.Line.{parts_of, line_text, is_connection, is_input, is_event}
 use Rattle.session_script.specs.Numbers.{Numbers, no_numbers}
 use Rattle.session_script.specs.Script.{is_skipped, may_follow, after_event, is_session_after, IsSession, onto_events, events_of_lines, script_of}
-use Rattle.session_script.specs.Reading.{event_read, line_read}
-use Rattle.session_script.specs.Writing.{AreParts, IsLine, IsPassedOver, Row, row_text, HaveEvents, IsEnding, IsWritten, script_text}
+use Rattle.session_script.specs.Reading.{line_read}
+use Rattle.session_script.specs.Writing.{AreParts, Row, row_text, HaveEvents, IsEnding, IsWritten, script_text}
 use Rattle.session_script.proofs.SplitLemmas.{none_of, lines_front, strip_none, strip_one, none_of-append}
 use Rattle.session_script.proofs.WriteLemmas.{ReadsAs, line_reads}
 use Rattle.session_script.proofs.ReadLemmas.{after_line, events_of_lines-step, script_small}

@@ -1,26 +1,25 @@
 -- A line of an event reads as that event.
-use Rattle.std.proofs.Common.{◌≡◌, ℕ, zero, suc, ◌+◌, ◌-◌, ◌^◌, ◌<◌, ◌≤◌, min, Bool, true, false, not, cond, ◌&&◌, eqb, leb, ltb, List, [], ◌∷◌, ◌++◌, length, get_or, Option, Some, None, Result, Ok, Err, refl, sym, ap, subst, ◌∙◌, arith, inl, inr, rules}
+use Rattle.std.proofs.Common.{◌≡◌, ℕ, ◌+◌, ◌^◌, ◌<◌, ◌≤◌, Bool, true, false, not, ◌&&◌, eqb, leb, ltb, List, [], ◌∷◌, ◌++◌, length, get_or, Some, Ok, refl, ap, subst, ◌∙◌, arith, inl, inr, rules}
 use Rattle.std.specs.Prelude.{codes}
-use Rattle.std.specs.List.{list_all, slice_split, join_with_byte, AllPass}
-use Rattle.std.specs.Option.{option_map, option_and_then}
+use Rattle.std.specs.List.{list_all, join_with_byte}
+use Rattle.std.specs.Option.{option_and_then}
 use Rattle.std.specs.Str.{bytes_eq}
 use Rattle.std.specs.Fmt.{decimal}
-use Rattle.std.proofs.lemmas.Bool.{cases_Bool, and_parts, and_from, eqb-true, ne_eqb, leb-true, le-leb, ltb-true, both_ways, not-true}
+use Rattle.std.proofs.lemmas.Bool.{cases_Bool, and_parts, and_from, eqb-true, ne_eqb, leb-true, le-leb, ltb-true, both_ways}
 use Rattle.std.proofs.lemmas.Fmt.{decimal_nonempty, first_decimal, digits_decimal, digits_value-decimal}
 use Rattle.std.proofs.lemmas.Str.Parse.{IsNumeralModel, numerals_by_fold}
 use Rattle.std.proofs.lemmas.List.Sums.{list_all-from_AllPass}
-use Rattle.hex.specs.Hex.{IsBytes, decode_of, is_hex_digit, encode_lower}
-use Rattle.hex.proofs.HexLemmas.{decode_of-ok, decode_of-encode_lower}
-use Rattle.cast_text.specs.Name.{is_name_byte, is_name, name_of}
+use Rattle.hex.specs.Hex.{decode_of, is_hex_digit}
+use Rattle.hex.proofs.HexLemmas.{decode_of-ok}
+use Rattle.cast_text.specs.Name.{is_name_byte, is_name}
 use Rattle.cast_text.proofs.NameLemmas.{name_of-name}
 use Rattle.session_script.specs.declared.Event.{Event}
 use Rattle.session_script.specs.declared.Event.TheVariants.{Source, Rover, Open, Relay, In, Turn, Break, End}
 use Rattle.session_script.specs.declared.ScriptKind.{ScriptKind}
-use Rattle.session_script.specs.declared.ScriptKind.TheVariants.{Bare, Replay}
-use Rattle.session_script.specs.Digits.{is_digit, number_from, is_number, number_of, at_most}
+use Rattle.session_script.specs.Digits.{is_digit, number_from, number_of, at_most}
 use Rattle.session_script.specs.Line.{parts_of, is_connection, is_bare, is_replay, is_input, is_event, mount_of, input_of, relay_number, short_event, long_event, event_of_parts, event_of_line}
 use Rattle.session_script.specs.Script.{is_skipped}
-use Rattle.session_script.specs.Writing.{AreParts, IsLine}
+use Rattle.session_script.specs.Writing.{IsLine}
 use Rattle.session_script.proofs.SplitLemmas.{none_of, none_of-append, split_two, split_three}
 
 -- ---- parts without space, LF and CR

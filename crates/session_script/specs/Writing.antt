@@ -4,7 +4,7 @@ use Rattle.std.specs.List.{list_all, join_with_byte, flat_map}
 use Rattle.std.specs.Fmt.{decimal}
 use Rattle.hex.specs.Hex.{decode_of}
 use Rattle.session_script.specs.declared.Event.{Event}
-use Rattle.session_script.specs.declared.Event.TheVariants.{Source, Rover, Open, Relay, In, Turn, Break, End}
+use Rattle.session_script.specs.declared.Event.TheVariants.{Relay, In}
 use Rattle.session_script.specs.Line.{parts_of, line_text}
 use Rattle.session_script.specs.Script.{is_skipped}
 

@@ -8,9 +8,9 @@ ghost use Rattle.session_script.specs.Script.{IsSession, script_of};
 ghost use Rattle.session_script.specs.Writing.{IsLine, IsNear, IsWritten, script_text};
 
 /// What is written is read. A script of a session's events, of at most 8 MiB, reads as exactly
-/// these events, for the same kind: with any comments and empty lines, with CR before LF or without,
-/// with hexadecimal digits of either case, with or without an LF behind `stop`, and whatever
-/// follows it.
+/// these events, for the same kind: with any comments and empty lines, with CR before LF or
+/// without, with hexadecimal digits of either case, with or without an LF behind `stop`, and
+/// whatever follows it.
 pub fn reads_what_is_written()
     ensures plain { (kind : ScriptKind) (events : List Event) → IsSession kind events
         → length (script_text events) ≤ 8388608 → script_of kind (script_text events) ≡ Ok events }
@@ -22,11 +22,10 @@ pub fn reads_what_is_written()
 /// and in the grammar's ranges, and the line is its parts with one space between each two. (A relay
 /// whose number no relay has reads as the last number, whatever its own is.)
 pub fn reads_lines()
-    ensures reads { (kind : ScriptKind) (line : List ℕ) (event : Event) → IsTrue (is_event kind event)
-        → IsLine line event → event_of_line kind line ≡ Some event }
+    ensures reads { (kind : ScriptKind) (line : List ℕ) (event : Event)
+        → IsTrue (is_event kind event) → IsLine line event → event_of_line kind line ≡ Some event }
     ensures only { (kind : ScriptKind) (line : List ℕ) (event : Event)
         → event_of_line kind line ≡ Some event → IsNear event → IsLine line event }
     ensures ranges { (kind : ScriptKind) (line : List ℕ) (event : Event)
         → event_of_line kind line ≡ Some event → IsTrue (is_event kind event) }
-{
-}
+{}

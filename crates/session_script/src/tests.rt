@@ -7,7 +7,7 @@ const REPLAY: ScriptKind = ScriptKind::Replay { relays: 2 };
 #[test]
 fn the_usual_session_is_read(rt: HostRuntime) -> Result<(), Fail> {
     let script =
-        b"# a\r\n\r\nsource 1 A\nrover 2 ALPHA\r\nin 1 D3ff\n\nturn 2 16\nbreak 1\nend 2\nstop\r\nin x";
+        b"#\r\n\r\nsource 1 A\nrover 2 ALPHA\r\nin 1 D3ff\n\nturn 2 16\nbreak 1\nend 2\nstop\r\nx";
     let events = parse(rt.alloc(), script, ScriptKind::Bare)?;
     assert_eq!(rt; events.len(), 6);
     assert!(rt; matches!(&events[0], Event::Source(1, mount) if mount.bytes() == b"A".as_slice()));

@@ -1,4 +1,4 @@
-use Rattle.std.proofs.Common.{◌≡◌, ℕ, List, Option, Bor, sym, ap, ◌∙◌}
+use Rattle.std.proofs.Common.{ℕ, List, Option, Bor, sym, ap, ◌∙◌}
 use Rattle.std.specs.Option.{option_map}
 use Rattle.session_script.specs.Line.{event_of_line, event_of_parts}
 use Rattle.session_script.proofs.PartLemmas.{three_parts, too_many_parts, some_mapped}

@@ -1,4 +1,3 @@
-use Rattle.std.proofs.Common.{◌≡◌}
 use Rattle.session_script.proofs.ReadLemmas.{goes_on_skipped, goes_on_stop, goes_on_event, fails_there}
 use Rattle.session_script.proofs.reading.Reader.take.Goals as goal
 
