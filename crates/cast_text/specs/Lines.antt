@@ -22,11 +22,15 @@ parts_of bytes = slice_split (λ b. b == 10) bytes
 abbrev pub unfinished : List ℕ → List ℕ
 unfinished bytes = last_part (parts_of bytes)
 
--- the whole lines of the bytes, each without its LF and one CR before it, that have at most this many bytes
+-- the whole lines of the bytes, each without its LF and one CR before it, that have at most this
+-- many bytes
 abbrev pub whole_lines : ℕ → List ℕ → List (List ℕ)
-whole_lines limit bytes = filter (λ line. nat_le (length line) limit) (map strip_carriage_return (all_but_last (parts_of bytes)))
+whole_lines limit bytes =
+    filter (λ line. nat_le (length line) limit)
+    (map strip_carriage_return (all_but_last (parts_of bytes)))
 
--- the line that was given or is coming; whether more bytes of it came than are kept; and whether it has ended
+-- the line that was given or is coming; whether more bytes of it came than are kept; and whether
+-- it has ended
 pub record LineState : Type 0 where
   pub limit : ℕ
   pub line : List ℕ
@@ -42,8 +46,10 @@ kept state byte =
     if nat_lt state.limit (length state.line) then record state { over = true }
     else record state { line = state.line ++ byte ∷ [] }
 
--- the state stands for all these bytes: it has what came after the last LF, as far as that can be a line
+-- the state stands for all these bytes: it has what came after the last LF, as far as that can be
+-- a line
 abbrev pub StandsFor : LineState → List ℕ → Type 0
 StandsFor state bytes =
     MatchBool state.ended (unfinished bytes ≡ [])
-    (MatchBool state.over (state.limit + 1 < length (unfinished bytes)) (unfinished bytes ≡ state.line))
+    (MatchBool state.over (state.limit + 1 < length (unfinished bytes))
+    (unfinished bytes ≡ state.line))

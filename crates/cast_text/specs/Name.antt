@@ -6,7 +6,9 @@ use Rattle.cast_text.specs.declared.fault.NameFault.TheVariants.{Empty, Long, By
 
 -- a printable ASCII byte, no space, and none of `/` (47), `:` (58), `;` (59) and `?` (63)
 abbrev pub is_name_byte : ℕ → Bool
-is_name_byte b = nat_le 0x21 b && nat_le b 0x7E && not (b == 47) && not (b == 58) && not (b == 59) && not (b == 63)
+is_name_byte b =
+    nat_le 0x21 b && nat_le b 0x7E && not (b == 47) && not (b == 58) && not (b == 59)
+    && not (b == 63)
 
 -- 1 to 100 such bytes
 abbrev pub is_name : List ℕ → Bool

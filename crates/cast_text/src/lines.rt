@@ -52,13 +52,15 @@ impl Lines {
         })
     }
 
-    /// Takes the next byte, and says whether it ends a line that is within the limit: `line` is then
-    /// that line.
+    /// Takes the next byte, and says whether it ends a line that is within the limit: `line` is
+    /// then that line.
     pub fn push(&mut self, byte: u8) -> bool
         ensures limit { self.new.limit ≡ self.old.limit }
-        ensures stands { (bytes : List ℕ) → StandsFor self.old bytes → StandsFor self.new (bytes ++ byte ∷ []) }
+        ensures stands { (bytes : List ℕ) → StandsFor self.old bytes
+            → StandsFor self.new (bytes ++ byte ∷ []) }
         ensures lines { (bytes : List ℕ) → StandsFor self.old bytes
-            → whole_lines self.old.limit (bytes ++ byte ∷ []) ≡ whole_lines self.old.limit bytes ++ (if result then self.new.line ∷ [] else []) }
+            → whole_lines self.old.limit (bytes ++ byte ∷ [])
+            ≡ whole_lines self.old.limit bytes ++ (if result then self.new.line ∷ [] else []) }
     {
         if self.ended {
             self.restart();
@@ -92,7 +94,8 @@ impl Lines {
     fn finish(&mut self) -> bool
         ensures limit { self.new.limit ≡ self.old.limit }
         ensures ended { IsTrue self.new.ended }
-        ensures within { result ≡ (not self.old.over && nat_le (length (strip_carriage_return self.old.line)) self.old.limit) }
+        ensures within { result ≡ (not self.old.over
+            && nat_le (length (strip_carriage_return self.old.line)) self.old.limit) }
         ensures line { self.new.line ≡ strip_carriage_return self.old.line }
     {
         self.ended = true;

@@ -40,8 +40,8 @@ fn fault_of(text: &[u8]) -> Option<NameFault>
     }
 }
 
-/// The name of a mountpoint: 1 to 100 printable ASCII bytes (hexadecimal 21 to 7E) without `;`, `/`, `?`
-/// and `:`. Contracts see it as the list of its bytes.
+/// The name of a mountpoint: 1 to 100 printable ASCII bytes (hexadecimal 21 to 7E) without `;`,
+/// `/`, `?` and `:`. Contracts see it as the list of its bytes.
 #[derive(Debug, Drop)]
 pub struct MountName {
     bytes: Vec<u8>,
@@ -94,8 +94,8 @@ impl MountName {
     }
 }
 
-/// The name of a user: 1 to 100 printable ASCII bytes (hexadecimal 21 to 7E) without `;`, `/`, `?`
-/// and `:`. Contracts see it as the list of its bytes.
+/// The name of a user: 1 to 100 printable ASCII bytes (hexadecimal 21 to 7E) without `;`, `/`,
+/// `?` and `:`. Contracts see it as the list of its bytes.
 #[derive(Debug, Drop)]
 pub struct UserName {
     bytes: Vec<u8>,
@@ -148,8 +148,8 @@ impl UserName {
     }
 }
 
-/// The name of a group: 1 to 100 printable ASCII bytes (hexadecimal 21 to 7E) without `;`, `/`, `?`
-/// and `:`. Contracts see it as the list of its bytes.
+/// The name of a group: 1 to 100 printable ASCII bytes (hexadecimal 21 to 7E) without `;`, `/`,
+/// `?` and `:`. Contracts see it as the list of its bytes.
 #[derive(Debug, Drop)]
 pub struct GroupName {
     bytes: Vec<u8>,

@@ -48,7 +48,8 @@ fn push_digits(out: &mut Vec<u8>, base: u128, value: u128) -> Result<(), AllocEr
     requires high { base ≤ 16 }
     ensures ok { OnOk result (out.new.items ≡ out.old.items ++ digits base false value) }
     ensures err { OnErr result (out.new.items ≡ out.old.items) }
-    ensures room { vec_len out.old + length (digits base false value) ≤ vec_capacity out.old → IsOk result }
+    ensures room { vec_len out.old + length (digits base false value) ≤ vec_capacity out.old
+        → IsOk result }
     ensures capacity { vec_capacity out.old ≤ vec_capacity out.new }
 {
     let mut room = [0; DIGITS];
@@ -67,12 +68,13 @@ pub fn push_decimal(out: &mut Vec<u8>, v: u128) -> Result<(), AllocError>
     push_digits(out, 10, v)
 }
 
-/// Appends the number in hexadecimal, in lower case and with no leading zero. A refusal leaves `out`
-/// as it was, and none comes where room for the text was reserved.
+/// Appends the number in hexadecimal, in lower case and with no leading zero. A refusal leaves
+/// `out` as it was, and none comes where room for the text was reserved.
 pub fn push_hex(out: &mut Vec<u8>, v: u64) -> Result<(), AllocError>
     ensures ok { OnOk result (out.new.items ≡ out.old.items ++ digits 16 false v) }
     ensures err { OnErr result (out.new.items ≡ out.old.items) }
-    ensures room { vec_len out.old + length (digits 16 false v) ≤ vec_capacity out.old → IsOk result }
+    ensures room { vec_len out.old + length (digits 16 false v) ≤ vec_capacity out.old
+        → IsOk result }
     ensures capacity { vec_capacity out.old ≤ vec_capacity out.new }
 {
     push_digits(out, 16, u128::from(v))

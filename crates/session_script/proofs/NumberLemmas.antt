@@ -1,5 +1,5 @@
 -- The number that digits stand for, up to the last of a u64.
-use Rattle.std.proofs.Common.{◌≡◌, ℕ, ◌+◌, ◌-◌, ◌*◌, ◌^◌, ◌<◌, ◌≤◌, min, List, [], ◌∷◌, length, get_or, drop, refl, sym, ap, ◌∙◌, arith}
+use Rattle.std.proofs.Common.{◌≡◌, ℕ, ◌+◌, ◌-◌, ◌*◌, ◌^◌, ◌<◌, ◌≤◌, min, List, [], ◌∷◌, length, get_or, drop, sym, ap, ◌∙◌, arith}
 use Rattle.std.proofs.lemmas.List.{drop_more, drop_all}
 use Rattle.session_script.specs.Digits.{number_from}
 
@@ -17,7 +17,7 @@ pub capped_more : (digits : List ℕ) (i v w total : ℕ) → i < length digits 
     → capped (number_from v (drop i digits)) ≡ total → capped (number_from w (drop (i + 1) digits)) ≡ total
 capped_more digits i v w total lt e so_far =
     let step : capped (number_from v (drop i digits)) ≡ capped (number_from (10 * v + (get_or digits i 0 - 48)) (drop (i + 1) digits)) =
-        ap (λ (ds : List ℕ). capped (number_from v ds)) (drop_more digits i 0 lt) in
+    ap (λ (ds : List ℕ). capped (number_from v ds)) (drop_more digits i 0 lt) in
     capped_same (drop (i + 1) digits) w (10 * v + (get_or digits i 0 - 48)) (omega arith) ∙ sym step ∙ so_far
 
 -- no digit is left

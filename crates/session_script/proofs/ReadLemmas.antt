@@ -1,5 +1,5 @@
 -- Reading one line, and then those that follow.
-use Rattle.std.proofs.Common.{◌≡◌, ℕ, ◌+◌, Bool, true, false, cond, List, [], ◌∷◌, ◌++◌, Option, Some, None, Result, Ok, Err, refl, sym, ap, subst, ◌∙◌, ◌<◌, ◌≤◌, length, inl, inr, append_assoc}
+use Rattle.std.proofs.Common.{◌≡◌, ℕ, ◌+◌, cond, List, [], ◌∷◌, ◌++◌, Option, Some, None, Result, Ok, Err, refl, sym, ap, subst, ◌∙◌, ◌<◌, ◌≤◌, length, inl, inr, append_assoc}
 use Rattle.std.specs.Prelude.{codes}
 use Rattle.std.specs.Str.{bytes_eq}
 use Rattle.std.specs.Str.Lines.{lines}
@@ -47,9 +47,9 @@ events_of_lines-step kind n numbers line lines =
     elim (cases_Bool (is_skipped line)) [
       | inl skipped ↦ rw skipped refl
       | inr other ↦ elim (cases_Bool (bytes_eq line (codes "stop"))) [
-          | inl stops ↦ rw (other, stops) refl
-          | inr event ↦ rw (other, event) (step_event kind n numbers lines (event_of_line kind line))
-        ]
+        | inl stops ↦ rw (other, stops) refl
+        | inr event ↦ rw (other, event) (step_event kind n numbers lines (event_of_line kind line))
+      ]
     ]
 
 -- ---- with the events before

@@ -1,14 +1,11 @@
 -- Worked scripts, which the definitions compute.
-use Rattle.std.proofs.Common.{◌≡◌, ℕ, List, [], ◌∷◌, ◌++◌, Option, Some, None, Result, Ok, Err, refl}
+use Rattle.std.proofs.Common.{◌≡◌, [], ◌∷◌, Some, None, Ok, Err, refl}
 use Rattle.std.specs.Prelude.{codes}
 use Rattle.hex.specs.Hex.{encode_with, decode_pairs}
 use Rattle.std.specs.Fmt.{digits}
-use Rattle.session_script.specs.declared.Event.{Event}
 use Rattle.session_script.specs.declared.Event.TheVariants.{Source, Rover, Open, Relay, In, Turn, Break, End}
-use Rattle.session_script.specs.declared.ScriptKind.{ScriptKind}
 use Rattle.session_script.specs.declared.ScriptKind.TheVariants.{Bare, Replay}
-use Rattle.session_script.specs.declared.ScriptFault.{ScriptFault}
-use Rattle.session_script.specs.declared.ScriptFault.TheVariants.{Line, State, NoStop, Long, Memory}
+use Rattle.session_script.specs.declared.ScriptFault.TheVariants.{Line, State, NoStop}
 use Rattle.session_script.specs.Line.{event_of_line, line_text}
 use Rattle.session_script.specs.Script.{events_of_lines, script_of}
 

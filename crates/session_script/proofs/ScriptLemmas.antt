@@ -1,25 +1,20 @@
 -- What is written as a script is read as it was.
-use Rattle.std.proofs.Common.{◌≡◌, ℕ, zero, suc, ◌+◌, ◌-◌, ◌<◌, ◌≤◌, Bool, true, false, not, cond, ◌&&◌, eqb, ltb, List, [], ◌∷◌, ◌++◌, length, take, get_or, map, Option, Some, None, Result, Ok, Err, refl, sym, ap, subst, ◌∙◌, arith, inl, inr, ◌⊎◌, append_assoc}
+use Rattle.std.proofs.Common.{◌≡◌, ℕ, zero, suc, ◌+◌, ◌-◌, ◌≤◌, Bool, true, false, cond, ◌&&◌, eqb, ltb, List, [], ◌∷◌, ◌++◌, length, take, get_or, map, Ok, refl, sym, ap, ◌∙◌, arith, inl, inr, append_assoc}
 use Rattle.std.specs.Prelude.{codes}
-use Rattle.std.specs.List.{list_all, flat_map, join_with_byte}
-use Rattle.std.specs.Str.{bytes_eq}
+use Rattle.std.specs.List.{list_all, flat_map}
 use Rattle.std.specs.Str.Lines.{lines, strip_carriage_return}
 use Rattle.std.proofs.lemmas.Bool.{cases_Bool, and_parts, ltb-true}
-use Rattle.std.proofs.lemmas.List.{append-nil}
-use Rattle.std.proofs.lemmas.List.Concat.{flat_map-cons}
-use Rattle.hex.specs.Hex.{IsBytes, encode_lower, decode_of}
+use Rattle.hex.specs.Hex.{IsBytes, encode_lower}
 use Rattle.hex.proofs.HexLemmas.{decode_of-encode_lower}
 use Rattle.session_script.specs.declared.Event.{Event}
 use Rattle.session_script.specs.declared.Event.TheVariants.{Source, Rover, Open, Relay, In, Turn, Break, End}
 use Rattle.session_script.specs.declared.ScriptKind.{ScriptKind}
-use Rattle.session_script.specs.declared.ScriptFault.{ScriptFault}
-use Rattle.session_script.specs.declared.reading.LineRead.{LineRead}
-use Rattle.session_script.specs.declared.reading.LineRead.TheVariants.{Skipped, Stop, Happens}
-use Rattle.session_script.specs.Line.{parts_of, line_text, is_connection, is_input, is_event, event_of_line}
+use Rattle.session_script.specs.declared.reading.LineRead.TheVariants.{Skipped, Happens}
+use Rattle.session_script.specs.Line.{parts_of, line_text, is_connection, is_input, is_event}
 use Rattle.session_script.specs.Numbers.{Numbers, no_numbers}
 use Rattle.session_script.specs.Script.{is_skipped, may_follow, after_event, is_session_after, IsSession, onto_events, events_of_lines, script_of}
-use Rattle.session_script.specs.Reading.{event_read, line_read}
-use Rattle.session_script.specs.Writing.{AreParts, IsLine, IsPassedOver, Row, row_text, HaveEvents, IsEnding, IsWritten, script_text}
+use Rattle.session_script.specs.Reading.{line_read}
+use Rattle.session_script.specs.Writing.{AreParts, Row, row_text, HaveEvents, IsEnding, IsWritten, script_text}
 use Rattle.session_script.proofs.SplitLemmas.{none_of, lines_front, strip_none, strip_one, none_of-append}
 use Rattle.session_script.proofs.WriteLemmas.{ReadsAs, line_reads}
 use Rattle.session_script.proofs.ReadLemmas.{after_line, events_of_lines-step, script_small}
@@ -35,7 +30,7 @@ row_front : (text : List ℕ) (carriage : Bool) (rest : List ℕ) → none_of (�
 row_front text false rest none = ap lines (append_assoc text (10 ∷ []) rest) ∙ lines_front text rest none
 row_front text true rest none =
     let regrouped : (text ++ 13 ∷ 10 ∷ []) ++ rest ≡ (text ++ 13 ∷ []) ++ 10 ∷ rest =
-        append_assoc text (13 ∷ 10 ∷ []) rest ∙ sym (append_assoc text (13 ∷ []) (10 ∷ rest)) in
+    append_assoc text (13 ∷ 10 ∷ []) rest ∙ sym (append_assoc text (13 ∷ []) (10 ∷ rest)) in
     ap lines regrouped ∙ lines_front (text ++ 13 ∷ []) rest (none_of-append (λ b. eqb b 10) text (13 ∷ []) none refl)
     ∙ ap (λ (line : List ℕ). line ∷ lines rest) (strip_one text)
 
@@ -113,7 +108,7 @@ rows_read kind n numbers [] events tail none session ends = ends n numbers ∙ a
 rows_read kind n numbers (row ∷ rows) events tail (inl (passed, others)) session ends =
     ap (events_of_lines kind n numbers) (rows_front row rows tail passed.1)
     ∙ passes_over kind n numbers (row_line row) (lines (flat_map row_text rows ++ tail)) events (skipped_line row passed.0)
-      (rows_read kind (n + 1) numbers rows events tail others session ends)
+    (rows_read kind (n + 1) numbers rows events tail others session ends)
 rows_read kind n numbers (row ∷ rows) events tail (inr (event, others, is, line, more)) session ends =
     let both = and_parts (is_event kind event && may_follow kind numbers event) (is_session_after kind (after_event numbers event) others) (rw is at session) in
     let this = and_parts (is_event kind event) (may_follow kind numbers event) both.0 in
@@ -121,7 +116,7 @@ rows_read kind n numbers (row ∷ rows) events tail (inr (event, others, is, lin
     let same : row_line row ≡ row.text = event_line row reads.returns in
     ap (events_of_lines kind n numbers) (rows_front row rows tail reads.feeds ∙ ap (λ (l : List ℕ). l ∷ lines (flat_map row_text rows ++ tail)) same)
     ∙ takes_event kind n numbers row.text (lines (flat_map row_text rows ++ tail)) event others reads this.1
-      (rows_read kind (n + 1) (after_event numbers event) rows others tail more both.1 ends)
+    (rows_read kind (n + 1) (after_event numbers event) rows others tail more both.1 ends)
     ∙ ap (λ (es : List Event). Ok es) (sym is)
 
 -- ---- the laws
@@ -131,7 +126,7 @@ pub reads_any : (kind : ScriptKind) (events : List Event) (bytes : List ℕ) →
 reads_any kind events bytes session written small =
     script_small kind bytes small ∙ ap (λ (bs : List ℕ). events_of_lines kind 1 no_numbers (lines bs)) written.text
     ∙ rows_read kind 1 no_numbers written.rows events (codes "stop" ++ written.ending) written.have session
-      (λ n numbers. stop_ends kind n numbers written.ending written.ends)
+    (λ n numbers. stop_ends kind n numbers written.ending written.ends)
 
 -- ---- the plain text
 

@@ -1,5 +1,5 @@
 -- What is read is a session, and no longer than the bytes.
-use Rattle.std.proofs.Common.{◌≡◌, ℕ, suc, ◌+◌, ◌<◌, ◌≤◌, Bool, true, false, cond, ◌&&◌, List, [], ◌∷◌, length, Option, Some, None, Result, Ok, Err, refl, sym, ap, subst, ◌∙◌, arith, inl, inr}
+use Rattle.std.proofs.Common.{◌≡◌, ℕ, ◌+◌, ◌≤◌, true, ◌&&◌, List, [], ◌∷◌, length, Option, Some, None, Result, Ok, Err, refl, sym, ap, subst, ◌∙◌, arith, inl, inr}
 use Rattle.std.specs.Prelude.{codes, sum_by, IfOk}
 use Rattle.std.specs.Global.{Vec}
 use Rattle.std.specs.Str.{bytes_eq}
@@ -43,9 +43,9 @@ read_is kind n numbers line event e =
     elim (cases_Bool (is_skipped line)) [
       | inl skipped ↦ absurd (let h = rw skipped at e in cc)
       | inr a ↦ elim (cases_Bool (bytes_eq line (codes "stop"))) [
-          | inl stops ↦ absurd (let h = rw (a, stops) at e in cc)
-          | inr b ↦ found_is kind n numbers (event_of_line kind line) event (rw (a, b) at e)
-        ]
+        | inl stops ↦ absurd (let h = rw (a, stops) at e in cc)
+        | inr b ↦ found_is kind n numbers (event_of_line kind line) event (rw (a, b) at e)
+      ]
     ]
 
 -- the events are a session, and no longer than this

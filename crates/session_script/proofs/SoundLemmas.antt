@@ -1,6 +1,6 @@
 -- What is read is of the kind, and no longer than the bytes.
-use Rattle.std.proofs.Common.{◌≡◌, ℕ, suc, ◌+◌, ◌-◌, ◌*◌, ◌^◌, ◌<◌, ◌≤◌, min, Bool, true, false, not, cond, ◌&&◌, eqb, leb, ltb, List, [], ◌∷◌, length, get_or, Option, Some, None, Result, Ok, Err, refl, sym, ap, subst, ◌∙◌, arith, inl, inr, ◌⊎◌}
-use Rattle.std.specs.Prelude.{codes, sum_by, is_some}
+use Rattle.std.proofs.Common.{◌≡◌, ℕ, suc, ◌+◌, ◌-◌, ◌*◌, ◌^◌, ◌≤◌, Bool, true, false, not, cond, ◌&&◌, eqb, leb, ltb, List, [], ◌∷◌, length, get_or, Option, Some, None, Result, Ok, Err, refl, ap, subst, arith, inl, inr}
+use Rattle.std.specs.Prelude.{codes}
 use Rattle.std.specs.List.{list_all, slice_split, onto_first}
 use Rattle.std.specs.Option.{option_map, option_and_then}
 use Rattle.std.specs.Result.{result_ok}
@@ -38,17 +38,17 @@ number_from-pos (c ∷ cs) number =
     let more = number_from-ge (10 * 0 + (c - 48)) cs in
     omega arith
 
-cond_is : {A : Type 0} (b : Bool) (x y : A) → cond b (Some x) None ≡ Some y → (b ≡ true) × (x ≡ y)
+pub cond_is : {A : Type 0} (b : Bool) (x y : A) → cond b (Some x) None ≡ Some y → (b ≡ true) × (x ≡ y)
 cond_is true x y e = (refl, cc)
 cond_is false x y e = absurd cc
 
-number_of-pos : (text : List ℕ) (n : ℕ) → number_of text ≡ Some n → 1 ≤ n
+pub number_of-pos : (text : List ℕ) (n : ℕ) → number_of text ≡ Some n → 1 ≤ n
 number_of-pos text n e =
     let h = cond_is (is_number text) (number_from 0 text) n e in
     let pos = number_from-pos text h.0 in
     omega (arith, h.1)
 
-at_most-is : (limit n : ℕ) (o : Option ℕ) → at_most limit o ≡ Some n → (o ≡ Some n) × (n ≤ limit)
+pub at_most-is : (limit n : ℕ) (o : Option ℕ) → at_most limit o ≡ Some n → (o ≡ Some n) × (n ≤ limit)
 at_most-is limit n None e = absurd cc
 at_most-is limit n (Some m) e =
     let h = cond_is (leb m limit) m n e in
@@ -63,22 +63,22 @@ in_limits limit n text e =
 
 -- ---- values
 
-map_some : {A B : Type 0} (f : A → B) (o : Option A) (y : B) → option_map f o ≡ Some y → (x : A) × (o ≡ Some x) × (f x ≡ y)
+pub map_some : {A B : Type 0} (f : A → B) (o : Option A) (y : B) → option_map f o ≡ Some y → (x : A) × (o ≡ Some x) × (f x ≡ y)
 map_some f None y e = absurd cc
 map_some f (Some x) y e = (x, refl, cc)
 
-then_is : {A B : Type 0} (f : A → Option B) (o : Option A) (y : B) → option_and_then f o ≡ Some y → (x : A) × (o ≡ Some x) × (f x ≡ Some y)
+pub then_is : {A B : Type 0} (f : A → Option B) (o : Option A) (y : B) → option_and_then f o ≡ Some y → (x : A) × (o ≡ Some x) × (f x ≡ Some y)
 then_is f None y e = absurd cc
 then_is f (Some x) y e = (x, refl, e)
 
-some_is : {A : Type 0} (x y : A) → Some x ≡ Some y → x ≡ y
+pub some_is : {A : Type 0} (x y : A) → Some x ≡ Some y → x ≡ y
 some_is x y e = cc
 
-ok_is_some : {A E : Type 0} (r : Result A E) (x : A) → result_ok r ≡ Some x → r ≡ Ok x
+pub ok_is_some : {A E : Type 0} (r : Result A E) (x : A) → result_ok r ≡ Some x → r ≡ Ok x
 ok_is_some (Ok y) x e = ap (λ z. Ok z) (some_is y x e)
 ok_is_some (Err f) x e = absurd cc
 
-input_is : (o : Option (List ℕ)) (bytes : List ℕ) → input_within o ≡ Some bytes → (o ≡ Some bytes) × (is_input bytes ≡ true)
+pub input_is : (o : Option (List ℕ)) (bytes : List ℕ) → input_within o ≡ Some bytes → (o ≡ Some bytes) × (is_input bytes ≡ true)
 input_is None bytes e = absurd cc
 input_is (Some found) bytes e =
     let h = cond_is (is_input found) found bytes e in
@@ -142,12 +142,12 @@ short_sound kind word k size event number le e =
     elim (cases_Bool (bytes_eq word (codes "break"))) [
       | inl breaks ↦ IsSound-at kind size (Break k) event (some_is _ _ (rw breaks at e)) (record { in_grammar = number; fits = omega arith })
       | inr a ↦ elim (cases_Bool (bytes_eq word (codes "end"))) [
-          | inl ends ↦ IsSound-at kind size (End k) event (some_is _ _ (rw (a, ends) at e)) (record { in_grammar = number; fits = omega arith })
-          | inr b ↦
-              let h = cond_is (bytes_eq word (codes "open") && is_replay kind) (Open k) event (rw (a, b) at e) in
-              let replay = and_parts (bytes_eq word (codes "open")) (is_replay kind) h.0 in
-              IsSound-at kind size (Open k) event h.1 (record { in_grammar = and_from (is_replay kind) (is_connection k) replay.1 number; fits = omega arith })
-        ]
+        | inl ends ↦ IsSound-at kind size (End k) event (some_is _ _ (rw (a, ends) at e)) (record { in_grammar = number; fits = omega arith })
+        | inr b ↦
+            let h = cond_is (bytes_eq word (codes "open") && is_replay kind) (Open k) event (rw (a, b) at e) in
+            let replay = and_parts (bytes_eq word (codes "open")) (is_replay kind) h.0 in
+            IsSound-at kind size (Open k) event h.1 (record { in_grammar = and_from (is_replay kind) (is_connection k) replay.1 number; fits = omega arith })
+      ]
     ]
 
 mount_sound : (value mount : List ℕ) → mount_of value ≡ Some mount → is_name mount ≡ true
@@ -205,18 +205,18 @@ module _ (kind : ScriptKind) (k size : ℕ) (value : List ℕ) (number : is_conn
       elim (cases_Bool (bytes_eq word (codes "in"))) [
         | inl w ↦ input_sound event (rw w at e)
         | inr a ↦ elim (cases_Bool (bytes_eq word (codes "turn"))) [
-            | inl w ↦ turn_sound event (rw (a, w) at e)
-            | inr b ↦ elim (cases_Bool (bytes_eq word (codes "source") && is_bare kind)) [
-                | inl w ↦ source_sound event (and_parts (bytes_eq word (codes "source")) (is_bare kind) w).1 (rw (a, b, w) at e)
-                | inr d ↦ elim (cases_Bool (bytes_eq word (codes "rover") && is_bare kind)) [
-                    | inl w ↦ rover_sound event (and_parts (bytes_eq word (codes "rover")) (is_bare kind) w).1 (rw (a, b, d, w) at e)
-                    | inr f ↦ elim (cases_Bool (bytes_eq word (codes "relay") && is_replay kind)) [
-                        | inl w ↦ relay_sound event (and_parts (bytes_eq word (codes "relay")) (is_replay kind) w).1 (rw (a, b, d, f, w) at e)
-                        | inr g ↦ absurd (let none = rw (a, b, d, f, g) at e in cc)
-                      ]
-                  ]
+          | inl w ↦ turn_sound event (rw (a, w) at e)
+          | inr b ↦ elim (cases_Bool (bytes_eq word (codes "source") && is_bare kind)) [
+            | inl w ↦ source_sound event (and_parts (bytes_eq word (codes "source")) (is_bare kind) w).1 (rw (a, b, w) at e)
+            | inr d ↦ elim (cases_Bool (bytes_eq word (codes "rover") && is_bare kind)) [
+              | inl w ↦ rover_sound event (and_parts (bytes_eq word (codes "rover")) (is_bare kind) w).1 (rw (a, b, d, w) at e)
+              | inr f ↦ elim (cases_Bool (bytes_eq word (codes "relay") && is_replay kind)) [
+                | inl w ↦ relay_sound event (and_parts (bytes_eq word (codes "relay")) (is_replay kind) w).1 (rw (a, b, d, f, w) at e)
+                | inr g ↦ absurd (let none = rw (a, b, d, f, g) at e in cc)
               ]
+            ]
           ]
+        ]
       ]
 
 parts_sound : (kind : ScriptKind) (ps : List (List ℕ)) (event : Event) → event_of_parts kind ps ≡ Some event → (size : ℕ) → total ps ≤ size → IsSound kind event size

@@ -1,10 +1,10 @@
 -- Joined parts split into the same parts, and lines into the same lines.
-use Rattle.std.proofs.Common.{◌≡◌, ℕ, zero, suc, ◌+◌, ◌-◌, ◌<◌, ◌≤◌, Bool, true, false, not, cond, ◌&&◌, eqb, leb, List, [], ◌∷◌, ◌++◌, length, take, get_or, refl, sym, ap, subst, ◌∙◌, arith, inl, inr, append_assoc}
-use Rattle.std.specs.List.{list_all, slice_split, onto_first, join_with_byte}
+use Rattle.std.proofs.Common.{◌≡◌, ℕ, zero, suc, ◌-◌, Bool, true, false, not, eqb, List, [], ◌∷◌, ◌++◌, length, get_or, refl, ap, ◌∙◌, arith}
+use Rattle.std.specs.List.{list_all, slice_split, join_with_byte}
 use Rattle.std.specs.Str.Lines.{lines, lines_of_parts, strip_carriage_return}
-use Rattle.std.proofs.lemmas.Bool.{cases_Bool, and_parts, and_from, not-true, eqb-true, ne_eqb, cases_eq}
-use Rattle.std.proofs.lemmas.List.{append-nil, length-append, get_or_at, take_at}
-use Rattle.session_script.proofs.PartLemmas.{HasPart, part, has_part}
+use Rattle.std.proofs.lemmas.Bool.{and_parts, and_from, not-true}
+use Rattle.std.proofs.lemmas.List.{length-append, get_or_at, take_at}
+use Rattle.session_script.proofs.PartLemmas.{HasPart, has_part}
 
 -- no element of the list passes
 abbrev pub none_of : (ℕ → Bool) → List ℕ → Bool

@@ -1,26 +1,25 @@
 -- A line of an event reads as that event.
-use Rattle.std.proofs.Common.{◌≡◌, ℕ, zero, suc, ◌+◌, ◌-◌, ◌^◌, ◌<◌, ◌≤◌, min, Bool, true, false, not, cond, ◌&&◌, eqb, leb, ltb, List, [], ◌∷◌, ◌++◌, length, get_or, Option, Some, None, Result, Ok, Err, refl, sym, ap, subst, ◌∙◌, arith, inl, inr, rules}
+use Rattle.std.proofs.Common.{◌≡◌, ℕ, ◌+◌, ◌^◌, ◌<◌, ◌≤◌, Bool, true, false, not, ◌&&◌, eqb, leb, ltb, List, [], ◌∷◌, ◌++◌, length, get_or, Some, Ok, refl, ap, subst, ◌∙◌, arith, inl, inr, rules}
 use Rattle.std.specs.Prelude.{codes}
-use Rattle.std.specs.List.{list_all, slice_split, join_with_byte, AllPass}
-use Rattle.std.specs.Option.{option_map, option_and_then}
+use Rattle.std.specs.List.{list_all, join_with_byte}
+use Rattle.std.specs.Option.{option_and_then}
 use Rattle.std.specs.Str.{bytes_eq}
 use Rattle.std.specs.Fmt.{decimal}
-use Rattle.std.proofs.lemmas.Bool.{cases_Bool, and_parts, and_from, eqb-true, ne_eqb, leb-true, le-leb, ltb-true, both_ways, not-true}
+use Rattle.std.proofs.lemmas.Bool.{cases_Bool, and_parts, and_from, eqb-true, ne_eqb, leb-true, le-leb, ltb-true, both_ways}
 use Rattle.std.proofs.lemmas.Fmt.{decimal_nonempty, first_decimal, digits_decimal, digits_value-decimal}
 use Rattle.std.proofs.lemmas.Str.Parse.{IsNumeralModel, numerals_by_fold}
 use Rattle.std.proofs.lemmas.List.Sums.{list_all-from_AllPass}
-use Rattle.hex.specs.Hex.{IsBytes, decode_of, is_hex_digit, encode_lower}
-use Rattle.hex.proofs.HexLemmas.{decode_of-ok, decode_of-encode_lower}
-use Rattle.cast_text.specs.Name.{is_name_byte, is_name, name_of}
+use Rattle.hex.specs.Hex.{decode_of, is_hex_digit}
+use Rattle.hex.proofs.HexLemmas.{decode_of-ok}
+use Rattle.cast_text.specs.Name.{is_name_byte, is_name}
 use Rattle.cast_text.proofs.NameLemmas.{name_of-name}
 use Rattle.session_script.specs.declared.Event.{Event}
 use Rattle.session_script.specs.declared.Event.TheVariants.{Source, Rover, Open, Relay, In, Turn, Break, End}
 use Rattle.session_script.specs.declared.ScriptKind.{ScriptKind}
-use Rattle.session_script.specs.declared.ScriptKind.TheVariants.{Bare, Replay}
-use Rattle.session_script.specs.Digits.{is_digit, number_from, is_number, number_of, at_most}
+use Rattle.session_script.specs.Digits.{is_digit, number_from, number_of, at_most}
 use Rattle.session_script.specs.Line.{parts_of, is_connection, is_bare, is_replay, is_input, is_event, mount_of, input_of, relay_number, short_event, long_event, event_of_parts, event_of_line}
 use Rattle.session_script.specs.Script.{is_skipped}
-use Rattle.session_script.specs.Writing.{AreParts, IsLine}
+use Rattle.session_script.specs.Writing.{IsLine}
 use Rattle.session_script.proofs.SplitLemmas.{none_of, none_of-append, split_two, split_three}
 
 -- ---- parts without space, LF and CR
@@ -49,7 +48,7 @@ plain_from p space feed return text all = record { spaces = none_from p 32 space
 
 -- ---- numbers
 
-own : IsNumeralModel (λ ds. list_all is_digit ds ≡ true) (number_from 0)
+pub own : IsNumeralModel (λ ds. list_all is_digit ds ≡ true) (number_from 0)
 own = numerals_by_fold (λ ds. list_all is_digit ds ≡ true) (search rules) number_from (search rules)
 
 plain_decimal : (n : ℕ) → n < 2 ^ 64 → IsPlain (decimal n)
@@ -123,18 +122,25 @@ three_reads kind word k value event w number v reads =
 
 source_word : IsWord (codes "source")
 source_word = record { plain = record { spaces = refl; feeds = refl; returns = refl }; not_skipped = λ _. refl; not_stop = λ _. refl }
+
 rover_word : IsWord (codes "rover")
 rover_word = record { plain = record { spaces = refl; feeds = refl; returns = refl }; not_skipped = λ _. refl; not_stop = λ _. refl }
+
 open_word : IsWord (codes "open")
 open_word = record { plain = record { spaces = refl; feeds = refl; returns = refl }; not_skipped = λ _. refl; not_stop = λ _. refl }
+
 relay_word : IsWord (codes "relay")
 relay_word = record { plain = record { spaces = refl; feeds = refl; returns = refl }; not_skipped = λ _. refl; not_stop = λ _. refl }
+
 in_word : IsWord (codes "in")
 in_word = record { plain = record { spaces = refl; feeds = refl; returns = refl }; not_skipped = λ _. refl; not_stop = λ _. refl }
+
 turn_word : IsWord (codes "turn")
 turn_word = record { plain = record { spaces = refl; feeds = refl; returns = refl }; not_skipped = λ _. refl; not_stop = λ _. refl }
+
 break_word : IsWord (codes "break")
 break_word = record { plain = record { spaces = refl; feeds = refl; returns = refl }; not_skipped = λ _. refl; not_stop = λ _. refl }
+
 end_word : IsWord (codes "end")
 end_word = record { plain = record { spaces = refl; feeds = refl; returns = refl }; not_skipped = λ _. refl; not_stop = λ _. refl }
 
@@ -176,7 +182,7 @@ relay_reads kind k n fits =
     let small : n < 2 ^ 32 = ltb-true n (2 ^ 32) a.1 in
     let same : relay_number (n + 1) ≡ n = omega arith in
     three_reads kind (codes "relay") k (decimal (n + 1)) (Relay k n) relay_word b.1 (plain_decimal (n + 1) (omega arith))
-        (rw (b.0, number_of-decimal (n + 1) (omega arith) (omega arith), same) refl)
+    (rw (b.0, number_of-decimal (n + 1) (omega arith) (omega arith), same) refl)
 
 in_reads : (kind : ScriptKind) (k : ℕ) (bytes digits : List ℕ) → is_event kind (In k bytes) ≡ true → decode_of digits ≡ Ok bytes
     → ReadsAs kind (join_with_byte 32 (codes "in" ∷ decimal k ∷ digits ∷ [])) (In k bytes)
@@ -191,7 +197,7 @@ turn_reads kind k budget fits =
     let b = and_parts (is_connection k) (leb 1 budget) a.0 in
     let most : budget ≤ 16 = leb-true budget 16 a.1 in
     three_reads kind (codes "turn") k (decimal budget) (Turn k budget) turn_word b.0 (plain_decimal budget (omega arith))
-        (rw (within-decimal 16 budget (leb-true 1 budget b.1) most (omega arith)) refl)
+    (rw (within-decimal 16 budget (leb-true 1 budget b.1) most (omega arith)) refl)
 
 -- a line of an event reads as that event
 pub line_reads : (kind : ScriptKind) (text : List ℕ) (event : Event) → is_event kind event ≡ true → IsLine text event → ReadsAs kind text event

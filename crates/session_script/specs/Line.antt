@@ -91,18 +91,24 @@ short_event kind word k =
 abbrev pub long_event : ScriptKind → List ℕ → ℕ → List ℕ → Option Event
 long_event kind word k value =
     if bytes_eq word (codes "in") then option_map (λ bytes. In k bytes) (input_of value)
-    else if bytes_eq word (codes "turn") then option_map (λ budget. Turn k budget) (at_most 16 (number_of value))
-    else if bytes_eq word (codes "source") && is_bare kind then option_map (λ mount. Source k mount) (mount_of value)
-    else if bytes_eq word (codes "rover") && is_bare kind then option_map (λ mount. Rover k mount) (mount_of value)
-    else if bytes_eq word (codes "relay") && is_replay kind then option_map (λ n. Relay k (relay_number n)) (number_of value)
+    else if bytes_eq word (codes "turn") then
+    option_map (λ budget. Turn k budget) (at_most 16 (number_of value))
+    else if bytes_eq word (codes "source") && is_bare kind then
+    option_map (λ mount. Source k mount) (mount_of value)
+    else if bytes_eq word (codes "rover") && is_bare kind then
+    option_map (λ mount. Rover k mount) (mount_of value)
+    else if bytes_eq word (codes "relay") && is_replay kind then
+    option_map (λ n. Relay k (relay_number n)) (number_of value)
     else None
 
 -- the event of these parts
 abbrev pub event_of_parts : ScriptKind → List (List ℕ) → Option Event
 event_of_parts kind [] = None
 event_of_parts kind (word ∷ []) = None
-event_of_parts kind (word ∷ number ∷ []) = option_and_then (λ k. short_event kind word k) (at_most 9999 (number_of number))
-event_of_parts kind (word ∷ number ∷ value ∷ []) = option_and_then (λ k. long_event kind word k value) (at_most 9999 (number_of number))
+event_of_parts kind (word ∷ number ∷ []) =
+    option_and_then (λ k. short_event kind word k) (at_most 9999 (number_of number))
+event_of_parts kind (word ∷ number ∷ value ∷ []) =
+    option_and_then (λ k. long_event kind word k value) (at_most 9999 (number_of number))
 event_of_parts kind (word ∷ number ∷ value ∷ more ∷ others) = None
 
 -- the event of this line, if it is of a form of its kind: its parts are what stands between spaces

@@ -15,7 +15,8 @@ use Rattle.session_script.specs.Script.{is_skipped, may_follow, events_of_lines}
 -- the event of line n, if it has one that may come now
 abbrev pub event_read : ScriptKind → ℕ → Numbers → Option Event → Result LineRead ScriptFault
 event_read kind n numbers None = Err (Line n)
-event_read kind n numbers (Some event) = if may_follow kind numbers event then Ok (Happens event) else Err (State n)
+event_read kind n numbers (Some event) =
+    if may_follow kind numbers event then Ok (Happens event) else Err (State n)
 
 -- what line n is
 abbrev pub line_read : ScriptKind → ℕ → Numbers → List ℕ → Result LineRead ScriptFault
@@ -25,10 +26,13 @@ line_read kind n numbers line =
     else event_read kind n numbers (event_of_line kind line)
 
 -- these events, and then those that are read
-abbrev pub with_front : List Event → Result (List Event) ScriptFault → Result (List Event) ScriptFault
+abbrev pub with_front : List Event → Result (List Event) ScriptFault
+    → Result (List Event) ScriptFault
 with_front front (Ok events) = Ok (front ++ events)
 with_front front (Err fault) = Err fault
 
 -- what the reader has read once these lines followed
 abbrev pub read_on : Reader → List (List ℕ) → Result (List Event) ScriptFault
-read_on reader lines = with_front reader.events.items (events_of_lines reader.kind reader.line reader.connections lines)
+read_on reader lines =
+    with_front reader.events.items
+    (events_of_lines reader.kind reader.line reader.connections lines)

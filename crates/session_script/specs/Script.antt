@@ -1,6 +1,5 @@
 -- A whole script: its events, or the first fault.
-use Rattle.std.specs.Prelude.{◌≡◌, ℕ, ◌+◌, Bool, true, not, ◌&&◌, nat_lt, ◌==◌, if◌then◌else◌, List, [], ◌∷◌, ◌++◌, length, codes, Option, Some, None, Result, Ok, Err, IsTrue}
-use Rattle.std.specs.List.{list_any}
+use Rattle.std.specs.Prelude.{◌≡◌, ℕ, ◌+◌, Bool, true, ◌&&◌, nat_lt, ◌==◌, if◌then◌else◌, List, [], ◌∷◌, length, codes, Some, None, Result, Ok, Err, IsTrue}
 use Rattle.std.specs.Global.{Vec}
 use Rattle.std.specs.Str.{bytes_eq}
 use Rattle.std.specs.Str.Lines.{lines}
@@ -48,7 +47,8 @@ after_event numbers (End k) = closing numbers k
 abbrev pub is_session_after : ScriptKind → Numbers → List Event → Bool
 is_session_after kind numbers [] = true
 is_session_after kind numbers (event ∷ events) =
-    is_event kind event && may_follow kind numbers event && is_session_after kind (after_event numbers event) events
+    is_event kind event && may_follow kind numbers event
+    && is_session_after kind (after_event numbers event) events
 
 -- the events are a session of the kind: in the grammar's ranges, and in an order that they may have
 abbrev pub IsSession : ScriptKind → List Event → Type 0
@@ -66,7 +66,8 @@ onto_events event (Ok events) = Ok (event ∷ events)
 onto_events event (Err fault) = Err fault
 
 -- the events of the lines, of which the first has this number, after these were opened and closed
-unfoldable pub events_of_lines : ScriptKind → ℕ → Numbers → List (List ℕ) → Result (List Event) ScriptFault
+unfoldable pub events_of_lines : ScriptKind → ℕ → Numbers → List (List ℕ)
+    → Result (List Event) ScriptFault
 events_of_lines kind n numbers [] = Err NoStop
 events_of_lines kind n numbers (line ∷ lines) =
     if is_skipped line then events_of_lines kind (n + 1) numbers lines
@@ -74,12 +75,13 @@ events_of_lines kind n numbers (line ∷ lines) =
     else elim (event_of_line kind line) [
       | None ↦ Err (Line n)
       | Some event ↦
-          if may_follow kind numbers event then onto_events event (events_of_lines kind (n + 1) (after_event numbers event) lines)
+          if may_follow kind numbers event then
+          onto_events event (events_of_lines kind (n + 1) (after_event numbers event) lines)
           else Err (State n)
     ]
 
--- the events of the script, or its first fault. A line ends with LF, of which a CR before it is a part; the last
--- line may have no LF.
+-- the events of the script, or its first fault. A line ends with LF, of which a CR before it is a
+-- part; the last line may have no LF.
 unfoldable pub script_of : ScriptKind → List ℕ → Result (List Event) ScriptFault
 script_of kind bytes =
     if nat_lt 8388608 (length bytes) then Err Long

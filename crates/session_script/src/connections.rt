@@ -60,7 +60,9 @@ impl Connections {
         match event {
             Event::Source(k, _) | Event::Rover(k, _) | Event::Open(k) => self.may_open(*k),
             Event::Relay(k, n) => self.may_open(*k) && is_relay(kind, *n),
-            Event::In(k, _) | Event::Turn(k, _) | Event::Break(k) | Event::End(k) => self.may_speak(*k),
+            Event::In(k, _) | Event::Turn(k, _) | Event::Break(k) | Event::End(k) => self.may_speak(
+                *k,
+            ),
         }
     }
 

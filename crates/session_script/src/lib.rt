@@ -14,15 +14,11 @@ mod number;
 mod parts;
 mod reading;
 
-
 use cast_text::{MountName, Text};
+pub use law::{reads_lines, reads_what_is_written};
+pub use reading::parse;
 use std::alloc::{AllocError, AllocFailed};
 use thiserror::Error;
-
-pub use law::reads_what_is_written;
-pub use reading::parse;
-
-
 
 /// One event of a script. The first number of each is the connection's, from 1 to 9999.
 #[derive(Debug, Drop)]
@@ -92,3 +88,6 @@ impl<T: Drop> From<AllocFailed<T>> for ScriptFault {
         ScriptFault::Memory
     }
 }
+
+#[cfg(test)]
+mod tests;

@@ -85,7 +85,13 @@ fn short_event(kind: ScriptKind, word: &[u8], k: u32) -> Option<Event>
 }
 
 /// The event of a line of three parts.
-fn long_event(alloc: Global, kind: ScriptKind, word: &[u8], k: u32, value: &[u8]) -> Result<Option<Event>, AllocError>
+fn long_event(
+    alloc: Global,
+    kind: ScriptKind,
+    word: &[u8],
+    k: u32,
+    value: &[u8],
+) -> Result<Option<Event>, AllocError>
     ensures { IfOk result (λ event. event ≡ long_event kind word.now k value.now) }
 {
     if word == b"in".as_slice() {
@@ -105,7 +111,11 @@ fn long_event(alloc: Global, kind: ScriptKind, word: &[u8], k: u32, value: &[u8]
 
 /// The event of this line, if it is of a form of its kind.
 #[tactic(auto, unfolding(crate::specs::Line::event_of_line))]
-pub fn event_of_line(alloc: Global, kind: ScriptKind, line: &[u8]) -> Result<Option<Event>, AllocError>
+pub fn event_of_line(
+    alloc: Global,
+    kind: ScriptKind,
+    line: &[u8],
+) -> Result<Option<Event>, AllocError>
     ensures { IfOk result (λ event. event ≡ event_of_line kind line.now) }
 {
     let (word, Some(rest)) = split_part(line) else {

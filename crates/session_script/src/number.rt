@@ -36,7 +36,11 @@ fn value_of(digits: &[u8]) -> u64
 pub fn number_of(text: &[u8]) -> Option<u64>
     ensures { result ≡ option_map (λ n. min n (2 ^ 64 - 1)) (number_of text.now) }
 {
-    if is_number(text) { Some(value_of(text)) } else { None }
+    if is_number(text) {
+        Some(value_of(text))
+    } else {
+        None
+    }
 }
 
 /// The decimal number from 1 that the text is, if it is at most `limit`.

@@ -15,7 +15,8 @@ fn place_of(byte: u8, text: &[u8]) -> Option<usize>
 
 /// The part before the first space, and what comes after that space, if there is one.
 pub fn split_part(text: &[u8]) -> (&[u8], Option<&[u8]>)
-    ensures { slice_split (λ b. b == 32) text.now ≡ result.0.now ∷ parts_after (option_map (λ rest. rest.now) result.1) }
+    ensures { slice_split (λ b. b == 32) text.now
+        ≡ result.0.now ∷ parts_after (option_map (λ rest. rest.now) result.1) }
 {
     match place_of(b' ', text) {
         None => (text, None),
@@ -34,7 +35,10 @@ pub fn split_line(bytes: &[u8]) -> Option<(&[u8], &[u8])>
     }
     match place_of(b'\n', bytes) {
         None => Some((bytes, &bytes[bytes.len()..])),
-        Some(place) => Some((without_carriage_return(&bytes[..place]), &bytes[place + 1..])),
+        Some(place) => Some((
+            without_carriage_return(&bytes[..place]),
+            &bytes[place + 1..],
+        )),
     }
 }
 

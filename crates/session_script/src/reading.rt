@@ -1,7 +1,6 @@
 //! Reading a whole script.
 
 ghost use Rattle.std.specs.Prelude.{◌≡◌, ℕ, ◌+◌, ◌^◌, ◌<◌, ◌≤◌, List, [], ◌∷◌, length, IfOk, IfErr, OnOk, IsOk, Ok, if◌then◌else◌, sum_by};
-
 ghost use Rattle.session_script.specs.Script.{Gives, IsSession, input_length, items_of, is_skipped, script_of};
 ghost use Rattle.session_script.specs.Reading.{line_read};
 
@@ -42,7 +41,13 @@ fn is_skipped(line: &[u8]) -> bool
 }
 
 /// What line `n` is.
-fn read_line(alloc: Global, kind: ScriptKind, n: u32, connections: &Connections, line: &[u8]) -> Result<LineRead, ScriptFault>
+fn read_line(
+    alloc: Global,
+    kind: ScriptKind,
+    n: u32,
+    connections: &Connections,
+    line: &[u8],
+) -> Result<LineRead, ScriptFault>
     ensures { Gives result (line_read kind n connections.now line.now) }
 {
     if is_skipped(line) {
@@ -86,9 +91,11 @@ impl Reader {
         requires { self.old.line + 1 < 2 ^ 32 }
         ensures kind { OnOk result (self.new.kind ≡ self.old.kind) }
         ensures line { OnOk result (self.new.line ≤ self.old.line + 1) }
-        ensures goes { (lines : List (List ℕ)) → IfOk result (λ stopped. read_on self.old (line.now ∷ lines)
+        ensures goes { (lines : List (List ℕ)) → IfOk result (λ stopped.
+            read_on self.old (line.now ∷ lines)
             ≡ (if stopped then Ok self.new.events.items else read_on self.new lines)) }
-        ensures fails { (lines : List (List ℕ)) → IfErr result (λ fault. Fails fault (read_on self.old (line.now ∷ lines))) }
+        ensures fails { (lines : List (List ℕ)) → IfErr result (λ fault.
+            Fails fault (read_on self.old (line.now ∷ lines))) }
     {
         match read_line(alloc, self.kind, self.line, &self.connections, line) {
             Ok(LineRead::Skipped) => {
@@ -129,13 +136,13 @@ fn events_of(alloc: Global, bytes: &[u8], kind: ScriptKind) -> Result<Vec<Event>
 /// The events of a script of this kind.
 ///
 /// # Errors
-/// `Long` exactly where there are more than 8 MiB. Else the first faulty line counts: `Line` where it
-/// is of no form of its kind, `State` where it has a form but opens a number that was opened before,
-/// opens the 257th connection, speaks of a number that was not opened or that `break` or `end`
-/// closed, or names a relay beyond the kind's. `NoStop` where no line is faulty and none is `stop`.
-/// `Memory` at any time.
+/// `Long` exactly where there are more than 8 MiB. Else the first faulty line counts: `Line` where
+/// it is of no form of its kind, `State` where it has a form but opens a number that was opened
+/// before, opens the 257th connection, speaks of a number that was not opened or that `break` or
+/// `end` closed, or names a relay beyond the kind's. `NoStop` where no line is faulty and none is
+/// `stop`. `Memory` at any time.
 pub fn parse(alloc: Global, bytes: &[u8], kind: ScriptKind) -> Result<Vec<Event>, ScriptFault>
-    ensures exact { Gives (items_of result) (script_of kind bytes.now) }
+    ensures gives { Gives (items_of result) (script_of kind bytes.now) }
 
     // What is read is a session of the kind, and small.
     ensures session { IfOk result (λ events. IsSession kind events.items) }

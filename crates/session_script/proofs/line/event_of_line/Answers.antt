@@ -1,4 +1,4 @@
-use Rattle.std.proofs.Common.{◌≡◌, ℕ, List, Option, Bor, sym, ap, ◌∙◌}
+use Rattle.std.proofs.Common.{ℕ, List, Option, Bor, sym, ap, ◌∙◌}
 use Rattle.std.specs.Option.{option_map}
 use Rattle.session_script.specs.Line.{event_of_line, event_of_parts}
 use Rattle.session_script.proofs.PartLemmas.{three_parts, too_many_parts, some_mapped}
@@ -13,4 +13,4 @@ returns-then-is_some c =
     let whole = three_parts c.args.line.now c.split_part.result.0.now c.in_default-Some.rest.now c.split_part-2.result.0.now c.in-Some-value.value.now c.split_part-3.result.0.now more first second c.split_part-3.ensures in
     sym (ap (event_of_parts c.args.kind) whole
     ∙ too_many_parts c.args.kind c.split_part.result.0.now c.split_part-2.result.0.now c.split_part-3.result.0.now more
-        (some_mapped (λ (rest : Bor (List ℕ)). rest.now) c.split_part-3.result.1 (sym c.is_some.ensures ∙ c.if-is_some.true)))
+    (some_mapped (λ (rest : Bor (List ℕ)). rest.now) c.split_part-3.result.1 (sym c.is_some.ensures ∙ c.if-is_some.true)))

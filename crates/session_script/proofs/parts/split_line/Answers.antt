@@ -1,4 +1,4 @@
-use Rattle.std.proofs.Common.{eqb, sym, ◌∙◌}
+use Rattle.std.proofs.Common.{sym, ◌∙◌}
 use Rattle.session_script.proofs.PartLemmas.{lines_at_none, lines_at_some}
 use Rattle.session_script.proofs.parts.split_line.Goals as goal
 

@@ -1,6 +1,5 @@
-use Rattle.std.proofs.Common.{◌≡◌, ℕ, List, ◌≤◌, ◌∷◌, length, sym, ap, ◌∙◌, arith}
+use Rattle.std.proofs.Common.{ℕ, List, sym, ap, ◌∙◌}
 use Rattle.std.specs.Str.Lines.{lines}
-use Rattle.session_script.specs.Script.{script_of}
 use Rattle.session_script.specs.Reading.{read_on}
 use Rattle.session_script.proofs.ReadLemmas.{script_small, script_long, no_more, Fails-at}
 use Rattle.session_script.proofs.reading.events_of.Goals as goal

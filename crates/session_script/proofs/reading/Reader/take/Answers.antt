@@ -1,4 +1,3 @@
-use Rattle.std.proofs.Common.{◌≡◌}
 use Rattle.session_script.proofs.ReadLemmas.{goes_on_skipped, goes_on_stop, goes_on_event, fails_there}
 use Rattle.session_script.proofs.reading.Reader.take.Goals as goal
 
@@ -19,7 +18,7 @@ returns-in_ok-push-in-Ok-Happens-clause-goes c lines =
     let r = c.args.self.now in
     let read = rw c.in-Ok-Happens.field-0-is at c.in-Ok-Happens.ensures in
     goes_on_event r.kind r.line r.connections c.follow.new.self c.args.line.now lines r.events.items c.push.new.self.items c.in-Ok-Happens.event read
-        c.in_ok-follow-in-Ok-Happens.ensures c.in_ok-push-in-Ok-Happens.ensures.items
+    c.in_ok-follow-in-Ok-Happens.ensures c.in_ok-push-in-Ok-Happens.ensures.items
 
 pub returns-in-Err-clause-fails : goal.returns-in-Err-clause-fails
 returns-in-Err-clause-fails c lines =
