@@ -1,0 +1,62 @@
+//! Short texts of bytes.
+
+ghost use Rattle.std.specs.Prelude.{◌≡◌, ◌≤◌, length, IfOk};
+
+use crate::fault::TextFault;
+use std::alloc::{AllocError, Global};
+use std::marker::Model;
+
+/// The most bytes that a text has.
+const LIMIT: usize = 8192;
+
+/// A text of at most 8,192 bytes, of any value. Contracts see it as the list of its bytes.
+#[derive(Debug, Drop)]
+pub struct Text {
+    bytes: Vec<u8>,
+}
+
+impl Model for Text {
+    ghost use Rattle.std.specs.Prelude.{List, ℕ, ◌≤◌, length};
+
+    ghost Value = { List ℕ };
+
+    ghost view = { λ text. text.bytes.items };
+
+    ghost invariant = { λ text. length text.bytes.items ≤ 8192 };
+}
+
+impl Text {
+    ghost use Rattle.cast_text.specs.Text.{Gives, text_of};
+
+    /// The text of these bytes, of which there are at most 8,192.
+    ///
+    /// # Errors
+    /// `Long` exactly where there are more, with their number. `Memory` at any time.
+    pub fn new(alloc: Global, bytes: &[u8]) -> Result<Text, TextFault>
+        ensures { Gives result (text_of bytes.now) }
+    {
+        if bytes.len() > LIMIT {
+            return Err(TextFault::Long(bytes.len()));
+        }
+        Ok(Text {
+            bytes: Vec::from_slice(alloc, bytes)?,
+        })
+    }
+
+    /// The bytes of the text.
+    pub fn bytes(&self) -> &[u8]
+        ensures value { result.now ≡ self.now }
+        ensures within { length self.now ≤ 8192 }
+    {
+        &self.bytes
+    }
+
+    /// The same text once more.
+    pub fn copy(&self, alloc: Global) -> Result<Text, AllocError>
+        ensures { IfOk result (λ text. text ≡ self.now) }
+    {
+        Ok(Text {
+            bytes: Vec::from_slice(alloc, &self.bytes)?,
+        })
+    }
+}

@@ -1,0 +1,14 @@
+//! The ring of a mountpoint: who holds it, and the last frames that were published there.
+//!
+//! This crate has the calls and answers of a ring, and the plain ring that keeps every frame.
+#![tactic(auto)]
+
+mod call;
+mod cursor;
+mod outbox;
+mod plain;
+
+pub use call::{Holder, RingAnswer, RingCall};
+pub use cursor::{Cursor, Lap, ReadReport};
+pub use outbox::Outbox;
+pub use plain::Plain;

@@ -1,0 +1,83 @@
+ghost use Rattle.std.specs.Prelude.{◌≡◌, ℕ, ◌+◌, ◌<◌, ◌≤◌, List, [], ◌∷◌, ◌++◌, length};
+
+use rtcm_frame::Frame;
+use std::marker::Model;
+
+/// The most frames that one read takes.
+pub const MOST_TAKEN: usize = 16;
+
+/// The frames that a read took, at most 16, held in the outbox itself: it takes no memory.
+///
+/// Contracts see it as the list of its frames.
+#[derive(Drop)]
+pub struct Outbox {
+    frames: [Frame; 16],
+    len: usize,
+}
+
+impl Model for Outbox {
+    ghost use Rattle.std.specs.Prelude.{List, ℕ, ◌≤◌, take};
+
+    ghost Value = { List (List ℕ) };
+
+    ghost view = { λ o. take o.len o.frames };
+
+    ghost invariant = { λ o. o.len ≤ 16 };
+}
+
+impl Outbox {
+    /// An outbox with no frames.
+    pub fn new() -> Self
+        ensures { result ≡ [] }
+    {
+        Outbox {
+            frames: [Frame::default(); 16],
+            len: 0,
+        }
+    }
+
+    /// The frames, in the order in which they were taken.
+    pub fn frames(&self) -> &[Frame]
+        ensures frames { result.now ≡ self.now }
+        ensures few { length result.now ≤ 16 }
+    {
+        &self.frames[..self.len]
+    }
+
+    /// Lets its frames go.
+    pub(crate) fn clear(&mut self)
+        ensures { self.new ≡ [] }
+    {
+        self.len = 0;
+    }
+
+    /// Adds a frame at the end.
+    pub(crate) fn push(&mut self, frame: Frame)
+        requires { length self.old < 16 }
+        ensures { self.new ≡ self.old ++ frame ∷ [] }
+    {
+        self.frames[self.len] = frame;
+        self.len += 1;
+    }
+
+    /// Holds exactly these frames afterwards.
+    pub(crate) fn fill(&mut self, frames: &[Frame])
+        requires { length frames.now ≤ 16 }
+        ensures { self.new ≡ frames.now }
+    {
+        self.clear();
+        for frame in frames {
+            self.push(*frame);
+        }
+    }
+}
+
+impl Default for Outbox {
+    ghost use Rattle.std.specs.Prelude.{◌≡◌, []};
+
+    ghost is_default = { λ o. o ≡ [] };
+
+    fn default() -> Self {
+        Outbox::new()
+    }
+}

@@ -1,0 +1,8 @@
+//! What a rover reads of one mountpoint from its joining on: one segment, with its laps.
+#![tactic(auto)]
+
+mod laps;
+mod segment;
+
+pub use laps::Laps;
+pub use segment::Segment;

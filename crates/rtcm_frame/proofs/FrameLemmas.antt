@@ -1,0 +1,45 @@
+-- What the bytes of a frame are known to be.
+use Rattle.std.proofs.Common.{◌≡◌, ℕ, ◌-◌, ◌≤◌, List, ◌++◌, length, take, drop, replicate, IsTrue, arith, ap, ◌∙◌, sym, length-append, subst}
+use Rattle.std.proofs.lemmas.Bool.Decides.{nat_tests}
+use Rattle.std.proofs.lemmas.List.{drop-replicate, length-replicate}
+use Rattle.std.proofs.Math.Seq.{take-append_seam, drop-append_seam}
+use Rattle.rtcm_frame.specs.declared.framing.Frame.TheInside.{Inside}
+use Rattle.rtcm_frame.specs.Transport.{preamble, frame_length, checksum, is_frame}
+use Rattle.rtcm_frame.specs.Padded.{IsPadded}
+
+-- a frame has the length that it claims
+pub frame_claim : (bytes : List ℕ) → IsTrue (is_frame bytes) → length bytes ≡ frame_length bytes
+unfolding is_frame
+frame_claim bytes valid = grind (arith, nat_tests)
+
+-- a frame has at least six bytes
+pub frame_least : (bytes : List ℕ) → IsTrue (is_frame bytes) → 6 ≤ length bytes
+frame_least bytes valid = omega (arith, frame_claim bytes valid)
+
+-- a frame has at most 1,029 bytes
+pub frame_most : (bytes : List ℕ) → IsTrue (is_frame bytes) → length bytes ≤ 1029
+frame_most bytes valid = omega (arith, frame_claim bytes valid)
+
+-- a frame that was written over a buffer of zeros is padded
+pub frame_padded : (bytes all : List ℕ) → IsTrue (is_frame bytes)
+    → all ≡ bytes ++ drop (length bytes) (replicate 1029 0)
+    → IsPadded record { bytes = all; len = length bytes }
+frame_padded bytes all valid written =
+    let zeros = drop (length bytes) (replicate 1029 0) in
+    let most = frame_most bytes valid in
+    let padding : zeros ≡ replicate (1029 - length bytes) 0 = drop-replicate (length bytes) 1029 0 in
+    let front : take (length bytes) all ≡ bytes =
+    ap (λ (xs : List ℕ). take (length bytes) xs) written ∙ take-append_seam bytes zeros
+    in
+    let behind : drop (length bytes) all ≡ zeros =
+    ap (λ (xs : List ℕ). drop (length bytes) xs) written ∙ drop-append_seam bytes zeros
+    in
+    let length_zeros : length zeros ≡ 1029 - length bytes =
+    ap (λ (xs : List ℕ). length xs) padding ∙ length-replicate (1029 - length bytes) 0
+    in
+    record {
+      size = ap (λ (xs : List ℕ). length xs) written ∙ length-append bytes zeros ∙ omega arith;
+      within = most;
+      valid = subst (λ (xs : List ℕ). IsTrue (is_frame xs)) (sym front) valid;
+      zeros = behind ∙ padding;
+    }

@@ -1,0 +1,4 @@
+pub mod Crc
+pub mod Transport
+pub mod Cut
+pub mod Padded

@@ -1,0 +1,41 @@
+-- A frame of RTCM 10403.3's transport layer: the preamble, six reserved bits, the payload's length in ten bits,
+-- the payload, and the CRC-24Q of all before it in three bytes, most significant first.
+use Rattle.std.specs.Prelude.{ℕ, ◌+◌, ◌-◌, ◌*◌, ◌/◌, ◌%◌, Bool, ◌&&◌, ◌==◌, nat_lt, if◌then◌else◌, List, length, take, drop, slice_index, Option, Some, None}
+use Rattle.rtcm_frame.specs.Crc.{crc24q_of}
+
+-- the first byte of every frame
+abbrev pub preamble : ℕ
+preamble = 0xD3
+
+-- the ten low bits of the two bytes behind the preamble
+abbrev pub payload_length : List ℕ → ℕ
+payload_length bytes = (slice_index bytes 1 * 256 + slice_index bytes 2) % 1024
+
+-- the whole length that these bytes claim, 6 to 1029. A byte that has not come reads as 0
+abbrev pub frame_length : List ℕ → ℕ
+frame_length bytes = payload_length bytes + 6
+
+-- the number that the last three bytes hold, most significant first
+abbrev pub checksum : List ℕ → ℕ
+checksum bytes =
+    let n = length bytes in
+    slice_index bytes (n - 3) * 65536 + slice_index bytes (n - 2) * 256 + slice_index bytes (n - 1)
+
+-- these bytes are one whole frame: preamble, length and checksum are right. The reserved bits are free
+unfoldable pub is_frame : List ℕ → Bool
+is_frame bytes =
+    (slice_index bytes 0 == preamble)
+    && (length bytes == frame_length bytes)
+    && (crc24q_of (take (length bytes - 3) bytes) == checksum bytes)
+
+-- what stands between the header and the checksum of a frame
+abbrev pub payload : List ℕ → List ℕ
+payload frame = take (length frame - 6) (drop 3 frame)
+
+-- the message number, the first twelve bits of the payload; a payload of fewer than two bytes has none
+unfoldable pub number_of : List ℕ → Option ℕ
+number_of frame =
+    if nat_lt (length (payload frame)) 2 then
+    None
+    else
+    Some (slice_index (payload frame) 0 * 16 + slice_index (payload frame) 1 / 16)

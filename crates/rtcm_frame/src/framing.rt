@@ -1,0 +1,121 @@
+//! A whole frame of RTCM 10403.3's transport layer.
+ghost use Rattle.std.specs.Prelude.{◌≡◌, ℕ, ◌+◌, ◌<◌, ◌≤◌, List, [], ◌∷◌, ◌++◌, length, drop, if◌then◌else◌, IsTrue, IfSome};
+ghost use Rattle.rtcm_frame.specs.Transport.{is_frame, number_of};
+
+use crate::checksum::crc24q;
+use std::marker::Model;
+
+/// The greatest length of a frame in bytes: header 3, payload 1,023, checksum 3.
+pub const MAX_FRAME: usize = 1029;
+
+/// One whole valid frame, 6 to 1,029 bytes (RTCM 10403.3, transport layer). Contracts see its bytes.
+#[derive(Clone, Copy, Debug, PartialEq, Eq)]
+pub struct Frame {
+    bytes: [u8; 1029],
+    len: usize,
+}
+
+impl Model for Frame {
+    ghost use Rattle.std.specs.Prelude.{List, ℕ, take};
+
+    ghost Value = { List ℕ };
+
+    ghost use Rattle.rtcm_frame.specs.Padded.{IsPadded, padded, padded_gives_back};
+
+    ghost view = { λ f. take f.len f.bytes };
+
+    ghost invariant = { IsPadded };
+
+    ghost inverse = { padded };
+
+    ghost inverse_ok = { padded_gives_back };
+}
+
+impl Default for Frame {
+    ghost is_default = { λ f. f ≡ 0xD3 ∷ 0 ∷ 0 ∷ 0x47 ∷ 0xEA ∷ 0x4B ∷ [] };
+
+    /// The shortest frame, with an empty payload.
+    fn default() -> Frame {
+        let mut bytes = [0; 1029];
+        put_front(&mut bytes, &[0xD3, 0x00, 0x00, 0x47, 0xEA, 0x4B]);
+        Frame { bytes, len: 6 }
+    }
+}
+
+impl Frame {
+    /// The frame of these bytes, where they are exactly one whole valid frame.
+    pub fn of(bytes: &[u8]) -> Option<Frame>
+        ensures { result ≡ (if is_frame bytes.now then Some bytes.now else None) }
+    {
+        if !is_whole(bytes) {
+            return None;
+        }
+        let mut held = [0; 1029];
+        put_front(&mut held, bytes);
+        Some(Frame {
+            bytes: held,
+            len: bytes.len(),
+        })
+    }
+
+    #[tactic(auto, using(crate::proofs::FrameLemmas::frame_least, crate::proofs::FrameLemmas::frame_most))]
+    /// All bytes of the frame, from the preamble to the checksum.
+    pub fn bytes(&self) -> &[u8]
+        ensures value { result.now ≡ self.now }
+        ensures valid { IsTrue (is_frame self.now) }
+        ensures least { 6 ≤ length self.now }
+        ensures most { length self.now ≤ 1029 }
+    {
+        &self.bytes[..self.len]
+    }
+
+    /// The message number, the first twelve bits of the payload; none where the payload has fewer than
+    /// two bytes.
+    pub fn number(&self) -> Option<u16>
+        ensures value { result ≡ number_of self.now }
+        ensures bound { IfSome result (λ n. n < 4096) }
+    {
+        number_in(self.bytes())
+    }
+}
+
+// The message number in the bytes of a frame.
+#[tactic(auto, unfolding(crate::specs::Transport::number_of))]
+fn number_in(frame: &[u8]) -> Option<u16>
+    requires { 6 ≤ length frame.now }
+    ensures value { result ≡ number_of frame.now }
+    ensures bound { IfSome result (λ n. n < 4096) }
+{
+    let payload = &frame[3..frame.len() - 3];
+    if payload.len() < 2 {
+        return None;
+    }
+    Some(u16::from(payload[0]) * 16 + u16::from(payload[1]) / 16)
+}
+
+// These bytes are one whole valid frame.
+#[tactic(auto, unfolding(crate::specs::Transport::is_frame))]
+fn is_whole(bytes: &[u8]) -> bool
+    ensures { result ≡ is_frame bytes.now }
+{
+    let n = bytes.len();
+    if n < 6 {
+        return false;
+    }
+    let claimed = (usize::from(bytes[1]) * 256 + usize::from(bytes[2])) % 1024 + 6;
+    if bytes[0] != 0xD3 || n != claimed {
+        return false;
+    }
+    let stored = u32::from(bytes[n - 3]) * 65536
+        + u32::from(bytes[n - 2]) * 256
+        + u32::from(bytes[n - 1]);
+    crc24q(&bytes[..n - 3]) == stored
+}
+
+// Writes these bytes over the front of a buffer.
+fn put_front(all: &mut [u8], bytes: &[u8])
+    requires { length bytes.now ≤ length all.old }
+    ensures { all.new ≡ bytes.now ++ drop (length bytes.now) all.old }
+{
+    all[..bytes.len()].copy_from_slice(bytes);
+}

@@ -1,0 +1,9 @@
+//! Frames of RTCM 10403.3's transport layer: what a whole frame is, its CRC-24Q checksum and its
+//! message number, and how a byte stream is cut into frames.
+#![tactic(auto)]
+
+mod checksum;
+mod framing;
+
+pub use checksum::crc24q;
+pub use framing::Frame;
