@@ -1,8 +1,8 @@
 //! Reading a source to its end.
-ghost use Rattle.std.specs.Prelude.{◌≤◌, ◌<◌, ◌+◌, length, vec_len, IfOk, IfSome, OnErr, IsErrOf};
+ghost use Rattle.std.specs.Prelude.{◌≤◌, ◌+◌, vec_len, IfOk, OnErr, IsErrOf};
 ghost use Rattle.std.specs.Io.KnownBytes.{Consumes, IsAtEnd};
 ghost use Rattle.cast_io.specs.Causes.{Rose};
-ghost use Rattle.cast_io.specs.Pieces.{LosesSome};
+ghost use Rattle.cast_io.specs.Pieces.{LosesMore, LosesSome};
 
 use crate::ends::Source;
 use std::alloc::Global;
@@ -38,7 +38,7 @@ pub fn read_all<S: Source>(
     ensures whole { IfOk result (λ v. Consumes (S.left source.old) (S.left source.new) v.items) }
     ensures ended { IfOk result (λ v. IsAtEnd (S.left source.new)) }
     ensures within { IfOk result (λ v. vec_len v ≤ limit) }
-    ensures long { IsErrOf result ReadAllFault.Long → IfSome (S.left source.old) (λ bytes. limit < length bytes) }
+    ensures long { IsErrOf result ReadAllFault.Long → LosesMore limit (S.left source.old) (S.left source.new) }
     ensures lost { OnErr result (LosesSome (S.left source.old) (S.left source.new)) }
     ensures failed { IsErrOf result ReadAllFault.Failed → Rose (S.faults source.old) (S.faults source.new) }
     ensures later { S.faults source.old ≤ S.faults source.new }
