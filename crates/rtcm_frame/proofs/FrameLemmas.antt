@@ -1,5 +1,5 @@
 -- What the bytes of a frame are known to be.
-use Rattle.std.proofs.Common.{◌≡◌, ℕ, ◌-◌, ◌≤◌, List, ◌++◌, length, take, drop, replicate, IsTrue, arith, ap, ◌∙◌, sym, length-append, subst}
+use Rattle.std.proofs.Common.{◌≡◌, ℕ, ◌-◌, ◌≤◌, List, ◌++◌, length, get_or, take, drop, replicate, IsTrue, arith, ap, ◌∙◌, sym, length-append, subst}
 use Rattle.std.proofs.lemmas.Bool.Decides.{nat_tests}
 use Rattle.std.proofs.lemmas.List.{drop-replicate, length-replicate}
 use Rattle.std.proofs.Math.Seq.{take-append_seam, drop-append_seam}
@@ -11,6 +11,11 @@ use Rattle.rtcm_frame.specs.Padded.{IsPadded}
 pub frame_claim : (bytes : List ℕ) → IsTrue (is_frame bytes) → length bytes ≡ frame_length bytes
 unfolding is_frame
 frame_claim bytes valid = grind (arith, nat_tests)
+
+-- a frame begins with the preamble
+pub frame_preamble : (bytes : List ℕ) → IsTrue (is_frame bytes) → get_or bytes 0 0 ≡ preamble
+unfolding is_frame
+frame_preamble bytes valid = grind (arith, nat_tests)
 
 -- a frame has at least six bytes
 pub frame_least : (bytes : List ℕ) → IsTrue (is_frame bytes) → 6 ≤ length bytes

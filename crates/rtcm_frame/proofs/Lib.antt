@@ -1,3 +1,5 @@
 pub mod Rows
 pub mod CrcLemmas
 pub mod FrameLemmas
+pub mod CutLemmas
+pub mod CutSteps

@@ -32,10 +32,11 @@ is_frame bytes =
 abbrev pub payload : List ℕ → List ℕ
 payload frame = take (length frame - 6) (drop 3 frame)
 
--- the message number, the first twelve bits of the payload; a payload of fewer than two bytes has none
+-- the first twelve bits of two bytes or more, most significant first
+abbrev pub first_twelve_bits : List ℕ → ℕ
+first_twelve_bits bytes = slice_index bytes 0 * 16 + slice_index bytes 1 / 16
+
+-- the message number stands first in the payload; a payload of fewer than two bytes has none
 unfoldable pub number_of : List ℕ → Option ℕ
 number_of frame =
-    if nat_lt (length (payload frame)) 2 then
-    None
-    else
-    Some (slice_index (payload frame) 0 * 16 + slice_index (payload frame) 1 / 16)
+    if nat_lt (length (payload frame)) 2 then None else Some (first_twelve_bits (payload frame))

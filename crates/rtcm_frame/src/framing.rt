@@ -1,12 +1,9 @@
 //! A whole frame of RTCM 10403.3's transport layer.
-ghost use Rattle.std.specs.Prelude.{◌≡◌, ℕ, ◌+◌, ◌<◌, ◌≤◌, List, [], ◌∷◌, ◌++◌, length, drop, if◌then◌else◌, IsTrue, IfSome};
-ghost use Rattle.rtcm_frame.specs.Transport.{is_frame, number_of};
+ghost use Rattle.std.specs.Prelude.{◌≡◌, ℕ, ◌+◌, ◌<◌, ◌≤◌, List, [], ◌∷◌, ◌++◌, ◌*◌, length, drop, if◌then◌else◌, IsTrue, IfSome};
+ghost use Rattle.rtcm_frame.specs.Transport.{frame_length, is_frame, number_of};
 
 use crate::checksum::crc24q;
 use std::marker::Model;
-
-/// The greatest length of a frame in bytes: header 3, payload 1,023, checksum 3.
-pub const MAX_FRAME: usize = 1029;
 
 /// One whole valid frame, 6 to 1,029 bytes (RTCM 10403.3, transport layer). Contracts see its bytes.
 #[derive(Clone, Copy, Debug, PartialEq, Eq)]
@@ -47,15 +44,24 @@ impl Frame {
     pub fn of(bytes: &[u8]) -> Option<Frame>
         ensures { result ≡ (if is_frame bytes.now then Some bytes.now else None) }
     {
-        if !is_whole(bytes) {
-            return None;
+        if is_whole(bytes) {
+            Some(Frame::held(bytes))
+        } else {
+            None
         }
+    }
+
+    // The frame of these bytes, which are known to be one.
+    pub(crate) fn held(bytes: &[u8]) -> Frame
+        requires { IsTrue (is_frame bytes.now) }
+        ensures { result ≡ bytes.now }
+    {
         let mut held = [0; 1029];
         put_front(&mut held, bytes);
-        Some(Frame {
+        Frame {
             bytes: held,
             len: bytes.len(),
-        })
+        }
     }
 
     #[tactic(auto, using(crate::proofs::FrameLemmas::frame_least, crate::proofs::FrameLemmas::frame_most))]
@@ -93,23 +99,41 @@ fn number_in(frame: &[u8]) -> Option<u16>
     Some(u16::from(payload[0]) * 16 + u16::from(payload[1]) / 16)
 }
 
+// The whole length that these bytes claim; a byte of the header that has not come counts as 0.
+pub(crate) fn claimed_length(bytes: &[u8]) -> usize
+    ensures { result ≡ frame_length bytes.now }
+{
+    let high = if bytes.len() > 1 {
+        usize::from(bytes[1])
+    } else {
+        0
+    };
+    let low = if bytes.len() > 2 {
+        usize::from(bytes[2])
+    } else {
+        0
+    };
+    (high * 256 + low) % 1024 + 6
+}
+
 // These bytes are one whole valid frame.
 #[tactic(auto, unfolding(crate::specs::Transport::is_frame))]
-fn is_whole(bytes: &[u8]) -> bool
+pub(crate) fn is_whole(bytes: &[u8]) -> bool
     ensures { result ≡ is_frame bytes.now }
 {
     let n = bytes.len();
-    if n < 6 {
+    if n < 6 || bytes[0] != 0xD3 || n != claimed_length(bytes) {
         return false;
     }
-    let claimed = (usize::from(bytes[1]) * 256 + usize::from(bytes[2])) % 1024 + 6;
-    if bytes[0] != 0xD3 || n != claimed {
-        return false;
-    }
-    let stored = u32::from(bytes[n - 3]) * 65536
-        + u32::from(bytes[n - 2]) * 256
-        + u32::from(bytes[n - 1]);
+    let stored = big_endian(bytes[n - 3], bytes[n - 2], bytes[n - 1]);
     crc24q(&bytes[..n - 3]) == stored
+}
+
+// The number that three bytes hold, most significant first.
+fn big_endian(high: u8, middle: u8, low: u8) -> u32
+    ensures { result ≡ high * 65536 + middle * 256 + low }
+{
+    u32::from(high) * 65536 + u32::from(middle) * 256 + u32::from(low)
 }
 
 // Writes these bytes over the front of a buffer.

@@ -3,7 +3,10 @@
 #![tactic(auto)]
 
 mod checksum;
+mod cutting;
 mod framing;
+pub mod laws;
 
 pub use checksum::crc24q;
+pub use cutting::{Pieces, cut_all};
 pub use framing::Frame;

@@ -1,0 +1,8 @@
+//! A recorded run: the events of a script, played over one mountpoint, and the report of it.
+#![tactic(auto)]
+
+mod bare;
+mod ending;
+
+pub use bare::run_bare;
+pub use ending::{Ending, Last, Role};
