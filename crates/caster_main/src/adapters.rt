@@ -1,0 +1,83 @@
+//! A reader and a writer of std as a source and a sink. `main` puts standard input and standard
+//! output into them; what those give and take is outside of every proof.
+ghost use Rattle.std.specs.Prelude.{◌≡◌};
+
+use cast_io::{Failed, Sink, Source};
+use std::io::{Read, Write};
+
+/// A source that reads from a reader of std, and counts its reads and its failures.
+#[derive(Drop)]
+pub struct ReaderSource<R> {
+    reader: R,
+    reads: u64,
+    faults: u64,
+}
+
+impl<R: Read> ReaderSource<R> {
+    /// A source that was not read yet.
+    pub fn new(reader: R) -> Self
+        ensures { result ≡ record { reader = reader; reads = 0; faults = 0 } }
+    {
+        ReaderSource {
+            reader,
+            reads: 0,
+            faults: 0,
+        }
+    }
+}
+
+impl<R: Read> Source for ReaderSource<R> {
+    ghost left = { λ s. R.remaining s.reader };
+
+    ghost faults = { λ s. s.faults };
+
+    ghost reads = { λ s. s.reads };
+
+    fn read(&mut self, buf: &mut [u8]) -> Result<usize, Failed> {
+        self.reads = self.reads.saturating_add(1);
+        let Ok(count) = self.reader.read(buf) else {
+            self.faults = self.faults.saturating_add(1);
+            return Err(Failed);
+        };
+        Ok(count)
+    }
+}
+
+/// A sink that writes to a writer of std, and counts its failures. A write that takes no byte of a
+/// piece that is not empty is one.
+#[derive(Drop)]
+pub struct WriterSink<W> {
+    writer: W,
+    faults: u64,
+}
+
+impl<W: Write> WriterSink<W> {
+    /// A sink that was not written to yet.
+    pub fn new(writer: W) -> Self
+        ensures { result ≡ record { writer = writer; faults = 0 } }
+    {
+        WriterSink { writer, faults: 0 }
+    }
+}
+
+impl<W: Write> Sink for WriterSink<W> {
+    ghost taken = { λ s. W.contents s.writer };
+
+    ghost faults = { λ s. s.faults };
+
+    fn write(&mut self, piece: &[u8]) -> Result<(), Failed> {
+        let mut at = 0;
+        while at < piece.len() {
+            let count = match self.writer.write(&piece[at..]) {
+                Ok(count) => count,
+                Err(_) => 0,
+            };
+            if count == 0 {
+                self.faults = self.faults.saturating_add(1);
+                return Err(Failed);
+            }
+            at += count;
+        }
+        Ok(())
+    }
+}
