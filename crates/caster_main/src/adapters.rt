@@ -1,6 +1,7 @@
 //! A reader and a writer of std as a source and a sink. `main` puts standard input and standard
 //! output into them; what those give and take is outside of every proof.
-ghost use Rattle.std.specs.Prelude.{◌≡◌};
+ghost use Rattle.std.specs.Prelude.{◌≡◌, ◌<◌, ◌≤◌, length, take, IfSome, IfNone};
+ghost use Rattle.std.specs.Io.KnownBytes.{Appends, Keeps};
 
 use cast_io::{Failed, Sink, Source};
 use std::io::{Read, Write};
@@ -68,16 +69,24 @@ impl<W: Write> Sink for WriterSink<W> {
     fn write(&mut self, piece: &[u8]) -> Result<(), Failed> {
         let mut at = 0;
         while at < piece.len() {
-            let count = match self.writer.write(&piece[at..]) {
-                Ok(count) => count,
-                Err(_) => 0,
-            };
-            if count == 0 {
+            let Some(count) = write_some(&mut self.writer, &piece[at..]) else {
                 self.faults = self.faults.saturating_add(1);
                 return Err(Failed);
-            }
+            };
             at += count;
         }
         Ok(())
+    }
+}
+
+// One write of a piece that is not empty: how many bytes were taken, and None where none were.
+fn write_some<W: Write>(writer: &mut W, piece: &[u8]) -> Option<usize>
+    ensures some { IfSome result (λ count. (0 < count) × (count ≤ length piece.now)) }
+    ensures taken { IfSome result (λ count. Appends (W.contents writer.old) (W.contents writer.new) (take count piece.now)) }
+    ensures none { IfNone result (Keeps (W.contents writer.old) (W.contents writer.new)) }
+{
+    match writer.write(piece) {
+        Ok(count) if count > 0 => Some(count),
+        _ => None,
     }
 }

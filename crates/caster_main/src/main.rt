@@ -8,20 +8,34 @@ mod command;
 mod top;
 
 use adapters::{ReaderSource, WriterSink};
+use std::alloc::AllocError;
 use std::env;
+use std::io::ErrorKind;
 use std::process::ExitCode;
-use top::caster;
+use top::{caster, refuse_for_memory};
 
-// The words after the program's name. A word that is no text, as one of no form, makes all of them
-// words of no form, and so does want of memory for them.
-fn words(rt: &HostRuntime) -> Vec<String> {
+// The words after the program's name. Where one of them is no text, no words are given: they are then
+// of no form.
+fn words(rt: &HostRuntime) -> Result<Vec<String>, AllocError> {
     let mut words = Vec::new(rt.alloc());
-    words
+    match env::args(rt) {
+        Ok(all) => {
+            for word in all.skip(1) {
+                words.push(word)?;
+            }
+            Ok(words)
+        }
+        Err(fault) if fault.kind() == ErrorKind::OutOfMemory => Err(AllocError),
+        Err(_) => Ok(words),
+    }
 }
 
 fn main(rt: HostRuntime) -> ExitCode {
     let mut input = ReaderSource::new(rt.stdin());
     let mut out = WriterSink::new(rt.stdout());
-    let status = caster(rt.alloc(), &words(&rt), &mut input, &mut out);
+    let status = match words(&rt) {
+        Ok(words) => caster(rt.alloc(), &words, &mut input, &mut out),
+        Err(AllocError) => refuse_for_memory(&mut out),
+    };
     ExitCode::from(status)
 }

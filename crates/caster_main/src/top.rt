@@ -88,6 +88,13 @@ pub fn caster<I: Source, O: Sink>(
     write_answer(&answer, out)
 }
 
+/// Says that there was no memory for the words themselves, and answers the status.
+pub fn refuse_for_memory<O: Sink>(out: &mut O) -> u8
+    ensures { Writes memory_exit (O.taken out.old) (O.taken out.new) (O.faults out.old) (O.faults out.new) result }
+{
+    write_answer(&Answer::Memory, out)
+}
+
 // Writes the answer's text and gives its status, or that of a failed write.
 fn write_answer<O: Sink>(answer: &Answer, out: &mut O) -> u8
     ensures writes { Writes (exit_of answer.now) (O.taken out.old) (O.taken out.new)
