@@ -41,7 +41,7 @@ pub trait Sink {
     /// How often the sink failed so far, held in a `u64`.
     ghost faults: { Self → ℕ };
 
-    /// Writes the whole piece. After `Failed` some first bytes of it were written, from none to all.
+    /// Writes the whole piece. After `Failed` some first bytes of it were written, none to all.
     fn write(&mut self, piece: &[u8]) -> Result<(), Failed>
         ensures whole { OnOk result (Appends (taken self.old) (taken self.new) piece.now) }
         ensures torn { OnErr result (AppendsPrefix (taken self.old) (taken self.new) piece.now) }

@@ -41,7 +41,8 @@ impl MemSource {
     /// A source that gives these bytes and then ends. `fails` holds the numbers, from 1, of the
     /// reads that are to fail.
     pub fn new(bytes: Vec<u8>, fails: Vec<u64>) -> Self
-        ensures { result ≡ record { left = bytes.items; fails = fails.items; calls = 0; faults = 0 } }
+        ensures { result ≡
+            record { left = bytes.items; fails = fails.items; calls = 0; faults = 0 } }
     {
         MemSource {
             bytes,
@@ -137,7 +138,8 @@ impl Sink for MemSink {
     // A write that fails takes no byte.
     fn write(&mut self, piece: &[u8]) -> Result<(), Failed>
         ensures whole { OnOk result (self.new.bytes ≡ self.old.bytes ++ piece.now) }
-        ensures torn { OnErr result (AppendsPrefix (Some self.old.bytes) (Some self.new.bytes) piece.now) }
+        ensures torn { OnErr result
+            (AppendsPrefix (Some self.old.bytes) (Some self.new.bytes) piece.now) }
         ensures none { OnErr result (self.new.bytes ≡ self.old.bytes) }
         ensures cause { HasCause self.old.faults self.new.faults result }
         ensures told { IsTrue (fails_next self.old.calls self.old.fails) → IsErr result }

@@ -27,9 +27,9 @@ const PIECE: usize = 4096;
 
 /// Reads the source to its end: all bytes that were left, at most `limit`.
 ///
-/// `Long` comes as soon as more than `limit` bytes came, `Failed` with the first read that fails, and
-/// `Memory` where the bytes could not be kept; the source has then lost what was read. It is read at
-/// most `limit` + 2 times.
+/// `Long` comes as soon as more than `limit` bytes came, `Failed` with the first read that fails,
+/// and `Memory` where the bytes could not be kept; the source has then lost what was read. It is
+/// read at most `limit` + 2 times.
 pub fn read_all<S: Source>(
     alloc: Global,
     source: &mut S,
@@ -38,9 +38,11 @@ pub fn read_all<S: Source>(
     ensures whole { IfOk result (λ v. Consumes (S.left source.old) (S.left source.new) v.items) }
     ensures ended { IfOk result (λ v. IsAtEnd (S.left source.new)) }
     ensures within { IfOk result (λ v. vec_len v ≤ limit) }
-    ensures long { IsErrOf result ReadAllFault.Long → LosesMore limit (S.left source.old) (S.left source.new) }
+    ensures long { IsErrOf result ReadAllFault.Long
+        → LosesMore limit (S.left source.old) (S.left source.new) }
     ensures lost { OnErr result (LosesSome (S.left source.old) (S.left source.new)) }
-    ensures failed { IsErrOf result ReadAllFault.Failed → Rose (S.faults source.old) (S.faults source.new) }
+    ensures failed { IsErrOf result ReadAllFault.Failed
+        → Rose (S.faults source.old) (S.faults source.new) }
     ensures later { S.faults source.old ≤ S.faults source.new }
     ensures reads { S.reads source.new ≤ S.reads source.old + limit + 2 }
 {

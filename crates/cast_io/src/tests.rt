@@ -9,7 +9,7 @@ fn source_of(alloc: Global, bytes: &[u8], fails: &[u64]) -> Result<MemSource, Fa
     Ok(MemSource::new(bytes.to_vec(alloc)?, fails.to_vec(alloc)?))
 }
 
-// The first read gives three bytes, and after `Failed` the next read goes on where the last one ended.
+// Each read gives three bytes, and after `Failed` the next one goes on where the last one ended.
 fn expect_three_reads(rt: &impl Abort, source: &mut MemSource, failing: usize) {
     let mut buf = [0u8; 3];
     for call in 1..=3usize {

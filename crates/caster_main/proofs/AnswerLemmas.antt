@@ -46,7 +46,7 @@ long_is_outcome words None new capacity h lost = (lost.0, tt, long_exit-outcome 
 long_is_outcome words (Some told) None capacity h lost = absurd lost.2
 long_is_outcome words (Some told) (Some rest) capacity h lost =
     let longer : 8388608 < length told =
-        omega (arith, lost.1, ap (λ l. length l) lost.2, length-append lost.0 rest) in
+    omega (arith, lost.1, ap (λ l. length l) lost.2, length-append lost.0 rest) in
     (told, refl, long_exit-outcome words told capacity h longer)
 
 -- what was read to the end is what the input told

@@ -64,14 +64,18 @@ have_input_at : (AreSuch : List ℕ → Type 0) (status : ℕ) (words : List (Li
     → Tells left bytes → status ≡ (outcome words bytes).status → HaveInput AreSuch words left
 have_input_at AreSuch status words left bytes None h other such told is =
     absurd (other (is ∙ ap (λ (e : Exit). e.status) (sym (outcome-command words bytes None h))))
-have_input_at AreSuch status words left bytes (Some capacity) h other such told is =
-    (capacity, bytes, bare-command_of words capacity (sym h), told,
-        such capacity (sym (is ∙ ap (λ (e : Exit). e.status) (sym (outcome-command words bytes (Some capacity) h)))))
+have_input_at AreSuch status words left bytes (Some capacity) h other such told is = (
+  capacity,
+  bytes,
+  bare-command_of words capacity (sym h),
+  told,
+  such capacity (sym (is ∙ ap (λ (e : Exit). e.status) (sym (outcome-command words bytes (Some capacity) h)))),
+)
 
 pub have_input : (AreSuch : List ℕ → Type 0) (status : ℕ) (words : List (List ℕ)) (left old new : Option (List ℕ))
     → (status ≡ 1 → ⊥)
     → ((capacity : ℕ) (bytes : List ℕ) → (exit_of_script capacity (script_of Bare bytes)).status ≡ status
-        → AreSuch bytes)
+    → AreSuch bytes)
     → FollowsOutcome words left status old new → HaveInput AreSuch words left
 have_input AreSuch status words left old new other such follows =
     have_input_at AreSuch status words left follows.0 (command_of words) refl other
@@ -106,7 +110,7 @@ usage_at : (words : List (List ℕ)) (bytes : List ℕ) (read : Option ℕ) → 
 usage_at words bytes None h is = λ capacity are. absurd (let e = command_of-bare words capacity are in cc)
 usage_at words bytes (Some capacity) h is =
     absurd (script_not_usage capacity (script_of Bare bytes)
-        (ap (λ (e : Exit). e.status) (outcome-command words bytes (Some capacity) h) ∙ is))
+    (ap (λ (e : Exit). e.status) (outcome-command words bytes (Some capacity) h) ∙ is))
 
 pub usage_run : (words : List (List ℕ)) (left old new : Option (List ℕ)) (status : ℕ)
     → FollowsOutcome words left status old new → status ≡ 1 → AreOfNoForm words

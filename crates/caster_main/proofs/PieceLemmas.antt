@@ -24,10 +24,12 @@ piece_torn a b c text at n within p torn =
     let size = length-take n (drop at text) in
     let rest = length-drop at text in
     let first : torn.0 ≤ n = omega (arith, torn.1, size) in
-    let total : at + torn.0 ≤ length text = omega (arith, torn.1, size, rest, within) in
-    (at + torn.0, total,
-        piece_written a b c text at torn.0 p
-            (subst (λ (l : List ℕ). Appends b c l) (take-take torn.0 n (drop at text) first) torn.2))
+    let total : at + torn.0 ≤ length text = omega (arith, torn.1, size, rest, within) in (
+      at + torn.0,
+      total,
+      piece_written a b c text at torn.0 p
+          (subst (λ (l : List ℕ). Appends b c l) (take-take torn.0 n (drop at text) first) torn.2),
+    )
 
 -- nothing more
 pub Appends-keeps : (a b c : Option (List ℕ)) (xs : List ℕ) → Appends a b xs → Keeps b c → Appends a c xs

@@ -50,9 +50,9 @@ unfolding events_of_lines
 line_not_long kind n numbers line lines skipped later h = elim (cases_Bool (is_skipped line)) [
   | inl skips ↦ skipped (rw skips at h)
   | inr reads ↦ elim (cases_Bool (bytes_eq line (codes "stop"))) [
-      | inl stops ↦ let e = rw (reads, stops) at h in absurd cc
-      | inr goes ↦ found_not_long kind n numbers lines (event_of_line kind line) later (rw (reads, goes) at h)
-    ]
+    | inl stops ↦ let e = rw (reads, stops) at h in absurd cc
+    | inr goes ↦ found_not_long kind n numbers lines (event_of_line kind line) later (rw (reads, goes) at h)
+  ]
 ]
 
 lines_not_long : (kind : ScriptKind) (lines : List (List ℕ)) (n : ℕ) (numbers : Numbers)
@@ -61,7 +61,7 @@ unfolding events_of_lines
 lines_not_long kind [] n numbers h = absurd cc
 lines_not_long kind (line ∷ lines) n numbers h =
     line_not_long kind n numbers line lines (lines_not_long kind lines (n + 1) numbers)
-        (λ event. lines_not_long kind lines (n + 1) (after_event numbers event)) h
+    (λ event. lines_not_long kind lines (n + 1) (after_event numbers event)) h
 
 script_long : (bytes : List ℕ) → script_of Bare bytes ≡ Err Long → 8388608 < length bytes
 unfolding script_of

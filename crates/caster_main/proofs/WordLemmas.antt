@@ -47,7 +47,7 @@ number_of-decimal n some small =
     let digits = digits_decimal own n small in
     let first = first_decimal n some small in
     let is : is_number (decimal n) ≡ true =
-        is_number-first (decimal n) (decimal_nonempty n small) (λ e. omega (arith, first, e)) ∙ digits in
+    is_number-first (decimal n) (decimal_nonempty n small) (λ e. omega (arith, first, e)) ∙ digits in
     number_of-number (decimal n) is ∙ ap (λ v. Some v) (digits_value-decimal own n small)
 
 at_most-within : (limit n : ℕ) → n ≤ limit → at_most limit (Some n) ≡ Some n
@@ -65,7 +65,7 @@ capacity_read t r n h parsed is within =
     let value : n ≡ number_from 0 t = told.1 in
     let small : number_from 0 t ≤ 4096 = omega (arith, value) in
     sym (ap (λ v. at_most 4096 v) (number_of-number t h) ∙ at_most-within 4096 (number_from 0 t) small
-        ∙ ap (λ v. Some v) (sym value))
+    ∙ ap (λ v. Some v) (sym value))
 
 pub capacity_above : {E : Type 0} (t : List ℕ) (r : Result ℕ E) (n : ℕ) → is_number t ≡ true
     → ParsesUnsigned 32 10 t r → r ≡ Ok n → 4096 < n → None ≡ at_most 4096 (number_of t)
@@ -73,15 +73,15 @@ capacity_above t r n h parsed is above =
     let told = rw is at (parse_digits own 32 t r parsed (number_digits t h)) in
     let value : n ≡ number_from 0 t = told.1 in
     sym (ap (λ v. at_most 4096 v) (number_of-number t h)
-        ∙ at_most-above 4096 (number_from 0 t) (λ small. omega (arith, value, small)))
+    ∙ at_most-above 4096 (number_from 0 t) (λ small. omega (arith, value, small)))
 
 pub capacity_overflown : {E : Type 0} (t : List ℕ) (r : Result ℕ E) (e : E) → is_number t ≡ true
     → ParsesUnsigned 32 10 t r → r ≡ Err e → None ≡ at_most 4096 (number_of t)
 capacity_overflown t r e h parsed is =
     let told = rw is at (parse_digits own 32 t r parsed (number_digits t h)) in
     sym (ap (λ v. at_most 4096 v) (number_of-number t h)
-        ∙ at_most-above 4096 (number_from 0 t)
-            (λ small. let below : number_from 0 t < 2 ^ 32 = omega (arith, small) in told (number_some t h, below)))
+    ∙ at_most-above 4096 (number_from 0 t)
+    (λ small. let below : number_from 0 t < 2 ^ 32 = omega (arith, small) in told (number_some t h, below)))
 
 -- ---- the words
 
@@ -113,7 +113,7 @@ at_most-number t n h = elim (cases_Bool (is_number t)) [
 decimal-number : (t : List ℕ) → is_number t ≡ true → number_from 0 t ≤ 4096 → decimal (number_from 0 t) ≡ t
 decimal-number t is small =
     decimal-digits_value own t (number_digits t is) (number_some t is) (λ nought. absurd (number_first t is nought))
-        (omega (arith, small))
+    (omega (arith, small))
 
 zero_or_more : (n : ℕ) → (n ≡ 0) ⊎ (1 ≤ n)
 zero_or_more zero = inl refl
@@ -146,7 +146,7 @@ bare-command_of (name ∷ number ∷ []) capacity h = elim (cases_Bool (bytes_eq
       record {
         least = subst (λ n. 1 ≤ n) read.1 (number_from-positive number read.0 read.2);
         most = subst (λ n. n ≤ 4096) read.1 read.2;
-        parts = ap (λ w. w ∷ number ∷ []) word ∙ ap (λ w. codes "bare" ∷ w ∷ []) text
+        parts = ap (λ w. w ∷ number ∷ []) word ∙ ap (λ w. codes "bare" ∷ w ∷ []) text;
       }
   | inr other ↦
       let e : command_of (name ∷ number ∷ []) ≡ None = rw other refl in

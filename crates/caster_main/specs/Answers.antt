@@ -26,14 +26,15 @@ GivesExit end answer = exit_of answer ≡ end
 abbrev pub IsOutcome : List (List ℕ) → Option (List ℕ) → Exit → Type 0
 IsOutcome words left end = (bytes : List ℕ) × Tells left bytes × (end ≡ outcome words bytes)
 
--- the answer to these words and this input, whose faults were counted before and after: want of memory, a fault of
--- reading that was counted, or the outcome
+-- the answer to these words and this input, whose faults were counted before and after: want of
+-- memory, a fault of reading that was counted, or the outcome
 abbrev pub IsAnswer : List (List ℕ) → Option (List ℕ) → ℕ → ℕ → Answer → Type 0
 IsAnswer words left before now Memory = HaveForm words
 IsAnswer words left before now ReadFault = HaveForm words × Rose before now
 IsAnswer words left before now answer = IsOutcome words left (exit_of answer)
 
--- the text of this end was written and its status given, or status 5 with a write that failed inside the text
+-- the text of this end was written and its status given, or status 5 with a write that failed
+-- inside the text
 abbrev pub Writes : Exit → Option (List ℕ) → Option (List ℕ) → ℕ → ℕ → ℕ → Type 0
 Writes end old new before now status =
     EndsWith status old new end ⊎ ((status ≡ 5) × Rose before now × AppendsPrefix old new end.text)

@@ -1,8 +1,13 @@
 -- The words of the command line. They have no program name.
-use Rattle.std.specs.Prelude.{◌≡◌, ℕ, ◌≤◌, Bool, if◌then◌else◌, List, [], ◌∷◌, codes, Option, None}
+use Rattle.std.specs.Prelude.{◌≡◌, ℕ, ◌≤◌, Bool, if◌then◌else◌, List, [], ◌∷◌, map, codes, Option, None, String, string_bytes}
+use Rattle.std.specs.Global.{Global}
 use Rattle.std.specs.Str.{bytes_eq}
 use Rattle.std.specs.Fmt.{decimal}
 use Rattle.session_script.specs.Digits.{number_of, at_most}
+
+-- the bytes of each word
+abbrev pub texts : List (String Global) → List (List ℕ)
+texts words = map (λ word. string_bytes word) words
 
 -- the words `bare C`: C is a decimal number from 1 to 4,096 without a sign or leading zeros
 pub record AreBare (words : List (List ℕ)) (capacity : ℕ) : Type 0 where

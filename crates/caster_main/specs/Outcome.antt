@@ -1,4 +1,5 @@
--- What the program ends with, in the order of its tests: the words, the size of the input, its grammar, the run.
+-- What the program ends with, in the order of its tests: the words, the size of the input, its
+-- grammar, the run.
 use Rattle.std.specs.Prelude.{ℕ, List, [], ◌∷◌, ◌++◌, codes, Option, Some, None, Result, Ok, Err}
 use Rattle.std.specs.Fmt.{decimal}
 use Rattle.session_script.specs.declared.Event.{Event}
@@ -52,6 +53,7 @@ abbrev pub exit_of_command : Option ℕ → List ℕ → Exit
 exit_of_command None bytes = usage_exit
 exit_of_command (Some capacity) bytes = exit_of_script capacity (script_of Bare bytes)
 
--- what the program ends with for these words and these bytes of input, where no read or write fails and there is memory
+-- what the program ends with for these words and these bytes of input, where no read or write
+-- fails and there is memory
 unfoldable pub outcome : List (List ℕ) → List ℕ → Exit
 outcome words bytes = exit_of_command (command_of words) bytes

@@ -18,15 +18,18 @@ Tells (Some told) bytes = told ≡ bytes
 abbrev pub EndsWith : ℕ → Option (List ℕ) → Option (List ℕ) → Exit → Type 0
 EndsWith status old new end = (status ≡ end.status) × Appends old new end.text
 
--- status and written bytes are the outcome of the words and of the bytes that came, which are those that the input told
-abbrev pub FollowsOutcome : List (List ℕ) → Option (List ℕ) → ℕ → Option (List ℕ) → Option (List ℕ) → Type 0
+-- status and written bytes are the outcome of the words and of the bytes that came, which are those
+-- that the input told
+abbrev pub FollowsOutcome : List (List ℕ) → Option (List ℕ)
+    → ℕ → Option (List ℕ) → Option (List ℕ) → Type 0
 FollowsOutcome words left status old new =
     (bytes : List ℕ) × Tells left bytes × EndsWith status old new (outcome words bytes)
 
 -- the status is one of those that there are
 abbrev pub IsStatus : ℕ → Type 0
 IsStatus status =
-    (status ≡ 0) ⊎ ((status ≡ 1) ⊎ ((status ≡ 3) ⊎ ((status ≡ 4) ⊎ ((status ≡ 5) ⊎ ((status ≡ 7) ⊎ (status ≡ 8))))))
+    (status ≡ 0) ⊎ ((status ≡ 1) ⊎ ((status ≡ 3) ⊎ ((status ≡ 4) ⊎ ((status ≡ 5)
+    ⊎ ((status ≡ 7) ⊎ (status ≡ 8))))))
 
 -- the words are of a form
 abbrev pub HaveForm : List (List ℕ) → Type 0
@@ -46,9 +49,11 @@ IsNoSession (Err NoStop) = ⊤
 IsNoSession (Err Long) = ⊥
 IsNoSession (Err Memory) = ⊥
 
--- a failed write wrote a first part of the outcome's text, of the line of a read fault that was counted, or of the
--- line of want of memory
-abbrev pub WritesPart : List (List ℕ) → Option (List ℕ) → ℕ → ℕ → Option (List ℕ) → Option (List ℕ) → Type 0
+-- a failed write wrote a first part of the outcome's text, of the line of a read fault that was
+-- counted, or of the line of want of memory
+abbrev pub WritesPart : List (List ℕ) → Option (List ℕ) → ℕ → ℕ
+    → Option (List ℕ) → Option (List ℕ) → Type 0
 WritesPart words left before now old new =
     ((bytes : List ℕ) × Tells left bytes × AppendsPrefix old new (outcome words bytes).text)
-    ⊎ ((Rose before now × AppendsPrefix old new read_fault_exit.text) ⊎ AppendsPrefix old new memory_exit.text)
+    ⊎ ((Rose before now × AppendsPrefix old new read_fault_exit.text)
+    ⊎ AppendsPrefix old new memory_exit.text)

@@ -1,9 +1,9 @@
 //! What is decided before anything is written.
-ghost use Rattle.std.specs.Prelude.{◌≡◌, ◌≤◌, ◌++◌, length, map, codes, string_bytes, MatchResult};
-ghost use Rattle.std.specs.Fmt.{decimal};
+ghost use Rattle.std.specs.Prelude.{◌≡◌, ◌≤◌, length, MatchResult};
 ghost use Rattle.session_script.specs.declared.ScriptKind.TheVariants.{Bare};
 ghost use Rattle.session_script.specs.Script.{script_of};
-ghost use Rattle.caster_main.specs.Outcome.{session_exit, exit_of_script, exit_of_fault};
+ghost use Rattle.caster_main.specs.Command.{texts};
+ghost use Rattle.caster_main.specs.Outcome.{exit_of_script, exit_of_fault};
 ghost use Rattle.caster_main.specs.Answers.{exit_of, IsAnswer, GivesExit};
 
 use crate::command::bare_capacity;
@@ -64,7 +64,7 @@ impl Answer {
 
 /// The answer to these words and this input. The input is read only where the words have a form.
 pub fn answer_to<I: Source>(alloc: Global, words: &[String], input: &mut I) -> Answer
-    ensures answer { IsAnswer (map (λ word. string_bytes word) words.now) (I.left input.old)
+    ensures answer { IsAnswer (texts words.now) (I.left input.old)
         (I.faults input.old) (I.faults input.new) result }
     ensures later { I.faults input.old ≤ I.faults input.new }
 {
@@ -111,7 +111,8 @@ fn answer_to_fault(alloc: Global, fault: &ScriptFault) -> Answer
 
 // The answer that this line says why the input is no session.
 fn answer_of(line: Result<String, AllocError>) -> Answer
-    ensures { MatchResult line (λ text. result ≡ Answer.Session text.bytes) (λ _. result ≡ Answer.Memory) }
+    ensures { MatchResult line (λ text. result ≡ Answer.Session text.bytes)
+        (λ _. result ≡ Answer.Memory) }
 {
     match line {
         Ok(text) => Answer::Session(text.into_bytes()),

@@ -1,24 +1,24 @@
 //! The words of the command line.
-ghost use Rattle.std.specs.Prelude.{◌≡◌, IfSome, IfNone, map, string_bytes};
+ghost use Rattle.std.specs.Prelude.{◌≡◌, IfSome, IfNone};
 ghost use Rattle.std.specs.List.{list_all};
 ghost use Rattle.session_script.specs.Digits.{is_digit, is_number, number_of, at_most};
-ghost use Rattle.caster_main.specs.Command.{AreBare, AreOfNoForm, command_of};
+ghost use Rattle.caster_main.specs.Command.{AreBare, AreOfNoForm, command_of, texts};
 
 /// The most frames that a ring keeps.
 const LARGEST_RING: u32 = 4096;
 
 // The capacity C of the words `bare C`, from 1 to 4,096, and None where the words are of no form.
 pub fn bare_capacity(words: &[String]) -> Option<u32>
-    ensures command { result ≡ command_of (map (λ word. string_bytes word) words.now) }
-    ensures form { IfSome result (λ capacity. AreBare (map (λ word. string_bytes word) words.now) capacity) }
-    ensures none { IfNone result (AreOfNoForm (map (λ word. string_bytes word) words.now)) }
+    ensures command { result ≡ command_of (texts words.now) }
+    ensures form { IfSome result (λ capacity. AreBare (texts words.now) capacity) }
+    ensures none { IfNone result (AreOfNoForm (texts words.now)) }
 {
     capacity_in(words)
 }
 
 // The same, by the reading of its number.
 fn capacity_in(words: &[String]) -> Option<u32>
-    ensures { result ≡ command_of (map (λ word. string_bytes word) words.now) }
+    ensures { result ≡ command_of (texts words.now) }
 {
     match words {
         [name, number] if name.as_str() == "bare" => capacity_of(number.as_str()),

@@ -5,6 +5,8 @@
 mod adapters;
 mod answers;
 mod command;
+#[cfg(test)]
+mod tests;
 mod top;
 
 use adapters::{ReaderSource, WriterSink};
@@ -14,8 +16,8 @@ use std::io::ErrorKind;
 use std::process::ExitCode;
 use top::{caster, refuse_for_memory};
 
-// The words after the program's name. Where one of them is no text, no words are given: they are then
-// of no form.
+// The words after the program's name. Where one of them is no text, no words are given: they are
+// then of no form.
 fn words(rt: &HostRuntime) -> Result<Vec<String>, AllocError> {
     let mut words = Vec::new(rt.alloc());
     match env::args(rt) {

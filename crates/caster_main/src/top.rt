@@ -1,5 +1,5 @@
 //! The call that the program makes.
-ghost use Rattle.std.specs.Prelude.{◌≡◌, ◌≢◌, ◌≤◌, ◌<◌, ◌⊎◌, ℕ, List, Some, Ok, Result, length, map, string_bytes, IsOk, OnOk, OnErr};
+ghost use Rattle.std.specs.Prelude.{◌≡◌, ◌≢◌, ◌≤◌, ◌<◌, ◌⊎◌, ℕ, List, Some, Ok, Result, length, IsOk, OnOk, OnErr};
 ghost use Rattle.std.specs.Io.KnownBytes.{Appends};
 ghost use Rattle.session_script.specs.declared.Event.{Event};
 ghost use Rattle.session_script.specs.declared.ScriptKind.TheVariants.{Bare};
@@ -8,7 +8,7 @@ ghost use Rattle.caster_replay.specs.World.{bare};
 ghost use Rattle.caster_replay.specs.Report.{report};
 ghost use Rattle.cast_io.specs.Causes.{Rose, HasCause};
 ghost use Rattle.cast_io.specs.Pieces.{AppendsPrefix};
-ghost use Rattle.caster_main.specs.Command.{AreBare, AreOfNoForm};
+ghost use Rattle.caster_main.specs.Command.{AreBare, AreOfNoForm, texts};
 ghost use Rattle.caster_main.specs.Outcome.{read_fault_exit, memory_exit};
 ghost use Rattle.caster_main.specs.Told.{FollowsOutcome, HaveInput, IsNoSession, IsStatus, WritesPart};
 ghost use Rattle.caster_main.specs.Answers.{exit_of, Writes};
@@ -26,8 +26,9 @@ const PIECE: usize = 65_536;
 /// Runs the command that the words are, which have no program name, over the input and the output,
 /// and answers the status that the program ends with.
 ///
-/// `bare C`, with C from 1 to 4,096, reads a script from the input, plays it over one mountpoint `A`
-/// with a ring of C frames, and writes the report. Where that is not to be had, one line says why:
+/// `bare C`, with C from 1 to 4,096, reads a script from the input, plays it over one mountpoint
+/// `A` with a ring of C frames, and writes the report. Where that is not to be had, one line says
+/// why:
 ///
 /// | Status | Line | Comes |
 /// |---|---|---|
@@ -39,49 +40,48 @@ const PIECE: usize = 65_536;
 /// | 8 | `too long` | where the input has more than 8 MiB |
 ///
 /// The words are tested first, then come the reading, the size, the grammar and the run. Nothing is
-/// written before the run has ended.
-pub fn caster<I: Source, O: Sink>(
-    alloc: Global,
-    words: &[String],
-    input: &mut I,
-    out: &mut O,
-) -> u8
+/// written before the run has ended, and the text is written in pieces of 65,536 bytes.
+pub fn caster<I: Source, O: Sink>(alloc: Global, words: &[String], input: &mut I, out: &mut O) -> u8
     ensures report { result ≡ 0 → (capacity : ℕ) (bytes : List ℕ) (events : List Event)
-        → AreBare (map (λ word. string_bytes word) words.now) capacity
+        → AreBare (texts words.now) capacity
         → I.left input.old ≡ Some bytes → script_of Bare bytes ≡ Ok events
         → Appends (O.taken out.old) (O.taken out.new) (report (bare capacity) events) }
     ensures complete { (capacity : ℕ) (bytes : List ℕ) (events : List Event)
-        → AreBare (map (λ word. string_bytes word) words.now) capacity
+        → AreBare (texts words.now) capacity
         → I.left input.old ≡ Some bytes → script_of Bare bytes ≡ Ok events
-        → ¬ Rose (I.faults input.old) (I.faults input.new) → ¬ Rose (O.faults out.old) (O.faults out.new)
+        → ¬ Rose (I.faults input.old) (I.faults input.new)
+        → ¬ Rose (O.faults out.old) (O.faults out.new)
         → (result ≡ 7) ⊎ ((result ≡ 0)
-            × Appends (O.taken out.old) (O.taken out.new) (report (bare capacity) events)) }
+        × Appends (O.taken out.old) (O.taken out.new) (report (bare capacity) events)) }
 
     // When each status comes.
     ensures status { IsStatus result }
-    ensures whole { result ≡ 0 → HaveInput (λ bytes. IsOk (script_of Bare bytes))
-        (map (λ word. string_bytes word) words.now) (I.left input.old) }
-    ensures usage { result ≡ 1 → AreOfNoForm (map (λ word. string_bytes word) words.now) }
-    ensures no_form { AreOfNoForm (map (λ word. string_bytes word) words.now) → (result ≡ 1) ⊎ (result ≡ 5) }
+    ensures whole { result ≡ 0
+        → HaveInput (λ bytes. IsOk (script_of Bare bytes)) (texts words.now) (I.left input.old) }
+    ensures usage { result ≡ 1 → AreOfNoForm (texts words.now) }
+    ensures no_form { AreOfNoForm (texts words.now) → (result ≡ 1) ⊎ (result ≡ 5) }
     ensures no_session { result ≡ 3 → HaveInput (λ bytes. IsNoSession (script_of Bare bytes))
-        (map (λ word. string_bytes word) words.now) (I.left input.old) }
+        (texts words.now) (I.left input.old) }
     ensures read_fault { result ≡ 4 → Rose (I.faults input.old) (I.faults input.new) }
     ensures write_fault { result ≡ 5 → Rose (O.faults out.old) (O.faults out.new) }
-    ensures too_long { result ≡ 8 → HaveInput (λ bytes. 8388608 < length bytes)
-        (map (λ word. string_bytes word) words.now) (I.left input.old) }
-    ensures later { (I.faults input.old ≤ I.faults input.new) × (O.faults out.old ≤ O.faults out.new) }
+    ensures too_long { result ≡ 8
+        → HaveInput (λ bytes. 8388608 < length bytes) (texts words.now) (I.left input.old) }
+    ensures input_faults { I.faults input.old ≤ I.faults input.new }
+    ensures out_faults { O.faults out.old ≤ O.faults out.new }
 
     // What is written.
     ensures outcome { result ≢ 4 → result ≢ 5 → result ≢ 7
-        → FollowsOutcome (map (λ word. string_bytes word) words.now) (I.left input.old) result
-            (O.taken out.old) (O.taken out.new) }
+        → FollowsOutcome (texts words.now) (I.left input.old)
+        result (O.taken out.old) (O.taken out.new) }
     ensures undisturbed { ¬ Rose (I.faults input.old) (I.faults input.new)
         → ¬ Rose (O.faults out.old) (O.faults out.new) → result ≢ 7
-        → FollowsOutcome (map (λ word. string_bytes word) words.now) (I.left input.old) result
-            (O.taken out.old) (O.taken out.new) }
-    ensures fault_line { result ≡ 4 → Appends (O.taken out.old) (O.taken out.new) read_fault_exit.text }
-    ensures memory_line { result ≡ 7 → Appends (O.taken out.old) (O.taken out.new) memory_exit.text }
-    ensures torn { result ≡ 5 → WritesPart (map (λ word. string_bytes word) words.now) (I.left input.old)
+        → FollowsOutcome (texts words.now) (I.left input.old)
+        result (O.taken out.old) (O.taken out.new) }
+    ensures fault_line { result ≡ 4
+        → Appends (O.taken out.old) (O.taken out.new) read_fault_exit.text }
+    ensures memory_line { result ≡ 7
+        → Appends (O.taken out.old) (O.taken out.new) memory_exit.text }
+    ensures torn { result ≡ 5 → WritesPart (texts words.now) (I.left input.old)
         (I.faults input.old) (I.faults input.new) (O.taken out.old) (O.taken out.new) }
 {
     let answer = answer_to(alloc, words, input);
@@ -90,7 +90,8 @@ pub fn caster<I: Source, O: Sink>(
 
 /// Says that there was no memory for the words themselves, and answers the status.
 pub fn refuse_for_memory<O: Sink>(out: &mut O) -> u8
-    ensures { Writes memory_exit (O.taken out.old) (O.taken out.new) (O.faults out.old) (O.faults out.new) result }
+    ensures { Writes memory_exit (O.taken out.old) (O.taken out.new)
+        (O.faults out.old) (O.faults out.new) result }
 {
     write_answer(&Answer::Memory, out)
 }

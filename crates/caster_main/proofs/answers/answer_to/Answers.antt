@@ -9,7 +9,7 @@ returns-in_default-clause-answer g c = usage_is_outcome _ _ c.in_default.ensures
 pub returns-in-Ok-clause-answer : goal.returns-in-Ok-clause-answer
 returns-in-Ok-clause-answer g c =
     script_answer _ _ _ _ _ c.in-Some.capacity c.in-Ok.bytes.items _ c.in-Some.ensures.command c.in-Some.ensures.form
-        c.in-Ok.ensures.whole c.in-Ok.ensures.ended (rw c.deref.ensures.value at c.answer_to_script.ensures)
+    c.in-Ok.ensures.whole c.in-Ok.ensures.ended (rw c.deref.ensures.value at c.answer_to_script.ensures)
 
 pub returns-in-Err-Long-clause-answer : goal.returns-in-Err-Long-clause-answer
 returns-in-Err-Long-clause-answer g c =

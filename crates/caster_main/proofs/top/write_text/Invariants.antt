@@ -7,7 +7,7 @@ abbrev pub invariant-loop-at : goal.invariant-loop-at
 invariant-loop-at g l = let sink = g.O.Sink in record {
   within : l.at ≤ length l.text;
   written : Appends (sink.taken l.fn.out) (sink.taken l.out) (take l.at l.text);
-  later : sink.faults l.fn.out ≤ sink.faults l.out
+  later : sink.faults l.fn.out ≤ sink.faults l.out;
 }
 
 abbrev pub decreases-loop-at : goal.decreases-loop-at

@@ -15,5 +15,5 @@ loop-at-preserved g c =
       within = omega (arith, part);
       written = part_written _ _ _ piece at c.in-Some.count rest part c.loop-at.invariant.written
           c.in-Some.ensures.taken;
-      faults = c.loop-at.invariant.faults
+      faults = c.loop-at.invariant.faults;
     }

@@ -7,7 +7,7 @@ abbrev pub invariant-loop-at : goal.invariant-loop-at
 invariant-loop-at g l = let writer = g.W.Write in record {
   within : l.at ≤ length l.piece;
   written : Appends (writer.contents l.fn.self.writer) (writer.contents l.self.writer) (take l.at l.piece);
-  faults : l.self.faults ≡ l.fn.self.faults
+  faults : l.self.faults ≡ l.fn.self.faults;
 }
 
 abbrev pub decreases-loop-at : goal.decreases-loop-at
