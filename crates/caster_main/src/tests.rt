@@ -60,17 +60,22 @@ fn each_failing_read_is_a_read_fault(rt: HostRuntime) -> Result<(), Fail> {
     Ok(())
 }
 
-#[test]
-fn a_long_report_is_written_in_pieces(rt: HostRuntime) -> Result<(), Fail> {
-    let mut script = b"source 1 A\nrover 2 A\n".to_vec(rt.alloc())?;
+// A session of 1,630 frames, 163 in each line, and as many turns as a rover takes for them.
+fn long_script(alloc: Global) -> Result<Vec<u8>, Fail> {
+    let mut script = b"source 1 A\nrover 2 A\n".to_vec(alloc)?;
     for _ in 0..10 {
         script.extend_from_slice(b"in 1 ")?;
         push_repeated(&mut script, UPPER, 163, b"\n")?;
     }
     push_repeated(&mut script, b"turn 2 16\n", 102, b"stop\n")?;
+    Ok(script)
+}
+
+// Its report.
+fn long_report(alloc: Global) -> Result<Vec<u8>, Fail> {
     let mut report =
         b"connection 1 source-end 1\njunk 0\nbytes -\nconnection 2 rover-end\njunk 0\nsegment A 0 1630 1630 0\nbytes ".to_vec(
-            rt.alloc(),
+            alloc,
         )?;
     push_repeated(
         &mut report,
@@ -78,15 +83,26 @@ fn a_long_report_is_written_in_pieces(rt: HostRuntime) -> Result<(), Fail> {
         1630,
         b"\nmount A 1630 1\ntotal 1 1630 0\n",
     )?;
+    Ok(report)
+}
+
+// The first piece of the text.
+fn first_piece(text: &[u8]) -> &[u8] {
+    let size = text.len().min(65_536);
+    &text[..size]
+}
+
+#[test]
+fn a_long_report_is_written_in_pieces(rt: HostRuntime) -> Result<(), Fail> {
+    let script = long_script(rt.alloc())?;
+    let report = long_report(rt.alloc())?;
     assert!(rt; report.len() > 65_536, "two pieces");
-    for failing in 1..=3u64 {
-        let (status, sink) = run(rt.alloc(), &["bare", "4096"], &script, &[], &[failing])?;
-        let (wanted, written) = match failing {
-            1 => (5, &report[..0]),
-            2 => (5, &report[..65_536]),
-            _ => (0, &report[..]),
-        };
-        assert_eq!(rt; status, wanted, "write {failing}");
+    let wanted: [(u8, &[u8]); 3] = [(5, b""), (5, first_piece(&report)), (0, &report)];
+    let mut failing = 0u64;
+    for (status, written) in wanted {
+        failing = failing.saturating_add(1);
+        let (ended, sink) = run(rt.alloc(), &["bare", "4096"], &script, &[], &[failing])?;
+        assert_eq!(rt; ended, status, "write {failing}");
         assert_eq!(rt; sink.bytes(), written, "write {failing}");
     }
     Ok(())
