@@ -1,2 +1,4 @@
+pub mod Lines
+pub mod LinesFields
 pub mod Name
 pub mod Text

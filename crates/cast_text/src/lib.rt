@@ -3,9 +3,16 @@
 #![tactic(auto)]
 
 mod fault;
+mod lines;
 mod name;
+mod number;
 mod text;
 
 pub use fault::{NameFault, TextFault};
+pub use lines::Lines;
 pub use name::{GroupName, MountName, UserName};
+pub use number::{push_decimal, push_hex};
 pub use text::Text;
+
+#[cfg(test)]
+mod tests;

@@ -1,1 +1,12 @@
 mod WorkedRuns
+pub mod BodyLemmas
+pub mod TurnLemmas
+pub mod SourceLemmas
+pub mod ListLemmas
+pub mod EntriesLemmas
+pub mod HeardLemmas
+pub mod ConnectionLemmas
+pub mod StandsLemmas
+pub mod OpenLemmas
+pub mod RunLemmas
+pub mod WellLemmas

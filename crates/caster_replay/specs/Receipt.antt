@@ -1,6 +1,6 @@
 -- What a connection's run comes to: how it ended, what was junk, its segments, and the bytes that it was sent.
 use Rattle.std.specs.Prelude.{ℕ, ◌-◌, ◌^◌, min, Bool, true, false, cond, List, [], ◌∷◌, length, reverse, Option, None, Some, unwrap_or}
-use Rattle.std.specs.List.{flat_map, sum_by}
+use Rattle.std.specs.List.{flat_map, concat, sum_by}
 use Rattle.rtcm_frame.specs.Cut.{cut}
 use Rattle.mount_ring.specs.declared.RingCall.{RingCall}
 use Rattle.mount_ring.specs.declared.RingAnswer.{RingAnswer}
@@ -42,10 +42,6 @@ junk_of setting history c = junk_by c.role (given_claim (answers_of setting hist
 abbrev pub segments_of : Setting → List (ℕ × RingCall) → Connection → List Segment
 segments_of setting history c = reverse (newest_segments 0 (answers_of setting history c))
 
--- the bytes of frames, one after the other
-abbrev pub joined_bytes : List (List ℕ) → List ℕ
-joined_bytes frames = flat_map (λ frame. frame) frames
-
 -- the frames that a connection was sent: those that its segments kept of what was published
 abbrev pub sent_frames : Setting → List (ℕ × RingCall) → List Segment → List (List ℕ)
 sent_frames setting history segments =
@@ -55,7 +51,7 @@ sent_frames setting history segments =
 
 -- the bytes that a connection was sent
 abbrev pub bytes_of : Setting → List (ℕ × RingCall) → Connection → List ℕ
-bytes_of setting history c = joined_bytes (sent_frames setting history (segments_of setting history c))
+bytes_of setting history c = concat (sent_frames setting history (segments_of setting history c))
 
 -- the greatest number that a count shows
 abbrev pub greatest : ℕ

@@ -35,7 +35,7 @@ lap_line lap =
 abbrev pub segment_lines : List ℕ → Segment → List ℕ
 segment_lines mount segment =
     line (codes "segment" ∷ mount ∷ decimal segment.from ∷ decimal segment.to ∷ decimal segment.sent
-        ∷ decimal segment.overrun ∷ [])
+    ∷ decimal segment.overrun ∷ [])
     ++ flat_map lap_line segment.laps
 
 -- bytes as digits in lower case, or a dash where there are none
@@ -75,11 +75,11 @@ abbrev pub world_text : Setting → World → List ℕ
 world_text setting w =
     flat_map (lines_of setting w.history) w.connections
     ++ closing_lines setting.mount
-        (length (state_of w.history).published)
-        (state_of w.history).claims
-        (count_by (is_session setting) w.connections)
-        (sum_by (λ (c : Connection). sent_in (segments_of setting w.history c)) w.connections)
-        (sum_by (λ (c : Connection). overrun_in (segments_of setting w.history c)) w.connections)
+    (length (state_of w.history).published)
+    (state_of w.history).claims
+    (count_by (is_session setting) w.connections)
+    (sum_by (λ (c : Connection). sent_in (segments_of setting w.history c)) w.connections)
+    (sum_by (λ (c : Connection). overrun_in (segments_of setting w.history c)) w.connections)
 
 -- the report of these events
 abbrev pub report : Setting → List Event → List ℕ

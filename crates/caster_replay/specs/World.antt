@@ -153,10 +153,10 @@ entries_owed setting history what c =
 -- something happens to the connection of this number, if it goes on
 abbrev pub happens : Setting → World → ℕ → Happening → World
 happens setting w number what = record {
-    connections = map (λ c. cond (is_concerned setting w.history number c) (changed what c) c) w.connections;
-    history = w.history ++ flat_map
-        (λ c. cond (is_concerned setting w.history number c) (entries_owed setting w.history what c) [])
-        w.connections;
+  connections = map (λ c. cond (is_concerned setting w.history number c) (changed what c) c) w.connections;
+  history = w.history ++ flat_map
+      (λ c. cond (is_concerned setting w.history number c) (entries_owed setting w.history what c) [])
+      w.connections;
 }
 
 -- a connection among others, in increasing order of number
@@ -175,8 +175,8 @@ opened number role mount = record { number = number; role = role; mount = mount;
 -- a connection opens; a number that was opened before changes nothing
 abbrev pub opens : Setting → World → ℕ → Role → List ℕ → World
 opens setting w number role mount = cond (is_opened number w.connections) w (record {
-    connections = placed (opened number role mount) w.connections;
-    history = w.history ++ entries_of number (opening_calls role (bytes_eq mount setting.mount));
+  connections = placed (opened number role mount) w.connections;
+  history = w.history ++ entries_of number (opening_calls role (bytes_eq mount setting.mount));
 })
 
 -- the run after one more event. Connections that send a head, and relays, are no part of it

@@ -2,7 +2,12 @@
 #![tactic(auto)]
 
 mod bare;
+mod body;
 mod ending;
+mod rover;
+mod run;
+mod session;
+mod source;
 
 pub use bare::run_bare;
 pub use ending::{Ending, Last, Role};

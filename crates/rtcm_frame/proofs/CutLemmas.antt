@@ -1,9 +1,9 @@
 -- How a cut goes on: the four cases, an induction along them, and the cut of two streams joined.
-use Rattle.std.proofs.Common.{◌≡◌, ℕ, zero, suc, ◌+◌, ◌*◌, ◌-◌, ◌%◌, ◌≤◌, ◌<◌, ◌⊎◌, inl, inr, Bool, true, false, ◌&&◌, ◌==◌, nat_lt, List, [], ◌∷◌, ◌++◌, length, take, drop, get_or, IsTrue, refl, ap, ap₂, ◌∙◌, sym, subst, arith, append_assoc, append-nil, length-append, length-drop, length-take-le, zero-add, add-zero}
+use Rattle.std.proofs.Common.{◌≡◌, ℕ, zero, suc, ◌+◌, ◌*◌, ◌-◌, ◌%◌, ◌≤◌, ◌<◌, inl, inr, Bool, false, ◌&&◌, ◌==◌, nat_lt, List, [], ◌∷◌, ◌++◌, length, take, drop, get_or, IsTrue, refl, ap, ap₂, ◌∙◌, sym, subst, arith, append_assoc, length-append, length-drop, zero-add}
 use Rattle.std.proofs.lemmas.Bool.{cases_lt, cases_Bool}
 use Rattle.std.proofs.lemmas.Bool.Decides.{nat_tests}
-use Rattle.std.proofs.lemmas.List.{take-append-drop, take_all, take-append-le, drop_all, get_or_append_left, get_or-take}
-use Rattle.std.proofs.Math.Seq.{take-append_seam, drop-append_seam, take-append-add}
+use Rattle.std.proofs.lemmas.List.{take-append-drop, take_all, take-append-le, get_or_append_left, get_or-take}
+use Rattle.std.proofs.Math.Seq.{take-append_seam, drop-append_seam}
 use Rattle.std.specs.List.{All, sum_by, concat}
 use Rattle.rtcm_frame.specs.Transport.{preamble, frame_length, is_frame}
 use Rattle.std.proofs.lemmas.List.Sums.{sum_by-cons}
@@ -46,7 +46,7 @@ cut_after_drop (suc n) [] = refl
 cut_after_drop (suc n) (x ∷ t) = cut_after_drop n t
 
 -- an unfinished frame is shorter than it claims
-waiting_short : (x : ℕ) (t : List ℕ) → IsWaiting (x ∷ t) → length (x ∷ t) < frame_length (x ∷ t)
+pub waiting_short : (x : ℕ) (t : List ℕ) → IsWaiting (x ∷ t) → length (x ∷ t) < frame_length (x ∷ t)
 waiting_short x t waiting = grind (arith, nat_tests)
 
 -- what waits begins with no frame

@@ -3,7 +3,7 @@ use Rattle.std.proofs.Common.{◌≡◌, ℕ, ◌-◌, ◌≤◌, List, ◌++◌
 use Rattle.std.proofs.lemmas.Bool.Decides.{nat_tests}
 use Rattle.std.proofs.lemmas.List.{drop-replicate, length-replicate}
 use Rattle.std.proofs.Math.Seq.{take-append_seam, drop-append_seam}
-use Rattle.rtcm_frame.specs.declared.framing.Frame.TheInside.{Inside}
+use Rattle.rtcm_frame.specs.Crc.{crc24q_of}
 use Rattle.rtcm_frame.specs.Transport.{preamble, frame_length, checksum, is_frame}
 use Rattle.rtcm_frame.specs.Padded.{IsPadded}
 
@@ -17,6 +17,12 @@ pub frame_preamble : (bytes : List ℕ) → IsTrue (is_frame bytes) → get_or b
 unfolding is_frame
 frame_preamble bytes valid = grind (arith, nat_tests)
 
+-- a frame ends with the checksum of what is before
+pub frame_checksum : (bytes : List ℕ) → IsTrue (is_frame bytes)
+    → crc24q_of (take (length bytes - 3) bytes) ≡ checksum bytes
+unfolding is_frame
+frame_checksum bytes valid = grind (arith, nat_tests)
+
 -- a frame has at least six bytes
 pub frame_least : (bytes : List ℕ) → IsTrue (is_frame bytes) → 6 ≤ length bytes
 frame_least bytes valid = omega (arith, frame_claim bytes valid)
@@ -24,6 +30,10 @@ frame_least bytes valid = omega (arith, frame_claim bytes valid)
 -- a frame has at most 1,029 bytes
 pub frame_most : (bytes : List ℕ) → IsTrue (is_frame bytes) → length bytes ≤ 1029
 frame_most bytes valid = omega (arith, frame_claim bytes valid)
+
+-- both bounds of a frame's length
+pub frame_bounds : (bytes : List ℕ) → IsTrue (is_frame bytes) → (6 ≤ length bytes) × (length bytes ≤ 1029)
+frame_bounds bytes valid = (frame_least bytes valid, frame_most bytes valid)
 
 -- a frame that was written over a buffer of zeros is padded
 pub frame_padded : (bytes all : List ℕ) → IsTrue (is_frame bytes)

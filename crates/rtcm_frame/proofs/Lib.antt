@@ -3,3 +3,6 @@ pub mod CrcLemmas
 pub mod FrameLemmas
 pub mod CutLemmas
 pub mod CutSteps
+pub mod PendingLemmas
+pub mod HeldLemmas
+pub mod FramedLemmas

@@ -1,8 +1,8 @@
 -- Known frames and streams, as the definitions compute them.
-use Rattle.std.proofs.Common.{◌≡◌, ℕ, true, false, List, [], ◌∷◌, ◌++◌, refl, codes, Option, Some, None}
+use Rattle.std.proofs.Common.{◌≡◌, ℕ, true, false, List, [], ◌∷◌, refl, codes, Some, None}
 use Rattle.rtcm_frame.specs.Crc.{after_bit, bits_of, crc24q_of}
 use Rattle.rtcm_frame.specs.Transport.{is_frame, number_of}
-use Rattle.rtcm_frame.specs.Cut.{Parts, cut_after, cut}
+use Rattle.rtcm_frame.specs.Cut.{cut_after, cut}
 
 -- the shortest frame
 abbrev pub frame_z : List ℕ

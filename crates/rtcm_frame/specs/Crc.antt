@@ -1,7 +1,7 @@
 -- CRC-24Q, the checksum of RTCM 10403.3's transport layer, bit by bit.
--- Its generator is the 25-bit polynomial 1864CFB; it starts at 0, takes the most significant bit of each byte first,
--- reflects nothing and ends with no exclusive or.
-use Rattle.std.specs.Prelude.{ℕ, ◌+◌, ◌*◌, ◌/◌, ◌%◌, ◌^◌, ◌==◌, if◌then◌else◌, bit_xor, List, [], ◌∷◌}
+-- Its generator is the 25-bit polynomial 1864CFB; it starts at 0, takes the most significant bit of
+-- each byte first, reflects nothing and ends with no exclusive or.
+use Rattle.std.specs.Prelude.{ℕ, ◌*◌, ◌/◌, ◌%◌, ◌^◌, ◌==◌, if◌then◌else◌, bit_xor, List, [], ◌∷◌}
 use Rattle.std.specs.List.{fold, flat_map}
 
 -- the polynomial, with its leading bit
@@ -11,7 +11,8 @@ generator = 0x1864CFB
 -- one bit of the message: the value of 24 bits is doubled, and the generator is exclusive-ored in
 -- where the bit that leaves differs from the bit of the message
 unfoldable pub after_bit : ℕ → ℕ → ℕ
-after_bit value bit = (if value / 2 ^ 23 == bit then 2 * value else bit_xor (2 * value) generator) % 2 ^ 24
+after_bit value bit =
+    (if value / 2 ^ 23 == bit then 2 * value else bit_xor (2 * value) generator) % 2 ^ 24
 
 -- the eight bits of a byte, most significant first
 unfoldable pub bits_of : ℕ → List ℕ

@@ -1,8 +1,9 @@
 -- How a byte stream is cut into frames, always from the front.
-use Rattle.std.specs.Prelude.{ℕ, zero, suc, ◌+◌, ◌-◌, Bool, true, false, ◌&&◌, ◌==◌, nat_lt, List, [], ◌∷◌, ◌++◌, length, take, slice_index, IsTrue}
+use Rattle.std.specs.Prelude.{ℕ, zero, suc, ◌+◌, ◌-◌, Bool, true, false, ◌&&◌, ◌==◌, nat_lt, List, [], ◌∷◌, ◌++◌, length, take, IsTrue}
 use Rattle.rtcm_frame.specs.Transport.{preamble, frame_length, is_frame}
 
--- the frames of a stream in order, the count of its junk bytes, and the bytes at its end that wait for more
+-- the frames of a stream in order, the count of its junk bytes, and the bytes at its end that wait
+-- for more
 pub record Parts : Type 0 where
   pub frames : List (List ℕ)
   pub junk : ℕ
@@ -34,13 +35,15 @@ with_frame frame p = record { frames = frame ∷ p.frames; junk = p.junk; rest =
 abbrev pub with_junk : Parts → Parts
 with_junk p = record { frames = p.frames; junk = p.junk + 1; rest = p.rest }
 
--- the cut of what stands behind this many bytes. A whole frame in front is cut off; an unfinished one waits;
--- else the first byte is junk
+-- the cut of what stands behind this many bytes. A whole frame in front is cut off; an unfinished
+-- one waits; else the first byte is junk
 unfoldable pub cut_after : ℕ → List ℕ → Parts
 cut_after skipped [] = only_rest []
 cut_after (suc skipped) (x ∷ t) = cut_after skipped t
 cut_after zero (x ∷ t) = elim (begins_with_frame (x ∷ t)) [
-  | true ↦ with_frame (take (frame_length (x ∷ t)) (x ∷ t)) (cut_after (frame_length (x ∷ t) - 1) t)
+  | true ↦
+      let count = frame_length (x ∷ t) in
+      with_frame (take count (x ∷ t)) (cut_after (count - 1) t)
   | false ↦ elim (is_unfinished (x ∷ t)) [
     | true ↦ only_rest (x ∷ t)
     | false ↦ with_junk (cut_after 0 t)

@@ -1,5 +1,5 @@
 -- What stands in front of a stream, and how a cutter's buffer holds what waits.
-use Rattle.std.specs.Prelude.{◌≡◌, ℕ, ◌+◌, ◌≤◌, false, List, length, take, drop, IsTrue}
+use Rattle.std.specs.Prelude.{◌≡◌, ℕ, ◌≤◌, false, List, length, take, IsTrue}
 use Rattle.rtcm_frame.specs.declared.cutting.Front.{Front}
 use Rattle.rtcm_frame.specs.declared.cutting.Front.TheVariants.{Whole, Waits, Junk}
 use Rattle.rtcm_frame.specs.Transport.{is_frame}

@@ -3,8 +3,8 @@ use Rattle.std.specs.Prelude.{◌≡◌, ℕ, ◌+◌, ◌<◌, ◌⊎◌, List,
 use Rattle.std.specs.Prelude.{IsTrue}
 use Rattle.rtcm_frame.specs.Transport.{preamble, frame_length, is_frame}
 
--- a frame has begun and not all of it has come: the preamble stands in front, and the three bytes of
--- the header or the whole length that it claims are not there yet
+-- a frame has begun and not all of it has come: the preamble stands in front, and the three bytes
+-- of the header or the whole length that it claims are not there yet
 abbrev pub IsUnfinishedFrame : List ℕ → Type 0
 IsUnfinishedFrame bytes =
     (slice_index bytes 0 ≡ preamble) × ((length bytes < 3) ⊎ (length bytes < frame_length bytes))

@@ -19,7 +19,9 @@ padded bytes = record { bytes = bytes ++ replicate (1029 - length bytes) 0; len 
 -- a frame's bytes say how it is held
 pub padded_gives_back : (f : Inside) → IsPadded f → padded (take f.len f.bytes) ≡ f
 padded_gives_back f h =
-    let length_taken : length (take f.len f.bytes) ≡ f.len = length-take-le f.len f.bytes (omega arith) in
+    let length_taken : length (take f.len f.bytes) ≡ f.len =
+    length-take-le f.len f.bytes (omega arith)
+    in
     let filled : take f.len f.bytes ++ replicate (1029 - length (take f.len f.bytes)) 0 ≡ f.bytes =
     ap (λ n. take f.len f.bytes ++ replicate (1029 - n) 0) length_taken
     ∙ ap (λ (xs : List ℕ). take f.len f.bytes ++ xs) (sym h.zeros)

@@ -6,8 +6,8 @@ ghost use Rattle.rtcm_frame.specs.Front.{IsFrontOf};
 use crate::framing::{Frame, claimed_length, is_whole};
 use std::alloc::{AllocError, Global};
 
-/// What a byte string was cut into: its frames in order, the count of junk bytes, and how many bytes
-/// at its end wait for more.
+/// What a byte string was cut into: its frames in order, the count of junk bytes, and how many
+/// bytes at its end wait for more.
 #[derive(Drop)]
 pub struct Pieces {
     pub frames: Vec<Frame>,
@@ -25,13 +25,14 @@ pub(crate) enum Front {
     Junk,
 }
 
-/// Cuts all of these bytes from the front. A frame that has not all come at the end is the rest. The
-/// one fault is that the frames' memory was refused.
+/// Cuts all of these bytes from the front. A frame that has not all come at the end is the rest.
+/// The one fault is that the frames' memory was refused.
 pub fn cut_all(alloc: Global, bytes: &[u8]) -> Result<Pieces, AllocError>
     ensures frames { IfOk result (λ p. p.frames.items ≡ (cut bytes.now).frames) }
     ensures junk { IfOk result (λ p. p.junk ≡ (cut bytes.now).junk) }
     ensures within { IfOk result (λ p. p.rest ≤ length bytes.now) }
-    ensures rest { IfOk result (λ p. drop (length bytes.now - p.rest) bytes.now ≡ (cut bytes.now).rest) }
+    ensures rest { IfOk result (λ p. drop (length bytes.now - p.rest) bytes.now
+        ≡ (cut bytes.now).rest) }
 {
     let mut frames = Vec::new(alloc);
     let mut junk: u64 = 0;

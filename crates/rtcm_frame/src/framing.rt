@@ -5,7 +5,8 @@ ghost use Rattle.rtcm_frame.specs.Transport.{frame_length, is_frame, number_of};
 use crate::checksum::crc24q;
 use std::marker::Model;
 
-/// One whole valid frame, 6 to 1,029 bytes (RTCM 10403.3, transport layer). Contracts see its bytes.
+/// One whole valid frame, 6 to 1,029 bytes (RTCM 10403.3, transport layer). Contracts see its
+/// bytes.
 #[derive(Clone, Copy, Debug, PartialEq, Eq)]
 pub struct Frame {
     bytes: [u8; 1029],
@@ -64,8 +65,8 @@ impl Frame {
         }
     }
 
-    #[tactic(auto, using(crate::proofs::FrameLemmas::frame_least, crate::proofs::FrameLemmas::frame_most))]
     /// All bytes of the frame, from the preamble to the checksum.
+    #[tactic(auto, using(crate::proofs::FrameLemmas::frame_bounds))]
     pub fn bytes(&self) -> &[u8]
         ensures value { result.now ≡ self.now }
         ensures valid { IsTrue (is_frame self.now) }
@@ -75,8 +76,8 @@ impl Frame {
         &self.bytes[..self.len]
     }
 
-    /// The message number, the first twelve bits of the payload; none where the payload has fewer than
-    /// two bytes.
+    /// The message number, the first twelve bits of the payload; none where the payload has fewer
+    /// than two bytes.
     pub fn number(&self) -> Option<u16>
         ensures value { result ≡ number_of self.now }
         ensures bound { IfSome result (λ n. n < 4096) }

@@ -1,11 +1,24 @@
-//! Laws of the cut, each the contract of a function that does nothing: what a reader of
-//! RTCM 10403.3 expects of any cut of a byte stream into frames.
-ghost use Rattle.std.specs.Prelude.{◌≡◌, ℕ, ◌+◌, List, [], ◌∷◌, ◌++◌, length, All, sum_by};
-ghost use Rattle.std.specs.Prelude.{IsTrue};
+//! Laws of frames and of the cut, each the contract of a function that does nothing: what a reader
+//! of RTCM 10403.3 expects of any frame, and of any cut of a byte stream into frames.
+ghost use Rattle.std.specs.Prelude.{◌≡◌, ℕ, ◌+◌, ◌*◌, ◌/◌, ◌<◌, List, [], ◌∷◌, ◌++◌, length, All, sum_by};
+ghost use Rattle.std.specs.Prelude.{IsTrue, slice_index};
 ghost use Rattle.std.specs.List.{concat};
-ghost use Rattle.rtcm_frame.specs.Transport.{is_frame};
+ghost use Rattle.rtcm_frame.specs.Transport.{is_frame, framed, payload, number_of};
 ghost use Rattle.rtcm_frame.specs.Cut.{cut, only_rest, with_frame, with_junk, followed_by};
 ghost use Rattle.rtcm_frame.specs.Order.{IsUnfinishedFrame, HasNoFrameInFront, StandIn};
+
+/// What a frame is made of: every payload of at most 1,023 bytes makes one with every six reserved
+/// bits, and every frame of bytes is made so. Its number is the payload's first twelve bits.
+pub fn frame_by_parts()
+    ensures made { (reserved : ℕ) (content : List ℕ) → length content < 1024
+        → IsTrue (is_frame (framed reserved content)) }
+    ensures every { (frame : List ℕ) → All (λ byte. byte < 256) frame → IsTrue (is_frame frame)
+        → frame ≡ framed (slice_index frame 1 / 4) (payload frame) }
+    ensures number { (reserved a b : ℕ) (behind : List ℕ)
+        → number_of (framed reserved (a ∷ b ∷ behind)) ≡ Some (a * 16 + b / 16) }
+    ensures no_number { (reserved : ℕ) (content : List ℕ) → length content < 2
+        → number_of (framed reserved content) ≡ None }
+{}
 
 /// The four cases of the cut: nothing; a whole frame in front is cut off and the cut goes on
 /// behind it; a frame that has not all come waits as the rest; any other first byte is junk and

@@ -6,7 +6,12 @@ mod checksum;
 mod cutting;
 mod framing;
 pub mod laws;
+mod stream;
 
 pub use checksum::crc24q;
 pub use cutting::{Pieces, cut_all};
 pub use framing::Frame;
+pub use stream::Cutter;
+
+#[cfg(test)]
+mod tests;

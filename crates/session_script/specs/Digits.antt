@@ -1,5 +1,5 @@
 -- Decimal numbers from 1, of any size: digits, of which the first is not 0.
-use Rattle.std.specs.Prelude.{ℕ, ◌+◌, ◌-◌, ◌*◌, Bool, false, not, ◌&&◌, nat_le, ◌==◌, if◌then◌else◌, List, [], ◌∷◌, Option, Some, None}
+use Rattle.std.specs.Prelude.{ℕ, ◌+◌, ◌-◌, ◌*◌, Bool, not, ◌&&◌, nat_le, ◌==◌, if◌then◌else◌, List, [], ◌∷◌, length, slice_index, Option, Some, None}
 use Rattle.std.specs.List.{list_all}
 
 -- `0` to `9`
@@ -13,8 +13,7 @@ number_from n (c ∷ cs) = number_from (10 * n + (c - 48)) cs
 
 -- one or more digits, of which the first is not `0`
 abbrev pub is_number : List ℕ → Bool
-is_number [] = false
-is_number (c ∷ cs) = not (c == 48) && list_all is_digit (c ∷ cs)
+is_number text = nat_le 1 (length text) && not (slice_index text 0 == 48) && list_all is_digit text
 
 -- the number that the text is, if it is one
 abbrev pub number_of : List ℕ → Option ℕ

@@ -1,6 +1,7 @@
 -- A whole script: its events, or the first fault.
 use Rattle.std.specs.Prelude.{◌≡◌, ℕ, ◌+◌, Bool, true, not, ◌&&◌, nat_lt, ◌==◌, if◌then◌else◌, List, [], ◌∷◌, ◌++◌, length, codes, Option, Some, None, Result, Ok, Err, IsTrue}
 use Rattle.std.specs.List.{list_any}
+use Rattle.std.specs.Global.{Vec}
 use Rattle.std.specs.Str.{bytes_eq}
 use Rattle.std.specs.Str.Lines.{lines}
 use Rattle.session_script.specs.declared.Event.{Event}
@@ -10,28 +11,9 @@ use Rattle.session_script.specs.declared.ScriptKind.TheVariants.{Bare, Replay}
 use Rattle.session_script.specs.declared.ScriptFault.{ScriptFault}
 use Rattle.session_script.specs.declared.ScriptFault.TheVariants.{Line, State, NoStop, Long, Memory}
 use Rattle.session_script.specs.Line.{is_event, event_of_line}
+use Rattle.session_script.specs.Numbers.{Numbers, no_numbers, may_open, may_speak, opening, closing}
 
--- ---- what was opened and closed
-
--- the numbers of the connections that were opened so far, and of those that break or end closed
-pub record Numbers : Type 0 where
-  pub opened : List ℕ
-  pub closed : List ℕ
-
--- nothing was opened yet
-abbrev pub no_numbers : Numbers
-no_numbers = record { opened = []; closed = [] }
-
-abbrev pub is_among : ℕ → List ℕ → Bool
-is_among k numbers = list_any (λ n. n == k) numbers
-
--- the number is new, and fewer than 256 were opened
-abbrev pub may_open : Numbers → ℕ → Bool
-may_open numbers k = not (is_among k numbers.opened) && nat_lt (length numbers.opened) 256
-
--- the number was opened, and not closed since
-abbrev pub may_speak : Numbers → ℕ → Bool
-may_speak numbers k = is_among k numbers.opened && not (is_among k numbers.closed)
+-- ---- the order of events
 
 -- the relay is one of the kind's
 abbrev pub is_relay : ScriptKind → ℕ → Bool
@@ -48,12 +30,6 @@ may_follow kind numbers (In k bytes) = may_speak numbers k
 may_follow kind numbers (Turn k budget) = may_speak numbers k
 may_follow kind numbers (Break k) = may_speak numbers k
 may_follow kind numbers (End k) = may_speak numbers k
-
-abbrev pub opening : Numbers → ℕ → Numbers
-opening numbers k = record numbers { opened = numbers.opened ++ k ∷ [] }
-
-abbrev pub closing : Numbers → ℕ → Numbers
-closing numbers k = record numbers { closed = numbers.closed ++ k ∷ [] }
 
 -- what is opened and closed after the event
 abbrev pub after_event : Numbers → Event → Numbers
@@ -112,17 +88,22 @@ script_of kind bytes =
 -- ---- what a call returns
 
 -- the call fails so, or for want of memory
-abbrev pub Fails : ScriptFault → Result (List Event) ScriptFault → Type 0
-Fails Memory script = Unit {0}
-Fails (Line n) script = script ≡ Err (Line n)
-Fails (State n) script = script ≡ Err (State n)
-Fails NoStop script = script ≡ Err NoStop
-Fails Long script = script ≡ Err Long
+abbrev pub Fails : {Y : Type 0} → ScriptFault → Result Y ScriptFault → Type 0
+Fails Memory read = Unit {0}
+Fails (Line n) read = read ≡ Err (Line n)
+Fails (State n) read = read ≡ Err (State n)
+Fails NoStop read = read ≡ Err NoStop
+Fails Long read = read ≡ Err Long
 
--- the call returned these events or this fault, unless memory ran out
-abbrev pub Gives : Result (List Event) ScriptFault → Result (List Event) ScriptFault → Type 0
-Gives (Ok events) script = script ≡ Ok events
-Gives (Err fault) script = Fails fault script
+-- the call returned this value or this fault, unless memory ran out
+abbrev pub Gives : {Y : Type 0} → Result Y ScriptFault → Result Y ScriptFault → Type 0
+Gives (Ok value) read = read ≡ Ok value
+Gives (Err fault) read = Fails fault read
+
+-- what a call returned, as the list of events
+abbrev pub items_of : Result (Vec Event) ScriptFault → Result (List Event) ScriptFault
+items_of (Ok events) = Ok events.items
+items_of (Err fault) = Err fault
 
 -- the bytes that come in with an event
 abbrev pub input_length : Event → ℕ

@@ -4,8 +4,25 @@
 //! turn, and closes them. It is read whole or not at all, and the first fault is named by its line.
 #![tactic(auto)]
 
+ghost use Rattle.std.specs.Prelude.{◌≡◌};
+ghost use Rattle.session_script.specs.declared.ScriptFault.TheVariants.{Memory};
+
+mod connections;
+mod law;
+mod line;
+mod number;
+mod parts;
+mod reading;
+
+
 use cast_text::{MountName, Text};
+use std::alloc::{AllocError, AllocFailed};
 use thiserror::Error;
+
+pub use law::reads_what_is_written;
+pub use reading::parse;
+
+
 
 /// One event of a script. The first number of each is the connection's, from 1 to 9999.
 #[derive(Debug, Drop)]
@@ -58,4 +75,20 @@ pub enum ScriptFault {
     /// There is no memory for the events.
     #[error("out of memory")]
     Memory,
+}
+
+impl From<AllocError> for ScriptFault {
+    ghost from_gives = { λ _ e. e ≡ Memory };
+
+    fn from(_e: AllocError) -> ScriptFault {
+        ScriptFault::Memory
+    }
+}
+
+impl<T: Drop> From<AllocFailed<T>> for ScriptFault {
+    ghost from_gives = { λ _ e. e ≡ Memory };
+
+    fn from(_e: AllocFailed<T>) -> ScriptFault {
+        ScriptFault::Memory
+    }
 }

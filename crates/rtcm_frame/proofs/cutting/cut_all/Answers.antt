@@ -1,6 +1,5 @@
-use Rattle.std.proofs.Common.{◌≡◌, ℕ, ◌+◌, ◌-◌, ◌≤◌, List, [], ◌∷◌, ◌++◌, length, take, drop, IsTrue, ap, ◌∙◌, sym, subst, arith, length-take-le, length-drop}
+use Rattle.std.proofs.Common.{◌≡◌, ℕ, ◌+◌, ◌-◌, List, [], ◌∷◌, ◌++◌, length, take, drop, ap, ◌∙◌, sym, subst, arith, length-take-le, length-drop}
 use Rattle.std.proofs.lemmas.List.{take_rest}
-use Rattle.rtcm_frame.specs.Transport.{is_frame}
 use Rattle.rtcm_frame.proofs.FrameLemmas.{frame_least}
 use Rattle.rtcm_frame.proofs.CutSteps.{CutSoFar, so_far_frame, so_far_junk, so_far_done}
 use Rattle.rtcm_frame.proofs.cutting.cut_all.Goals as goal

@@ -1,0 +1,76 @@
+//! Counting the frames of a stream that comes in pieces.
+ghost use Rattle.std.specs.Prelude.{◌+◌, ◌^◌, ◌<◌, ◌≤◌, ◌++◌, List, [], ◌∷◌, ℕ, length, ◌≡◌, IfOk, IfSome};
+ghost use Rattle.rtcm_frame.specs.Cut.{IsWaiting, cut};
+ghost use Rattle.bench_cut.specs.Counted.{GaveSoMany, size};
+
+use rtcm_frame::Cutter;
+use std::io::{self, Error, Read};
+
+// The greatest length of a stream: its counts fit.
+const LONGEST: u64 = 1 << 62;
+
+/// How many frames of a stream were given, and how many of its bytes were junk.
+#[derive(Drop)]
+pub struct Counts {
+    pub frames: u64,
+    pub junk: u64,
+}
+
+/// Reads a stream to its end, a piece at a time, and counts the frames and the junk of its cut.
+pub fn count_stream<R: Read>(input: &mut R, piece: &mut [u8]) -> io::Result<Counts>
+    requires { 0 < length piece.old }
+    ensures { IfOk result (λ counts. IfSome (R.remaining input.old) (λ all.
+        (counts.frames ≡ length (cut all).frames) × (counts.junk ≡ (cut all).junk))) }
+{
+    let mut cutter = Cutter::new();
+    let mut frames: u64 = 0;
+    let mut length: u64 = 0;
+    loop {
+        let count = input.read(piece)?;
+        if count == 0 {
+            return Ok(Counts {
+                frames,
+                junk: cutter.junk(),
+            });
+        }
+        if count as u64 > LONGEST - length {
+            return Err(Error::other("the stream is too long"));
+        }
+        frames = count_piece(&mut cutter, &piece[..count], frames);
+        length += count as u64;
+    }
+}
+
+// Pushes a piece of a stream, and answers how many frames were given since its begin, where this
+// many were given before.
+fn count_piece(cutter: &mut Cutter, piece: &[u8], before: u64) -> u64
+    requires waits { IsWaiting cutter.old.bytes }
+    requires room { size cutter.old before + length piece.now < 2 ^ 63 }
+    ensures waits { IsWaiting cutter.new.bytes }
+    ensures room { size cutter.new result ≤ size cutter.old before + length piece.now }
+    ensures gave { (all : List ℕ) → GaveSoMany all before cutter.old
+        → GaveSoMany (all ++ piece.now) result cutter.new }
+{
+    let mut frames = before;
+    for byte in piece {
+        frames = count_byte(cutter, *byte, frames);
+    }
+    frames
+}
+
+// Pushes one byte, and takes all frames that are there then.
+fn count_byte(cutter: &mut Cutter, byte: u8, before: u64) -> u64
+    requires waits { IsWaiting cutter.old.bytes }
+    requires room { size cutter.old before + 1 < 2 ^ 63 }
+    ensures waits { IsWaiting cutter.new.bytes }
+    ensures room { size cutter.new result ≤ size cutter.old before + 1 }
+    ensures gave { (all : List ℕ) → GaveSoMany all before cutter.old
+        → GaveSoMany (all ++ byte ∷ []) result cutter.new }
+{
+    cutter.push(byte);
+    let mut frames = before;
+    while let Some(_) = cutter.next() {
+        frames += 1;
+    }
+    frames
+}

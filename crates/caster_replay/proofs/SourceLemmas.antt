@@ -1,0 +1,154 @@
+-- A source's cutter over its bytes.
+use Rattle.std.proofs.Common.{◌≡◌, ℕ, ◌+◌, ◌^◌, ◌<◌, ◌≤◌, List, [], ◌∷◌, ◌++◌, length, take, get_or, refl, ap, ◌∙◌, sym, arith, append_assoc, length-append}
+use Rattle.std.specs.List.{sum_by}
+use Rattle.std.proofs.lemmas.List.{append-nil, take_more, length-take-le}
+use Rattle.std.proofs.lemmas.List.Sums.{sum_by-append}
+use Rattle.rtcm_frame.specs.Cut.{cut, Parts, IsWaiting, followed_by, only_rest}
+use Rattle.rtcm_frame.specs.Pending.{Pending, Took}
+use Rattle.rtcm_frame.proofs.CutLemmas.{cut-append, cut_waiting, cut_counted}
+use Rattle.rtcm_frame.proofs.PendingLemmas.{took_none}
+use Rattle.mount_ring.specs.Holding.{PlainValue}
+use Rattle.caster_replay.specs.Steps.{after_cut, with_bytes, with_published}
+
+abbrev pending : List ℕ → ℕ → Pending
+pending bytes junk = record { bytes = bytes; junk = junk }
+
+abbrev published : PlainValue → List (List ℕ) → PlainValue
+published ring frames = record ring { state = record ring.state { published = frames } }
+
+-- from one state to the next these frames were given and published
+pub record PublishedSoFar (old now : Pending) (ring_old ring_now : PlainValue) : Type 0 where
+  pub frames : List (List ℕ)
+  pub took : Took old now frames
+  pub ring : ring_now ≡ with_published ring_old frames
+
+pub published_none : (cutter : Pending) (ring : PlainValue) → PublishedSoFar cutter cutter ring ring
+published_none cutter ring = record {
+  frames = [];
+  took = took_none cutter;
+  ring = ap (published ring) (sym (append-nil ring.state.published));
+}
+
+-- given first these frames and then those
+took_then : (a b c : Pending) (xs ys : List (List ℕ)) → Took a b xs → Took b c ys → Took a c (xs ++ ys)
+took_then a b c xs ys first second = record {
+  in_order = first.in_order ∙ ap (λ l. xs ++ l) second.in_order ∙ sym (append_assoc xs ys (cut c.bytes).frames);
+  junk = first.junk ∙ second.junk;
+  rest = first.rest ∙ second.rest;
+  counted = omega (arith, first.counted, second.counted, sum_by-append length xs ys);
+}
+
+-- one more frame is given and published
+pub published_more : (old now next : Pending) (ring_old ring_now ring_next : PlainValue) (frame : List ℕ) →
+    PublishedSoFar old now ring_old ring_now → Took now next (frame ∷ []) →
+    ring_next ≡ published ring_now (ring_now.state.published ++ frame ∷ []) →
+    PublishedSoFar old next ring_old ring_next
+published_more old now next ring_old ring_now ring_next frame so_far took ring = record {
+  frames = so_far.frames ++ frame ∷ [];
+  took = took_then old now next so_far.frames (frame ∷ []) so_far.took took;
+  ring = ring ∙ ap (λ (r : PlainValue). published r (r.state.published ++ frame ∷ [])) so_far.ring
+      ∙ ap (published ring_old) (append_assoc ring_old.state.published so_far.frames (frame ∷ []));
+}
+
+-- one frame fewer is left to give
+pub one_fewer : (now next : Pending) (frame : List ℕ) → Took now next (frame ∷ []) → length (cut next.bytes).frames < length (cut now.bytes).frames
+one_fewer now next frame took = omega (arith, ap length took.in_order)
+
+-- where what is left only waits, the cutter has given all that its bytes hold
+pub took_settles : (old now : Pending) (frames : List (List ℕ)) → Took old now frames → IsWaiting now.bytes →
+    (now ≡ after_cut old) × (frames ≡ (cut old.bytes).frames)
+took_settles old now frames took waits =
+    let only : cut now.bytes ≡ only_rest now.bytes = cut_waiting now.bytes waits in
+    let rest : (cut old.bytes).rest ≡ now.bytes = took.rest ∙ ap (λ (p : Parts). p.rest) only in
+    let junk : old.junk + (cut old.bytes).junk ≡ now.junk = omega (arith, took.junk, ap (λ (p : Parts). p.junk) only) in
+    let all : (cut old.bytes).frames ≡ frames = took.in_order ∙ ap (λ (p : Parts). frames ++ p.frames) only ∙ append-nil frames in
+    (ap (λ (l : List ℕ). pending l now.junk) (sym rest) ∙ ap (λ (n : ℕ). pending (cut old.bytes).rest n) (sym junk), sym all)
+
+pub settled_cutter : (old now next : Pending) (ring_old ring_now : PlainValue) → PublishedSoFar old now ring_old ring_now →
+    Took now next [] → IsWaiting next.bytes → next ≡ after_cut old
+settled_cutter old now next ring_old ring_now so_far took waits =
+    (took_settles old next (so_far.frames ++ []) (took_then old now next so_far.frames [] so_far.took took) waits).0
+
+pub settled_ring : (old now next : Pending) (ring_old ring_now : PlainValue) → PublishedSoFar old now ring_old ring_now →
+    Took now next [] → IsWaiting next.bytes → ring_now ≡ with_published ring_old (cut old.bytes).frames
+settled_ring old now next ring_old ring_now so_far took waits =
+    let all : so_far.frames ++ [] ≡ (cut old.bytes).frames = (took_settles old next (so_far.frames ++ []) (took_then old now next so_far.frames [] so_far.took took) waits).1 in
+    so_far.ring ∙ ap (with_published ring_old) (sym (append-nil so_far.frames) ∙ all)
+
+-- ---- all bytes of a part
+
+-- a cutter that waits has nothing to give
+pub settled_none : (cutter : Pending) → IsWaiting cutter.bytes → cutter ≡ after_cut (with_bytes cutter [])
+settled_none cutter waits =
+    (took_settles (with_bytes cutter []) cutter [] (record {
+      in_order = ap (λ (l : List ℕ). (cut l).frames) (append-nil cutter.bytes);
+      junk = ap (λ (l : List ℕ). cutter.junk + (cut l).junk) (append-nil cutter.bytes);
+      rest = ap (λ (l : List ℕ). (cut l).rest) (append-nil cutter.bytes);
+      counted = omega (arith, ap length (append-nil cutter.bytes));
+    }) waits).0
+
+pub no_frames : (cutter : Pending) → IsWaiting cutter.bytes → (cut (cutter.bytes ++ [])).frames ≡ []
+no_frames cutter waits =
+    ap (λ (l : List ℕ). (cut l).frames) (append-nil cutter.bytes) ∙ ap (λ (p : Parts). p.frames) (cut_waiting cutter.bytes waits)
+
+pub no_more_published : (cutter : Pending) (ring : PlainValue) → IsWaiting cutter.bytes →
+    ring ≡ with_published ring (cut (cutter.bytes ++ [])).frames
+no_more_published cutter ring waits =
+    ap (published ring) (sym (append-nil ring.state.published)) ∙ ap (with_published ring) (sym (no_frames cutter waits))
+
+-- one more byte
+bytes_more : (before bytes : List ℕ) (i byte : ℕ) → i < length bytes → byte ≡ get_or bytes i 0 → before ++ take (i + 1) bytes ≡ (before ++ take i bytes) ++ byte ∷ []
+bytes_more before bytes i byte within is =
+    ap (λ l. before ++ l) (take_more bytes i 0 within ∙ ap (λ (b : ℕ). take i bytes ++ b ∷ []) (sym is))
+    ∙ sym (append_assoc before (take i bytes) (byte ∷ []))
+
+cut_more : (before bytes : List ℕ) (i byte : ℕ) → i < length bytes → byte ≡ get_or bytes i 0 →
+    cut (before ++ take (i + 1) bytes) ≡ followed_by (cut (before ++ take i bytes)) (cut ((cut (before ++ take i bytes)).rest ++ byte ∷ []))
+cut_more before bytes i byte within is =
+    ap cut (bytes_more before bytes i byte within is) ∙ cut-append (before ++ take i bytes) (byte ∷ [])
+
+pub settled_more : (start now : Pending) (bytes : List ℕ) (i byte : ℕ) → i < length bytes → byte ≡ get_or bytes i 0 →
+    now ≡ after_cut (with_bytes start (take i bytes)) →
+    after_cut (with_bytes now (byte ∷ [])) ≡ after_cut (with_bytes start (take (i + 1) bytes))
+settled_more start now bytes i byte within is so_far =
+    let before : Parts = cut (start.bytes ++ take i bytes) in
+    let next : Parts = cut (before.rest ++ byte ∷ []) in
+    ap (λ (p : Pending). after_cut (with_bytes p (byte ∷ []))) so_far
+    ∙ ap (λ (n : ℕ). pending next.rest n) (omega arith)
+    ∙ ap (λ (p : Parts). pending p.rest (start.junk + p.junk)) (sym (cut_more start.bytes bytes i byte within is))
+
+pub published_ring_more : (start now : Pending) (ring_start ring_now : PlainValue) (bytes : List ℕ) (i byte : ℕ) → i < length bytes → byte ≡ get_or bytes i 0 →
+    now ≡ after_cut (with_bytes start (take i bytes)) →
+    ring_now ≡ with_published ring_start (cut (start.bytes ++ take i bytes)).frames →
+    with_published ring_now (cut (now.bytes ++ byte ∷ [])).frames ≡ with_published ring_start (cut (start.bytes ++ take (i + 1) bytes)).frames
+published_ring_more start now ring_start ring_now bytes i byte within is so_far ring =
+    let before : Parts = cut (start.bytes ++ take i bytes) in
+    let frames : (cut (now.bytes ++ byte ∷ [])).frames ≡ (cut (before.rest ++ byte ∷ [])).frames =
+    ap (λ (p : Pending). (cut (p.bytes ++ byte ∷ [])).frames) so_far in
+    let all : before.frames ++ (cut (before.rest ++ byte ∷ [])).frames ≡ (cut (start.bytes ++ take (i + 1) bytes)).frames =
+    ap (λ (p : Parts). p.frames) (sym (cut_more start.bytes bytes i byte within is)) in
+    ap (λ (r : PlainValue). with_published r (cut (now.bytes ++ byte ∷ [])).frames) ring
+    ∙ ap (λ (fs : List (List ℕ)). published ring_start ((ring_start.state.published ++ before.frames) ++ fs)) frames
+    ∙ ap (published ring_start) (append_assoc ring_start.state.published before.frames (cut (before.rest ++ byte ∷ [])).frames)
+    ∙ ap (with_published ring_start) all
+
+-- what waits and the junk are no more than the bytes so far
+pub settled_few : (start now : Pending) (bytes : List ℕ) (i : ℕ) → i ≤ length bytes →
+    now ≡ after_cut (with_bytes start (take i bytes)) → now.junk + length now.bytes ≤ start.junk + length start.bytes + i
+settled_few start now bytes i within so_far =
+    let text : List ℕ = start.bytes ++ take i bytes in
+    let junk : now.junk ≡ start.junk + (cut text).junk = ap (λ (p : Pending). p.junk) so_far in
+    let waits : length now.bytes ≡ length (cut text).rest = ap (λ (p : Pending). length p.bytes) so_far in
+    let count : length text ≡ length start.bytes + i =
+    length-append start.bytes (take i bytes) ∙ ap (λ (n : ℕ). length start.bytes + n) (length-take-le i bytes within) in
+    omega (arith, junk, waits, count, cut_counted text)
+
+-- so there is room to count as junk what waits with one more byte
+pub push_few : (start now pushed : Pending) (bytes : List ℕ) (i byte : ℕ) → i < length bytes →
+    now ≡ after_cut (with_bytes start (take i bytes)) → pushed ≡ with_bytes now (byte ∷ []) →
+    start.junk + length start.bytes + length bytes < 2 ^ 63 → pushed.junk + length pushed.bytes < 2 ^ 64
+push_few start now pushed bytes i byte within so_far behind few =
+    let bound : now.junk + length now.bytes ≤ start.junk + length start.bytes + i = settled_few start now bytes i (omega arith) so_far in
+    let junk : pushed.junk ≡ now.junk = ap (λ (p : Pending). p.junk) behind in
+    let size : length pushed.bytes ≡ length now.bytes + 1 = ap (λ (p : Pending). length p.bytes) behind ∙ length-append now.bytes (byte ∷ []) in
+    omega (arith, bound, junk, size, few)

@@ -1,0 +1,112 @@
+-- What a cutter's steps do to the cut of all bytes pushed.
+use Rattle.std.proofs.Common.{◌≡◌, ℕ, ◌+◌, ◌≤◌, ◌<◌, false, List, [], ◌∷◌, ◌++◌, length, take, drop, IsTrue, ap, ◌∙◌, sym, arith, append_assoc, append-nil, length-append, length-drop, length-take-le, refl, subst}
+use Rattle.std.proofs.lemmas.List.Sums.{sum_by-append, sum_by-cons}
+use Rattle.rtcm_frame.specs.Transport.{is_frame}
+use Rattle.rtcm_frame.specs.Cut.{Parts, begins_with_frame, is_unfinished, IsWaiting, cut, followed_by}
+use Rattle.rtcm_frame.specs.Pending.{Pending, Gave, GaveAll, Took}
+use Rattle.rtcm_frame.proofs.CutLemmas.{cut_waiting, cut-append, front_frame, front_junk, waiting_short}
+
+-- the state of these bytes and this count
+abbrev pub pending_of : List ℕ → ℕ → Pending
+pending_of bytes junk = record { bytes = bytes; junk = junk }
+
+-- what waits is shorter than the longest frame
+pub waiting_fits : (bytes : List ℕ) → IsWaiting bytes → length bytes < 1029
+waiting_fits [] waits = omega arith
+waiting_fits (x ∷ t) waits = omega (arith, waiting_short x t waits)
+
+-- with nothing pushed nothing was given
+pub gave_start : Gave [] [] (record { bytes = []; junk = 0 })
+gave_start = record { frames = refl; junk = omega arith; rest = refl; counted = omega arith }
+
+-- with nothing done nothing is taken
+pub took_none : (p : Pending) → Took p p []
+took_none p = record { in_order = refl; junk = refl; rest = refl; counted = omega arith }
+
+-- a junk byte in front is counted
+pub took_junk : (old p : Pending) → Took old p [] → 1 ≤ length p.bytes
+    → begins_with_frame p.bytes ≡ false → is_unfinished p.bytes ≡ false
+    → Took old (record { bytes = drop 1 p.bytes; junk = p.junk + 1 }) []
+took_junk old p took some no_frame finished =
+    let step = front_junk p.bytes some no_frame finished in
+    let n = (cut (drop 1 p.bytes)).junk in
+    let sum : p.junk + (n + 1) ≡ (p.junk + 1) + n = omega arith in
+    record {
+      in_order = took.in_order ∙ ap (λ (q : Parts). q.frames) step;
+      junk = took.junk ∙ ap (λ (q : Parts). p.junk + q.junk) step ∙ sum;
+      rest = took.rest ∙ ap (λ (q : Parts). q.rest) step;
+      counted = omega (arith, took.counted, length-drop 1 p.bytes);
+    }
+
+-- a frame in front is given
+pub took_frame : (old p : Pending) (count : ℕ) → Took old p [] → count ≤ length p.bytes
+    → IsTrue (is_frame (take count p.bytes))
+    → Took old (record { bytes = drop count p.bytes; junk = p.junk }) (take count p.bytes ∷ [])
+took_frame old p count took fits valid =
+    let step = front_frame p.bytes count valid in
+    let f = take count p.bytes in
+    record {
+      in_order = took.in_order ∙ ap (λ (q : Parts). q.frames) step;
+      junk = took.junk ∙ ap (λ (q : Parts). p.junk + q.junk) step;
+      rest = took.rest ∙ ap (λ (q : Parts). q.rest) step;
+      counted = omega (
+        arith,
+        took.counted,
+        length-drop count p.bytes,
+        length-take-le count p.bytes fits,
+        sum_by-cons length f [],
+      );
+    }
+
+-- the same of a frame and a state that are known by equations
+pub took_found : (old p new : Pending) (count : ℕ) (frame : List ℕ) → Took old p [] → count ≤ length p.bytes
+    → IsTrue (is_frame (take count p.bytes)) → frame ≡ take count p.bytes → new ≡ pending_of (drop count p.bytes) p.junk
+    → Took old new (frame ∷ [])
+took_found old p new count frame took fits valid is_front is_behind =
+    let before = took_frame old p count took fits valid in
+    let behind = pending_of (drop count p.bytes) p.junk in
+    let with_frame_given : Took old behind (frame ∷ []) =
+    subst (λ (f : List ℕ). Took old behind (f ∷ [])) (sym is_front) before
+    in
+    subst (λ (q : Pending). Took old q (frame ∷ [])) (sym is_behind) with_frame_given
+
+-- what is taken is given behind what was
+pub gave_took : (given frames : List (List ℕ)) (all : List ℕ) (old new : Pending)
+    → Gave given all old → Took old new frames → Gave (given ++ frames) all new
+gave_took given frames all old new gave took = record {
+  frames = append_assoc given frames (cut new.bytes).frames
+      ∙ ap (λ (fs : List (List ℕ)). given ++ fs) (sym took.in_order)
+      ∙ gave.frames;
+  junk = sym took.junk ∙ gave.junk;
+  rest = sym took.rest ∙ gave.rest;
+  counted = omega (arith, gave.counted, took.counted, sum_by-append length given frames);
+}
+
+-- what waits is the rest of all bytes, and no frame of theirs is left to give
+pub gave_waiting : (given : List (List ℕ)) (all : List ℕ) (p : Pending) → Gave given all p → IsWaiting p.bytes
+    → GaveAll given all p
+gave_waiting given all p gave waits =
+    let step = cut_waiting p.bytes waits in
+    let none : p.junk ≡ p.junk + 0 = omega arith in
+    record {
+      frames = sym (append-nil given) ∙ ap (λ (q : Parts). given ++ q.frames) (sym step) ∙ gave.frames;
+      junk = none ∙ ap (λ (q : Parts). p.junk + q.junk) (sym step) ∙ gave.junk;
+      rest = ap (λ (q : Parts). q.rest) (sym step) ∙ gave.rest;
+    }
+
+-- a byte behind what waits is a byte behind all
+pub gave_push : (given : List (List ℕ)) (all : List ℕ) (p : Pending) (byte : ℕ) → Gave given all p → IsWaiting p.bytes
+    → Gave given (all ++ byte ∷ []) (record { bytes = p.bytes ++ byte ∷ []; junk = p.junk })
+gave_push given all p byte gave waits =
+    let done = gave_waiting given all p gave waits in
+    let more = p.bytes ++ byte ∷ [] in
+    let step : cut (all ++ byte ∷ []) ≡ followed_by (cut all) (cut more) =
+    cut-append all (byte ∷ []) ∙ ap (λ (xs : List ℕ). followed_by (cut all) (cut (xs ++ byte ∷ []))) (sym done.rest)
+    in
+    record {
+      frames = ap (λ (fs : List (List ℕ)). fs ++ (cut more).frames) done.frames
+          ∙ ap (λ (q : Parts). q.frames) (sym step);
+      junk = ap (λ (n : ℕ). n + (cut more).junk) done.junk ∙ ap (λ (q : Parts). q.junk) (sym step);
+      rest = ap (λ (q : Parts). q.rest) (sym step);
+      counted = omega (arith, gave.counted, length-append all (byte ∷ []), length-append p.bytes (byte ∷ []));
+    }

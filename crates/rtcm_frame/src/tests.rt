@@ -1,0 +1,105 @@
+//! Known frames and streams, by the public calls.
+use crate::{Cutter, Frame, crc24q, cut_all};
+use std::alloc::{AllocError, Global};
+use std::test::Fail;
+
+// The shortest frame.
+const FRAME_Z: [u8; 6] = [0xD3, 0x00, 0x00, 0x47, 0xEA, 0x4B];
+
+// A frame whose payload is the number 1005 alone.
+const FRAME_A: [u8; 8] = [0xD3, 0x00, 0x02, 0x3E, 0xD0, 0xA4, 0xE0, 0x00];
+
+// A frame whose payload is the number 1077 alone.
+const FRAME_B: [u8; 8] = [0xD3, 0x00, 0x02, 0x43, 0x50, 0x06, 0xA2, 0x7E];
+
+// A whole message 1005, the position of a reference station.
+const FRAME_S: [u8; 25] = [
+    0xD3, 0x00, 0x13, 0x3E, 0xD7, 0xD3, 0x02, 0x02, 0x98, 0x0E, 0xDE, 0xEF, 0x34, 0xB4, 0xBD, 0x62,
+    0xAC, 0x09, 0x41, 0x98, 0x6F, 0x33, 0x36, 0x0B, 0x98,
+];
+
+// A preamble that begins no frame, and FRAME_A.
+const FALSE_PREAMBLE: [u8; 11] = [
+    0xD3, 0x00, 0x01, 0xD3, 0x00, 0x02, 0x3E, 0xD0, 0xA4, 0xE0, 0x00,
+];
+
+// A preamble that claims 985 bytes, and FRAME_A.
+const LONG_CLAIM: [u8; 10] = [0xD3, 0xFF, 0xD3, 0x00, 0x02, 0x3E, 0xD0, 0xA4, 0xE0, 0x00];
+
+// FRAME_A with a wrong last byte, and FRAME_B.
+const WRONG_CHECKSUM: [u8; 16] = [
+    0xD3, 0x00, 0x02, 0x3E, 0xD0, 0xA4, 0xE0, 0x01, 0xD3, 0x00, 0x02, 0x43, 0x50, 0x06, 0xA2, 0x7E,
+];
+
+#[test]
+fn checksum_of_nine_digits(rt: HostRuntime) {
+    assert_eq!(rt; crc24q(b"123456789"), 0xCDE703);
+}
+
+#[test]
+fn known_frames_have_their_numbers(rt: HostRuntime) -> Result<(), Fail> {
+    let z = Frame::of(&FRAME_Z).ok_or("no frame")?;
+    assert_eq!(rt; z.number(), None);
+    assert_eq!(rt; z, Frame::default());
+    let a = Frame::of(&FRAME_A).ok_or("no frame")?;
+    assert_eq!(rt; a.number(), Some(1005));
+    assert_eq!(rt; a.bytes(), FRAME_A.as_slice());
+    let b = Frame::of(&FRAME_B).ok_or("no frame")?;
+    assert_eq!(rt; b.number(), Some(1077));
+    let s = Frame::of(&FRAME_S).ok_or("no frame")?;
+    assert_eq!(rt; s.number(), Some(1005));
+    assert!(rt; Frame::of(&FRAME_A[..7]).is_none());
+    assert!(rt; Frame::of(&WRONG_CHECKSUM[..8]).is_none());
+    Ok(())
+}
+
+#[test]
+fn whole_streams_are_cut(rt: HostRuntime) -> Result<(), Fail> {
+    let hidden = cut_all(rt.alloc(), &FALSE_PREAMBLE)?;
+    assert_eq!(rt; hidden.frames.len(), 1);
+    assert_eq!(rt; hidden.frames[0].bytes(), FRAME_A.as_slice());
+    assert_eq!(rt; hidden.junk, 3);
+    assert_eq!(rt; hidden.rest, 0);
+    let waiting = cut_all(rt.alloc(), &LONG_CLAIM)?;
+    assert_eq!(rt; waiting.frames.len(), 0);
+    assert_eq!(rt; waiting.junk, 0);
+    assert_eq!(rt; waiting.rest, 10);
+    let broken = cut_all(rt.alloc(), &WRONG_CHECKSUM)?;
+    assert_eq!(rt; broken.frames.len(), 1);
+    assert_eq!(rt; broken.frames[0].bytes(), FRAME_B.as_slice());
+    assert_eq!(rt; broken.junk, 8);
+    assert_eq!(rt; broken.rest, 0);
+    Ok(())
+}
+
+#[test]
+fn streams_are_cut_byte_by_byte(rt: HostRuntime) -> Result<(), Fail> {
+    let (none, junk) = cut_by_bytes(rt.alloc(), &FALSE_PREAMBLE[..7])?;
+    assert_eq!(rt; none.len(), 0);
+    assert_eq!(rt; junk, 3);
+    let (hidden, junk) = cut_by_bytes(rt.alloc(), &FALSE_PREAMBLE)?;
+    assert_eq!(rt; hidden.len(), 1);
+    assert_eq!(rt; hidden[0].bytes(), FRAME_A.as_slice());
+    assert_eq!(rt; junk, 3);
+    let (waiting, junk) = cut_by_bytes(rt.alloc(), &LONG_CLAIM)?;
+    assert_eq!(rt; waiting.len(), 0);
+    assert_eq!(rt; junk, 0);
+    let (broken, junk) = cut_by_bytes(rt.alloc(), &WRONG_CHECKSUM)?;
+    assert_eq!(rt; broken.len(), 1);
+    assert_eq!(rt; broken[0].bytes(), FRAME_B.as_slice());
+    assert_eq!(rt; junk, 8);
+    Ok(())
+}
+
+// Pushes these bytes one at a time, and keeps the frames that were given and the count of junk.
+fn cut_by_bytes(alloc: Global, bytes: &[u8]) -> Result<(Vec<Frame>, u64), AllocError> {
+    let mut cutter = Cutter::new();
+    let mut frames = Vec::new(alloc);
+    for byte in bytes {
+        cutter.push(*byte);
+        while let Some(frame) = cutter.next() {
+            frames.push(frame)?;
+        }
+    }
+    Ok((frames, cutter.junk()))
+}

@@ -1,0 +1,4 @@
+pub mod History
+pub mod Turn
+pub mod Heard
+pub mod Faults

@@ -1,0 +1,15 @@
+//! One law for any object that callers take turns on: the object is played call by call, and a
+//! place gives turns on it and knows the history of calls so far.
+#![tactic(auto)]
+
+mod journal;
+mod laws;
+mod object;
+mod place;
+#[cfg(test)]
+mod tests;
+
+pub use journal::Desk;
+pub use laws::{fact_stays, fits_stays};
+pub use object::Played;
+pub use place::{TurnFault, Turns};

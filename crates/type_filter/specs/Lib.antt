@@ -1,0 +1,5 @@
+pub mod Permitted
+pub mod Codes
+pub mod Numbers
+pub mod Kinds
+pub mod Faults

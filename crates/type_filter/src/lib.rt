@@ -1,0 +1,8 @@
+//! Filters: which frames of a base a rover gets, by their message number.
+#![tactic(auto)]
+
+mod choices;
+mod selection;
+
+pub use choices::Filters;
+pub use selection::{Filter, FilterFault};
