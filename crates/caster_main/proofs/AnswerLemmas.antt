@@ -4,10 +4,9 @@ use Rattle.std.proofs.lemmas.Bool.{cases_Bool}
 use Rattle.std.proofs.lemmas.Bool.Decides.{nat_tests}
 use Rattle.std.proofs.lemmas.List.{append-nil}
 use Rattle.std.specs.Io.KnownBytes.{Consumes, IsAtEnd}
-use Rattle.std.specs.Str.Lines.{lines}
 use Rattle.session_script.specs.declared.ScriptKind.TheVariants.{Bare}
 use Rattle.session_script.specs.declared.ScriptFault.TheVariants as faults
-use Rattle.session_script.specs.Script.{script_of, events_of_lines, no_numbers}
+use Rattle.session_script.specs.Script.{script_of}
 use Rattle.cast_io.specs.Pieces.{LosesMore}
 use Rattle.caster_main.specs.declared.answers.Answer.{Answer}
 use Rattle.caster_main.specs.declared.answers.Answer.TheVariants.{Report, Session, Usage, Long, ReadFault, Memory}

@@ -10,7 +10,8 @@ use Rattle.session_script.specs.declared.ScriptKind.TheVariants.{Bare}
 use Rattle.session_script.specs.declared.ScriptFault.{ScriptFault}
 use Rattle.session_script.specs.declared.ScriptFault.TheVariants.{Line, State, NoStop, Long, Memory}
 use Rattle.session_script.specs.Line.{event_of_line}
-use Rattle.session_script.specs.Script.{Numbers, no_numbers, is_skipped, may_follow, after_event, onto_events, events_of_lines, script_of}
+use Rattle.session_script.specs.Numbers.{Numbers, no_numbers}
+use Rattle.session_script.specs.Script.{is_skipped, may_follow, after_event, onto_events, events_of_lines, script_of}
 use Rattle.caster_main.specs.Outcome.{exit_of_script}
 use Rattle.caster_main.specs.Told.{IsNoSession}
 

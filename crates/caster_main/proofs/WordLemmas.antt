@@ -1,5 +1,5 @@
 -- The words `bare C` are those that are read as the capacity C.
-use Rattle.std.proofs.Common.{◌≡◌, ◌==◌, ℕ, suc, zero, ◌+◌, ◌^◌, ◌<◌, ◌≤◌, ◌⊎◌, Bool, true, false, not, List, [], ◌∷◌, length, get_or, codes, Option, None, Some, IfSome, IfNone, Result, Ok, Err, inl, inr, refl, ap, sym, subst, ◌∙◌, arith, rules, nat_le}
+use Rattle.std.proofs.Common.{◌≡◌, ◌==◌, ℕ, suc, zero, ◌+◌, ◌^◌, ◌<◌, ◌≤◌, ◌⊎◌, Bool, true, false, not, ◌&&◌, List, [], ◌∷◌, length, get_or, codes, Option, None, Some, IfSome, IfNone, Result, Ok, Err, inl, inr, refl, ap, sym, subst, ◌∙◌, arith, rules, nat_le}
 use Rattle.std.proofs.lemmas.Bool.{and_parts, le-leb, leb-true, cases_Bool, false≢true}
 use Rattle.std.proofs.lemmas.Bool.Decides.{nat_tests}
 use Rattle.std.proofs.lemmas.Fmt.{decimal_digit, digits_decimal, digits_value-decimal, decimal_nonempty, first_decimal, decimal-digits_value}
@@ -18,26 +18,31 @@ own = numerals_by_fold _ (search rules) number_from (search rules)
 
 -- ---- numbers
 
--- a text that does not begin with `0` is a number exactly where all of it is digits
-pub is_number-first : (t : List ℕ) → 0 < length t → (get_or t 0 0 ≡ 48 → ⊥) → is_number t ≡ list_all is_digit t
-is_number-first [] some other = absurd (omega arith)
-is_number-first (c ∷ cs) some other =
-    let e : (c == 48) ≡ false = grind (arith, nat_tests, other) in rw e refl
+-- what makes a text a number: it is not empty, does not begin with `0`, and has digits alone
+number_parts : (t : List ℕ) → is_number t ≡ true
+    → (nat_le 1 (length t) ≡ true) × (not (get_or t 0 0 == 48) ≡ true) × (list_all is_digit t ≡ true)
+number_parts t h =
+    let outer = and_parts (nat_le 1 (length t) && not (get_or t 0 0 == 48)) (list_all is_digit t) h in
+    let inner = and_parts (nat_le 1 (length t)) (not (get_or t 0 0 == 48)) outer.0 in
+    (inner.0, inner.1, outer.1)
 
-pub is_number-zero : (t : List ℕ) → get_or t 0 0 ≡ 48 → is_number t ≡ false
-is_number-zero [] nought = refl
-is_number-zero (c ∷ cs) nought = let e : (c == 48) ≡ true = grind (arith, nat_tests, nought) in rw e refl
+is_number-first : (t : List ℕ) → 0 < length t → (get_or t 0 0 ≡ 48 → ⊥) → is_number t ≡ list_all is_digit t
+is_number-first t some other =
+    let least : nat_le 1 (length t) ≡ true = grind (arith, nat_tests, some) in
+    let first : (get_or t 0 0 == 48) ≡ false = grind (arith, nat_tests, other) in
+    rw (least, first) refl
 
 number_digits : (t : List ℕ) → is_number t ≡ true → list_all is_digit t ≡ true
-number_digits [] h = absurd cc
-number_digits (c ∷ cs) h = (and_parts _ _ h).1
+number_digits t h = (number_parts t h).2
 
 number_some : (t : List ℕ) → is_number t ≡ true → 0 < length t
-number_some [] h = absurd cc
-number_some (c ∷ cs) h = omega arith
+number_some t h = let least = (number_parts t h).0 in grind (arith, nat_tests, least)
 
 number_first : (t : List ℕ) → is_number t ≡ true → get_or t 0 0 ≡ 48 → ⊥
-number_first t h nought = absurd (let e = is_number-zero t nought in cc)
+number_first t h nought =
+    let other = (number_parts t h).1 in
+    let first : (get_or t 0 0 == 48) ≡ true = grind (arith, nat_tests, nought) in
+    absurd cc
 
 number_of-number : (t : List ℕ) → is_number t ≡ true → number_of t ≡ Some (number_from 0 t)
 number_of-number t h = rw h refl

@@ -47,10 +47,7 @@ fn capacity_of(word: &str) -> Option<u32>
 fn is_plain_number(word: &[u8]) -> bool
     ensures { result ≡ is_number word.now }
 {
-    match word {
-        [] => false,
-        [first, ..] => *first != b'0' && are_digits(word),
-    }
+    !word.is_empty() && word[0] != b'0' && are_digits(word)
 }
 
 // Each byte is a digit.
