@@ -1,13 +1,13 @@
 //! The words of the command line.
-ghost use Rattle.std.specs.Prelude.{◌≡◌, IfSome, IfNone};
+ghost use Rattle.std.specs.Prelude.{◌≡◌, ℕ, List, Some, IfSome, IfNone};
 ghost use Rattle.std.specs.List.{list_all};
 ghost use Rattle.session_script.specs.Digits.{is_digit, is_number, number_of, at_most};
 ghost use Rattle.caster_main.specs.Command.{AreBare, AreOfNoForm, command_of, texts};
 
-/// The most frames that a ring keeps.
+// The most frames that a ring keeps.
 const LARGEST_RING: u32 = 4096;
 
-// The capacity C of the words `bare C`, from 1 to 4,096, and None where the words are of no form.
+/// The capacity C of the words `bare C`, from 1 to 4,096, and None where the words are of no form.
 pub fn bare_capacity(words: &[String]) -> Option<u32>
     ensures command { result ≡ command_of (texts words.now) }
     ensures form { IfSome result (λ capacity. AreBare (texts words.now) capacity) }
@@ -15,6 +15,14 @@ pub fn bare_capacity(words: &[String]) -> Option<u32>
 {
     capacity_in(words)
 }
+
+/// The words that are read as a capacity are those of the form `bare C`, and no others.
+pub fn words_are_read_by_their_form()
+    ensures bare { (words : List (List ℕ)) (capacity : ℕ)
+        → AreBare words capacity → command_of words ≡ Some capacity }
+    ensures nothing_else { (words : List (List ℕ)) (capacity : ℕ)
+        → command_of words ≡ Some capacity → AreBare words capacity }
+{}
 
 // The same, by the reading of its number.
 fn capacity_in(words: &[String]) -> Option<u32>

@@ -8,7 +8,8 @@ const EXAMPLE: &[u8] =
     b"source 1 A\nrover 2 A\nin 1 D300023ED0A4E000D30002435006A27E\nturn 2 16\nstop\n";
 
 const EXAMPLE_REPORT: &[u8] =
-    b"connection 1 source-end 1\njunk 0\nbytes -\nconnection 2 rover-end\njunk 0\nsegment A 0 2 2 0\nbytes d300023ed0a4e000d30002435006a27e\nmount A 2 1\ntotal 1 2 0\n";
+    b"connection 1 source-end 1\njunk 0\nbytes -\nconnection 2 rover-end\njunk 0\n\
+    segment A 0 2 2 0\nbytes d300023ed0a4e000d30002435006a27e\nmount A 2 1\ntotal 1 2 0\n";
 
 // A frame of message 1005, in digits of either case.
 const UPPER: &[u8] = b"D300133ED7D30202980EDEEF34B4BD62AC0941986F33360B98";
@@ -73,10 +74,9 @@ fn long_script(alloc: Global) -> Result<Vec<u8>, Fail> {
 
 // Its report.
 fn long_report(alloc: Global) -> Result<Vec<u8>, Fail> {
-    let mut report =
-        b"connection 1 source-end 1\njunk 0\nbytes -\nconnection 2 rover-end\njunk 0\nsegment A 0 1630 1630 0\nbytes ".to_vec(
-            alloc,
-        )?;
+    let mut report = b"connection 1 source-end 1\njunk 0\nbytes -\nconnection 2 rover-end\njunk 0\n\
+    segment A 0 1630 1630 0\nbytes "
+        .to_vec(alloc)?;
     push_repeated(
         &mut report,
         LOWER,
