@@ -16,7 +16,8 @@ pub struct Counts {
     pub junk: u64,
 }
 
-/// Reads a stream to its end, a piece at a time, and counts the frames and the junk of its cut.
+/// Reads a stream to its end, a piece at a time, and counts the frames and the junk of its cut. The
+/// errors are the reader's, and one where the stream has more than 2^62 bytes.
 pub fn count_stream<R: Read>(input: &mut R, piece: &mut [u8]) -> io::Result<Counts>
     requires { 0 < length piece.old }
     ensures { IfOk result (λ counts. IfSome (R.remaining input.old) (λ all.

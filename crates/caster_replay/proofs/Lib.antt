@@ -10,3 +10,7 @@ pub mod StandsLemmas
 pub mod OpenLemmas
 pub mod RunLemmas
 pub mod WellLemmas
+pub mod TextLemmas
+pub mod ReportLemmas
+pub mod SpaceLemmas
+pub mod CloseLemmas

@@ -460,9 +460,9 @@ source_claims shape state (Some holder) published = refl
 rover_joins : (shape : Shape) (state : State) → newly roles.Rover true shape (answers.Joined (joined shape state 0) ∷ []) state.published
 unfolding newly
 rover_joins shape state = record {
-    sound = IsSound-begun (permits_at shape 0) shape.capacity state.published 0 (joined shape state 0) refl refl;
-    filter = refl;
-    mount = refl;
+  sound = IsSound-begun (permits_at shape 0) shape.capacity state.published 0 (joined shape state 0) refl refl;
+  filter = refl;
+  mount = refl;
 }
 
 newly_well : (setting : Setting) (history : List (ℕ × RingCall)) (number : ℕ) (role : Role) (mount : List ℕ) (known : Bool) (own : List RingAnswer) →
@@ -491,7 +491,7 @@ opened_well setting history number roles.Source mount true is none =
 opened_well setting history number roles.Rover mount true is none =
     newly_well setting (history ++ (number, calls.Join 0) ∷ []) number roles.Rover mount true _ is (new_answers setting.shape history number (calls.Join 0) none)
     (subst (λ (s : State). newly roles.Rover true setting.shape (answers.Joined (joined setting.shape (state_of history) 0) ∷ []) s.published)
-        (sym (state_of-append history ((number, calls.Join 0) ∷ []))) (rover_joins setting.shape (state_of history)))
+    (sym (state_of-append history ((number, calls.Join 0) ∷ []))) (rover_joins setting.shape (state_of history)))
 
 well_opens_by : (setting : Setting) (w : World) (number : ℕ) (role : Role) (mount : List ℕ) (test : Bool) → is_opened number w.connections ≡ test → IsWell setting w →
     IsWell setting (cond test w (run (placed (opened number role mount) w.connections) (w.history ++ entries_of number (opening_calls role (bytes_eq mount setting.mount)))))
@@ -502,17 +502,17 @@ well_opens_by setting w number role mount false new well =
     let c : Connection = opened number role mount in
     let es : List (ℕ × RingCall) = entries_of number (opening_calls role (bytes_eq mount setting.mount)) in
     record {
-        ordered = order_placed c cs well.ordered new;
-        callers = λ other fresh.
-            let both : ((number == other) || is_opened other cs) ≡ false = sym (opened_placed other c cs) ∙ fresh in
-            has_none_of-append other h es (well.callers other (later_false (number == other) (is_opened other cs) both))
-            (entries_none other number (opening_calls role (bytes_eq mount setting.mount)) (eqb-false number other (first_false (number == other) (is_opened other cs) both)));
-        frames = frames_more h es well.frames (opening_frames number role (bytes_eq mount setting.mount));
-        segments = All-placed (IsWellConnection setting (h ++ es)) c cs
-            (opened_well setting h number role mount (bytes_eq mount setting.mount) refl (well.callers number new))
-            (λ j d below. well_stays setting h es (get_or cs j d) (well.segments j d below)
-                (entries_none (get_or cs j d).number number (opening_calls role (bytes_eq mount setting.mount))
-                    (λ eq. eqb-false (get_or cs j d).number number (any_false (λ (x : Connection). x.number == number) cs new j d below) (sym eq))));
+      ordered = order_placed c cs well.ordered new;
+      callers = λ other fresh.
+          let both : ((number == other) || is_opened other cs) ≡ false = sym (opened_placed other c cs) ∙ fresh in
+          has_none_of-append other h es (well.callers other (later_false (number == other) (is_opened other cs) both))
+          (entries_none other number (opening_calls role (bytes_eq mount setting.mount)) (eqb-false number other (first_false (number == other) (is_opened other cs) both)));
+      frames = frames_more h es well.frames (opening_frames number role (bytes_eq mount setting.mount));
+      segments = All-placed (IsWellConnection setting (h ++ es)) c cs
+          (opened_well setting h number role mount (bytes_eq mount setting.mount) refl (well.callers number new))
+          (λ j d below. well_stays setting h es (get_or cs j d) (well.segments j d below)
+          (entries_none (get_or cs j d).number number (opening_calls role (bytes_eq mount setting.mount))
+          (λ eq. eqb-false (get_or cs j d).number number (any_false (λ (x : Connection). x.number == number) cs new j d below) (sym eq))));
     }
   where
     first_false : (a b : Bool) → (a || b) ≡ false → a ≡ false
@@ -530,10 +530,10 @@ IsWell-opens setting w number role mount well = well_opens_by setting w number r
 
 pub IsWell-nothing : (setting : Setting) → IsWell setting nothing_yet
 IsWell-nothing setting = record {
-    ordered = λ i j d less below. absurd (omega (arith, below));
-    callers = λ number new. refl;
-    frames = no_frames_fail;
-    segments = λ j d below. absurd (omega (arith, below));
+  ordered = λ i j d less below. absurd (omega (arith, below));
+  callers = λ number new. refl;
+  frames = no_frames_fail;
+  segments = λ j d below. absurd (omega (arith, below));
 }
 
 pub IsWell-event : (setting : Setting) (w : World) (event : Event) → IsWell setting w → IsWell setting (after_event setting w event)

@@ -5,3 +5,4 @@ pub mod Steps
 pub mod Live
 pub mod Well
 pub mod Room
+pub mod Text

@@ -1,5 +1,5 @@
 -- The text of a run's report. Every line ends with LF, and its words stand one space apart.
-use Rattle.std.specs.Prelude.{ℕ, Bool, true, false, cond, ◌&&◌, List, [], ◌∷◌, ◌++◌, length, codes}
+use Rattle.std.specs.Prelude.{ℕ, Bool, true, false, cond, ◌&&◌, is_none, List, [], ◌∷◌, ◌++◌, length, codes}
 use Rattle.std.specs.List.{flat_map, sum_by, count_by, join_with_byte}
 use Rattle.std.specs.Fmt.{decimal}
 use Rattle.hex.specs.Hex.{encode_lower}
@@ -12,7 +12,7 @@ use Rattle.caster_replay.specs.declared.ending.Role.{Role}
 use Rattle.caster_replay.specs.declared.ending.Role.TheVariants as roles
 use Rattle.caster_replay.specs.declared.ending.Ending.{Ending}
 use Rattle.caster_replay.specs.declared.ending.Ending.TheVariants.{SourceEnd, RoverEnd, NoMount, Taken, ReadFault}
-use Rattle.caster_replay.specs.World.{Setting, Connection, World, is_known, world}
+use Rattle.caster_replay.specs.World.{Setting, Connection, World, refusal, is_known, answers_of, world}
 use Rattle.caster_replay.specs.Receipt.{ending_of, junk_of, segments_of, bytes_of, sent_in, overrun_in}
 
 -- one line
@@ -57,13 +57,13 @@ closing_lines mount published claims sessions sent overrun =
     line (codes "mount" ∷ mount ∷ decimal published ∷ decimal claims ∷ [])
     ++ line (codes "total" ∷ decimal sessions ∷ decimal sent ∷ decimal overrun ∷ [])
 
--- whether a connection was a rover of the mountpoint
+-- whether a connection was a rover that was not refused
 abbrev pub is_rover : Role → Bool
 is_rover roles.Source = false
 is_rover roles.Rover = true
 
-abbrev pub is_session : Setting → Connection → Bool
-is_session setting c = is_rover c.role && is_known setting c
+abbrev pub is_session : Setting → List (ℕ × RingCall) → Connection → Bool
+is_session setting history c = is_rover c.role && is_none (refusal (is_known setting c) (answers_of setting history c))
 
 abbrev pub lines_of : Setting → List (ℕ × RingCall) → Connection → List ℕ
 lines_of setting history c =
@@ -77,7 +77,7 @@ world_text setting w =
     ++ closing_lines setting.mount
     (length (state_of w.history).published)
     (state_of w.history).claims
-    (count_by (is_session setting) w.connections)
+    (count_by (is_session setting w.history) w.connections)
     (sum_by (λ (c : Connection). sent_in (segments_of setting w.history c)) w.connections)
     (sum_by (λ (c : Connection). overrun_in (segments_of setting w.history c)) w.connections)
 

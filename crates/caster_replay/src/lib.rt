@@ -8,6 +8,7 @@ mod rover;
 mod run;
 mod session;
 mod source;
+mod text;
 
 pub use bare::run_bare;
 pub use ending::{Ending, Last, Role};

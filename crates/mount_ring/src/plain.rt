@@ -95,6 +95,21 @@ impl Plain {
         Ok(place)
     }
 
+    /// How many frames were published.
+    pub fn published(&self) -> u64
+        ensures published { result ≡ length self.now.state.published }
+        ensures few { length self.now.state.published < 2 ^ 64 }
+    {
+        self.frames.len() as u64
+    }
+
+    /// How many claims were given.
+    pub fn claims(&self) -> u64
+        ensures { result ≡ self.now.state.claims }
+    {
+        self.claims
+    }
+
     /// The cursor of a reader that joins: behind all frames that were published so far.
     pub fn join(&self) -> Cursor
         ensures { result ≡ record {

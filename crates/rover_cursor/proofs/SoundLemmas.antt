@@ -30,7 +30,7 @@ pub between-between : (from mid to : ℕ) (frames : List (List ℕ)) → from �
 between-between from mid to frames low high =
     let place : from + (mid - from) ≡ mid = omega arith in
     let start : drop mid frames ≡ drop (mid - from) (drop from frames) =
-        ap (λ (n : ℕ). drop n frames) (sym place) ∙ sym (drop-drop (mid - from) from frames) in
+    ap (λ (n : ℕ). drop n frames) (sym place) ∙ sym (drop-drop (mid - from) from frames) in
     let count : (mid - from) + (to - mid) ≡ to - from = omega arith in
     ap (λ l. between from mid frames ++ take (to - mid) l) start
     ∙ sym (take-add (mid - from) (to - mid) (drop from frames))
@@ -110,9 +110,14 @@ LapsBetween-append permits capacity frames more from [] to h = h
 LapsBetween-append permits capacity frames more from (lap ∷ laps) to h =
     let order : lap.from ≤ lap.to = omega (arith, h.1) in
     let inside : lap.to ≤ length frames = omega (arith, h.2, h.3) in
-    let longer : lap.published ≤ length (frames ++ more) = omega (arith, h.3, length-append frames more) in
-    (h.0, h.1, h.2, longer, h.4 ∙ ap (count_by permits) (sym (between-append lap.from lap.to frames more order inside)),
-        LapsBetween-append permits capacity frames more lap.to laps to h.5)
+    let longer : lap.published ≤ length (frames ++ more) = omega (arith, h.3, length-append frames more) in (
+      h.0,
+      h.1,
+      h.2,
+      longer,
+      h.4 ∙ ap (count_by permits) (sym (between-append lap.from lap.to frames more order inside)),
+      LapsBetween-append permits capacity frames more lap.to laps to h.5,
+    )
 
 pub outside-append : (permits : List ℕ → Bool) (capacity : ℕ) (frames more : List (List ℕ)) (from : ℕ) (laps : List Lap) (to : ℕ) →
     LapsBetween permits capacity frames from laps to → to ≤ length frames →
@@ -133,12 +138,12 @@ kept-append permits capacity frames more segment sound =
 pub IsSound-append : (permits : List ℕ → Bool) (capacity : ℕ) (frames more : List (List ℕ)) (segment : Segment) →
     IsSound permits capacity frames segment → IsSound permits capacity (frames ++ more) segment
 IsSound-append permits capacity frames more segment sound = record {
-    within = omega (arith, sound.within, length-append frames more);
-    laps = LapsBetween-append permits capacity frames more segment.from segment.laps segment.to sound.laps;
-    sent = sound.sent ∙ ap length (sym (kept-append permits capacity frames more segment sound));
-    overrun = sound.overrun;
-    next = sound.next;
-    passed = sound.passed ∙ ap (count_by permits) (sym (take-append-le segment.to frames more sound.within));
+  within = omega (arith, sound.within, length-append frames more);
+  laps = LapsBetween-append permits capacity frames more segment.from segment.laps segment.to sound.laps;
+  sent = sound.sent ∙ ap length (sym (kept-append permits capacity frames more segment sound));
+  overrun = sound.overrun;
+  next = sound.next;
+  passed = sound.passed ∙ ap (count_by permits) (sym (take-append-le segment.to frames more sound.within));
 }
 
 -- ---- a segment begins
@@ -152,12 +157,12 @@ kept-begun permits frames mount cursor =
 pub IsSound-begun : (permits : List ℕ → Bool) (capacity : ℕ) (frames : List (List ℕ)) (mount : ℕ) (cursor : Cursor) →
     cursor.next ≡ length frames → cursor.passed ≡ count_by permits frames → IsSound permits capacity frames (begun mount cursor)
 IsSound-begun permits capacity frames mount cursor next passed = record {
-    within = omega (arith, next);
-    laps = omega arith;
-    sent = sym (ap length (kept-begun permits frames mount cursor));
-    overrun = refl;
-    next = refl;
-    passed = passed ∙ ap (count_by permits) (sym (ap (λ (n : ℕ). take n frames) next ∙ take-length frames));
+  within = omega (arith, next);
+  laps = omega arith;
+  sent = sym (ap length (kept-begun permits frames mount cursor));
+  overrun = refl;
+  next = refl;
+  passed = passed ∙ ap (count_by permits) (sym (ap (λ (n : ℕ). take n frames) next ∙ take-length frames));
 }
 
 -- ---- a read
@@ -173,10 +178,10 @@ read_begins_by : (permits : List ℕ → Bool) (capacity : ℕ) (frames : List (
     nat_lt cursor.next (oldest capacity frames) ≡ test → cursor.next ≤ length frames →
     Begins permits capacity frames cursor.next
     (if test then Some (record {
-        from = cursor.next;
-        to = oldest capacity frames;
-        published = length frames;
-        overrun = count_by permits (take (oldest capacity frames - cursor.next) (drop cursor.next frames));
+      from = cursor.next;
+      to = oldest capacity frames;
+      published = length frames;
+      overrun = count_by permits (take (oldest capacity frames - cursor.next) (drop cursor.next frames));
     }) else None) (read_start capacity frames cursor)
 read_begins_by permits capacity frames cursor true is within =
     let below : cursor.next < oldest capacity frames = omega (arith, ltb-true, is) in
@@ -223,7 +228,7 @@ read_ends : (permits : List ℕ → Bool) (capacity : ℕ) (frames : List (List 
 read_ends permits capacity frames cursor budget within =
     let start : ℕ = read_start capacity frames cursor in
     let bound : looked permits (min budget most_taken) (drop start frames) ≤ length frames - start =
-        omega (arith, looked-le permits (min budget most_taken) (drop start frames), length-drop start frames) in
+    omega (arith, looked-le permits (min budget most_taken) (drop start frames), length-drop start frames) in
     let low : start ≤ length frames = omega arith in
     (omega arith, omega (arith, bound, low))
 
@@ -244,12 +249,12 @@ pub kept-read : (permits : List ℕ → Bool) (capacity : ℕ) (frames : List (L
 kept-read permits capacity frames segment budget sound =
     let within : segment.cursor.next ≤ length frames = omega (arith, sound.next, sound.within) in
     let laps_are : LapsBetween permits capacity frames segment.from segment.laps segment.cursor.next =
-        subst (λ (n : ℕ). LapsBetween permits capacity frames segment.from segment.laps n) (sym sound.next) sound.laps in
+    subst (λ (n : ℕ). LapsBetween permits capacity frames segment.from segment.laps n) (sym sound.next) sound.laps in
     ap (filter permits) (outside_read permits capacity frames segment.from segment.laps segment.cursor.next
-        (read_lap permits capacity frames segment.cursor) (read_start capacity frames segment.cursor)
-        (read_end permits capacity frames segment.cursor budget) laps_are
-        (read_begins permits capacity frames segment.cursor within)
-        (read_ends permits capacity frames segment.cursor budget within).0)
+    (read_lap permits capacity frames segment.cursor) (read_start capacity frames segment.cursor)
+    (read_end permits capacity frames segment.cursor budget) laps_are
+    (read_begins permits capacity frames segment.cursor within)
+    (read_ends permits capacity frames segment.cursor budget within).0)
     ∙ filter-append permits (outside segment.from segment.laps segment.cursor.next frames) _
     ∙ ap (λ l. filter permits (outside segment.from segment.laps segment.cursor.next frames) ++ l) (read_frames_between permits capacity frames segment.cursor budget)
     ∙ ap (λ (n : ℕ). filter permits (outside segment.from segment.laps n frames) ++ read_frames permits capacity frames segment.cursor budget) sound.next
@@ -261,21 +266,21 @@ pub IsSound-read : (permits : List ℕ → Bool) (capacity : ℕ) (frames : List
 IsSound-read permits capacity frames segment budget sound =
     let within : segment.cursor.next ≤ length frames = omega (arith, sound.next, sound.within) in
     let laps_are : LapsBetween permits capacity frames segment.from segment.laps segment.cursor.next =
-        subst (λ (n : ℕ). LapsBetween permits capacity frames segment.from segment.laps n) (sym sound.next) sound.laps in
+    subst (λ (n : ℕ). LapsBetween permits capacity frames segment.from segment.laps n) (sym sound.next) sound.laps in
     record {
-        within = (read_ends permits capacity frames segment.cursor budget within).1;
-        laps = laps_read permits capacity frames segment.from segment.laps segment.cursor.next
-            (read_lap permits capacity frames segment.cursor) (read_start capacity frames segment.cursor)
-            (read_end permits capacity frames segment.cursor budget) laps_are
-            (read_begins permits capacity frames segment.cursor within)
-            (read_ends permits capacity frames segment.cursor budget within).0;
-        sent = ap (λ (n : ℕ). n + length (read_frames permits capacity frames segment.cursor budget)) sound.sent
-            ∙ sym (length-append (kept permits frames segment) (read_frames permits capacity frames segment.cursor budget))
-            ∙ ap length (sym (kept-read permits capacity frames segment budget sound));
-        overrun = ap (λ (n : ℕ). n + lap_overrun (read_lap permits capacity frames segment.cursor)) sound.overrun
-            ∙ overrun_read segment.laps (read_lap permits capacity frames segment.cursor);
-        next = refl;
-        passed = refl;
+      within = (read_ends permits capacity frames segment.cursor budget within).1;
+      laps = laps_read permits capacity frames segment.from segment.laps segment.cursor.next
+          (read_lap permits capacity frames segment.cursor) (read_start capacity frames segment.cursor)
+          (read_end permits capacity frames segment.cursor budget) laps_are
+          (read_begins permits capacity frames segment.cursor within)
+          (read_ends permits capacity frames segment.cursor budget within).0;
+      sent = ap (λ (n : ℕ). n + length (read_frames permits capacity frames segment.cursor budget)) sound.sent
+          ∙ sym (length-append (kept permits frames segment) (read_frames permits capacity frames segment.cursor budget))
+          ∙ ap length (sym (kept-read permits capacity frames segment budget sound));
+      overrun = ap (λ (n : ℕ). n + lap_overrun (read_lap permits capacity frames segment.cursor)) sound.overrun
+          ∙ overrun_read segment.laps (read_lap permits capacity frames segment.cursor);
+      next = refl;
+      passed = refl;
     }
 
 -- ---- the promise of a segment
@@ -287,18 +292,18 @@ outside_counts permits capacity frames from [] to h = omega arith
 outside_counts permits capacity frames from (lap ∷ laps) to h =
     let later : lap.to ≤ to = LapsBetween-le permits capacity frames lap.to laps to h.5 in
     let whole : count_by permits (between from lap.from frames) + count_by permits (between lap.from to frames) ≡ count_by permits (between from to frames) =
-        sym (count_by-append permits (between from lap.from frames) (between lap.from to frames))
-        ∙ ap (count_by permits) (between-between from lap.from to frames h.0 (omega (arith, h.1, later))) in
+    sym (count_by-append permits (between from lap.from frames) (between lap.from to frames))
+    ∙ ap (count_by permits) (between-between from lap.from to frames h.0 (omega (arith, h.1, later))) in
     let behind : count_by permits (between lap.from lap.to frames) + count_by permits (between lap.to to frames) ≡ count_by permits (between lap.from to frames) =
-        sym (count_by-append permits (between lap.from lap.to frames) (between lap.to to frames))
-        ∙ ap (count_by permits) (between-between lap.from lap.to to frames (omega (arith, h.1)) later) in
+    sym (count_by-append permits (between lap.from lap.to frames) (between lap.to to frames))
+    ∙ ap (count_by permits) (between-between lap.from lap.to to frames (omega (arith, h.1)) later) in
     let rest : count_by permits (outside lap.to laps to frames) + sum_by (λ (lap : Lap). lap.overrun) laps ≡ count_by permits (between lap.to to frames) =
-        outside_counts permits capacity frames lap.to laps to h.5 in
+    outside_counts permits capacity frames lap.to laps to h.5 in
     let first : lap.overrun ≡ count_by permits (between lap.from lap.to frames) = h.4 in
     let split : count_by permits (between from lap.from frames ++ outside lap.to laps to frames) ≡ count_by permits (between from lap.from frames) + count_by permits (outside lap.to laps to frames) =
-        count_by-append permits (between from lap.from frames) (outside lap.to laps to frames) in
+    count_by-append permits (between from lap.from frames) (outside lap.to laps to frames) in
     let total : sum_by (λ (lap : Lap). lap.overrun) (lap ∷ laps) ≡ lap.overrun + sum_by (λ (lap : Lap). lap.overrun) laps =
-        sum_by-cons (λ (lap : Lap). lap.overrun) lap laps in
+    sum_by-cons (λ (lap : Lap). lap.overrun) lap laps in
     omega (arith, whole, behind, rest, first, split, total)
 
 -- frames sent and frames counted as overrun are together the permitted ones from where the segment began to
@@ -308,7 +313,7 @@ pub sound_counts : (permits : List ℕ → Bool) (capacity : ℕ) (frames : List
     segment.sent + segment.overrun ≡ count_by permits (between segment.from segment.to frames)
 sound_counts permits capacity frames segment sound =
     let sent : segment.sent ≡ count_by permits (outside segment.from segment.laps segment.to frames) =
-        sound.sent ∙ length-filter permits (outside segment.from segment.laps segment.to frames) in
+    sound.sent ∙ length-filter permits (outside segment.from segment.laps segment.to frames) in
     omega (arith, sent, sound.overrun, outside_counts permits capacity frames segment.from segment.laps segment.to sound.laps)
 
 -- so they are no more than the places from the first frame on
@@ -316,6 +321,10 @@ pub sound_few : (permits : List ℕ → Bool) (capacity : ℕ) (frames : List (L
     IsSound permits capacity frames segment → segment.sent + segment.overrun ≤ segment.to
 sound_few permits capacity frames segment sound =
     let order : segment.from ≤ segment.to = LapsBetween-le permits capacity frames segment.from segment.laps segment.to sound.laps in
-    omega (arith, order, sound_counts permits capacity frames segment sound,
-        count_by-le-length permits (between segment.from segment.to frames),
-        length-between segment.from segment.to frames order sound.within)
+    omega (
+      arith,
+      order,
+      sound_counts permits capacity frames segment sound,
+      count_by-le-length permits (between segment.from segment.to frames),
+      length-between segment.from segment.to frames order sound.within,
+    )

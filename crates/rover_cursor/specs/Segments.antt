@@ -10,13 +10,13 @@ use Rattle.rover_cursor.specs.declared.segment.Segment.{Segment}
 -- a segment of this mountpoint that begins at this cursor
 abbrev pub begun : ℕ → Cursor → Segment
 begun mount cursor = record {
-    mount = mount;
-    from = cursor.next;
-    to = cursor.next;
-    sent = 0;
-    overrun = 0;
-    laps = [];
-    cursor = cursor;
+  mount = mount;
+  from = cursor.next;
+  to = cursor.next;
+  sent = 0;
+  overrun = 0;
+  laps = [];
+  cursor = cursor;
 }
 
 -- the overrun of a lap, or 0 where there was none
@@ -27,13 +27,13 @@ lap_overrun (Some lap) = lap.overrun
 -- a segment after one more read
 abbrev pub read_on : ReadReport → Segment → Segment
 read_on report segment = record {
-    mount = segment.mount;
-    from = segment.from;
-    to = report.cursor.next;
-    sent = segment.sent + report.taken;
-    overrun = segment.overrun + lap_overrun report.lapped;
-    laps = segment.laps ++ option_to_list report.lapped;
-    cursor = report.cursor;
+  mount = segment.mount;
+  from = segment.from;
+  to = report.cursor.next;
+  sent = segment.sent + report.taken;
+  overrun = segment.overrun + lap_overrun report.lapped;
+  laps = segment.laps ++ option_to_list report.lapped;
+  cursor = report.cursor;
 }
 
 -- the newest segment read on

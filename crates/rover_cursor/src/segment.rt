@@ -1,9 +1,8 @@
 ghost use Rattle.std.specs.Prelude.{◌≡◌, ◌+◌, ◌^◌, ◌<◌, ◌≤◌, OnOk, OnErr};
 
+use crate::laps::Laps;
 use mount_ring::{Cursor, ReadReport};
 use std::alloc::{AllocError, Global};
-
-use crate::laps::Laps;
 
 /// What a rover read of one mountpoint from its joining on.
 ///
