@@ -1,0 +1,65 @@
+//! Reading a source to its end.
+ghost use Rattle.std.specs.Prelude.{◌≤◌, ◌+◌, vec_len, IfOk, OnErr, IsErrOf};
+ghost use Rattle.std.specs.Io.KnownBytes.{Consumes, IsAtEnd};
+ghost use Rattle.cast_io.specs.Causes.{Rose};
+ghost use Rattle.cast_io.specs.Pieces.{LosesMore, LosesSome};
+
+use crate::ends::Source;
+use std::alloc::Global;
+use thiserror::Error;
+
+/// Why a source could not be read to its end.
+#[derive(Clone, Copy, Debug, PartialEq, Eq, Error)]
+pub enum ReadAllFault {
+    /// A read failed.
+    #[error("a read failed")]
+    Failed,
+    /// More bytes came than the limit allows.
+    #[error("the input is longer than the limit")]
+    Long,
+    /// No memory was left to keep the bytes.
+    #[error("out of memory")]
+    Memory,
+}
+
+// How many bytes one read asks for.
+const PIECE: usize = 4096;
+
+/// Reads the source to its end: all bytes that were left, at most `limit`.
+///
+/// `Long` comes as soon as more than `limit` bytes came, `Failed` with the first read that fails,
+/// and `Memory` where the bytes could not be kept; the source has then lost what was read. It is
+/// read at most `limit` + 2 times.
+pub fn read_all<S: Source>(
+    alloc: Global,
+    source: &mut S,
+    limit: usize,
+) -> Result<Vec<u8>, ReadAllFault>
+    ensures whole { IfOk result (λ v. Consumes (S.left source.old) (S.left source.new) v.items) }
+    ensures ended { IfOk result (λ v. IsAtEnd (S.left source.new)) }
+    ensures within { IfOk result (λ v. vec_len v ≤ limit) }
+    ensures long { IsErrOf result ReadAllFault.Long
+        → LosesMore limit (S.left source.old) (S.left source.new) }
+    ensures lost { OnErr result (LosesSome (S.left source.old) (S.left source.new)) }
+    ensures failed { IsErrOf result ReadAllFault.Failed
+        → Rose (S.faults source.old) (S.faults source.new) }
+    ensures later { S.faults source.old ≤ S.faults source.new }
+    ensures reads { S.reads source.new ≤ S.reads source.old + limit + 2 }
+{
+    let mut all = Vec::new(alloc);
+    let mut piece = [0u8; PIECE];
+    loop {
+        let Ok(count) = source.read(&mut piece) else {
+            return Err(ReadAllFault::Failed);
+        };
+        if count == 0 {
+            return Ok(all);
+        }
+        if count > limit - all.len() {
+            return Err(ReadAllFault::Long);
+        }
+        let Ok(()) = all.extend_from_slice(&piece[..count]) else {
+            return Err(ReadAllFault::Memory);
+        };
+    }
+}

@@ -1,0 +1,114 @@
+-- What a status says of a script.
+use Rattle.std.proofs.Common.{◌≡◌, ℕ, ◌+◌, ◌<◌, Bool, true, false, if◌then◌else◌, nat_lt, List, [], ◌∷◌, length, codes, Option, None, Some, Result, Ok, Err, IsOk, inl, inr, refl, ap, sym, ◌∙◌, arith}
+use Rattle.std.proofs.lemmas.Bool.{cases_Bool}
+use Rattle.std.proofs.lemmas.Bool.Decides.{nat_tests}
+use Rattle.std.specs.Str.{bytes_eq}
+use Rattle.std.specs.Str.Lines.{lines}
+use Rattle.session_script.specs.declared.Event.{Event}
+use Rattle.session_script.specs.declared.ScriptKind.{ScriptKind}
+use Rattle.session_script.specs.declared.ScriptKind.TheVariants.{Bare}
+use Rattle.session_script.specs.declared.ScriptFault.{ScriptFault}
+use Rattle.session_script.specs.declared.ScriptFault.TheVariants.{Line, State, NoStop, Long, Memory}
+use Rattle.session_script.specs.Line.{event_of_line}
+use Rattle.session_script.specs.Numbers.{Numbers, no_numbers}
+use Rattle.session_script.specs.Script.{is_skipped, may_follow, after_event, onto_events, events_of_lines, script_of}
+use Rattle.caster_main.specs.Outcome.{exit_of_script}
+use Rattle.caster_main.specs.Told.{IsNoSession}
+
+-- ---- only the size of a script makes it too long
+
+onto_long : (event : Event) (read : Result (List Event) ScriptFault) → onto_events event read ≡ Err Long → read ≡ Err Long
+onto_long event (Ok events) h = absurd cc
+onto_long event (Err fault) h = cc
+
+-- an event's line, if the lines after it are not too long
+event_not_long : (kind : ScriptKind) (n : ℕ) (numbers : Numbers) (event : Event)
+    (rest : Result (List Event) ScriptFault) → (rest ≡ Err Long → ⊥)
+    → (if may_follow kind numbers event then onto_events event rest else Err (State n)) ≡ Err Long → ⊥
+event_not_long kind n numbers event rest short h = elim (cases_Bool (may_follow kind numbers event)) [
+  | inl fits ↦ short (onto_long event rest (rw fits at h))
+  | inr unfit ↦ let e = rw unfit at h in absurd cc
+]
+
+-- what was found on a line, if the lines after it are not too long
+found_not_long : (kind : ScriptKind) (n : ℕ) (numbers : Numbers) (lines : List (List ℕ)) (found : Option Event)
+    → ((event : Event) → events_of_lines kind (n + 1) (after_event numbers event) lines ≡ Err Long → ⊥)
+    → elim found as (λ _. Result (List Event) ScriptFault) [
+      | None ↦ Err (Line n)
+      | Some event ↦
+          if may_follow kind numbers event then onto_events event (events_of_lines kind (n + 1) (after_event numbers event) lines)
+          else Err (State n)
+    ] ≡ Err Long → ⊥
+found_not_long kind n numbers lines None later h = absurd cc
+found_not_long kind n numbers lines (Some event) later h = event_not_long kind n numbers event _ (later event) h
+
+-- a line, if the lines after it are not too long
+line_not_long : (kind : ScriptKind) (n : ℕ) (numbers : Numbers) (line : List ℕ) (lines : List (List ℕ))
+    → (events_of_lines kind (n + 1) numbers lines ≡ Err Long → ⊥)
+    → ((event : Event) → events_of_lines kind (n + 1) (after_event numbers event) lines ≡ Err Long → ⊥)
+    → events_of_lines kind n numbers (line ∷ lines) ≡ Err Long → ⊥
+unfolding events_of_lines
+line_not_long kind n numbers line lines skipped later h = elim (cases_Bool (is_skipped line)) [
+  | inl skips ↦ skipped (rw skips at h)
+  | inr reads ↦ elim (cases_Bool (bytes_eq line (codes "stop"))) [
+    | inl stops ↦ let e = rw (reads, stops) at h in absurd cc
+    | inr goes ↦ found_not_long kind n numbers lines (event_of_line kind line) later (rw (reads, goes) at h)
+  ]
+]
+
+lines_not_long : (kind : ScriptKind) (lines : List (List ℕ)) (n : ℕ) (numbers : Numbers)
+    → events_of_lines kind n numbers lines ≡ Err Long → ⊥
+unfolding events_of_lines
+lines_not_long kind [] n numbers h = absurd cc
+lines_not_long kind (line ∷ lines) n numbers h =
+    line_not_long kind n numbers line lines (lines_not_long kind lines (n + 1) numbers)
+    (λ event. lines_not_long kind lines (n + 1) (after_event numbers event)) h
+
+script_long : (bytes : List ℕ) → script_of Bare bytes ≡ Err Long → 8388608 < length bytes
+unfolding script_of
+script_long bytes h = elim (cases_Bool (nat_lt 8388608 (length bytes))) [
+  | inl long ↦ grind (arith, nat_tests, long)
+  | inr short ↦ absurd (lines_not_long Bare (lines bytes) 1 no_numbers (sym (rw short refl) ∙ h))
+]
+
+-- ---- statuses
+
+pub whole_script : (capacity : ℕ) (script : Result (List Event) ScriptFault)
+    → (exit_of_script capacity script).status ≡ 0 → IsOk script
+whole_script capacity (Ok events) h = refl
+whole_script capacity (Err (Line n)) h = absurd (omega arith)
+whole_script capacity (Err (State n)) h = absurd (omega arith)
+whole_script capacity (Err NoStop) h = absurd (omega arith)
+whole_script capacity (Err Long) h = absurd (omega arith)
+whole_script capacity (Err Memory) h = absurd (omega arith)
+
+pub script_not_usage : (capacity : ℕ) (script : Result (List Event) ScriptFault)
+    → (exit_of_script capacity script).status ≡ 1 → ⊥
+script_not_usage capacity (Ok events) h = omega arith
+script_not_usage capacity (Err (Line n)) h = omega arith
+script_not_usage capacity (Err (State n)) h = omega arith
+script_not_usage capacity (Err NoStop) h = omega arith
+script_not_usage capacity (Err Long) h = omega arith
+script_not_usage capacity (Err Memory) h = omega arith
+
+pub faulty_script : (capacity : ℕ) (script : Result (List Event) ScriptFault)
+    → (exit_of_script capacity script).status ≡ 3 → IsNoSession script
+faulty_script capacity (Ok events) h = absurd (omega arith)
+faulty_script capacity (Err (Line n)) h = tt
+faulty_script capacity (Err (State n)) h = tt
+faulty_script capacity (Err NoStop) h = tt
+faulty_script capacity (Err Long) h = absurd (omega arith)
+faulty_script capacity (Err Memory) h = absurd (omega arith)
+
+is_long : (capacity : ℕ) (script : Result (List Event) ScriptFault)
+    → (exit_of_script capacity script).status ≡ 8 → script ≡ Err Long
+is_long capacity (Ok events) h = absurd (omega arith)
+is_long capacity (Err (Line n)) h = absurd (omega arith)
+is_long capacity (Err (State n)) h = absurd (omega arith)
+is_long capacity (Err NoStop) h = absurd (omega arith)
+is_long capacity (Err Long) h = refl
+is_long capacity (Err Memory) h = absurd (omega arith)
+
+pub long_script : (capacity : ℕ) (bytes : List ℕ)
+    → (exit_of_script capacity (script_of Bare bytes)).status ≡ 8 → 8388608 < length bytes
+long_script capacity bytes h = script_long bytes (is_long capacity (script_of Bare bytes) h)

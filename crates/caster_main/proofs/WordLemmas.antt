@@ -1,0 +1,171 @@
+-- The words `bare C` are those that are read as the capacity C.
+use Rattle.std.proofs.Common.{◌≡◌, ◌==◌, ℕ, suc, zero, ◌+◌, ◌^◌, ◌<◌, ◌≤◌, ◌⊎◌, Bool, true, false, not, ◌&&◌, List, [], ◌∷◌, length, get_or, codes, Option, None, Some, IfSome, IfNone, Result, Ok, Err, inl, inr, refl, ap, sym, subst, ◌∙◌, arith, rules, nat_le}
+use Rattle.std.proofs.lemmas.Bool.{and_parts, le-leb, leb-true, cases_Bool, false≢true}
+use Rattle.std.proofs.lemmas.Bool.Decides.{nat_tests}
+use Rattle.std.proofs.lemmas.Fmt.{decimal_digit, digits_decimal, digits_value-decimal, decimal_nonempty, first_decimal, decimal-digits_value}
+use Rattle.std.proofs.lemmas.Str.Parse.{IsNumeralModel, numerals_by_fold, parse_digits}
+use Rattle.std.proofs.lemmas.Slice.Eq.{bytes_eq-Decides}
+use Rattle.std.specs.List.{list_all}
+use Rattle.std.specs.Fmt.{decimal}
+use Rattle.std.specs.Str.{bytes_eq}
+use Rattle.std.specs.Str.Parse.{ParsesUnsigned}
+use Rattle.session_script.specs.Digits.{is_digit, is_number, number_from, number_of, at_most}
+use Rattle.caster_main.specs.Command.{AreBare, AreOfNoForm, command_of}
+
+-- what is read here as digits and as a number is what std reads and writes
+own : IsNumeralModel (λ ds. list_all is_digit ds ≡ true) (number_from 0)
+own = numerals_by_fold _ (search rules) number_from (search rules)
+
+-- ---- numbers
+
+-- what makes a text a number: it is not empty, does not begin with `0`, and has digits alone
+number_parts : (t : List ℕ) → is_number t ≡ true
+    → (nat_le 1 (length t) ≡ true) × (not (get_or t 0 0 == 48) ≡ true) × (list_all is_digit t ≡ true)
+number_parts t h =
+    let outer = and_parts (nat_le 1 (length t) && not (get_or t 0 0 == 48)) (list_all is_digit t) h in
+    let inner = and_parts (nat_le 1 (length t)) (not (get_or t 0 0 == 48)) outer.0 in
+    (inner.0, inner.1, outer.1)
+
+is_number-first : (t : List ℕ) → 0 < length t → (get_or t 0 0 ≡ 48 → ⊥) → is_number t ≡ list_all is_digit t
+is_number-first t some other =
+    let least : nat_le 1 (length t) ≡ true = grind (arith, nat_tests, some) in
+    let first : (get_or t 0 0 == 48) ≡ false = grind (arith, nat_tests, other) in
+    rw (least, first) refl
+
+number_digits : (t : List ℕ) → is_number t ≡ true → list_all is_digit t ≡ true
+number_digits t h = (number_parts t h).2
+
+number_some : (t : List ℕ) → is_number t ≡ true → 0 < length t
+number_some t h = let least = (number_parts t h).0 in grind (arith, nat_tests, least)
+
+number_first : (t : List ℕ) → is_number t ≡ true → get_or t 0 0 ≡ 48 → ⊥
+number_first t h nought =
+    let other = (number_parts t h).1 in
+    let first : (get_or t 0 0 == 48) ≡ true = grind (arith, nat_tests, nought) in
+    absurd cc
+
+number_of-number : (t : List ℕ) → is_number t ≡ true → number_of t ≡ Some (number_from 0 t)
+number_of-number t h = rw h refl
+
+pub number_of-decimal : (n : ℕ) → 0 < n → n < 2 ^ 64 → number_of (decimal n) ≡ Some n
+number_of-decimal n some small =
+    let digits = digits_decimal own n small in
+    let first = first_decimal n some small in
+    let is : is_number (decimal n) ≡ true =
+    is_number-first (decimal n) (decimal_nonempty n small) (λ e. omega (arith, first, e)) ∙ digits in
+    number_of-number (decimal n) is ∙ ap (λ v. Some v) (digits_value-decimal own n small)
+
+at_most-within : (limit n : ℕ) → n ≤ limit → at_most limit (Some n) ≡ Some n
+at_most-within limit n h = let e : nat_le n limit ≡ true = le-leb n limit h in rw e refl
+
+at_most-above : (limit n : ℕ) → (n ≤ limit → ⊥) → at_most limit (Some n) ≡ None
+at_most-above limit n h = let e : nat_le n limit ≡ false = grind (arith, nat_tests, h) in rw e refl
+
+-- ---- what `parse` gives of a number
+
+pub capacity_read : {E : Type 0} (t : List ℕ) (r : Result ℕ E) (n : ℕ) → is_number t ≡ true
+    → ParsesUnsigned 32 10 t r → r ≡ Ok n → n ≤ 4096 → Some n ≡ at_most 4096 (number_of t)
+capacity_read t r n h parsed is within =
+    let told = rw is at (parse_digits own 32 t r parsed (number_digits t h)) in
+    let value : n ≡ number_from 0 t = told.1 in
+    let small : number_from 0 t ≤ 4096 = omega (arith, value) in
+    sym (ap (λ v. at_most 4096 v) (number_of-number t h) ∙ at_most-within 4096 (number_from 0 t) small
+    ∙ ap (λ v. Some v) (sym value))
+
+pub capacity_above : {E : Type 0} (t : List ℕ) (r : Result ℕ E) (n : ℕ) → is_number t ≡ true
+    → ParsesUnsigned 32 10 t r → r ≡ Ok n → 4096 < n → None ≡ at_most 4096 (number_of t)
+capacity_above t r n h parsed is above =
+    let told = rw is at (parse_digits own 32 t r parsed (number_digits t h)) in
+    let value : n ≡ number_from 0 t = told.1 in
+    sym (ap (λ v. at_most 4096 v) (number_of-number t h)
+    ∙ at_most-above 4096 (number_from 0 t) (λ small. omega (arith, value, small)))
+
+pub capacity_overflown : {E : Type 0} (t : List ℕ) (r : Result ℕ E) (e : E) → is_number t ≡ true
+    → ParsesUnsigned 32 10 t r → r ≡ Err e → None ≡ at_most 4096 (number_of t)
+capacity_overflown t r e h parsed is =
+    let told = rw is at (parse_digits own 32 t r parsed (number_digits t h)) in
+    sym (ap (λ v. at_most 4096 v) (number_of-number t h)
+    ∙ at_most-above 4096 (number_from 0 t)
+    (λ small. let below : number_from 0 t < 2 ^ 32 = omega (arith, small) in told (number_some t h, below)))
+
+-- ---- the words
+
+at_most-some : (limit v n : ℕ) → at_most limit (Some v) ≡ Some n → (v ≡ n) × (v ≤ limit)
+at_most-some limit v n h = elim (cases_Bool (nat_le v limit)) [
+  | inl small ↦
+      let within : v ≤ limit = grind (arith, nat_tests, small) in
+      let e = at_most-within limit v within in
+      let same : v ≡ n = cc in
+      (same, within)
+  | inr above ↦
+      let e : at_most limit (Some v) ≡ None = rw above refl in
+      absurd cc
+]
+
+-- what is read as a number of at most 4,096 is a number, and that one
+at_most-number : (t : List ℕ) (n : ℕ) → at_most 4096 (number_of t) ≡ Some n
+    → (is_number t ≡ true) × (number_from 0 t ≡ n) × (number_from 0 t ≤ 4096)
+at_most-number t n h = elim (cases_Bool (is_number t)) [
+  | inl is ↦
+      let read = at_most-some 4096 (number_from 0 t) n (ap (λ v. at_most 4096 v) (sym (number_of-number t is)) ∙ h) in
+      (is, read.0, read.1)
+  | inr other ↦
+      let e : at_most 4096 (number_of t) ≡ None = rw other refl in
+      absurd cc
+]
+
+-- a number is the decimal text of what it is read as
+decimal-number : (t : List ℕ) → is_number t ≡ true → number_from 0 t ≤ 4096 → decimal (number_from 0 t) ≡ t
+decimal-number t is small =
+    decimal-digits_value own t (number_digits t is) (number_some t is) (λ nought. absurd (number_first t is nought))
+    (omega (arith, small))
+
+zero_or_more : (n : ℕ) → (n ≡ 0) ⊎ (1 ≤ n)
+zero_or_more zero = inl refl
+zero_or_more (suc n) = inr (omega arith)
+
+-- a number is not 0
+number_from-positive : (t : List ℕ) → is_number t ≡ true → number_from 0 t ≤ 4096 → 1 ≤ number_from 0 t
+number_from-positive t is small = elim (zero_or_more (number_from 0 t)) [
+  | inl nought ↦
+      let text = ap decimal (sym nought) ∙ decimal-number t is small in
+      absurd (number_first t is (ap (λ ds. get_or ds 0 0) (sym text ∙ decimal_digit 0 (omega arith))))
+  | inr more ↦ more
+]
+
+pub command_of-bare : (words : List (List ℕ)) (capacity : ℕ) → AreBare words capacity → command_of words ≡ Some capacity
+command_of-bare words capacity are =
+    let some : 0 < capacity = omega (arith, are.least) in
+    let small : capacity < 2 ^ 64 = omega (arith, are.most) in
+    ap command_of are.parts ∙ ap (λ v. at_most 4096 v) (number_of-decimal capacity some small)
+    ∙ at_most-within 4096 capacity are.most
+
+pub bare-command_of : (words : List (List ℕ)) (capacity : ℕ) → command_of words ≡ Some capacity → AreBare words capacity
+bare-command_of [] capacity h = absurd cc
+bare-command_of (name ∷ []) capacity h = absurd cc
+bare-command_of (name ∷ number ∷ []) capacity h = elim (cases_Bool (bytes_eq name (codes "bare"))) [
+  | inl same ↦
+      let read = at_most-number number capacity (sym (rw same refl) ∙ h) in
+      let text : number ≡ decimal capacity = sym (decimal-number number read.0 read.2) ∙ ap decimal read.1 in
+      let word : name ≡ codes "bare" = (bytes_eq-Decides name (codes "bare")).0 same in
+      record {
+        least = subst (λ n. 1 ≤ n) read.1 (number_from-positive number read.0 read.2);
+        most = subst (λ n. n ≤ 4096) read.1 read.2;
+        parts = ap (λ w. w ∷ number ∷ []) word ∙ ap (λ w. codes "bare" ∷ w ∷ []) text;
+      }
+  | inr other ↦
+      let e : command_of (name ∷ number ∷ []) ≡ None = rw other refl in
+      absurd cc
+]
+bare-command_of (name ∷ number ∷ more ∷ others) capacity h = absurd cc
+
+-- what is read as a capacity are the words `bare C`
+pub command-form : (words : List (List ℕ)) (read : Option ℕ) → read ≡ command_of words
+    → IfSome read (λ capacity. AreBare words capacity)
+command-form words None h = tt
+command-form words (Some capacity) h = bare-command_of words capacity (sym h)
+
+-- where nothing is read, the words are of no form
+pub command-none : (words : List (List ℕ)) (read : Option ℕ) → read ≡ command_of words → IfNone read (AreOfNoForm words)
+command-none words None h = λ capacity are. absurd (let e = command_of-bare words capacity are in cc)
+command-none words (Some capacity) h = tt

@@ -1,0 +1,157 @@
+//! A reader and a writer of std as a source and a sink. `main` puts standard input and standard
+//! output into them; what those give and take is outside of every proof.
+ghost use Rattle.std.specs.Prelude.{◌≡◌, ◌<◌, ◌≤◌, length, take, IfSome, IfNone};
+ghost use Rattle.std.specs.Io.KnownBytes.{Appends, Keeps};
+
+use cast_io::{Failed, Sink, Source};
+use std::io::{Read, Write};
+
+/// A source that reads from a reader of std, and counts its reads and its failures.
+#[derive(Drop)]
+pub struct ReaderSource<R> {
+    reader: R,
+    reads: u64,
+    faults: u64,
+}
+
+impl<R: Read> ReaderSource<R> {
+    /// A source that was not read yet.
+    pub fn new(reader: R) -> Self
+        ensures { result ≡ record { reader = reader; reads = 0; faults = 0 } }
+    {
+        ReaderSource {
+            reader,
+            reads: 0,
+            faults: 0,
+        }
+    }
+}
+
+impl<R: Read> Source for ReaderSource<R> {
+    ghost left = { λ s. R.remaining s.reader };
+
+    ghost faults = { λ s. s.faults };
+
+    ghost reads = { λ s. s.reads };
+
+    fn read(&mut self, buf: &mut [u8]) -> Result<usize, Failed> {
+        self.reads = self.reads.saturating_add(1);
+        let Ok(count) = self.reader.read(buf) else {
+            self.faults = self.faults.saturating_add(1);
+            return Err(Failed);
+        };
+        Ok(count)
+    }
+}
+
+/// A sink that writes to a writer of std, and counts its failures. A write that takes no byte of a
+/// piece that is not empty is one.
+#[derive(Drop)]
+pub struct WriterSink<W> {
+    writer: W,
+    faults: u64,
+}
+
+impl<W: Write> WriterSink<W> {
+    /// A sink that was not written to yet.
+    pub fn new(writer: W) -> Self
+        ensures { result ≡ record { writer = writer; faults = 0 } }
+    {
+        WriterSink { writer, faults: 0 }
+    }
+}
+
+impl<W: Write> Sink for WriterSink<W> {
+    ghost taken = { λ s. W.contents s.writer };
+
+    ghost faults = { λ s. s.faults };
+
+    fn write(&mut self, piece: &[u8]) -> Result<(), Failed> {
+        let mut at = 0;
+        while at < piece.len() {
+            let Some(count) = write_some(&mut self.writer, &piece[at..]) else {
+                self.faults = self.faults.saturating_add(1);
+                return Err(Failed);
+            };
+            at += count;
+        }
+        Ok(())
+    }
+}
+
+// One write of a piece that is not empty: how many bytes were taken, and None where none were.
+fn write_some<W: Write>(writer: &mut W, piece: &[u8]) -> Option<usize>
+    ensures some { IfSome result (λ count. (0 < count) × (count ≤ length piece.now)) }
+    ensures taken { IfSome result (λ count.
+        Appends (W.contents writer.old) (W.contents writer.new) (take count piece.now)) }
+    ensures none { IfNone result (Keeps (W.contents writer.old) (W.contents writer.new)) }
+{
+    match writer.write(piece) {
+        Ok(count) if count > 0 => Some(count),
+        _ => None,
+    }
+}
+
+#[cfg(test)]
+mod tests {
+    use super::{ReaderSource, WriterSink};
+    use cast_io::{Failed, Sink, Source};
+    use std::io;
+    use std::io::{ErrorKind, Read, Write};
+
+    // A reader whose every read fails.
+    #[derive(Drop)]
+    struct Broken;
+
+    impl Read for Broken {
+        fn read(&mut self, _buf: &mut [u8]) -> io::Result<usize> {
+            Err(io::Error::from(ErrorKind::Other))
+        }
+    }
+
+    // A writer that takes one byte a call, this many times, and then takes none.
+    #[derive(Drop)]
+    struct Narrow {
+        left: usize,
+    }
+
+    impl Write for Narrow {
+        fn write(&mut self, buf: &[u8]) -> io::Result<usize> {
+            if self.left == 0 || buf.is_empty() {
+                return Ok(0);
+            }
+            self.left -= 1;
+            Ok(1)
+        }
+
+        fn flush(&mut self) -> io::Result<()> {
+            Ok(())
+        }
+    }
+
+    #[test]
+    fn a_source_counts_its_failures_up_to_the_last_value(rt: HostRuntime) {
+        let mut source = ReaderSource {
+            reader: Broken,
+            reads: 0,
+            faults: u64::MAX - 1,
+        };
+        let mut buf = [0u8; 8];
+        assert_eq!(rt; source.read(&mut buf), Err(Failed));
+        assert_eq!(rt; source.faults, u64::MAX);
+        assert_eq!(rt; source.read(&mut buf), Err(Failed));
+        assert_eq!(rt; source.faults, u64::MAX);
+        assert_eq!(rt; source.reads, 2);
+    }
+
+    #[test]
+    fn a_sink_writes_the_whole_piece_or_counts_a_failure(rt: HostRuntime) {
+        let mut sink = WriterSink::new(Narrow { left: 5 });
+        assert_eq!(rt; sink.write(b"abc"), Ok(()));
+        assert_eq!(rt; sink.faults, 0);
+        assert_eq!(rt; sink.write(b"def"), Err(Failed));
+        assert_eq!(rt; sink.faults, 1);
+        assert_eq!(rt; sink.write(b""), Ok(()));
+        assert_eq!(rt; sink.faults, 1);
+    }
+}

@@ -1,0 +1,43 @@
+//! The caster's program: it reads its words and its input, plays the session, and writes the report
+//! or one line that says why there is none. Its status says which.
+#![tactic(auto)]
+
+mod adapters;
+mod answers;
+mod command;
+#[cfg(test)]
+mod tests;
+mod top;
+
+use adapters::{ReaderSource, WriterSink};
+use std::alloc::AllocError;
+use std::env;
+use std::io::ErrorKind;
+use std::process::ExitCode;
+use top::{caster, refuse_for_memory};
+
+// The words after the program's name. Where one of them is no text, no words are given: they are
+// then of no form.
+fn words(rt: &HostRuntime) -> Result<Vec<String>, AllocError> {
+    let mut words = Vec::new(rt.alloc());
+    match env::args(rt) {
+        Ok(all) => {
+            for word in all.skip(1) {
+                words.push(word)?;
+            }
+            Ok(words)
+        }
+        Err(fault) if fault.kind() == ErrorKind::OutOfMemory => Err(AllocError),
+        Err(_) => Ok(words),
+    }
+}
+
+fn main(rt: HostRuntime) -> ExitCode {
+    let mut input = ReaderSource::new(rt.stdin());
+    let mut out = WriterSink::new(rt.stdout());
+    let status = match words(&rt) {
+        Ok(words) => caster(rt.alloc(), &words, &mut input, &mut out),
+        Err(AllocError) => refuse_for_memory(&mut out),
+    };
+    ExitCode::from(status)
+}

@@ -1,0 +1,149 @@
+//! Whole calls: each read and each write failing in turn, and what is written with each status.
+use crate::top::caster;
+use cast_io::{MemSink, MemSource};
+use std::alloc::Global;
+use std::test::Fail;
+
+const EXAMPLE: &[u8] =
+    b"source 1 A\nrover 2 A\nin 1 D300023ED0A4E000D30002435006A27E\nturn 2 16\nstop\n";
+
+const EXAMPLE_REPORT: &[u8] =
+    b"connection 1 source-end 1\njunk 0\nbytes -\nconnection 2 rover-end\njunk 0\n\
+    segment A 0 2 2 0\nbytes d300023ed0a4e000d30002435006a27e\nmount A 2 1\ntotal 1 2 0\n";
+
+// A frame of message 1005, in digits of either case.
+const UPPER: &[u8] = b"D300133ED7D30202980EDEEF34B4BD62AC0941986F33360B98";
+
+const LOWER: &[u8] = b"d300133ed7d30202980edeef34b4bd62ac0941986f33360b98";
+
+// The status and the output of a run whose reads and writes of these numbers fail.
+fn run(
+    alloc: Global,
+    words: &[&str],
+    input: &[u8],
+    reads: &[u64],
+    writes: &[u64],
+) -> Result<(u8, MemSink), Fail> {
+    let mut texts = Vec::new(alloc);
+    for word in words {
+        texts.push(String::from_str(alloc, word)?)?;
+    }
+    let mut source = MemSource::new(input.to_vec(alloc)?, reads.to_vec(alloc)?);
+    let mut sink = MemSink::new(alloc, writes.to_vec(alloc)?);
+    let status = caster(alloc, &texts, &mut source, &mut sink);
+    Ok((status, sink))
+}
+
+// The text so often, one after the other, and then the end.
+fn push_repeated(out: &mut Vec<u8>, text: &[u8], count: usize, end: &[u8]) -> Result<(), Fail> {
+    for _ in 0..count {
+        out.extend_from_slice(text)?;
+    }
+    out.extend_from_slice(end)?;
+    Ok(())
+}
+
+#[test]
+fn each_failing_read_is_a_read_fault(rt: HostRuntime) -> Result<(), Fail> {
+    // The bytes of the example and more come in three reads, and the fourth says that they end.
+    let mut input = EXAMPLE.to_vec(rt.alloc())?;
+    push_repeated(&mut input, b"\n", 10_000, b"")?;
+    for failing in 1..=5u64 {
+        let (status, sink) = run(rt.alloc(), &["bare", "4"], &input, &[failing], &[])?;
+        if failing < 5 {
+            assert_eq!(rt; status, 4, "read {failing}");
+            assert_eq!(rt; sink.bytes(), b"read fault\n".as_slice(), "read {failing}");
+        } else {
+            assert_eq!(rt; status, 0);
+            assert_eq!(rt; sink.bytes(), EXAMPLE_REPORT);
+        }
+    }
+    Ok(())
+}
+
+// A session of 1,630 frames, 163 in each line, and as many turns as a rover takes for them.
+fn long_script(alloc: Global) -> Result<Vec<u8>, Fail> {
+    let mut script = b"source 1 A\nrover 2 A\n".to_vec(alloc)?;
+    for _ in 0..10 {
+        script.extend_from_slice(b"in 1 ")?;
+        push_repeated(&mut script, UPPER, 163, b"\n")?;
+    }
+    push_repeated(&mut script, b"turn 2 16\n", 102, b"stop\n")?;
+    Ok(script)
+}
+
+// Its report.
+fn long_report(alloc: Global) -> Result<Vec<u8>, Fail> {
+    let mut report = b"connection 1 source-end 1\njunk 0\nbytes -\nconnection 2 rover-end\njunk 0\n\
+    segment A 0 1630 1630 0\nbytes "
+        .to_vec(alloc)?;
+    push_repeated(
+        &mut report,
+        LOWER,
+        1630,
+        b"\nmount A 1630 1\ntotal 1 1630 0\n",
+    )?;
+    Ok(report)
+}
+
+// The first piece of the text.
+fn first_piece(text: &[u8]) -> &[u8] {
+    let size = text.len().min(65_536);
+    &text[..size]
+}
+
+#[test]
+fn a_long_report_is_written_in_pieces(rt: HostRuntime) -> Result<(), Fail> {
+    let script = long_script(rt.alloc())?;
+    let report = long_report(rt.alloc())?;
+    assert!(rt; report.len() > 65_536, "two pieces");
+    let wanted: [(u8, &[u8]); 3] = [(5, b""), (5, first_piece(&report)), (0, &report)];
+    let mut failing = 0u64;
+    for (status, written) in wanted {
+        failing = failing.saturating_add(1);
+        let (ended, sink) = run(rt.alloc(), &["bare", "4096"], &script, &[], &[failing])?;
+        assert_eq!(rt; ended, status, "write {failing}");
+        assert_eq!(rt; sink.bytes(), written, "write {failing}");
+    }
+    Ok(())
+}
+
+#[test]
+fn each_refusal_has_its_status_and_line(rt: HostRuntime) -> Result<(), Fail> {
+    let bare: [&str; 2] = ["bare", "4"];
+    let nothing: [&str; 0] = [];
+    let cases: [(&[&str], &[u8], u8, &[u8]); 9] = [
+        (&nothing, EXAMPLE, 1, b"usage\n"),
+        (&["bare", "0"], EXAMPLE, 1, b"usage\n"),
+        (&["bare", "4097"], EXAMPLE, 1, b"usage\n"),
+        (&["bare", "04"], EXAMPLE, 1, b"usage\n"),
+        (&["bare", "4", "4"], EXAMPLE, 1, b"usage\n"),
+        (&bare, b"", 3, b"session: no stop\n"),
+        (&bare, b"in 5 00\nstop\n", 3, b"session: state 1\n"),
+        (
+            &bare,
+            b"source 1 A\nturn 1 17\nstop\n",
+            3,
+            b"session: line 2\n",
+        ),
+        (&bare, EXAMPLE, 0, EXAMPLE_REPORT),
+    ];
+    for (words, input, wanted, line) in cases {
+        let (status, sink) = run(rt.alloc(), words, input, &[], &[])?;
+        assert_eq!(rt; status, wanted);
+        assert_eq!(rt; sink.bytes(), line);
+        let (status, sink) = run(rt.alloc(), words, input, &[], &[1])?;
+        assert_eq!(rt; status, 5, "the write fails");
+        assert_eq!(rt; sink.bytes().len(), 0);
+    }
+    Ok(())
+}
+
+#[test]
+fn more_than_8_mib_are_too_long(rt: HostRuntime) -> Result<(), Fail> {
+    let input = vec![in rt.alloc(); b'\n'; 8_388_609]?;
+    let (status, sink) = run(rt.alloc(), &["bare", "4"], &input, &[], &[])?;
+    assert_eq!(rt; status, 8);
+    assert_eq!(rt; sink.bytes(), b"too long\n".as_slice());
+    Ok(())
+}
