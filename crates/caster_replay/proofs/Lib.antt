@@ -15,3 +15,4 @@ pub mod ReportLemmas
 pub mod SpaceLemmas
 pub mod CloseLemmas
 pub mod BareLemmas
+pub mod PromiseLemmas

@@ -6,3 +6,4 @@ pub mod Live
 pub mod Well
 pub mod Room
 pub mod Text
+pub mod Promises

@@ -4,6 +4,7 @@
 mod bare;
 mod body;
 mod ending;
+pub mod laws;
 mod rover;
 mod run;
 mod session;
