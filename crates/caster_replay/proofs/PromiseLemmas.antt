@@ -77,15 +77,15 @@ keeps : (setting : Setting) (history : List (ℕ × RingCall)) (c : Connection) 
     Keeps setting history c
 keeps setting history c frames well =
     let sound : All (IsSoundIn setting history) (segments_of setting history c) =
-        sound_by setting history c.role (refusal (is_known setting c) (answers_of setting history c)) (given_claim (answers_of setting history c))
-        (newest_segments 0 (answers_of setting history c)) well in
+    sound_by setting history c.role (refusal (is_known setting c) (answers_of setting history c)) (given_claim (answers_of setting history c))
+    (newest_segments 0 (answers_of setting history c)) well in
     record {
-        sound = sound;
-        counts = λ k d below.
-            let s : Segment = get_or (segments_of setting history c) k d in
-            sound_counts (permits_at setting.shape s.cursor.filter) setting.shape.capacity (state_of history).published s (sound k d below);
-        decodes = cut-frames-joined (sent_frames setting history (segments_of setting history c))
-            (sent_are_frames setting history (segments_of setting history c) frames);
+      sound = sound;
+      counts = λ k d below.
+          let s : Segment = get_or (segments_of setting history c) k d in
+          sound_counts (permits_at setting.shape s.cursor.filter) setting.shape.capacity (state_of history).published s (sound k d below);
+      decodes = cut-frames-joined (sent_frames setting history (segments_of setting history c))
+          (sent_are_frames setting history (segments_of setting history c) frames);
     }
 
 -- every connection of a run keeps what is promised

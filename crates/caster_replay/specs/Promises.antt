@@ -11,7 +11,6 @@ use Rattle.session_script.specs.declared.Event.{Event}
 use Rattle.caster_replay.specs.World.{Setting, Connection, World, world}
 use Rattle.caster_replay.specs.Receipt.{segments_of, sent_frames, bytes_of}
 
-
 -- all frames that a history published
 abbrev pub published_in : List (ℕ × RingCall) → List (List ℕ)
 published_in history = (state_of history).published

@@ -12,5 +12,4 @@ ghost use Rattle.caster_replay.specs.Promises.{KeepsAll};
 /// exactly the frames sent, with no junk and no rest.
 pub fn segments_are_sound()
     ensures { (setting : Setting) (events : List Event) → KeepsAll setting events }
-{
-}
+{}

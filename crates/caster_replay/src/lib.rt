@@ -9,6 +9,8 @@ mod rover;
 mod run;
 mod session;
 mod source;
+#[cfg(test)]
+mod tests;
 mod text;
 
 pub use bare::run_bare;
