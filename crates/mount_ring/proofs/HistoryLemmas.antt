@@ -196,7 +196,7 @@ Readable shape state cursor =
     (cursor.next ≤ length state.published) × (nat_lt cursor.filter (length shape.filters) ≡ true)
     × (cursor.passed ≡ count_by (permits_at shape cursor.filter) (take cursor.next state.published))
 
-readable_parts : (shape : Shape) (state : State) (cursor : Cursor) → is_readable shape state cursor ≡ true → Readable shape state cursor
+pub readable_parts : (shape : Shape) (state : State) (cursor : Cursor) → is_readable shape state cursor ≡ true → Readable shape state cursor
 readable_parts shape state cursor h =
     let a : (nat_le cursor.next (length state.published) ≡ true)
         × ((nat_lt cursor.filter (length shape.filters) && (cursor.passed == count_by (permits_at shape cursor.filter) (take cursor.next state.published))) ≡ true) =
@@ -206,7 +206,7 @@ readable_parts shape state cursor h =
     and_parts _ _ a.1 in
     (leb-true cursor.next (length state.published) a.0, b.0, eqb-true cursor.passed _ b.1)
 
-readable_from : (shape : Shape) (state : State) (cursor : Cursor) → Readable shape state cursor → is_readable shape state cursor ≡ true
+pub readable_from : (shape : Shape) (state : State) (cursor : Cursor) → Readable shape state cursor → is_readable shape state cursor ≡ true
 readable_from shape state cursor h =
     and_from (nat_le cursor.next (length state.published)) _ (le-leb cursor.next (length state.published) h.0)
     (and_from (nat_lt cursor.filter (length shape.filters)) (cursor.passed == count_by (permits_at shape cursor.filter) (take cursor.next state.published))
