@@ -1,6 +1,6 @@
 -- What more entries change of a history's state, and of the answers that a caller had.
-use Rattle.std.proofs.Common.{◌≡◌, ℕ, ◌+◌, ◌≤◌, take, leb-true, le-leb, eq-eqb, length-append, Bool, true, false, cond, List, [], ◌∷◌, ◌++◌, length, map, refl, ap, ◌∙◌, sym, arith, append_assoc, Option, None, Some}
-use Rattle.std.specs.Prelude.{◌==◌, ◌&&◌, nat_le, nat_lt, fold, IsTrue, IfSome, count_by}
+use Rattle.std.proofs.Common.{◌≡◌, ℕ, ◌+◌, ◌≤◌, take, leb-true, le-leb, eq-eqb, length-append, Bool, true, false, cond, List, [], ◌∷◌, ◌++◌, length, refl, ap, ◌∙◌, sym, arith, append_assoc, Option, None, Some}
+use Rattle.std.specs.Prelude.{◌==◌, ◌&&◌, nat_le, nat_lt, fold, IfSome, count_by, slice_get}
 use Rattle.std.proofs.lemmas.List.{append-nil, take-append-le}
 use Rattle.std.proofs.Math.Seq.{take-length}
 use Rattle.std.proofs.lemmas.Bool.{and_parts, and_from, eqb-true, true≢false}
@@ -8,11 +8,12 @@ use Rattle.std.proofs.lemmas.List.Sums.{fold-append}
 use Rattle.mount_ring.specs.declared.call.RingCall.{RingCall}
 use Rattle.mount_ring.specs.declared.call.RingCall.TheVariants.{Claim, Release, Publish, Join, Read}
 use Rattle.mount_ring.specs.declared.call.RingAnswer.{RingAnswer}
+use Rattle.mount_ring.specs.declared.call.RingAnswer.TheVariants.{Given}
 use Rattle.mount_ring.specs.declared.call.Holder.{Holder}
 pub use Rattle.mount_ring.specs.Places.{published_by, frames_of}
 use Rattle.mount_ring.specs.Places.{gives, claims_given, are_fit}
 use Rattle.mount_ring.specs.declared.cursor.Cursor.{Cursor}
-use Rattle.mount_ring.specs.Reads.{read_report, read_start, read_end}
+use Rattle.mount_ring.specs.Reads.{read_report}
 use Rattle.mount_ring.proofs.ReadLemmas.{read_ends}
 use Rattle.mount_ring.specs.History.{Shape, State, start, after, after_call, after_claim, state_of, answer, answers_from, own_answers, with_own, has_none_of, is_holder, fits, is_readable, permits_at, joined, claim_answer}
 
@@ -42,6 +43,11 @@ published-entries state (entry ∷ entries) =
 pub published-append : (history more : List (ℕ × RingCall)) → (state_of (history ++ more)).published ≡ (state_of history).published ++ published_by more
 published-append history more =
     ap (λ (s : State). s.published) (state_of-append history more) ∙ published-entries (state_of history) more
+
+-- a frame stands at the place behind those that were published before
+pub last_published : (published : List (List ℕ)) (frame : List ℕ) → slice_get (published ++ frame ∷ []) (length published) ≡ Some frame
+last_published [] frame = refl
+last_published (first ∷ published) frame = last_published published frame
 
 -- ---- answers
 
@@ -107,6 +113,20 @@ pub claims-entries : (shape : Shape) (state : State) (entries : List (ℕ × Rin
 claims-entries shape state [] = omega arith
 claims-entries shape state (entry ∷ entries) =
     omega (arith, claims-entries shape (after state entry) entries, claims-call shape state entry.0 entry.1)
+
+claims_of : (shape : Shape) (history : List (ℕ × RingCall)) → (state_of history).claims ≡ claims_given shape start history
+claims_of shape history = omega (arith, claims-entries shape start history)
+
+pub claim_given : (shape : Shape) (history : List (ℕ × RingCall)) → (state_of history).holder ≡ None →
+    answer shape (state_of history) Claim ≡ Given (claims_given shape start history + 1)
+claim_given shape history free =
+    ap (λ (o : Option Holder). claim_answer (state_of history) o) free ∙ ap (λ (n : ℕ). Given (n + 1)) (claims_of shape history)
+
+pub claim_held : (shape : Shape) (history : List (ℕ × RingCall)) (me : ℕ) → (state_of history).holder ≡ None →
+    (after_call (state_of history) me Claim).holder ≡ Some (record { caller = me; claim = claims_given shape start history + 1 })
+claim_held shape history me free =
+    let holder : ℕ → Option Holder = λ n. Some (record { caller = me; claim = n + 1 }) in
+    ap (λ (o : Option Holder). (after_claim (state_of history) me o).holder) free ∙ ap holder (claims_of shape history)
 
 -- who holds the mountpoint has the claim that was given last
 abbrev pub IsLatest : State → Type 0
@@ -176,7 +196,7 @@ Readable shape state cursor =
     (cursor.next ≤ length state.published) × (nat_lt cursor.filter (length shape.filters) ≡ true)
     × (cursor.passed ≡ count_by (permits_at shape cursor.filter) (take cursor.next state.published))
 
-readable_parts : (shape : Shape) (state : State) (cursor : Cursor) → is_readable shape state cursor ≡ true → Readable shape state cursor
+pub readable_parts : (shape : Shape) (state : State) (cursor : Cursor) → is_readable shape state cursor ≡ true → Readable shape state cursor
 readable_parts shape state cursor h =
     let a : (nat_le cursor.next (length state.published) ≡ true)
         × ((nat_lt cursor.filter (length shape.filters) && (cursor.passed == count_by (permits_at shape cursor.filter) (take cursor.next state.published))) ≡ true) =
@@ -186,7 +206,7 @@ readable_parts shape state cursor h =
     and_parts _ _ a.1 in
     (leb-true cursor.next (length state.published) a.0, b.0, eqb-true cursor.passed _ b.1)
 
-readable_from : (shape : Shape) (state : State) (cursor : Cursor) → Readable shape state cursor → is_readable shape state cursor ≡ true
+pub readable_from : (shape : Shape) (state : State) (cursor : Cursor) → Readable shape state cursor → is_readable shape state cursor ≡ true
 readable_from shape state cursor h =
     and_from (nat_le cursor.next (length state.published)) _ (le-leb cursor.next (length state.published) h.0)
     (and_from (nat_lt cursor.filter (length shape.filters)) (cursor.passed == count_by (permits_at shape cursor.filter) (take cursor.next state.published))

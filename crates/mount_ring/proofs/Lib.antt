@@ -1,3 +1,4 @@
 pub mod PlainLemmas
 pub mod HistoryLemmas
 pub mod ReadLemmas
+mod Rows

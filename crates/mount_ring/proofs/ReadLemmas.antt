@@ -1,6 +1,6 @@
 -- Reads in the words of frames and their places: which a read looks at, which it takes, and which were lapped.
-use Rattle.std.proofs.Common.{◌≡◌, ℕ, zero, suc, ◌+◌, ◌-◌, ◌<◌, ◌≤◌, min, max, Bool, true, false, cond, List, [], ◌∷◌, ◌++◌, length, take, drop, refl, ap, ◌∙◌, sym, subst, arith, Option, None, Some}
-use Rattle.std.specs.Prelude.{if◌then◌else◌, nat_lt, IfSome, ◌↔◌}
+use Rattle.std.proofs.Common.{◌≡◌, ℕ, zero, suc, ◌+◌, ◌-◌, ◌<◌, ◌≤◌, min, Bool, true, false, cond, List, [], ◌∷◌, ◌++◌, length, take, drop, refl, ap, ◌∙◌, sym, subst, arith, Option, None, Some}
+use Rattle.std.specs.Prelude.{if◌then◌else◌, nat_lt}
 use Rattle.std.specs.List.{filter, count_by}
 use Rattle.std.proofs.lemmas.List.{take-append-le, drop-append-le, length-take, length-drop, drop-drop}
 use Rattle.std.proofs.Math.Seq.{take-add}
@@ -9,7 +9,7 @@ use Rattle.std.proofs.lemmas.List.Elements.{filter-append}
 use Rattle.std.proofs.lemmas.List.Sums.{length-filter, sum_by-append}
 use Rattle.mount_ring.specs.declared.cursor.Cursor.{Cursor}
 use Rattle.mount_ring.specs.declared.cursor.Lap.{Lap}
-use Rattle.mount_ring.specs.Reads.{looked, read_report, read_frames, read_lap, read_start, read_end, oldest, most_taken}
+use Rattle.mount_ring.specs.Reads.{looked, read_frames, read_lap, read_start, read_end, oldest, most_taken}
 use Rattle.mount_ring.specs.Places.{between, behind_lap, lap_overrun, Reading, report_of, taken_by, begin_of, end_of}
 
 -- ---- parts of the published frames
@@ -148,9 +148,6 @@ reading_ordered r =
     read_ends r.permits r.capacity r.published r.cursor r.budget r.within in
     (omega (arith, begin_is r), omega (arith, begin_is r, ends.0), ends.1)
 
-pub reading_few : (r : Reading) → (report_of r).taken ≤ min r.budget 16
-reading_few r = omega (arith, length-take (min r.budget 16) (filter r.permits (drop (read_start r.capacity r.published r.cursor) r.published)))
-
 pub reading_all : (r : Reading) → (report_of r).taken < min r.budget 16 → end_of r ≡ length r.published
 reading_all r few =
     let start : ℕ = read_start r.capacity r.published r.cursor in
@@ -205,35 +202,3 @@ reading_counted r =
     ∙ count_by-append r.permits (between r.cursor.next (begin_of r) r.published) (between (begin_of r) (end_of r) r.published) in
     omega (arith, over, took, both)
 
--- ---- the lap of a read
-
-lap_is : (permits : List ℕ → Bool) (capacity : ℕ) (frames : List (List ℕ)) (place : ℕ) (lapped : Option Lap) (from : ℕ) →
-    Begins permits capacity frames place lapped from →
-    IfSome lapped (λ lap. (lap.from ≡ place) × (lap.from < lap.to) × (lap.to + capacity ≡ length frames)
-    × (lap.published ≡ length frames) × (lap.overrun ≡ count_by permits (between lap.from lap.to frames)))
-lap_is permits capacity frames place None from begins = tt
-lap_is permits capacity frames place (Some lap) from begins =
-    (begins.0, begins.1, begins.2 ∙ begins.3, begins.3, begins.4)
-
--- what a reading's lap is: from its cursor to the oldest kept frame, with the permitted frames in it
-pub reading_lap : (r : Reading) → IfSome (report_of r).lapped (λ lap. (lap.from ≡ r.cursor.next) × (lap.from < lap.to)
-    × (lap.to + r.capacity ≡ length r.published) × (lap.published ≡ length r.published)
-    × (lap.overrun ≡ count_by r.permits (between lap.from lap.to r.published)))
-reading_lap r = lap_is r.permits r.capacity r.published r.cursor.next (report_of r).lapped _ (reading_begins r)
-
-pub of_lap : {P Q : Lap → Type 0} (lapped : Option Lap) → ((lap : Lap) → P lap → Q lap) → IfSome lapped P → IfSome lapped Q
-of_lap None each h = tt
-of_lap (Some lap) each h = each lap h
-
-unlapped_by : (capacity : ℕ) (frames : List (List ℕ)) (cursor : Cursor) (lap : Lap) (test : Bool) →
-    nat_lt cursor.next (oldest capacity frames) ≡ test →
-    ((if test then Some lap else None) ≡ None) ↔ (length frames ≤ cursor.next + capacity)
-unlapped_by capacity frames cursor lap true is =
-    let below : cursor.next < oldest capacity frames = omega (arith, ltb-true, is) in
-    (λ e. absurd (cc e), λ h. absurd (let e : ⊥ = omega (arith, below, h) in e))
-unlapped_by capacity frames cursor lap false is =
-    let above : oldest capacity frames ≤ cursor.next = omega (arith, ltb-false, is) in
-    (λ e. omega (arith, above), λ h. refl)
-
-pub reading_unlapped : (r : Reading) → ((report_of r).lapped ≡ None) ↔ (length r.published ≤ r.cursor.next + r.capacity)
-reading_unlapped r = unlapped_by r.capacity r.published r.cursor _ (nat_lt r.cursor.next (oldest r.capacity r.published)) refl

@@ -1,18 +1,18 @@
 -- A segment is sound when it begins, and stays so over each read and while more frames are published.
-use Rattle.std.proofs.Common.{◌≡◌, ℕ, zero, suc, ◌+◌, ◌-◌, ◌<◌, ◌≤◌, min, max, Bool, true, false, cond, List, [], ◌∷◌, ◌++◌, length, take, drop, refl, ap, ◌∙◌, sym, subst, arith, append_assoc, append-nil, length-append, Option, None, Some}
-use Rattle.std.specs.Prelude.{if◌then◌else◌, nat_lt, option_to_list}
+use Rattle.std.proofs.Common.{lt-ltb, ◌≡◌, ℕ, ◌+◌, ◌-◌, ◌<◌, ◌≤◌, Bool, true, List, [], ◌∷◌, ◌++◌, length, take, drop, refl, ap, ◌∙◌, sym, subst, arith, append_assoc, append-nil, length-append, Option, None, Some}
+use Rattle.std.specs.Prelude.{option_to_list}
 use Rattle.std.specs.List.{filter, count_by, sum_by}
-use Rattle.std.proofs.lemmas.List.{take-append-drop, take-append-le, drop-append-le, length-take, length-drop, drop-drop}
-use Rattle.std.proofs.Math.Seq.{take-add, take-length}
-use borrow.Author.Tests.{ltb-true, ltb-false}
+use Rattle.std.proofs.lemmas.List.{take-append-le}
+use Rattle.std.proofs.Math.Seq.{take-length}
 use Rattle.std.proofs.lemmas.List.Elements.{filter-append}
 use Rattle.std.proofs.lemmas.List.Sums.{length-filter, sum_by-append, sum_by-cons, count_by-le-length}
 use Rattle.mount_ring.specs.declared.Cursor.{Cursor}
 use Rattle.mount_ring.specs.declared.Lap.{Lap}
-use Rattle.mount_ring.specs.declared.ReadReport.{ReadReport}
-use Rattle.mount_ring.specs.Reads.{looked, read_report, read_frames, read_lap, read_start, read_end, oldest, most_taken}
+use Rattle.mount_ring.specs.Reads.{read_report, read_frames, read_lap, read_start, read_end}
 use Rattle.rover_cursor.specs.declared.segment.Segment.{Segment}
 use Rattle.rover_cursor.specs.Segments.{begun, read_on, lap_overrun}
+use Rattle.mount_ring.specs.History.{Shape, State, permits_at, is_readable}
+use Rattle.mount_ring.proofs.HistoryLemmas.{readable_from}
 use Rattle.mount_ring.proofs.ReadLemmas.{between-append, between-between, length-between, count_by-append, Begins, read_begins, read_ends, read_frames_between}
 use Rattle.rover_cursor.specs.Sound.{between, outside, kept, LapsBetween, IsSound}
 
@@ -236,4 +236,14 @@ sound_few permits capacity frames segment sound =
       sound_counts permits capacity frames segment sound,
       count_by-le-length permits (between segment.from segment.to frames),
       length-between segment.from segment.to frames order sound.within,
+    )
+
+-- and the segment's cursor may be read
+pub sound_readable : (shape : Shape) (state : State) (segment : Segment) → segment.cursor.filter < length shape.filters →
+    IsSound (permits_at shape segment.cursor.filter) shape.capacity state.published segment → is_readable shape state segment.cursor ≡ true
+sound_readable shape state segment known sound =
+    readable_from shape state segment.cursor (
+      omega (arith, sound.next, sound.within),
+      lt-ltb segment.cursor.filter (length shape.filters) known,
+      sound.passed ∙ ap (λ (n : ℕ). count_by (permits_at shape segment.cursor.filter) (take n state.published)) (sym sound.next),
     )

@@ -1,7 +1,6 @@
 -- The segments that a rover's answers give: joining begins one, and each read goes on with the last.
-use Rattle.std.specs.Prelude.{ℕ, ◌+◌, List, [], ◌∷◌, ◌++◌, Option, None, Some, fold, option_to_list}
+use Rattle.std.specs.Prelude.{ℕ, ◌+◌, List, [], ◌∷◌, ◌++◌, fold, option_to_list}
 use Rattle.mount_ring.specs.declared.Cursor.{Cursor}
-use Rattle.mount_ring.specs.declared.Lap.{Lap}
 use Rattle.mount_ring.specs.declared.ReadReport.{ReadReport}
 use Rattle.mount_ring.specs.declared.RingAnswer.{RingAnswer}
 use Rattle.mount_ring.specs.declared.RingAnswer.TheVariants.{Given, Taken, Released, At, Joined, Read}

@@ -1,6 +1,6 @@
 -- What a segment owes to the frames that were published at its mountpoint: those sent and those counted as
 -- overrun are together the permitted frames from where it began to where its last read ended, each once.
-use Rattle.std.specs.Prelude.{ℕ, ◌+◌, ◌-◌, ◌<◌, ◌≤◌, ◌≡◌, Bool, List, [], ◌∷◌, ◌++◌, length, take, drop}
+use Rattle.std.specs.Prelude.{ℕ, ◌+◌, ◌<◌, ◌≤◌, ◌≡◌, Bool, List, [], ◌∷◌, ◌++◌, length, take}
 use Rattle.std.specs.List.{filter, count_by, sum_by}
 use Rattle.mount_ring.specs.declared.Lap.{Lap}
 pub use Rattle.mount_ring.specs.Places.{between}

@@ -2,6 +2,7 @@
 #![tactic(auto)]
 
 mod laps;
+pub mod laws;
 mod segment;
 
 pub use laps::Laps;
