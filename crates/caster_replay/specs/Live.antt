@@ -1,4 +1,5 @@
--- What the run keeps of its connections, as it follows from their bytes and from the history so far.
+-- What the run keeps of its connections, as it follows from their bytes and from the history so
+-- far.
 use Rattle.std.specs.Prelude.{◌≡◌, ℕ, ◌+◌, List, [], ◌∷◌, map, Option, None, Some}
 use Rattle.std.specs.List.{concat}
 use Rattle.rtcm_frame.specs.Cut.{cut}
@@ -37,7 +38,8 @@ rover_work shape published (segment ∷ older) =
 
 abbrev pub work_by : Role → Shape → List RingAnswer → List (List ℕ) → List ℕ → Work
 work_by roles.Source shape answers published text = source_work (given_claim answers) text
-work_by roles.Rover shape answers published text = rover_work shape published (newest_segments 0 answers)
+work_by roles.Rover shape answers published text =
+    rover_work shape published (newest_segments 0 answers)
 
 -- how a connection ended so far: by itself, or as it was closed
 abbrev pub ending_by : Option Ending → Role → Option ℕ → Option Last → Option Ending
@@ -54,13 +56,15 @@ session_by setting answers published c = record {
 
 -- what the run keeps of a connection
 abbrev pub session_of : Setting → List (ℕ × RingCall) → Connection → Session
-session_of setting history c = session_by setting (answers_of setting history c) (state_of history).published c
+session_of setting history c =
+    session_by setting (answers_of setting history c) (state_of history).published c
 
 -- the plain ring of this capacity after a history
 abbrev pub ring_of : ℕ → List (ℕ × RingCall) → PlainValue
 ring_of capacity history = record { capacity = capacity; state = state_of history }
 
 -- what the run keeps is what follows from its connections and the history
-pub record Stands (capacity : ℕ) (w : World) (sessions : List Session) (ring : PlainValue) : Type 0 where
+pub record Stands (capacity : ℕ) (w : World) (sessions : List Session) (ring : PlainValue)
+    : Type 0 where
   pub sessions_are : sessions ≡ map (session_of (bare capacity) w.history) w.connections
   pub ring_is : ring ≡ ring_of capacity w.history

@@ -24,8 +24,8 @@ abbrev pub IsSoundIn : Setting → List (ℕ × RingCall) → Segment → Type 0
 IsSoundIn setting history segment =
     IsSound (permits_of setting segment) setting.shape.capacity (published_in history) segment
 
--- the frames that it was sent and those that it counts as overrun are together the permitted frames that were
--- published from where it began to where its last read ended
+-- the frames that it was sent and those that it counts as overrun are together the permitted
+-- frames that were published from where it began to where its last read ended
 abbrev pub CountsAll : Setting → List (ℕ × RingCall) → Segment → Type 0
 CountsAll setting history segment =
     segment.sent + segment.overrun
@@ -35,7 +35,11 @@ CountsAll setting history segment =
 abbrev pub Decodes : Setting → List (ℕ × RingCall) → Connection → Type 0
 Decodes setting history c =
     cut (bytes_of setting history c)
-    ≡ record { frames = sent_frames setting history (segments_of setting history c); junk = 0; rest = [] }
+    ≡ record {
+      frames = sent_frames setting history (segments_of setting history c);
+      junk = 0;
+      rest = [];
+    }
 
 -- what is promised of a connection of a run
 pub record Keeps (setting : Setting) (history : List (ℕ × RingCall)) (c : Connection) : Type 0 where

@@ -1,4 +1,5 @@
--- What a connection's run comes to: how it ended, what was junk, its segments, and the bytes that it was sent.
+-- What a connection's run comes to: how it ended, what was junk, its segments, and the bytes that
+-- it was sent.
 use Rattle.std.specs.Prelude.{ℕ, ◌-◌, ◌^◌, min, Bool, true, false, cond, List, [], ◌∷◌, length, reverse, Option, None, Some, unwrap_or}
 use Rattle.std.specs.List.{flat_map, concat, sum_by}
 use Rattle.rtcm_frame.specs.Cut.{cut}
@@ -46,7 +47,8 @@ segments_of setting history c = reverse (newest_segments 0 (answers_of setting h
 abbrev pub sent_frames : Setting → List (ℕ × RingCall) → List Segment → List (List ℕ)
 sent_frames setting history segments =
     flat_map
-    (λ (segment : Segment). kept (permits_at setting.shape segment.cursor.filter) (state_of history).published segment)
+    (λ (segment : Segment).
+    kept (permits_at setting.shape segment.cursor.filter) (state_of history).published segment)
     segments
 
 -- the bytes that a connection was sent

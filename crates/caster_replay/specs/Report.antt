@@ -29,7 +29,8 @@ ending_words ReadFault = codes "read-fault" ∷ []
 
 abbrev pub lap_line : Lap → List ℕ
 lap_line lap =
-    line (codes "lap" ∷ decimal lap.from ∷ decimal lap.to ∷ decimal lap.published ∷ decimal lap.overrun ∷ [])
+    line (codes "lap" ∷ decimal lap.from ∷ decimal lap.to ∷ decimal lap.published
+    ∷ decimal lap.overrun ∷ [])
 
 -- a segment's line, and those of its laps
 abbrev pub segment_lines : List ℕ → Segment → List ℕ
@@ -63,11 +64,13 @@ is_rover roles.Source = false
 is_rover roles.Rover = true
 
 abbrev pub is_session : Setting → List (ℕ × RingCall) → Connection → Bool
-is_session setting history c = is_rover c.role && is_none (refusal (is_known setting c) (answers_of setting history c))
+is_session setting history c =
+    is_rover c.role && is_none (refusal (is_known setting c) (answers_of setting history c))
 
 abbrev pub lines_of : Setting → List (ℕ × RingCall) → Connection → List ℕ
 lines_of setting history c =
-    connection_lines setting.mount c.number (ending_of setting history c) (junk_of setting history c)
+    connection_lines setting.mount c.number
+    (ending_of setting history c) (junk_of setting history c)
     (segments_of setting history c) (bytes_of setting history c)
 
 -- the report of a run that is over

@@ -98,7 +98,8 @@ fed bytes session = record session { work = work_fed bytes session.ending sessio
 
 abbrev pub ring_work_fed : List ℕ → Option Ending → Work → PlainValue → PlainValue
 ring_work_fed bytes None Refused ring = ring
-ring_work_fed bytes None (Source claim cutter) ring = with_published ring (cut (cutter.bytes ++ bytes)).frames
+ring_work_fed bytes None (Source claim cutter) ring =
+    with_published ring (cut (cutter.bytes ++ bytes)).frames
 ring_work_fed bytes None (Rover segment body) ring = ring
 ring_work_fed bytes (Some ending) work ring = ring
 
@@ -111,7 +112,8 @@ ring_fed bytes session ring = ring_work_fed bytes session.ending session.work ri
 abbrev pub WorkIsReady : PlainValue → Option Ending → Work → Type 0
 WorkIsReady ring None Refused = Unit {0}
 WorkIsReady ring None (Source claim cutter) = Unit {0}
-WorkIsReady ring None (Rover segment body) = IsSound every_frame ring.capacity ring.state.published segment
+WorkIsReady ring None (Rover segment body) =
+    IsSound every_frame ring.capacity ring.state.published segment
 WorkIsReady ring (Some ending) work = Unit {0}
 
 -- a rover's segment is sound at this ring
@@ -122,13 +124,18 @@ abbrev pub work_turned : PlainValue → ℕ → Option Ending → Work → Work
 work_turned ring budget None Refused = Refused
 work_turned ring budget None (Source claim cutter) = Source claim cutter
 work_turned ring budget None (Rover segment body) =
-    Rover (read_on (read_report every_frame ring.capacity ring.state.published segment.cursor budget) segment)
-    (body ++ concat (read_frames every_frame ring.capacity ring.state.published segment.cursor budget))
+    Rover
+    (read_on
+    (read_report every_frame ring.capacity ring.state.published segment.cursor budget)
+    segment)
+    (body ++ concat
+    (read_frames every_frame ring.capacity ring.state.published segment.cursor budget))
 work_turned ring budget (Some ending) work = work
 
 -- a connection after a turn
 abbrev pub turned : PlainValue → ℕ → Session → Session
-turned ring budget session = record session { work = work_turned ring budget session.ending session.work }
+turned ring budget session =
+    record session { work = work_turned ring budget session.ending session.work }
 
 -- ---- closing
 
@@ -154,7 +161,8 @@ closed last session = record session { ending = ending_closed last session.endin
 
 abbrev pub ring_work_closed : Option Ending → Work → PlainValue → PlainValue
 ring_work_closed None Refused ring = ring
-ring_work_closed None (Source claim cutter) ring = record ring { state = record ring.state { holder = None } }
+ring_work_closed None (Source claim cutter) ring =
+    record ring { state = record ring.state { holder = None } }
 ring_work_closed None (Rover segment body) ring = ring
 ring_work_closed (Some ending) work ring = ring
 
@@ -178,10 +186,12 @@ ring_after (ends last) session ring = ring_closed session ring
 
 -- ---- a connection opens
 
--- what the run keeps of a connection that opens, by what it is and whether it asks for the run's mountpoint
+-- what the run keeps of a connection that opens, by what it is and whether it asks for the run's
+-- mountpoint
 abbrev pub session_opened : Role → Bool → ℕ → PlainValue → Session
 session_opened role false number ring = refused number NoMount
-session_opened roles.Source true number ring = opened_source number (claim_answer ring.state ring.state.holder)
+session_opened roles.Source true number ring =
+    opened_source number (claim_answer ring.state ring.state.holder)
 session_opened roles.Rover true number ring = opened_rover number ring
 
 -- the ring afterwards

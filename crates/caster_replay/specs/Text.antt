@@ -40,8 +40,8 @@ kept_lines work =
 -- the lines of a connection
 abbrev pub session_lines : Session → List ℕ
 session_lines s =
-    connection_lines (codes "A") s.number (unwrap_or s.ending NoMount) (work_junk s.work) (work_segments s.work)
-    (work_bytes s.work)
+    connection_lines (codes "A") s.number (unwrap_or s.ending NoMount) (work_junk s.work)
+    (work_segments s.work) (work_bytes s.work)
 
 -- whether it was a rover that was not refused
 abbrev pub is_rover_work : Work → Bool

@@ -1,5 +1,6 @@
--- What holds of every run: the connections stand in order, the history has calls of theirs alone, every published
--- frame is one, and a rover has one segment, which is sound over what was published.
+-- What holds of every run: the connections stand in order, the history has calls of theirs alone,
+-- every published frame is one, and a rover has one segment, which is sound over what was
+-- published.
 use Rattle.std.specs.Prelude.{◌≡◌, ℕ, ◌<◌, Bool, false, List, [], ◌∷◌, Option, None, Some, IsTrue}
 use Rattle.std.specs.List.{All, AllPairs}
 use Rattle.rtcm_frame.specs.Transport.{is_frame}
@@ -14,14 +15,16 @@ use Rattle.caster_replay.specs.declared.ending.Role.TheVariants.{Source, Rover}
 use Rattle.caster_replay.specs.World.{Setting, Connection, World, given_claim, refusal, is_known, answers_of, is_opened}
 
 -- a rover's segment at the run's mountpoint, whose filter has the number 0
-pub record IsWellSegment (shape : Shape) (published : List (List ℕ)) (segment : Segment) : Type 0 where
+pub record IsWellSegment (shape : Shape) (published : List (List ℕ)) (segment : Segment)
+    : Type 0 where
   pub sound : IsSound (permits_at shape 0) shape.capacity published segment
   pub filter : segment.cursor.filter ≡ 0
   pub mount : segment.mount ≡ 0
 
--- how a connection was received, by what ended it by itself, its claim and its segments: one that was refused
--- has no segment; a source that was not holds a claim, and a rover has one segment
-abbrev pub IsReceived : Role → Option Ending → Option ℕ → Shape → List (List ℕ) → List Segment → Type 0
+-- how a connection was received, by what ended it by itself, its claim and its segments: one that
+-- was refused has no segment; a source that was not holds a claim, and a rover has one segment
+abbrev pub IsReceived : Role → Option Ending → Option ℕ → Shape → List (List ℕ)
+    → List Segment → Type 0
 IsReceived Source (Some ending) claim shape published segments = segments ≡ []
 IsReceived Source None None shape published segments = ⊥
 IsReceived Source None (Some claim) shape published segments = segments ≡ []
@@ -41,6 +44,7 @@ IsWellConnection setting history c =
 
 pub record IsWell (setting : Setting) (w : World) : Type 0 where
   pub ordered : AllPairs (λ (c d : Connection). c.number < d.number) w.connections
-  pub callers : (number : ℕ) → is_opened number w.connections ≡ false → IsTrue (has_none_of number w.history)
+  pub callers : (number : ℕ) → is_opened number w.connections ≡ false
+      → IsTrue (has_none_of number w.history)
   pub frames : All (λ frame. IsTrue (is_frame frame)) (state_of w.history).published
   pub segments : All (IsWellConnection setting w.history) w.connections

@@ -1,5 +1,6 @@
--- The run that a list of events gives: what each connection sent, and the one history of the mountpoint.
--- Which calls a connection owes is read off its whole bytes and off the answers that it had so far.
+-- The run that a list of events gives: what each connection sent, and the one history of the
+-- mountpoint. Which calls a connection owes is read off its whole bytes and off the answers that
+-- it had so far.
 use Rattle.std.specs.Prelude.{ℕ, ◌==◌, ◌&&◌, not, nat_lt, Bool, true, false, cond, List, [], ◌∷◌, ◌++◌, length, drop, map, fold, codes, Option, None, Some, is_none}
 use Rattle.std.specs.List.{flat_map, list_any}
 use Rattle.std.specs.Str.{bytes_eq}
@@ -28,10 +29,13 @@ pub record Setting : Type 0 where
 
 -- the mountpoint `A` with this many frames, and one filter, which permits every frame
 abbrev pub bare : ℕ → Setting
-bare capacity = record { mount = codes "A"; shape = record { capacity = capacity; filters = every_frame ∷ [] } }
+bare capacity = record {
+  mount = codes "A";
+  shape = record { capacity = capacity; filters = every_frame ∷ [] };
+}
 
--- a connection: its number, what it is, the mountpoint that it asked for, all bytes that came in on it while it
--- went on, and how it was closed, if it was
+-- a connection: its number, what it is, the mountpoint that it asked for, all bytes that came in
+-- on it while it went on, and how it was closed, if it was
 pub record Connection : Type 0 where
   pub number : ℕ
   pub role : Role
@@ -74,7 +78,8 @@ taken_by (answers.At place ∷ later) = None
 taken_by (answers.Joined cursor ∷ later) = None
 taken_by (answers.Read report ∷ later) = None
 
--- how a connection ended by itself, if it did: it asked for no mountpoint of the run, or for one that was held
+-- how a connection ended by itself, if it did: it asked for no mountpoint of the run, or for one
+-- that was held
 abbrev pub refusal : Bool → List RingAnswer → Option Ending
 refusal false answers = Some endings.NoMount
 refusal true answers = taken_by answers
@@ -100,7 +105,8 @@ opening_calls role false = []
 opening_calls Source true = Claim ∷ []
 opening_calls Rover true = Join 0 ∷ []
 
--- what happens to a connection that is open: bytes arrive, it takes a turn with a budget, or it is closed
+-- what happens to a connection that is open: bytes arrive, it takes a turn with a budget, or it is
+-- closed
 pub data Happening : Type 0 where
   arrives : List ℕ → Happening
   takes_turn : ℕ → Happening
@@ -114,7 +120,8 @@ completed before more = drop (length (cut before).frames) (cut (before ++ more))
 abbrev pub publishes : ℕ → List (List ℕ) → List RingCall
 publishes claim frames = map (λ frame. Publish claim frame) frames
 
--- a source that was given a claim publishes each frame as its bytes complete it, and gives the claim back at last
+-- a source that was given a claim publishes each frame as its bytes complete it, and gives the
+-- claim back at last
 abbrev pub source_calls : Option ℕ → List ℕ → Happening → List RingCall
 source_calls None text what = []
 source_calls (Some claim) text (arrives more) = publishes claim (completed text more)
@@ -146,16 +153,20 @@ abbrev pub is_concerned : Setting → List (ℕ × RingCall) → ℕ → Connect
 is_concerned setting history number c = (c.number == number) && goes_on setting history c
 
 -- the entries that a connection's calls append
-abbrev pub entries_owed : Setting → List (ℕ × RingCall) → Happening → Connection → List (ℕ × RingCall)
+abbrev pub entries_owed : Setting → List (ℕ × RingCall) → Happening → Connection
+    → List (ℕ × RingCall)
 entries_owed setting history what c =
     entries_of c.number (owed c.role (answers_of setting history c) c.text what)
 
 -- something happens to the connection of this number, if it goes on
 abbrev pub happens : Setting → World → ℕ → Happening → World
 happens setting w number what = record {
-  connections = map (λ c. cond (is_concerned setting w.history number c) (changed what c) c) w.connections;
+  connections = map
+      (λ c. cond (is_concerned setting w.history number c) (changed what c) c)
+      w.connections;
   history = w.history ++ flat_map
-      (λ c. cond (is_concerned setting w.history number c) (entries_owed setting w.history what c) [])
+      (λ c. cond (is_concerned setting w.history number c)
+      (entries_owed setting w.history what c) [])
       w.connections;
 }
 
@@ -170,7 +181,8 @@ is_opened number connections = list_any (λ c. c.number == number) connections
 
 -- a connection that was just opened
 abbrev pub opened : ℕ → Role → List ℕ → Connection
-opened number role mount = record { number = number; role = role; mount = mount; text = []; closed = None }
+opened number role mount =
+    record { number = number; role = role; mount = mount; text = []; closed = None }
 
 -- a connection opens; a number that was opened before changes nothing
 abbrev pub opens : Setting → World → ℕ → Role → List ℕ → World
@@ -198,7 +210,9 @@ after_events setting events = fold (after_event setting) nothing_yet events
 abbrev pub closes : Setting → World → List ℕ → World
 closes setting w numbers = fold (λ w number. happens setting w number (ends lasts.End)) w numbers
 
--- the whole run: after the last event, the connections that are open come to their end in increasing order
+-- the whole run: after the last event, the connections that are open come to their end in
+-- increasing order
 abbrev pub world : Setting → List Event → World
 world setting events =
-    let w = after_events setting events in closes setting w (map (λ (c : Connection). c.number) w.connections)
+    let w = after_events setting events in
+    closes setting w (map (λ (c : Connection). c.number) w.connections)

@@ -9,8 +9,8 @@ use crate::text::report_text;
 use session_script::Event;
 use std::alloc::{AllocError, Global};
 
-/// Plays the events of a bare script over the one mountpoint `A`, whose ring keeps this many frames,
-/// 1 to 4,096, and appends the report's text.
+/// Plays the events of a bare script over the one mountpoint `A`, whose ring keeps this many
+/// frames, 1 to 4,096, and appends the report's text.
 ///
 /// All bytes that come in are fewer than 2^63. A refusal leaves `out` as it was.
 pub fn run_bare(

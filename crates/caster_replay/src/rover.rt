@@ -9,7 +9,8 @@ use mount_ring::{Outbox, Plain};
 use rover_cursor::Segment;
 use std::alloc::AllocError;
 
-/// Takes a rover's turn: reads from where its segment stands, and adds the frames to what it was sent.
+/// Takes a rover's turn: reads from where its segment stands, and adds the frames to what it was
+/// sent.
 pub fn take_turn(
     segment: &mut Segment,
     body: &mut Body,

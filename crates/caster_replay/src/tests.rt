@@ -3,8 +3,8 @@ use session_script::{ScriptKind, parse};
 use std::process::Abort;
 use std::test::Fail;
 
-// In these scripts D300023ED0A4E000 is a frame with the message number 1005, D30002435006A27E one with 1077,
-// and D3000047EA4B one without a number.
+// In these scripts D300023ED0A4E000 is a frame with the message number 1005, D30002435006A27E one
+// with 1077, and D3000047EA4B one without a number.
 const EVENTS: [(u32, &str, &str, &str); 9] = [
     (
         4,

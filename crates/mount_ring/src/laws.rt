@@ -64,7 +64,7 @@ pub fn cursor_may_be_read()
     ensures read { (shape : Shape) (state : State) (cursor : Cursor) (budget : ℕ)
         → IsTrue (is_readable shape state cursor)
         → IsTrue (is_readable shape state (read_report (permits_at shape cursor.filter)
-            shape.capacity state.published cursor budget).cursor) }
+        shape.capacity state.published cursor budget).cursor) }
     ensures later { (shape : Shape) (history more : List (ℕ × RingCall)) (cursor : Cursor)
         → IsTrue (is_readable shape (state_of history) cursor)
         → IsTrue (is_readable shape (state_of (history ++ more)) cursor) }
@@ -81,7 +81,7 @@ pub fn history_by_entries()
         → state_of (history ++ (me, call) ∷ []) ≡ after_call (state_of history) me call }
     ensures answers { (shape : Shape) (me : ℕ) (history more : List (ℕ × RingCall))
         → own_answers shape me (history ++ more)
-            ≡ own_answers shape me history ++ answers_from shape me (state_of history) more }
+        ≡ own_answers shape me history ++ answers_from shape me (state_of history) more }
 {}
 
 /// What was published are the frames of all Publish entries, in order: it only grows, and each
@@ -94,7 +94,7 @@ pub fn published_grows()
     ensures place { (shape : Shape) (state : State) (me claim : ℕ) (frame : List ℕ)
         → (answer shape state (RingCall.Publish claim frame) ≡ RingAnswer.At (length state.published))
         × (slice_get (after_call state me (RingCall.Publish claim frame)).published
-            (length state.published) ≡ Some frame) }
+        (length state.published) ≡ Some frame) }
 {}
 
 /// Claims: one is given exactly where nobody holds the mountpoint, to the caller that asked, and
@@ -103,11 +103,11 @@ pub fn published_grows()
 pub fn claims_are_numbered()
     ensures given { (shape : Shape) (history : List (ℕ × RingCall))
         → (state_of history).holder ≡ None → answer shape (state_of history) RingCall.Claim
-            ≡ RingAnswer.Given (claims_given shape start history + 1) }
+        ≡ RingAnswer.Given (claims_given shape start history + 1) }
     ensures holds { (shape : Shape) (history : List (ℕ × RingCall)) (me : ℕ)
         → (state_of history).holder ≡ None
         → (after_call (state_of history) me RingCall.Claim).holder
-            ≡ Some (record { caller = me; claim = claims_given shape start history + 1 }) }
+        ≡ Some (record { caller = me; claim = claims_given shape start history + 1 }) }
     ensures taken { (shape : Shape) (state : State) (holder : Holder) → state.holder ≡ Some holder
         → answer shape state RingCall.Claim ≡ RingAnswer.Taken holder.caller holder.claim }
     ensures unchanged { (state : State) (me : ℕ) (holder : Holder) → state.holder ≡ Some holder

@@ -10,7 +10,8 @@ use rtcm_frame::Frame;
 use std::alloc::{AllocError, Global};
 use std::marker::Model;
 
-/// A mountpoint's ring that keeps every published frame in one list, and reads as a ring of its capacity.
+/// A mountpoint's ring that keeps every published frame in one list, and reads as a ring of its
+/// capacity.
 ///
 /// Its readers have the filter that permits every frame, which has the number 0. Contracts see the
 /// capacity beside the state that the history so far has led to.
@@ -137,7 +138,8 @@ impl Plain {
     }
 }
 
-/// Reads a list of all published frames as a ring of this capacity would, every frame being permitted.
+/// Reads a list of all published frames as a ring of this capacity would, every frame being
+/// permitted.
 fn read_all_permitted(
     published: &[Frame],
     capacity: usize,
