@@ -36,10 +36,12 @@ line_text event = join_with_byte 32 (parts_of event)
 abbrev pub is_connection : ℕ → Bool
 is_connection k = nat_le 1 k && nat_le k 9999
 
+-- the kind has lines `source` and `rover`
 abbrev pub is_bare : ScriptKind → Bool
 is_bare Bare = true
 is_bare (Replay relays) = false
 
+-- the kind has lines `open` and `relay`
 abbrev pub is_replay : ScriptKind → Bool
 is_replay Bare = false
 is_replay (Replay relays) = true
@@ -87,18 +89,30 @@ short_event kind word k =
     else if bytes_eq word (codes "open") && is_replay kind then Some (Open k)
     else None
 
+-- the events of lines with a third part
+abbrev pub in_event : ℕ → List ℕ → Option Event
+in_event k value = option_map (λ bytes. In k bytes) (input_of value)
+
+abbrev pub turn_event : ℕ → List ℕ → Option Event
+turn_event k value = option_map (λ budget. Turn k budget) (at_most 16 (number_of value))
+
+abbrev pub source_event : ℕ → List ℕ → Option Event
+source_event k value = option_map (λ mount. Source k mount) (mount_of value)
+
+abbrev pub rover_event : ℕ → List ℕ → Option Event
+rover_event k value = option_map (λ mount. Rover k mount) (mount_of value)
+
+abbrev pub relay_event : ℕ → List ℕ → Option Event
+relay_event k value = option_map (λ n. Relay k (relay_number n)) (number_of value)
+
 -- the lines of three parts
 abbrev pub long_event : ScriptKind → List ℕ → ℕ → List ℕ → Option Event
 long_event kind word k value =
-    if bytes_eq word (codes "in") then option_map (λ bytes. In k bytes) (input_of value)
-    else if bytes_eq word (codes "turn") then
-    option_map (λ budget. Turn k budget) (at_most 16 (number_of value))
-    else if bytes_eq word (codes "source") && is_bare kind then
-    option_map (λ mount. Source k mount) (mount_of value)
-    else if bytes_eq word (codes "rover") && is_bare kind then
-    option_map (λ mount. Rover k mount) (mount_of value)
-    else if bytes_eq word (codes "relay") && is_replay kind then
-    option_map (λ n. Relay k (relay_number n)) (number_of value)
+    if bytes_eq word (codes "in") then in_event k value
+    else if bytes_eq word (codes "turn") then turn_event k value
+    else if bytes_eq word (codes "source") && is_bare kind then source_event k value
+    else if bytes_eq word (codes "rover") && is_bare kind then rover_event k value
+    else if bytes_eq word (codes "relay") && is_replay kind then relay_event k value
     else None
 
 -- the event of these parts

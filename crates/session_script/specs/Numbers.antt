@@ -11,6 +11,7 @@ pub record Numbers : Type 0 where
 abbrev pub no_numbers : Numbers
 no_numbers = record { opened = []; closed = [] }
 
+-- the number is one of these
 abbrev pub is_among : ℕ → List ℕ → Bool
 is_among k numbers = list_any (λ n. n == k) numbers
 

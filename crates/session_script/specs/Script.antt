@@ -61,11 +61,12 @@ abbrev pub is_skipped : List ℕ → Bool
 is_skipped [] = true
 is_skipped (b ∷ line) = b == 35
 
+-- the event, and then those that are read
 abbrev pub onto_events : Event → Result (List Event) ScriptFault → Result (List Event) ScriptFault
 onto_events event (Ok events) = Ok (event ∷ events)
 onto_events event (Err fault) = Err fault
 
--- the events of the lines, of which the first has this number, after these were opened and closed
+-- the events of the lines, of which the first is line n, after these were opened and closed
 unfoldable pub events_of_lines : ScriptKind → ℕ → Numbers → List (List ℕ)
     → Result (List Event) ScriptFault
 events_of_lines kind n numbers [] = Err NoStop
