@@ -1,3 +1,4 @@
 pub mod Reads
 pub mod History
 pub mod Holding
+pub mod Places

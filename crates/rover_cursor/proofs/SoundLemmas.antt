@@ -13,52 +13,8 @@ use Rattle.mount_ring.specs.declared.ReadReport.{ReadReport}
 use Rattle.mount_ring.specs.Reads.{looked, read_report, read_frames, read_lap, read_start, read_end, oldest, most_taken}
 use Rattle.rover_cursor.specs.declared.segment.Segment.{Segment}
 use Rattle.rover_cursor.specs.Segments.{begun, read_on, lap_overrun}
+use Rattle.mount_ring.proofs.ReadLemmas.{between-append, between-between, length-between, count_by-append, Begins, read_begins, read_ends, read_frames_between}
 use Rattle.rover_cursor.specs.Sound.{between, outside, kept, LapsBetween, IsSound}
-
--- ---- parts of the published frames
-
--- a part of a list is that part of the list with more behind it
-pub between-append : (from to : ℕ) (frames more : List (List ℕ)) → from ≤ to → to ≤ length frames →
-    between from to (frames ++ more) ≡ between from to frames
-between-append from to frames more ordered within =
-    let before : from ≤ length frames = omega arith in
-    let short : to - from ≤ length (drop from frames) = omega (arith, length-drop from frames) in
-    ap (take (to - from)) (drop-append-le from frames more before) ∙ take-append-le (to - from) (drop from frames) more short
-
-pub between-between : (from mid to : ℕ) (frames : List (List ℕ)) → from ≤ mid → mid ≤ to →
-    between from mid frames ++ between mid to frames ≡ between from to frames
-between-between from mid to frames low high =
-    let place : from + (mid - from) ≡ mid = omega arith in
-    let start : drop mid frames ≡ drop (mid - from) (drop from frames) =
-    ap (λ (n : ℕ). drop n frames) (sym place) ∙ sym (drop-drop (mid - from) from frames) in
-    let count : (mid - from) + (to - mid) ≡ to - from = omega arith in
-    ap (λ l. between from mid frames ++ take (to - mid) l) start
-    ∙ sym (take-add (mid - from) (to - mid) (drop from frames))
-    ∙ ap (λ (n : ℕ). take n (drop from frames)) count
-
-pub length-between : (from to : ℕ) (frames : List (List ℕ)) → from ≤ to → to ≤ length frames → length (between from to frames) ≡ to - from
-length-between from to frames ordered within = length-take (to - from) (drop from frames) ∙ omega (arith, length-drop from frames)
-
-pub count_by-append : (permits : List ℕ → Bool) (xs ys : List (List ℕ)) → count_by permits (xs ++ ys) ≡ count_by permits xs + count_by permits ys
-count_by-append permits xs ys = sum_by-append (λ x. cond (permits x) 1 0) xs ys
-
--- ---- how far a read looks
-
-pub looked-le : (permits : List ℕ → Bool) (budget : ℕ) (frames : List (List ℕ)) → looked permits budget frames ≤ length frames
-looked-le permits zero frames = omega arith
-looked-le permits (suc budget) [] = omega arith
-looked-le permits (suc budget) (frame ∷ frames) = omega (arith, looked-le permits (cond (permits frame) budget (suc budget)) frames)
-
--- what a read takes is what the filter permits of the frames that it looks at
-pub filter-looked : (permits : List ℕ → Bool) (budget : ℕ) (frames : List (List ℕ)) →
-    filter permits (take (looked permits budget frames) frames) ≡ take budget (filter permits frames)
-filter-looked permits zero frames = refl
-filter-looked permits (suc budget) [] = refl
-filter-looked permits (suc budget) (frame ∷ frames) =
-    elim (permits frame) as (λ b. cond b (frame ∷ filter permits (take (looked permits (cond b budget (suc budget)) frames) frames)) (filter permits (take (looked permits (cond b budget (suc budget)) frames) frames)) ≡ take (suc budget) (cond b (frame ∷ filter permits frames) (filter permits frames))) [
-      | true ↦ ap (λ l. frame ∷ l) (filter-looked permits budget frames)
-      | false ↦ filter-looked permits (suc budget) frames
-    ]
 
 -- ---- laps
 
@@ -167,35 +123,6 @@ IsSound-begun permits capacity frames mount cursor next passed = record {
 
 -- ---- a read
 
--- where a read begins, seen from where the cursor stood: there, or behind a lap that the ring had overwritten
-abbrev pub Begins : (List ℕ → Bool) → ℕ → List (List ℕ) → ℕ → Option Lap → ℕ → Type 0
-Begins permits capacity frames at None from = from ≡ at
-Begins permits capacity frames at (Some lap) from =
-    (lap.from ≡ at) × (lap.from < lap.to) × (lap.to + capacity ≡ lap.published) × (lap.published ≤ length frames)
-    × (lap.overrun ≡ count_by permits (between lap.from lap.to frames)) × (from ≡ lap.to)
-
-read_begins_by : (permits : List ℕ → Bool) (capacity : ℕ) (frames : List (List ℕ)) (cursor : Cursor) (test : Bool) →
-    nat_lt cursor.next (oldest capacity frames) ≡ test → cursor.next ≤ length frames →
-    Begins permits capacity frames cursor.next
-    (if test then Some (record {
-      from = cursor.next;
-      to = oldest capacity frames;
-      published = length frames;
-      overrun = count_by permits (take (oldest capacity frames - cursor.next) (drop cursor.next frames));
-    }) else None) (read_start capacity frames cursor)
-read_begins_by permits capacity frames cursor true is within =
-    let below : cursor.next < oldest capacity frames = omega (arith, ltb-true, is) in
-    (refl, below, omega (arith, below), omega arith, refl, omega (arith, below))
-read_begins_by permits capacity frames cursor false is within =
-    let above : oldest capacity frames ≤ cursor.next = omega (arith, ltb-false, is) in
-    omega (arith, above)
-
-pub read_begins : (permits : List ℕ → Bool) (capacity : ℕ) (frames : List (List ℕ)) (cursor : Cursor) → cursor.next ≤ length frames →
-    Begins permits capacity frames cursor.next (read_lap permits capacity frames cursor) (read_start capacity frames cursor)
-read_begins permits capacity frames cursor within =
-    read_begins_by permits capacity frames cursor (nat_lt cursor.next (oldest capacity frames)) refl within
-
--- the laps after a read
 pub laps_read : (permits : List ℕ → Bool) (capacity : ℕ) (frames : List (List ℕ)) (from : ℕ) (laps : List Lap) (at : ℕ) (lapped : Option Lap) (begin to : ℕ) →
     LapsBetween permits capacity frames from laps at → Begins permits capacity frames at lapped begin → begin ≤ to →
     LapsBetween permits capacity frames from (laps ++ option_to_list lapped) to
@@ -203,7 +130,7 @@ laps_read permits capacity frames from laps at None begin to h begins further =
     subst (λ (l : List Lap). LapsBetween permits capacity frames from l to) (sym (append-nil laps))
     (LapsBetween-longer permits capacity frames from laps at to h (omega (arith, begins, further)))
 laps_read permits capacity frames from laps at (Some lap) begin to h begins further =
-    LapsBetween-lapped permits capacity frames from laps at lap to h begins.0 begins.1 begins.2 begins.3 begins.4 (omega (arith, begins.5, further))
+    LapsBetween-lapped permits capacity frames from laps at lap to h begins.0 begins.1 begins.2 (omega (arith, begins.3)) begins.4 (omega (arith, begins.5, further))
 
 -- the frames outside of them
 pub outside_read : (permits : List ℕ → Bool) (capacity : ℕ) (frames : List (List ℕ)) (from : ℕ) (laps : List Lap) (at : ℕ) (lapped : Option Lap) (begin to : ℕ) →
@@ -222,24 +149,6 @@ overrun_read : (laps : List Lap) (lapped : Option Lap) →
     sum_by (λ (lap : Lap). lap.overrun) laps + lap_overrun lapped ≡ sum_by (λ (lap : Lap). lap.overrun) (laps ++ option_to_list lapped)
 overrun_read laps None = omega (arith, ap (sum_by (λ (lap : Lap). lap.overrun)) (append-nil laps))
 overrun_read laps (Some lap) = omega (arith, sum_by-append (λ (lap : Lap). lap.overrun) laps (lap ∷ []), sum_by-cons (λ (lap : Lap). lap.overrun) lap [])
-
-read_ends : (permits : List ℕ → Bool) (capacity : ℕ) (frames : List (List ℕ)) (cursor : Cursor) (budget : ℕ) → cursor.next ≤ length frames →
-    (read_start capacity frames cursor ≤ read_end permits capacity frames cursor budget) × (read_end permits capacity frames cursor budget ≤ length frames)
-read_ends permits capacity frames cursor budget within =
-    let start : ℕ = read_start capacity frames cursor in
-    let bound : looked permits (min budget most_taken) (drop start frames) ≤ length frames - start =
-    omega (arith, looked-le permits (min budget most_taken) (drop start frames), length-drop start frames) in
-    let low : start ≤ length frames = omega arith in
-    (omega arith, omega (arith, bound, low))
-
--- what a read takes is what the filter permits of the frames from where it begins to where it ends
-pub read_frames_between : (permits : List ℕ → Bool) (capacity : ℕ) (frames : List (List ℕ)) (cursor : Cursor) (budget : ℕ) →
-    filter permits (between (read_start capacity frames cursor) (read_end permits capacity frames cursor budget) frames)
-    ≡ read_frames permits capacity frames cursor budget
-read_frames_between permits capacity frames cursor budget =
-    let start : ℕ = read_start capacity frames cursor in
-    let count : read_end permits capacity frames cursor budget - start ≡ looked permits (min budget most_taken) (drop start frames) = omega arith in
-    ap (λ (n : ℕ). filter permits (take n (drop start frames))) count ∙ filter-looked permits (min budget most_taken) (drop start frames)
 
 -- what a segment was sent grows by what the read takes
 pub kept-read : (permits : List ℕ → Bool) (capacity : ℕ) (frames : List (List ℕ)) (segment : Segment) (budget : ℕ) →

@@ -5,6 +5,7 @@ use Rattle.mount_ring.specs.declared.Lap.{Lap}
 use Rattle.mount_ring.specs.declared.ReadReport.{ReadReport}
 use Rattle.mount_ring.specs.declared.RingAnswer.{RingAnswer}
 use Rattle.mount_ring.specs.declared.RingAnswer.TheVariants.{Given, Taken, Released, At, Joined, Read}
+pub use Rattle.mount_ring.specs.Places.{lap_overrun}
 use Rattle.rover_cursor.specs.declared.segment.Segment.{Segment}
 
 -- a segment of this mountpoint that begins at this cursor
@@ -18,11 +19,6 @@ begun mount cursor = record {
   laps = [];
   cursor = cursor;
 }
-
--- the overrun of a lap, or 0 where there was none
-abbrev pub lap_overrun : Option Lap → ℕ
-lap_overrun None = 0
-lap_overrun (Some lap) = lap.overrun
 
 -- a segment after one more read
 abbrev pub read_on : ReadReport → Segment → Segment

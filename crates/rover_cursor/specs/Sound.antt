@@ -3,11 +3,8 @@
 use Rattle.std.specs.Prelude.{ℕ, ◌+◌, ◌-◌, ◌<◌, ◌≤◌, ◌≡◌, Bool, List, [], ◌∷◌, ◌++◌, length, take, drop}
 use Rattle.std.specs.List.{filter, count_by, sum_by}
 use Rattle.mount_ring.specs.declared.Lap.{Lap}
+pub use Rattle.mount_ring.specs.Places.{between}
 use Rattle.rover_cursor.specs.declared.segment.Segment.{Segment}
-
--- the frames at the places from `from` up to, not including, `to`
-abbrev pub between : ℕ → ℕ → List (List ℕ) → List (List ℕ)
-between from to published = take (to - from) (drop from published)
 
 -- the frames from one place to another that lie in none of these laps
 abbrev pub outside : ℕ → List Lap → ℕ → List (List ℕ) → List (List ℕ)
