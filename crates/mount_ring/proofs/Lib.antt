@@ -1,3 +1,5 @@
 pub mod PlainLemmas
 pub mod HistoryLemmas
 pub mod ReadLemmas
+pub mod TakingLemmas
+pub mod RingLemmas
