@@ -2,3 +2,5 @@ pub mod PlainLemmas
 pub mod HistoryLemmas
 pub mod ReadLemmas
 mod Rows
+pub mod TakingLemmas
+pub mod RingLemmas

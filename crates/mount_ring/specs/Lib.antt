@@ -2,3 +2,9 @@ pub mod Reads
 pub mod History
 pub mod Holding
 pub mod Places
+pub mod Shapes
+pub mod Watches
+pub mod Kept
+pub mod Starts
+pub mod StillFits
+pub mod KeptOnce

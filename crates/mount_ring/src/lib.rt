@@ -1,7 +1,7 @@
 //! The ring of a mountpoint: who holds it, and the last frames that were published there.
 //!
-//! This crate has the calls and answers of a ring, the plain ring that keeps every frame, and the
-//! laws of reads and of histories.
+//! `Ring` keeps its last frames alone and is an object of turns. `Plain` keeps every frame, and answers
+//! the same. The laws of reads and of histories stand beside them.
 #![tactic(auto)]
 
 mod call;
@@ -9,11 +9,17 @@ mod cursor;
 pub mod laws;
 mod outbox;
 mod plain;
+mod reading;
+mod ring;
+mod shape;
+mod watch;
 
 pub use call::{Holder, RingAnswer, RingCall};
 pub use cursor::{Cursor, Lap, ReadReport};
 pub use outbox::Outbox;
 pub use plain::Plain;
+pub use ring::Ring;
+pub use shape::RingShape;
 
 #[cfg(test)]
 mod tests;
