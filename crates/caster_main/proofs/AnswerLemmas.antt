@@ -1,6 +1,5 @@
 -- An answer stands on the words and on the bytes that came.
-use Rattle.std.proofs.Common.{◌≡◌, ℕ, ◌<◌, Bool, true, false, nat_lt, List, [], ◌∷◌, ◌++◌, length, Option, None, Some, Result, Ok, Err, inl, inr, refl, ap, sym, ◌∙◌, arith, length-append}
-use Rattle.std.proofs.lemmas.Bool.{cases_Bool}
+use Rattle.std.proofs.Common.{◌≡◌, ℕ, ◌<◌, true, nat_lt, List, [], ◌++◌, length, Option, None, Some, Err, refl, ap, sym, ◌∙◌, arith, length-append}
 use Rattle.std.proofs.lemmas.Bool.Decides.{nat_tests}
 use Rattle.std.proofs.lemmas.List.{append-nil}
 use Rattle.std.specs.Io.KnownBytes.{Consumes, IsAtEnd}
@@ -11,9 +10,9 @@ use Rattle.cast_io.specs.Pieces.{LosesMore}
 use Rattle.caster_main.specs.declared.answers.Answer.{Answer}
 use Rattle.caster_main.specs.declared.answers.Answer.TheVariants.{Report, Session, Usage, Long, ReadFault, Memory}
 use Rattle.caster_main.specs.Command.{AreBare, command_of}
-use Rattle.caster_main.specs.Outcome.{Exit, usage_exit, long_exit, exit_of_command, exit_of_script, outcome}
-use Rattle.caster_main.specs.Told.{Tells, HaveForm}
-use Rattle.caster_main.specs.Answers.{exit_of, GivesExit, IsOutcome, IsAnswer}
+use Rattle.caster_main.specs.Outcome.{usage_exit, long_exit, exit_of_command, exit_of_script, outcome}
+use Rattle.caster_main.specs.Told.{Tells}
+use Rattle.caster_main.specs.Answers.{GivesExit, IsOutcome, IsAnswer}
 
 -- the outcome of words that have been read
 pub outcome-command : (words : List (List ℕ)) (bytes : List ℕ) (read : Option ℕ) → read ≡ command_of words

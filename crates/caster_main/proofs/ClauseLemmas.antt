@@ -1,5 +1,5 @@
 -- What words, input and output say of a status and of what was written.
-use Rattle.std.proofs.Common.{◌≡◌, ℕ, ◌<◌, ◌⊎◌, List, [], ◌∷◌, length, Option, None, Some, Result, Ok, IsOk, inl, inr, refl, ap, sym, subst, ◌∙◌, arith}
+use Rattle.std.proofs.Common.{◌≡◌, ℕ, ◌⊎◌, List, Option, None, Some, Ok, inl, inr, refl, ap, sym, subst, ◌∙◌}
 use Rattle.std.specs.Io.KnownBytes.{Appends}
 use Rattle.session_script.specs.declared.Event.{Event}
 use Rattle.session_script.specs.declared.ScriptKind.TheVariants.{Bare}
@@ -10,8 +10,8 @@ use Rattle.cast_io.specs.Causes.{Rose}
 use Rattle.caster_main.specs.declared.answers.Answer.{Answer}
 use Rattle.caster_main.specs.declared.answers.Answer.TheVariants.{Report, Session, Usage, Long, ReadFault, Memory}
 use Rattle.caster_main.specs.Command.{AreBare, AreOfNoForm, command_of}
-use Rattle.caster_main.specs.Outcome.{Exit, usage_exit, exit_of_command, exit_of_script, outcome}
-use Rattle.caster_main.specs.Told.{Tells, EndsWith, FollowsOutcome, HaveForm, HaveInput, IsNoSession}
+use Rattle.caster_main.specs.Outcome.{Exit, usage_exit, exit_of_script, outcome}
+use Rattle.caster_main.specs.Told.{Tells, EndsWith, FollowsOutcome, HaveInput}
 use Rattle.caster_main.specs.Answers.{exit_of, IsOutcome, IsAnswer, Writes}
 use Rattle.caster_main.proofs.WordLemmas.{command_of-bare, bare-command_of}
 use Rattle.caster_main.proofs.AnswerLemmas.{outcome-command}

@@ -1,6 +1,6 @@
 -- The words `bare C` are those that are read as the capacity C.
-use Rattle.std.proofs.Common.{◌≡◌, ◌==◌, ℕ, suc, zero, ◌+◌, ◌^◌, ◌<◌, ◌≤◌, ◌⊎◌, Bool, true, false, not, ◌&&◌, List, [], ◌∷◌, length, get_or, codes, Option, None, Some, IfSome, IfNone, Result, Ok, Err, inl, inr, refl, ap, sym, subst, ◌∙◌, arith, rules, nat_le}
-use Rattle.std.proofs.lemmas.Bool.{and_parts, le-leb, leb-true, cases_Bool, false≢true}
+use Rattle.std.proofs.Common.{◌≡◌, ◌==◌, ℕ, suc, zero, ◌^◌, ◌<◌, ◌≤◌, ◌⊎◌, true, false, not, ◌&&◌, List, [], ◌∷◌, length, get_or, codes, Option, None, Some, IfSome, IfNone, Result, Ok, Err, inl, inr, refl, ap, sym, subst, ◌∙◌, arith, rules, nat_le}
+use Rattle.std.proofs.lemmas.Bool.{and_parts, le-leb, cases_Bool}
 use Rattle.std.proofs.lemmas.Bool.Decides.{nat_tests}
 use Rattle.std.proofs.lemmas.Fmt.{decimal_digit, digits_decimal, digits_value-decimal, decimal_nonempty, first_decimal, decimal-digits_value}
 use Rattle.std.proofs.lemmas.Str.Parse.{IsNumeralModel, numerals_by_fold, parse_digits}

@@ -1,5 +1,4 @@
 -- Each answer is the outcome of the words and of the bytes that came, or has its cause.
-use Rattle.std.proofs.Common.{◌≡◌}
 use Rattle.caster_main.proofs.AnswerLemmas.{usage_is_outcome, long_is_outcome, script_answer}
 use Rattle.caster_main.proofs.answers.answer_to.Goals as goal
 

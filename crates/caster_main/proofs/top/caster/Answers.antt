@@ -1,8 +1,8 @@
 -- The clauses of the call, from its answer and from how that was written.
-use Rattle.std.proofs.Common.{◌≡◌, ℕ, List, ◌<◌, ◌⊎◌, length, map, string_bytes, Some, Ok, IsOk, inl, inr, ◌∙◌, arith}
+use Rattle.std.proofs.Common.{◌<◌, length, IsOk, inl, inr, ◌∙◌, arith}
 use Rattle.session_script.specs.declared.ScriptKind.TheVariants.{Bare}
 use Rattle.session_script.specs.Script.{script_of}
-use Rattle.caster_main.specs.Told.{FollowsOutcome, HaveInput, IsNoSession}
+use Rattle.caster_main.specs.Told.{IsNoSession}
 use Rattle.caster_main.proofs.ScriptLemmas.{whole_script, faulty_script, long_script}
 use Rattle.caster_main.proofs.ClauseLemmas.{undisturbed_run, decided_run, have_input, no_form_run, script_run, usage_run}
 use Rattle.caster_main.proofs.top.caster.Goals as goal

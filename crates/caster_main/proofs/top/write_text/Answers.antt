@@ -1,5 +1,5 @@
 -- What was written before, and one more piece of it or its first part.
-use Rattle.std.proofs.Common.{◌≡◌, ℕ, ◌+◌, ◌-◌, ◌≤◌, length, take, arith, subst}
+use Rattle.std.proofs.Common.{◌≡◌, ℕ, ◌+◌, ◌-◌, take, arith, subst}
 use Rattle.std.specs.Io.KnownBytes.{Appends}
 use Rattle.caster_main.proofs.PieceLemmas.{piece_written, piece_torn}
 use Rattle.caster_main.proofs.top.write_text.Goals as goal

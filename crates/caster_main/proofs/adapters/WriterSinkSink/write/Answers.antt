@@ -1,5 +1,5 @@
 -- What was written before, and one more part of the rest.
-use Rattle.std.proofs.Common.{◌+◌, ◌-◌, ◌≤◌, length, drop, arith, length-take, length-drop}
+use Rattle.std.proofs.Common.{◌-◌, ◌≤◌, length, drop, arith, length-take, length-drop}
 use Rattle.caster_main.proofs.PieceLemmas.{part_written}
 use Rattle.caster_main.proofs.adapters.WriterSinkSink.write.Goals as goal
 
