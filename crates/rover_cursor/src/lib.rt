@@ -7,3 +7,6 @@ mod segment;
 
 pub use laps::Laps;
 pub use segment::Segment;
+
+#[cfg(test)]
+mod tests;
