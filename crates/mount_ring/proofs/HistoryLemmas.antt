@@ -199,10 +199,10 @@ Readable shape state cursor =
 pub readable_parts : (shape : Shape) (state : State) (cursor : Cursor) → is_readable shape state cursor ≡ true → Readable shape state cursor
 readable_parts shape state cursor h =
     let a : (nat_le cursor.next (length state.published) ≡ true)
-        × ((nat_lt cursor.filter (length shape.filters) && (cursor.passed == count_by (permits_at shape cursor.filter) (take cursor.next state.published))) ≡ true) =
+    × ((nat_lt cursor.filter (length shape.filters) && (cursor.passed == count_by (permits_at shape cursor.filter) (take cursor.next state.published))) ≡ true) =
     and_parts _ _ h in
     let b : (nat_lt cursor.filter (length shape.filters) ≡ true)
-        × ((cursor.passed == count_by (permits_at shape cursor.filter) (take cursor.next state.published)) ≡ true) =
+    × ((cursor.passed == count_by (permits_at shape cursor.filter) (take cursor.next state.published)) ≡ true) =
     and_parts _ _ a.1 in
     (leb-true cursor.next (length state.published) a.0, b.0, eqb-true cursor.passed _ b.1)
 

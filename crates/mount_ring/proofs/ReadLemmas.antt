@@ -197,8 +197,7 @@ reading_counted r =
     ap length (reading_takes r) ∙ length-filter r.permits (between (begin_of r) (end_of r) r.published) in
     let places : (r.cursor.next ≤ begin_of r) × (begin_of r ≤ end_of r) × (end_of r ≤ length r.published) = reading_ordered r in
     let both : count_by r.permits (between r.cursor.next (end_of r) r.published)
-        ≡ count_by r.permits (between r.cursor.next (begin_of r) r.published) + count_by r.permits (between (begin_of r) (end_of r) r.published) =
+    ≡ count_by r.permits (between r.cursor.next (begin_of r) r.published) + count_by r.permits (between (begin_of r) (end_of r) r.published) =
     ap (count_by r.permits) (sym (between-between r.cursor.next (begin_of r) (end_of r) r.published places.0 places.1))
     ∙ count_by-append r.permits (between r.cursor.next (begin_of r) r.published) (between (begin_of r) (end_of r) r.published) in
     omega (arith, over, took, both)
-

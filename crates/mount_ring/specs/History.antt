@@ -1,6 +1,6 @@
 -- The history of a mountpoint: a list of entries, each a caller's number and the call that it made.
--- Who holds the mountpoint, how many claims were given and which frames were published follow from it,
--- and so does the answer of each call at its own point.
+-- Who holds the mountpoint, how many claims were given and which frames were published follow from
+-- it, and so does the answer of each call at its own point.
 use Rattle.std.specs.Prelude.{ℕ, ◌+◌, ◌==◌, nat_le, nat_lt, Bool, true, false, cond, ◌&&◌, List, [], ◌∷◌, ◌++◌, length, take, Option, None, Some, unwrap_or, slice_get, fold}
 use Rattle.std.specs.List.{count_by}
 use Rattle.mount_ring.specs.declared.cursor.Cursor.{Cursor}
@@ -33,14 +33,18 @@ start = record { holder = None; claims = 0; published = [] }
 -- a claim is given where nobody holds the mountpoint, with the next number; else nothing changes
 abbrev pub after_claim : State → ℕ → Option Holder → State
 after_claim state me None =
-    record state { holder = Some (record { caller = me; claim = state.claims + 1 }); claims = state.claims + 1 }
+    record state {
+      holder = Some (record { caller = me; claim = state.claims + 1 });
+      claims = state.claims + 1;
+    }
 after_claim state me (Some holder) = state
 
 -- the state after one call
 abbrev pub after_call : State → ℕ → RingCall → State
 after_call state me Claim = after_claim state me state.holder
 after_call state me (Release claim) = record state { holder = None }
-after_call state me (Publish claim frame) = record state { published = state.published ++ frame ∷ [] }
+after_call state me (Publish claim frame) =
+    record state { published = state.published ++ frame ∷ [] }
 after_call state me (Join filter) = state
 after_call state me (Read cursor budget) = state
 
@@ -57,13 +61,14 @@ abbrev pub is_holder : Option Holder → ℕ → ℕ → Bool
 is_holder None me claim = false
 is_holder (Some holder) me claim = (holder.caller == me) && (holder.claim == claim)
 
--- whether a read from this cursor may be made: it stands within what was published, its filter is known, and it
--- counts the permitted frames before it
+-- whether a read from this cursor may be made: it stands within what was published, its filter is
+-- known, and it counts the permitted frames before it
 abbrev pub is_readable : Shape → State → Cursor → Bool
 is_readable shape state cursor =
     nat_le cursor.next (length state.published)
     && (nat_lt cursor.filter (length shape.filters)
-    && (cursor.passed == count_by (permits_at shape cursor.filter) (take cursor.next state.published)))
+    && (cursor.passed
+    == count_by (permits_at shape cursor.filter) (take cursor.next state.published)))
 
 -- whether a caller may make this call now
 abbrev pub fits : Shape → State → ℕ → RingCall → Bool
@@ -93,9 +98,11 @@ answer shape state (Release claim) = answers.Released
 answer shape state (Publish claim frame) = answers.At (length state.published)
 answer shape state (Join filter) = answers.Joined (joined shape state filter)
 answer shape state (Read cursor budget) =
-    answers.Read (read_report (permits_at shape cursor.filter) shape.capacity state.published cursor budget)
+    answers.Read
+    (read_report (permits_at shape cursor.filter) shape.capacity state.published cursor budget)
 
--- the frames that the reader's room holds after a call: those that a read took; other calls leave it as it was
+-- the frames that the reader's room holds after a call: those that a read took; other calls leave
+-- it as it was
 abbrev pub filled : Shape → State → RingCall → List (List ℕ) → List (List ℕ)
 filled shape state Claim room = room
 filled shape state (Release claim) room = room
@@ -113,7 +120,8 @@ with_own false answer later = later
 abbrev pub answers_from : Shape → ℕ → State → List (ℕ × RingCall) → List RingAnswer
 answers_from shape me state [] = []
 answers_from shape me state (entry ∷ entries) =
-    with_own (entry.0 == me) (answer shape state entry.1) (answers_from shape me (after state entry) entries)
+    with_own (entry.0 == me) (answer shape state entry.1)
+    (answers_from shape me (after state entry) entries)
 
 -- the answers to one caller's calls in a history
 abbrev pub own_answers : Shape → ℕ → List (ℕ × RingCall) → List RingAnswer

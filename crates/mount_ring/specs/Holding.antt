@@ -12,5 +12,10 @@ pub record PlainValue : Type 0 where
 abbrev pub whole_lap : ℕ → ℕ → ℕ → Option Lap
 whole_lap next kept_from published =
     if nat_lt next kept_from
-    then Some (record { from = next; to = kept_from; published = published; overrun = kept_from - next })
+    then Some (record {
+      from = next;
+      to = kept_from;
+      published = published;
+      overrun = kept_from - next;
+    })
     else None

@@ -10,7 +10,8 @@ pub enum RingCall {
     Release(u64),
     /// Publishes a frame under the claim of this number.
     Publish(u64, Frame),
-    /// Begins to read, through the filter of this number, behind the frames that were published so far.
+    /// Begins to read, through the filter of this number, behind the frames that were published so
+    /// far.
     Join(u32),
     /// Reads from the cursor on. A budget of more than 16 frames counts as 16.
     Read { cursor: Cursor, budget: u32 },

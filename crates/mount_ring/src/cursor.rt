@@ -12,8 +12,9 @@ pub struct Cursor {
 
 /// The frames that were overwritten before a reader came to them.
 ///
-/// They have the places from `from` up to, not including, `to`; `published` frames had been published
-/// by then, and `overrun` counts those of the lapped ones that the reader's filter permits.
+/// They have the places from `from` up to, not including, `to`; `published` frames had been
+/// published by then, and `overrun` counts those of the lapped ones that the reader's filter
+/// permits.
 #[derive(Clone, Copy, Debug, PartialEq, Eq)]
 pub struct Lap {
     pub from: u64,
@@ -22,8 +23,8 @@ pub struct Lap {
     pub overrun: u64,
 }
 
-/// What one read answers: the cursor to go on with, the lap where the cursor was lapped, and how many
-/// frames were taken, at most 16.
+/// What one read answers: the cursor to go on with, the lap where the cursor was lapped, and how
+/// many frames were taken, at most 16.
 #[derive(Clone, Copy, Debug, PartialEq, Eq)]
 pub struct ReadReport {
     pub cursor: Cursor,

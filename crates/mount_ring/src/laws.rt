@@ -50,7 +50,8 @@ pub fn lap_is_overwritten()
 /// ended are those that the lap passed over, followed by those that were taken, and their number is
 /// that of frames taken and overrun together.
 pub fn read_loses_none()
-    ensures in_order { (r : Reading) → filter r.permits (between r.cursor.next (end_of r) r.published)
+    ensures in_order { (r : Reading)
+        → filter r.permits (between r.cursor.next (end_of r) r.published)
         ≡ filter r.permits (between r.cursor.next (begin_of r) r.published) ++ taken_by r }
     ensures counted { (r : Reading) → (report_of r).taken + lap_overrun (report_of r).lapped
         ≡ count_by r.permits (between r.cursor.next (end_of r) r.published) }
@@ -64,7 +65,7 @@ pub fn cursor_may_be_read()
     ensures read { (shape : Shape) (state : State) (cursor : Cursor) (budget : ℕ)
         → IsTrue (is_readable shape state cursor)
         → IsTrue (is_readable shape state (read_report (permits_at shape cursor.filter)
-            shape.capacity state.published cursor budget).cursor) }
+        shape.capacity state.published cursor budget).cursor) }
     ensures later { (shape : Shape) (history more : List (ℕ × RingCall)) (cursor : Cursor)
         → IsTrue (is_readable shape (state_of history) cursor)
         → IsTrue (is_readable shape (state_of (history ++ more)) cursor) }
@@ -81,7 +82,7 @@ pub fn history_by_entries()
         → state_of (history ++ (me, call) ∷ []) ≡ after_call (state_of history) me call }
     ensures answers { (shape : Shape) (me : ℕ) (history more : List (ℕ × RingCall))
         → own_answers shape me (history ++ more)
-            ≡ own_answers shape me history ++ answers_from shape me (state_of history) more }
+        ≡ own_answers shape me history ++ answers_from shape me (state_of history) more }
 {}
 
 /// What was published are the frames of all Publish entries, in order: it only grows, and each
@@ -90,11 +91,13 @@ pub fn published_grows()
     ensures entries { (history : List (ℕ × RingCall))
         → (state_of history).published ≡ published_by history }
     ensures grows { (history more : List (ℕ × RingCall))
-        → (state_of (history ++ more)).published ≡ (state_of history).published ++ published_by more }
+        → (state_of (history ++ more)).published
+        ≡ (state_of history).published ++ published_by more }
     ensures place { (shape : Shape) (state : State) (me claim : ℕ) (frame : List ℕ)
-        → (answer shape state (RingCall.Publish claim frame) ≡ RingAnswer.At (length state.published))
+        → (answer shape state (RingCall.Publish claim frame)
+        ≡ RingAnswer.At (length state.published))
         × (slice_get (after_call state me (RingCall.Publish claim frame)).published
-            (length state.published) ≡ Some frame) }
+        (length state.published) ≡ Some frame) }
 {}
 
 /// Claims: one is given exactly where nobody holds the mountpoint, to the caller that asked, and
@@ -103,11 +106,11 @@ pub fn published_grows()
 pub fn claims_are_numbered()
     ensures given { (shape : Shape) (history : List (ℕ × RingCall))
         → (state_of history).holder ≡ None → answer shape (state_of history) RingCall.Claim
-            ≡ RingAnswer.Given (claims_given shape start history + 1) }
+        ≡ RingAnswer.Given (claims_given shape start history + 1) }
     ensures holds { (shape : Shape) (history : List (ℕ × RingCall)) (me : ℕ)
         → (state_of history).holder ≡ None
         → (after_call (state_of history) me RingCall.Claim).holder
-            ≡ Some (record { caller = me; claim = claims_given shape start history + 1 }) }
+        ≡ Some (record { caller = me; claim = claims_given shape start history + 1 }) }
     ensures taken { (shape : Shape) (state : State) (holder : Holder) → state.holder ≡ Some holder
         → answer shape state RingCall.Claim ≡ RingAnswer.Taken holder.caller holder.claim }
     ensures unchanged { (state : State) (me : ℕ) (holder : Holder) → state.holder ≡ Some holder

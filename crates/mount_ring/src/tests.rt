@@ -33,7 +33,14 @@ fn a_slow_reader_is_lapped(rt: HostRuntime) -> Result<(), Fail> {
     };
     assert_eq!(rt; report.lapped, Some(lap));
     assert_eq!(rt; report.taken, 2);
-    assert_eq!(rt; report.cursor, Cursor { next: 5, passed: 5, filter: 0 });
+    assert_eq!(rt;
+        report.cursor,
+        Cursor {
+            next: 5,
+            passed: 5,
+            filter: 0
+        }
+    );
     assert_eq!(rt; out.frames().len(), 2);
     assert_eq!(rt; out.frames()[0].bytes(), FRAME_B.as_slice());
     assert_eq!(rt; out.frames()[1].bytes(), FRAME_Z.as_slice());
@@ -82,7 +89,13 @@ fn a_full_ring_laps_nobody(rt: HostRuntime) -> Result<(), Fail> {
 fn claims_are_numbered_from_1(rt: HostRuntime) {
     let mut ring = Plain::new(rt.alloc(), 4);
     assert_eq!(rt; ring.claim(1), RingAnswer::Given(1));
-    assert_eq!(rt; ring.claim(2), RingAnswer::Taken { caller: 1, claim: 1 });
+    assert_eq!(rt;
+        ring.claim(2),
+        RingAnswer::Taken {
+            caller: 1,
+            claim: 1
+        }
+    );
     ring.release();
     assert_eq!(rt; ring.claim(2), RingAnswer::Given(2));
     assert_eq!(rt; ring.claims(), 2);

@@ -53,13 +53,12 @@ owed_round : (permits : List ℕ → Bool) (capacity from : ℕ) (course : Cours
 owed_round permits capacity from course round owed =
     let frames : List (List ℕ) = course.published ++ round.more in
     let sound : IsSound permits capacity frames course.segment =
-    IsSound-append permits capacity course.published round.more course.segment owed.0 in
-    (
+    IsSound-append permits capacity course.published round.more course.segment owed.0 in (
       IsSound-read permits capacity frames course.segment round.budget sound,
       owed.1,
       ap (λ l. l ++ read_frames permits capacity frames course.segment.cursor round.budget)
-      (owed.2 ∙ sym (kept-append permits capacity course.published round.more course.segment owed.0))
-      ∙ sym (kept-read permits capacity frames course.segment round.budget sound),
+          (owed.2 ∙ sym (kept-append permits capacity course.published round.more course.segment owed.0))
+          ∙ sym (kept-read permits capacity frames course.segment round.budget sound),
     )
 
 owed_rounds : (permits : List ℕ → Bool) (capacity from : ℕ) (course : Course) (rounds : List Round) →

@@ -1,4 +1,5 @@
--- The segments that a rover's answers give: joining begins one, and each read goes on with the last.
+-- The segments that a rover's answers give: joining begins one, and each read goes on with the
+-- last.
 use Rattle.std.specs.Prelude.{ℕ, ◌+◌, List, [], ◌∷◌, ◌++◌, fold, option_to_list}
 use Rattle.mount_ring.specs.declared.Cursor.{Cursor}
 use Rattle.mount_ring.specs.declared.ReadReport.{ReadReport}

@@ -16,11 +16,11 @@ use mount_ring::{Cursor, Lap};
 pub fn segment_stays_sound()
     ensures begun { (shape : Shape) (state : State) (mount number : ℕ)
         → IsSound (permits_at shape number) shape.capacity state.published
-            (begun mount (joined shape state number)) }
+        (begun mount (joined shape state number)) }
     ensures read { (permits : List ℕ → Bool) (capacity : ℕ) (published : List (List ℕ))
         (segment : Segment) (budget : ℕ) → IsSound permits capacity published segment
         → IsSound permits capacity published
-            (read_on (read_report permits capacity published segment.cursor budget) segment) }
+        (read_on (read_report permits capacity published segment.cursor budget) segment) }
     ensures later { (permits : List ℕ → Bool) (capacity : ℕ) (published more : List (List ℕ))
         (segment : Segment) → IsSound permits capacity published segment
         → IsSound permits capacity (published ++ more) segment }
@@ -36,7 +36,7 @@ pub fn segment_loses_none()
     ensures counted { (permits : List ℕ → Bool) (capacity : ℕ) (published : List (List ℕ))
         (segment : Segment) → IsSound permits capacity published segment
         → segment.sent + segment.overrun
-            ≡ count_by permits (between segment.from segment.to published) }
+        ≡ count_by permits (between segment.from segment.to published) }
     ensures ordered { (permits : List ℕ → Bool) (capacity : ℕ) (published : List (List ℕ))
         (segment : Segment) → IsSound permits capacity published segment
         → (segment.from ≤ segment.to) × (segment.to ≤ length published) }
@@ -50,9 +50,9 @@ pub fn segment_is_sent_in_order()
     ensures read { (permits : List ℕ → Bool) (capacity : ℕ) (published : List (List ℕ))
         (segment : Segment) (budget : ℕ) → IsSound permits capacity published segment
         → kept permits published
-            (read_on (read_report permits capacity published segment.cursor budget) segment)
+        (read_on (read_report permits capacity published segment.cursor budget) segment)
         ≡ kept permits published segment
-            ++ read_frames permits capacity published segment.cursor budget }
+        ++ read_frames permits capacity published segment.cursor budget }
     ensures later { (permits : List ℕ → Bool) (capacity : ℕ) (published more : List (List ℕ))
         (segment : Segment) → IsSound permits capacity published segment
         → kept permits (published ++ more) segment ≡ kept permits published segment }
@@ -76,31 +76,32 @@ pub fn laps_are_overwritten()
     ensures overwritten { (permits : List ℕ → Bool) (capacity : ℕ) (published : List (List ℕ))
         (segment : Segment) → IsSound permits capacity published segment
         → All (λ (lap : Lap). (lap.to + capacity ≡ lap.published)
-            × (lap.published ≤ length published)) segment.laps }
+        × (lap.published ≤ length published)) segment.laps }
     ensures overrun { (permits : List ℕ → Bool) (capacity : ℕ) (published : List (List ℕ))
         (segment : Segment) → IsSound permits capacity published segment
         → All (λ (lap : Lap). lap.overrun ≡ count_by permits (between lap.from lap.to published))
-            segment.laps }
+        segment.laps }
 {}
 
 /// A rover that joins and then reads again and again, while more is published before each read: its
-/// segment covers the frames from its joining on, it was sent the permitted ones that lie in no lap,
-/// in order, and with those counted as overrun that is every permitted one up to where it ended.
+/// segment covers the frames from its joining on, it was sent the permitted ones that lie in no
+/// lap, in order, and with those counted as overrun that is every permitted one up to where it
+/// ended.
 pub fn rover_is_sent_what_it_is_owed()
     ensures sound { (shape : Shape) (state : State) (mount number : ℕ) (rounds : List Round)
         → IsSound (permits_at shape number) shape.capacity
-            (course_of shape state mount number rounds).published
-            (course_of shape state mount number rounds).segment }
+        (course_of shape state mount number rounds).published
+        (course_of shape state mount number rounds).segment }
     ensures from { (shape : Shape) (state : State) (mount number : ℕ) (rounds : List Round)
         → (course_of shape state mount number rounds).segment.from ≡ length state.published }
     ensures taken { (shape : Shape) (state : State) (mount number : ℕ) (rounds : List Round)
         → (course_of shape state mount number rounds).taken
-            ≡ kept (permits_at shape number) (course_of shape state mount number rounds).published
-                (course_of shape state mount number rounds).segment }
+        ≡ kept (permits_at shape number) (course_of shape state mount number rounds).published
+        (course_of shape state mount number rounds).segment }
     ensures counted { (shape : Shape) (state : State) (mount number : ℕ) (rounds : List Round)
         → length (course_of shape state mount number rounds).taken
-            + (course_of shape state mount number rounds).segment.overrun
+        + (course_of shape state mount number rounds).segment.overrun
         ≡ count_by (permits_at shape number)
-            (between (length state.published) (course_of shape state mount number rounds).segment.to
-                (course_of shape state mount number rounds).published) }
+        (between (length state.published) (course_of shape state mount number rounds).segment.to
+        (course_of shape state mount number rounds).published) }
 {}

@@ -62,7 +62,14 @@ fn a_lapped_rover_counts_its_overrun(rt: HostRuntime) -> Result<(), Fail> {
     };
     assert_eq!(rt; segment.laps.as_slice(), [lap].as_slice());
     assert_eq!(rt; segment.mount, 7);
-    assert_eq!(rt; segment.cursor, Cursor { next: 5, passed: 5, filter: 0 });
+    assert_eq!(rt;
+        segment.cursor,
+        Cursor {
+            next: 5,
+            passed: 5,
+            filter: 0
+        }
+    );
     Ok(())
 }
 

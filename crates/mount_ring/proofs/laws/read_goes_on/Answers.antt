@@ -9,4 +9,3 @@ returns-clause-to_the_end c = reading_all
 
 pub returns-clause-no_further : goal.returns-clause-no_further
 returns-clause-no_further c = reading_least
-
