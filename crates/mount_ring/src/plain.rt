@@ -130,8 +130,9 @@ impl Plain {
 
     /// Reads from a cursor that stands within what was published, into the outbox.
     ///
-    /// It begins at the cursor, or at the oldest kept frame where the cursor was lapped, and takes as
-    /// many frames as there are, at most `budget` and at most 16. The outbox holds these afterwards.
+    /// It begins at the cursor, or at the oldest kept frame where the cursor was lapped, and takes
+    /// as many frames as there are, at most `budget` and at most 16. The outbox holds these
+    /// afterwards.
     pub fn read(&self, cursor: Cursor, budget: u32, out: &mut Outbox) -> ReadReport
         requires within { cursor.next ≤ length self.now.state.published }
         ensures report { result
