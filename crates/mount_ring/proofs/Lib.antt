@@ -3,3 +3,4 @@ pub mod HistoryLemmas
 pub mod ReadLemmas
 pub mod TakingLemmas
 pub mod RingLemmas
+pub mod RoundLemmas

@@ -1,7 +1,7 @@
 //! The ring of a mountpoint: who holds it, and the last frames that were published there.
 //!
-//! `Ring` keeps its last frames alone and is an object of turns. `Plain` keeps every frame, and answers
-//! the same.
+//! `Ring` keeps its last frames alone and is an object of turns. `Plain` keeps every frame, and
+//! answers the same.
 #![tactic(auto)]
 
 mod call;
