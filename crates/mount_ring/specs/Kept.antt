@@ -14,7 +14,10 @@ filters_of watches = map (λ (watch : Watch). watch.filter) watches
 
 -- what no call changes
 abbrev pub ring_shape : Ring → RingShape
-ring_shape ring = record { capacity = ring.frames.capacity; filters = filters_of ring.watches.items }
+ring_shape ring = record {
+  capacity = ring.frames.capacity;
+  filters = filters_of ring.watches.items;
+}
 
 -- The ring keeps what this state says: the last frames, the counts for each filter, and the
 -- numbers.
