@@ -21,10 +21,12 @@ pub fn take_turn(
     requires { IsSound every_frame ring.now.capacity ring.now.state.published segment.old }
     ensures segment { OnOk result (segment.new
         ≡ read_on
-        (read_report every_frame ring.now.capacity ring.now.state.published segment.old.cursor budget)
+        (read_report every_frame ring.now.capacity ring.now.state.published
+        segment.old.cursor budget)
         segment.old) }
     ensures body { OnOk result (body.new ≡ body.old ++ concat
-        (read_frames every_frame ring.now.capacity ring.now.state.published segment.old.cursor budget)) }
+        (read_frames every_frame ring.now.capacity ring.now.state.published
+        segment.old.cursor budget)) }
 {
     let report = ring.read(segment.cursor, budget, outbox);
     segment.follow(report)?;

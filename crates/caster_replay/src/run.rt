@@ -36,7 +36,8 @@ fn place_of(sessions: &[Session], number: u32) -> usize
 
 /// Whether the connection of this number stands at this place.
 fn stands_at(sessions: &[Session], place: usize, number: u32) -> bool
-    ensures { IsTrue result ↔ ((place < length sessions.now) × ((d : Session) → (slice_index_or sessions.now place d).number ≡ number)) }
+    ensures { IsTrue result ↔ ((place < length sessions.now)
+        × ((d : Session) → (slice_index_or sessions.now place d).number ≡ number)) }
 {
     place < sessions.len() && sessions[place].number == number
 }
@@ -68,7 +69,8 @@ fn feed(
     ensures ok { (w : World) → IsWell (bare ring.old.capacity) w
         → Stands ring.old.capacity w sessions.old.items ring.old
         → OnOk result (Stands ring.old.capacity
-        (happens (bare ring.old.capacity) w number (arrives bytes.now)) sessions.new.items ring.new) }
+        (happens (bare ring.old.capacity) w number (arrives bytes.now))
+        sessions.new.items ring.new) }
 {
     let place = place_of(sessions, number);
     if !stands_at(sessions, place, number) {
@@ -92,7 +94,8 @@ fn turn(
     ensures ok { (w : World) → IsWell (bare ring.now.capacity) w
         → Stands ring.now.capacity w sessions.old.items ring.now
         → OnOk result (Stands ring.now.capacity
-        (happens (bare ring.now.capacity) w number (takes_turn budget)) sessions.new.items ring.now) }
+        (happens (bare ring.now.capacity) w number (takes_turn budget))
+        sessions.new.items ring.now) }
 {
     let place = place_of(sessions, number);
     if !stands_at(sessions, place, number) {
@@ -175,7 +178,8 @@ impl Run {
         ensures ok { (w : World) → IsWell (bare self.old.ring.capacity) w
             → Stands self.old.ring.capacity w self.old.sessions.items self.old.ring
             → OnOk result (Stands self.old.ring.capacity
-            (after_event (bare self.old.ring.capacity) w event.now) self.new.sessions.items self.new.ring) }
+            (after_event (bare self.old.ring.capacity) w event.now)
+            self.new.sessions.items self.new.ring) }
     {
         let sessions = &mut self.sessions;
         let ring = &mut self.ring;
@@ -211,7 +215,8 @@ impl Run {
         ensures closed { (w : World) → IsWell (bare self.old.ring.capacity) w
             → Stands self.old.ring.capacity w self.old.sessions.items self.old.ring
             → Stands self.old.ring.capacity
-            (closes (bare self.old.ring.capacity) w (map (λ (c : Connection). c.number) w.connections))
+            (closes (bare self.old.ring.capacity) w
+            (map (λ (c : Connection). c.number) w.connections))
             self.new.sessions.items self.new.ring
             × All (λ (s : Session). IsSome s.ending) self.new.sessions.items }
     {

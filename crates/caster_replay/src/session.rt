@@ -33,7 +33,8 @@ pub struct Session {
 /// A source opens: it claims the mountpoint.
 pub fn open_source(number: u32, ring: &mut Plain) -> Session
     requires { ring.old.state.claims + 1 < 2 ^ 64 }
-    ensures session { result ≡ opened_source number (claim_answer ring.old.state ring.old.state.holder) }
+    ensures session { result
+        ≡ opened_source number (claim_answer ring.old.state ring.old.state.holder) }
     ensures ring { ring.new ≡ after_claiming number ring.old }
 {
     match ring.claim(number) {

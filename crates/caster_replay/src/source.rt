@@ -25,7 +25,8 @@ pub fn publish_bytes(cutter: &mut Cutter, ring: &mut Plain, bytes: &[u8]) -> Res
     requires few { cutter.old.junk + length cutter.old.bytes + length bytes.now < 2 ^ 63 }
     ensures cutter { OnOk result (cutter.new ≡ after_cut (with_bytes cutter.old bytes.now)) }
     ensures waits { OnOk result (IsWaiting cutter.new.bytes) }
-    ensures ring { OnOk result (ring.new ≡ with_published ring.old (cut (cutter.old.bytes ++ bytes.now)).frames) }
+    ensures ring { OnOk result (ring.new
+        ≡ with_published ring.old (cut (cutter.old.bytes ++ bytes.now)).frames) }
 {
     for byte in bytes {
         cutter.push(*byte);

@@ -26,7 +26,8 @@ fn push_words(out: &mut Vec<u8>, words: &[u8], numbers: &[u128]) -> Result<(), A
 
 /// Appends a line of words and numbers.
 fn push_line(out: &mut Vec<u8>, words: &[u8], numbers: &[u128]) -> Result<(), AllocError>
-    ensures { OnOk result (out.new.items ≡ out.old.items ++ line (words.now ∷ map decimal numbers.now)) }
+    ensures { OnOk result (out.new.items
+        ≡ out.old.items ++ line (words.now ∷ map decimal numbers.now)) }
 {
     push_words(out, words, numbers)?;
     out.extend_from_slice(b"\n")?;
@@ -86,7 +87,8 @@ fn push_segment(out: &mut Vec<u8>, segment: &Segment) -> Result<(), AllocError>
 
 /// Appends the line of the bytes that a connection was sent.
 fn push_bytes(alloc: Global, out: &mut Vec<u8>, bytes: &[u8]) -> Result<(), AllocError>
-    ensures { OnOk result (out.new.items ≡ out.old.items ++ line (codes "bytes" ∷ hex_or_dash bytes.now ∷ [])) }
+    ensures { OnOk result (out.new.items
+        ≡ out.old.items ++ line (codes "bytes" ∷ hex_or_dash bytes.now ∷ [])) }
 {
     if bytes.is_empty() {
         return push_line(out, b"bytes -", &[]);
@@ -205,7 +207,8 @@ pub fn report_text(alloc: Global, sessions: &[Session], ring: &Plain) -> Result<
 #[tactic(auto, unfolding(crate::specs::Report::closing_lines))]
 /// Appends the mountpoint's line, and the total of all rovers.
 fn push_closing(out: &mut Vec<u8>, sessions: &[Session], ring: &Plain) -> Result<(), AllocError>
-    ensures sums { OnOk result (out.new.items ≡ out.old.items ++ sums_text sessions.now ring.now.state) }
+    ensures sums { OnOk result (out.new.items
+        ≡ out.old.items ++ sums_text sessions.now ring.now.state) }
     ensures few { OnOk result (length ring.now.state.published < 2 ^ 64) }
 {
     push_line(

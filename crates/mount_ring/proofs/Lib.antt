@@ -4,3 +4,4 @@ pub mod ReadLemmas
 mod Rows
 pub mod TakingLemmas
 pub mod RingLemmas
+pub mod RoundLemmas

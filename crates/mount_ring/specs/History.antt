@@ -1,6 +1,6 @@
--- The history of a mountpoint: a list of entries, each a caller's number and the call that it
--- made. Who holds the mountpoint, how many claims were given and which frames were published
--- follow from it, and so does the answer of each call at its own point.
+-- The history of a mountpoint: a list of entries, each a caller's number and the call that it made.
+-- Who holds the mountpoint, how many claims were given and which frames were published follow from
+-- it, and so does the answer of each call at its own point.
 use Rattle.std.specs.Prelude.{ℕ, ◌+◌, ◌==◌, nat_le, nat_lt, Bool, true, false, cond, ◌&&◌, List, [], ◌∷◌, ◌++◌, length, take, Option, None, Some, unwrap_or, slice_get, fold}
 use Rattle.std.specs.List.{count_by}
 use Rattle.mount_ring.specs.declared.cursor.Cursor.{Cursor}

@@ -14,9 +14,13 @@ filters_of watches = map (λ (watch : Watch). watch.filter) watches
 
 -- what no call changes
 abbrev pub ring_shape : Ring → RingShape
-ring_shape ring = record { capacity = ring.frames.capacity; filters = filters_of ring.watches.items }
+ring_shape ring = record {
+  capacity = ring.frames.capacity;
+  filters = filters_of ring.watches.items;
+}
 
--- The ring keeps what this state says: the last frames, the counts for each filter, and the numbers.
+-- The ring keeps what this state says: the last frames, the counts for each filter, and the
+-- numbers.
 pub record Keeps (ring : Ring) (state : State) : Type 0 where
   pub frames : ring.frames.items ≡ keep_last ring.frames.capacity state.published
   pub watches : ring.watches.items

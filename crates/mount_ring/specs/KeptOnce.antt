@@ -23,4 +23,9 @@ watch_code =
 
 pub kept_once : (ring : Ring) (state : State) → IsProp (Keeps ring state)
 kept_once ring state =
-    hlevel (Coded-set (coded_list (coded_list coded_ℕ)), Coded-set (coded_list watch_code), Coded-set coded_ℕ, Coded-set (coded_option holder_code))
+    hlevel (
+      Coded-set (coded_list (coded_list coded_ℕ)),
+      Coded-set (coded_list watch_code),
+      Coded-set coded_ℕ,
+      Coded-set (coded_option holder_code),
+    )

@@ -1,4 +1,5 @@
--- Reads and histories in the words of frames and their places. The laws say by these what the answers owe.
+-- Reads and histories in the words of frames and their places. The laws say by these what the
+-- answers owe.
 use Rattle.std.specs.Prelude.{ℕ, ◌+◌, ◌-◌, ◌≤◌, Bool, true, ◌&&◌, List, [], ◌∷◌, ◌++◌, length, take, drop, Option, None, Some}
 use Rattle.mount_ring.specs.declared.cursor.Cursor.{Cursor}
 use Rattle.mount_ring.specs.declared.cursor.Lap.{Lap}
@@ -14,8 +15,8 @@ use Rattle.mount_ring.specs.History.{Shape, State, after, answer, fits}
 abbrev pub between : ℕ → ℕ → List (List ℕ) → List (List ℕ)
 between from to published = take (to - from) (drop from published)
 
--- a read with this filter at a ring of this capacity where these frames were published: from a cursor within
--- them, with this budget
+-- a read with this filter at a ring of this capacity where these frames were published: from a
+-- cursor within them, with this budget
 pub record Reading : Type 0 where
   pub permits : List ℕ → Bool
   pub capacity : ℕ
@@ -26,11 +27,13 @@ pub record Reading : Type 0 where
 
 -- what it answers
 abbrev pub report_of : Reading → ReadReport
-report_of reading = read_report reading.permits reading.capacity reading.published reading.cursor reading.budget
+report_of reading =
+    read_report reading.permits reading.capacity reading.published reading.cursor reading.budget
 
 -- the frames that it takes
 abbrev pub taken_by : Reading → List (List ℕ)
-taken_by reading = read_frames reading.permits reading.capacity reading.published reading.cursor reading.budget
+taken_by reading =
+    read_frames reading.permits reading.capacity reading.published reading.cursor reading.budget
 
 -- the place behind a lap, or this place where there was none
 abbrev pub behind_lap : ℕ → Option Lap → ℕ
@@ -78,7 +81,8 @@ claims_given shape state [] = 0
 claims_given shape state (entry ∷ entries) =
     gives (answer shape state entry.1) + claims_given shape (after state entry) entries
 
--- whether each of these entries is a call that its caller may make at that point, from this state on
+-- whether each of these entries is a call that its caller may make at that point, from this state
+-- on
 abbrev pub are_fit : Shape → State → List (ℕ × RingCall) → Bool
 are_fit shape state [] = true
 are_fit shape state (entry ∷ entries) =

@@ -44,9 +44,8 @@ read_frames permits capacity published cursor budget =
     take (min budget most_taken)
     (filter permits (drop (read_start capacity published cursor) published))
 
--- the lap of a cursor that stood before the oldest kept frame: from its place to that frame's,
--- with the number of frames published by then, and the permitted ones among those that were
--- overwritten
+-- the lap of a cursor that stood before the oldest kept frame: from its place to that frame's, with
+-- the number of frames published by then, and the permitted ones among those that were overwritten
 abbrev pub read_lap : (List ℕ → Bool) → ℕ → List (List ℕ) → Cursor → Option Lap
 read_lap permits capacity published cursor =
     if nat_lt cursor.next (oldest capacity published)

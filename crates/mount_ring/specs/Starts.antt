@@ -8,7 +8,12 @@ use Rattle.mount_ring.specs.declared.reading.ReadStart.{ReadStart}
 abbrev pub lap_found : Cursor → ℕ → ℕ → ℕ → Option Lap
 lap_found cursor dropped kept_from published =
     if nat_lt cursor.next kept_from
-    then Some (record { from = cursor.next; to = kept_from; published = published; overrun = dropped - cursor.passed })
+    then Some (record {
+      from = cursor.next;
+      to = kept_from;
+      published = published;
+      overrun = dropped - cursor.passed;
+    })
     else None
 
 -- the place, the permitted frames before it, and the lap

@@ -1,5 +1,5 @@
--- What a ring counts for one of its filters: the permitted frames that were published, and those of them
--- that it no longer keeps.
+-- What a ring counts for one of its filters: the permitted frames that were published, and those
+-- of them that it no longer keeps.
 use Rattle.std.specs.Prelude.{ℕ, ◌+◌, ◌-◌, ◌^◌, min, List, [], ◌∷◌, take, Option}
 use Rattle.std.specs.Option.{option_to_list}
 use Rattle.type_filter.specs.Permitted.{FilterValue, count}

@@ -50,7 +50,8 @@ pub fn lap_is_overwritten()
 /// ended are those that the lap passed over, followed by those that were taken, and their number is
 /// that of frames taken and overrun together.
 pub fn read_loses_none()
-    ensures in_order { (r : Reading) → filter r.permits (between r.cursor.next (end_of r) r.published)
+    ensures in_order { (r : Reading)
+        → filter r.permits (between r.cursor.next (end_of r) r.published)
         ≡ filter r.permits (between r.cursor.next (begin_of r) r.published) ++ taken_by r }
     ensures counted { (r : Reading) → (report_of r).taken + lap_overrun (report_of r).lapped
         ≡ count_by r.permits (between r.cursor.next (end_of r) r.published) }
@@ -90,9 +91,11 @@ pub fn published_grows()
     ensures entries { (history : List (ℕ × RingCall))
         → (state_of history).published ≡ published_by history }
     ensures grows { (history more : List (ℕ × RingCall))
-        → (state_of (history ++ more)).published ≡ (state_of history).published ++ published_by more }
+        → (state_of (history ++ more)).published
+        ≡ (state_of history).published ++ published_by more }
     ensures place { (shape : Shape) (state : State) (me claim : ℕ) (frame : List ℕ)
-        → (answer shape state (RingCall.Publish claim frame) ≡ RingAnswer.At (length state.published))
+        → (answer shape state (RingCall.Publish claim frame)
+        ≡ RingAnswer.At (length state.published))
         × (slice_get (after_call state me (RingCall.Publish claim frame)).published
         (length state.published) ≡ Some frame) }
 {}

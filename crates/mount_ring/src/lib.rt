@@ -1,7 +1,7 @@
 //! The ring of a mountpoint: who holds it, and the last frames that were published there.
 //!
-//! `Ring` keeps its last frames alone and is an object of turns. `Plain` keeps every frame, and answers
-//! the same. The laws of reads and of histories stand beside them.
+//! `Ring` keeps its last frames alone and is an object of turns. `Plain` keeps every frame, and
+//! answers the same. The laws of reads and of histories stand beside them.
 #![tactic(auto)]
 
 mod call;

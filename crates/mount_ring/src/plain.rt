@@ -38,7 +38,7 @@ impl Model for Plain {
 }
 
 impl Plain {
-    /// A ring of this capacity, 1 to 4,096 frames, on which no call was made.
+    /// A ring of this capacity, 1 to 4,096 frames, on which no call was made. Takes no memory yet.
     pub fn new(alloc: Global, capacity: u32) -> Self
         requires capacity { (1 ≤ capacity) × (capacity ≤ 4096) }
         ensures capacity { result.capacity ≡ capacity }
@@ -52,7 +52,8 @@ impl Plain {
         }
     }
 
-    /// Claims the mountpoint for a caller: given with the next number where nobody holds it.
+    /// Claims the mountpoint for a caller: given, with the next number, where nobody holds it. Else
+    /// the answer names the holder and its claim, and nothing changes.
     pub fn claim(&mut self, me: u32) -> RingAnswer
         requires { self.old.state.claims + 1 < 2 ^ 64 }
         ensures capacity { self.new.capacity ≡ self.old.capacity }
@@ -127,11 +128,17 @@ impl Plain {
         }
     }
 
-    /// Reads from a cursor with a budget, of which at most 16 counts, into the outbox.
+    /// Reads from a cursor that stands within what was published, into the outbox.
+    ///
+    /// It begins at the cursor, or at the oldest kept frame where the cursor was lapped, and takes
+    /// as many frames as there are, at most `budget` and at most 16. The outbox holds these
+    /// afterwards.
     pub fn read(&self, cursor: Cursor, budget: u32, out: &mut Outbox) -> ReadReport
         requires within { cursor.next ≤ length self.now.state.published }
-        ensures report { result ≡ read_report every_frame self.now.capacity self.now.state.published cursor budget }
-        ensures taken { out.new ≡ read_frames every_frame self.now.capacity self.now.state.published cursor budget }
+        ensures report { result
+            ≡ read_report every_frame self.now.capacity self.now.state.published cursor budget }
+        ensures taken { out.new
+            ≡ read_frames every_frame self.now.capacity self.now.state.published cursor budget }
         ensures few { length self.now.state.published < 2 ^ 64 }
     {
         read_all_permitted(&self.frames, self.capacity as usize, cursor, budget, out)

@@ -12,6 +12,8 @@ use turn_log::Played;
 use type_filter::Filters;
 
 mod playing;
+#[cfg(test)]
+mod tests;
 
 /// The ring of a mountpoint: who holds it, and the last frames that were published there.
 ///

@@ -1,5 +1,6 @@
 -- A rover that reads again and again, while more is published.
 use Rattle.std.specs.Prelude.{ℕ, Bool, List, [], ◌++◌, fold}
+use Rattle.mount_ring.specs.declared.Cursor.{Cursor}
 use Rattle.mount_ring.specs.Reads.{read_report, read_frames}
 use Rattle.mount_ring.specs.History.{Shape, State, permits_at, joined}
 use Rattle.rover_cursor.specs.declared.segment.Segment.{Segment}
@@ -18,11 +19,14 @@ pub record Course : Type 0 where
 
 -- after one more round at a ring of this capacity
 abbrev pub after_round : (List ℕ → Bool) → ℕ → Course → Round → Course
-after_round permits capacity course round = record {
-  published = course.published ++ round.more;
-  segment = read_on (read_report permits capacity (course.published ++ round.more) course.segment.cursor round.budget) course.segment;
-  taken = course.taken ++ read_frames permits capacity (course.published ++ round.more) course.segment.cursor round.budget;
-}
+after_round permits capacity course round =
+    let published : List (List ℕ) = course.published ++ round.more in
+    let cursor : Cursor = course.segment.cursor in
+    record {
+      published = published;
+      segment = read_on (read_report permits capacity published cursor round.budget) course.segment;
+      taken = course.taken ++ read_frames permits capacity published cursor round.budget;
+    }
 
 -- when a rover joins, through the filter of this number
 abbrev pub course_begun : Shape → State → ℕ → ℕ → Course
@@ -35,4 +39,5 @@ course_begun shape state mount number = record {
 -- from its joining on, over all these rounds
 abbrev pub course_of : Shape → State → ℕ → ℕ → List Round → Course
 course_of shape state mount number rounds =
-    fold (after_round (permits_at shape number) shape.capacity) (course_begun shape state mount number) rounds
+    fold (after_round (permits_at shape number) shape.capacity)
+    (course_begun shape state mount number) rounds

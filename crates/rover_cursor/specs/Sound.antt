@@ -18,9 +18,9 @@ abbrev pub kept : (List ℕ → Bool) → List (List ℕ) → Segment → List (
 kept permits published segment =
     filter permits (outside segment.from segment.laps segment.to published)
 
--- the laps lie between two places, in increasing order, none empty, none over another. Each ends
--- at the oldest frame that a ring of this capacity kept when `published` frames were there, and
--- counts the permitted frames in it
+-- the laps lie between two places, in increasing order, none empty, none over another. Each ends at
+-- the oldest frame that a ring of this capacity kept when `published` frames were there, and counts
+-- the permitted frames in it
 abbrev pub LapsBetween : (List ℕ → Bool) → ℕ → List (List ℕ) → ℕ → List Lap → ℕ → Type 0
 LapsBetween permits capacity published from [] to = from ≤ to
 LapsBetween permits capacity published from (lap ∷ laps) to =
@@ -31,8 +31,8 @@ LapsBetween permits capacity published from (lap ∷ laps) to =
     × (lap.overrun ≡ count_by permits (between lap.from lap.to published))
     × LapsBetween permits capacity published lap.to laps to
 
--- what holds of a segment at a ring of this capacity where these frames were published, and goes
--- on to hold when more are
+-- what holds of a segment at a ring of this capacity where these frames were published, and goes on
+-- to hold when more are
 pub record IsSound (permits : List ℕ → Bool) (capacity : ℕ) (published : List (List ℕ))
     (segment : Segment) : Type 0 where
   pub within : segment.to ≤ length published

@@ -84,8 +84,9 @@ pub fn laps_are_overwritten()
 {}
 
 /// A rover that joins and then reads again and again, while more is published before each read: its
-/// segment covers the frames from its joining on, it was sent the permitted ones that lie in no lap,
-/// in order, and with those counted as overrun that is every permitted one up to where it ended.
+/// segment covers the frames from its joining on, it was sent the permitted ones that lie in no
+/// lap, in order, and with those counted as overrun that is every permitted one up to where it
+/// ended.
 pub fn rover_is_sent_what_it_is_owed()
     ensures sound { (shape : Shape) (state : State) (mount number : ℕ) (rounds : List Round)
         → IsSound (permits_at shape number) shape.capacity

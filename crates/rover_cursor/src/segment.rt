@@ -7,9 +7,9 @@ use std::alloc::{AllocError, Global};
 /// What a rover read of one mountpoint from its joining on.
 ///
 /// `mount` is the mountpoint's number. The segment covers the published frames at the places from
-/// `from` up to, not including, `to`: `sent` of them were sent, `overrun` counts the permitted
-/// ones that the ring had overwritten, and each of those lies in one of `laps`. `cursor` is where
-/// the next read begins.
+/// `from` up to, not including, `to`: `sent` of them were sent, `overrun` counts the permitted ones
+/// that the ring had overwritten, and each of those lies in one of `laps`. `cursor` is where the
+/// next read begins.
 #[derive(Debug, Drop)]
 pub struct Segment {
     pub mount: u32,
