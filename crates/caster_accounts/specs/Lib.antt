@@ -1,0 +1,5 @@
+pub mod History
+pub mod Sums
+pub mod Kept
+pub mod KeptOnce
+pub mod StillFits
