@@ -1,10 +1,10 @@
 -- What one more entry changes of the accounts that a book keeps.
-use Rattle.std.proofs.Common.{◌≡◌, ℕ, zero, suc, ◌⊎◌, inl, inr, ◌+◌, ◌-◌, ◌*◌, ◌^◌, ◌<◌, ◌≤◌, Bool, true, false, List, [], ◌∷◌, ◌++◌, length, map, get_or, set, refl, ap, subst, ◌∙◌, sym, arith, length-append, Some}
+use Rattle.std.proofs.Common.{◌≡◌, ℕ, zero, suc, ◌⊎◌, inl, inr, ◌+◌, ◌-◌, ◌*◌, ◌^◌, ◌<◌, ◌≤◌, Bool, true, false, List, [], ◌∷◌, ◌++◌, length, map, take, get_or, set, refl, ap, subst, ◌∙◌, sym, arith, length-append, Some}
 use Rattle.std.specs.Prelude.{◌==◌, ◌≢◌, if◌then◌else◌, unwrap_or, slice_get, nat_lt, ◌&&◌}
 use Rattle.std.proofs.lemmas.Bool.{eqb-true, eqb-false, eq-eqb, and_parts, leb-true}
 use Rattle.std.proofs.lemmas.Option.{slice_get-map, slice_get_within, get_or_from_slice_get, slice_get-get_or, slice_get_read}
 use Rattle.std.proofs.lemmas.Grind.{get_or-set_at}
-use Rattle.std.proofs.lemmas.List.{get_or-set_other, length-set, length-map}
+use Rattle.std.proofs.lemmas.List.{get_or-set_other, length-set, length-map, map-append, take_more}
 use Rattle.std.proofs.lemmas.List.Sums.{fold-append}
 use Rattle.std.proofs.Math.Seq.{map-set_same}
 use Rattle.std.specs.Option.{option_map}
@@ -286,3 +286,11 @@ each_opened accounts more last more_is nobody none keeps = λ place found there.
         sent = omega (arith, ap (λ (s : Sum). s.sent) sum);
         overrun = omega (arith, ap (λ (s : Sum). s.overrun) sum);
       }
+
+-- its caps are those of the list that were reached
+pub caps_opened : (list : List ℕ) (index : ℕ) (accounts more : List Account) (last : Account) → more ≡ accounts ++ last ∷ [] →
+    last.cap ≡ get_or list index 0 → index < length list → caps accounts ≡ take index list → caps more ≡ take (index + 1) list
+caps_opened list index accounts more last more_is cap low before =
+    ap caps more_is ∙ map-append (λ (a : Account). a.cap) accounts (last ∷ [])
+    ∙ ap (λ (l : List ℕ). l ++ last.cap ∷ []) before ∙ ap (λ (n : ℕ). take index list ++ n ∷ []) cap
+    ∙ sym (take_more list index 0 low)
