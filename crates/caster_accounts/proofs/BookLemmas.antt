@@ -1,7 +1,7 @@
 -- What one more entry changes of the accounts that a book keeps.
 use Rattle.std.proofs.Common.{◌≡◌, ℕ, zero, suc, ◌⊎◌, inl, inr, ◌+◌, ◌-◌, ◌*◌, ◌^◌, ◌<◌, ◌≤◌, Bool, true, false, List, [], ◌∷◌, ◌++◌, length, map, take, get_or, set, refl, ap, subst, ◌∙◌, sym, arith, length-append, Some}
-use Rattle.std.specs.Prelude.{◌==◌, ◌≢◌, if◌then◌else◌, unwrap_or, slice_get, nat_lt, ◌&&◌}
-use Rattle.std.proofs.lemmas.Bool.{eqb-true, eqb-false, eq-eqb, and_parts, leb-true}
+use Rattle.std.specs.Prelude.{◌==◌, ◌≢◌, if◌then◌else◌, unwrap_or, slice_get, nat_lt, ◌&&◌, Result, Ok, Err, IfOk, IfErr}
+use Rattle.std.proofs.lemmas.Bool.{eqb-true, eqb-false, eq-eqb, and_parts, and_from, leb-true}
 use Rattle.std.proofs.lemmas.Option.{slice_get-map, slice_get_within, get_or_from_slice_get, slice_get-get_or, slice_get_read}
 use Rattle.std.proofs.lemmas.Grind.{get_or-set_at}
 use Rattle.std.proofs.lemmas.List.{get_or-set_other, length-set, length-map, map-append, take_more}
@@ -12,10 +12,14 @@ use Rattle.caster_accounts.specs.declared.account.Account.{Account}
 use Rattle.caster_accounts.specs.declared.account.Sum.{Sum}
 use Rattle.caster_accounts.specs.declared.call.BookCall.{BookCall}
 use Rattle.caster_accounts.specs.declared.call.BookCall.TheVariants.{Enter, Leave}
-use Rattle.caster_accounts.specs.History.{cap_at, without, is_among, goes, callers_in, inside, fits, answer, entry_answer}
+use Rattle.caster_accounts.specs.declared.call.BookAnswer.TheVariants.{Full, Entered, Left}
+use Rattle.caster_accounts.specs.declared.call.BookAnswer.{BookAnswer}
+use Rattle.turn_log.specs.Faults.{IsFault, worn_of}
+use Rattle.turn_log.specs.declared.place.TurnFault.{TurnFault}
+use Rattle.caster_accounts.specs.History.{cap_at, without, is_among, goes, callers_in, inside, fits, may_leave, answer, entry_answer}
 use Rattle.caster_accounts.specs.Sums.{nothing, added, after_call, total}
 use Rattle.caster_accounts.specs.Kept.{entered, left, KeepsAccount}
-use Rattle.caster_accounts.specs.StillFits.{callers_after}
+use Rattle.caster_accounts.specs.StillFits.{callers_after, still_fits_one}
 
 -- the caps of these accounts
 abbrev pub caps : List Account → List ℕ
@@ -294,3 +298,56 @@ caps_opened list index accounts more last more_is cap low before =
     ap caps more_is ∙ map-append (λ (a : Account). a.cap) accounts (last ∷ [])
     ∙ ap (λ (l : List ℕ). l ++ last.cap ∷ []) before ∙ ap (λ (n : ℕ). take index list ++ n ∷ []) cap
     ∙ sym (take_more list index 0 low)
+
+-- ---- who may leave
+
+among_entered : (cap account : ℕ) (callers : List ℕ) (me by entered : ℕ) → is_among me callers ≡ true →
+    is_among me (goes cap account callers by (Enter entered)) ≡ true
+among_entered cap account callers me by entered mine = by_tests (entered == account) (length callers == cap) where
+  by_tests : (b c : Bool) → is_among me (if b then if c then callers else by ∷ callers else callers) ≡ true
+  by_tests true true = mine
+  by_tests true false = by_test (by == me) where
+    by_test : (b : Bool) → (if b then true else is_among me callers) ≡ true
+    by_test true = refl
+    by_test false = mine
+  by_tests false c = mine
+
+-- an Enter takes from nobody what it may leave
+pub enter_keeps : (caps : List ℕ) (h now : List (ℕ × BookCall)) (me by account entered : ℕ) → now ≡ h ++ (by, Enter entered) ∷ [] →
+    may_leave caps h me account ≡ true → may_leave caps now me account ≡ true
+enter_keeps caps h now me by account entered is may =
+    let parts = and_parts (nat_lt account (length caps)) _ may in
+    and_from _ _ parts.0
+    (ap (λ (l : List (ℕ × BookCall)). is_among me (callers_in (cap_at caps account) account l)) is
+    ∙ ap (is_among me) (callers_after (cap_at caps account) account h by (Enter entered))
+    ∙ among_entered (cap_at caps account) account (callers_in (cap_at caps account) account h) me by entered parts.1)
+
+-- who was answered Entered may leave
+pub entered_may : (caps : List ℕ) (h now : List (ℕ × BookCall)) (me account : ℕ) → now ≡ h ++ (me, Enter account) ∷ [] →
+    nat_lt account (length caps) ≡ true → answer caps h (Enter account) ≡ Entered → may_leave caps now me account ≡ true
+entered_may caps h now me account is low answered =
+    and_from _ _ low
+    (ap (λ (l : List (ℕ × BookCall)). is_among me (callers_in cap account l)) is
+    ∙ ap (is_among me) (callers_after cap account h me (Enter account))
+    ∙ ap (λ (b : Bool). is_among me (if b then if inside cap account h == cap then callers_in cap account h else me ∷ callers_in cap account h else callers_in cap account h)) (eq-eqb account account refl)
+    ∙ by_test (inside cap account h == cap) answered) where
+  cap : ℕ
+  cap = cap_at caps account
+  by_test : (b : Bool) → (if b then Full (inside cap account h) cap else Entered) ≡ Entered →
+      is_among me (if b then callers_in cap account h else me ∷ callers_in cap account h) ≡ true
+  by_test true full = absurd cc
+  by_test false entered = ap (λ (b : Bool). if b then true else is_among me (callers_in cap account h)) (eq-eqb me me refl)
+
+-- a turn that leaves, whether it was taken or refused, takes from no other caller what it may leave
+pub leave_stays : (caps later : List ℕ) (h now : List (ℕ × BookCall)) (me account sent overrun by place : ℕ)
+    (result : Result BookAnswer TurnFault) (before after : Unit {0}) → later ≡ caps →
+    IfOk result (λ reply. (now ≡ h ++ (me, Leave account sent overrun) ∷ []) × (reply ≡ Left) × (after ≡ before)) →
+    IfErr result (λ fault. (now ≡ h) × (after ≡ before) × IsFault true (worn_of (length now)) fault) → may_leave caps h me account ≡ true → by ≢ me →
+    may_leave caps h by place ≡ true → may_leave later now by place ≡ true
+leave_stays caps later h now me account sent overrun by place (Ok reply) before after same ok err leaves apart may =
+    ap (λ (l : List ℕ). may_leave l now by place) same
+    ∙ ap (λ (l : List (ℕ × BookCall)). may_leave caps l by place) ok.0
+    ∙ still_fits_one caps h by me (Leave place 0 0) (Leave account sent overrun) may (λ e. apart (sym e)) leaves
+leave_stays caps later h now me account sent overrun by place (Err fault) before after same ok err leaves apart may =
+    ap (λ (l : List ℕ). may_leave l now by place) same
+    ∙ ap (λ (l : List (ℕ × BookCall)). may_leave caps l by place) err.0 ∙ may

@@ -39,12 +39,16 @@ callers_in cap account h =
 abbrev pub inside : ℕ → ℕ → List (ℕ × BookCall) → ℕ
 inside cap account h = length (callers_in cap account h)
 
--- whether a caller may make this call: it may enter what is an account, and leave one that it is
--- inside
+-- whether a caller has an open session of this account
+abbrev pub may_leave : List ℕ → List (ℕ × BookCall) → ℕ → ℕ → Bool
+may_leave caps h me account =
+    nat_lt account (length caps) && is_among me (callers_in (cap_at caps account) account h)
+
+-- whether a caller may make this call: it may enter what is an account, and leave one that it
+-- entered more often than it left it
 abbrev pub fits : List ℕ → List (ℕ × BookCall) → ℕ → BookCall → Bool
 fits caps h me (Enter account) = nat_lt account (length caps)
-fits caps h me (Leave account sent overrun) =
-    nat_lt account (length caps) && is_among me (callers_in (cap_at caps account) account h)
+fits caps h me (Leave account sent overrun) = may_leave caps h me account
 
 -- one who asks to enter is told that the account is full exactly where as many are inside as its
 -- cap
