@@ -81,10 +81,10 @@ inside_entered cap place me h =
     ap length (callers_after cap place h me (Enter place))
     ∙ ap (λ (b : Bool). length (if b then if inside cap place h == cap then callers_in cap place h else me ∷ callers_in cap place h else callers_in cap place h)) (eq-eqb place place refl)
     ∙ by_test (inside cap place h == cap) where
-  by_test : (b : Bool) → length (if b then callers_in cap place h else me ∷ callers_in cap place h)
-      ≡ (if b then inside cap place h else inside cap place h + 1)
-  by_test true = refl
-  by_test false = omega arith
+      by_test : (b : Bool) → length (if b then callers_in cap place h else me ∷ callers_in cap place h)
+          ≡ (if b then inside cap place h else inside cap place h + 1)
+      by_test true = refl
+      by_test false = omega arith
 
 -- this account, where one more asked to enter
 kept_entered : (h : List (ℕ × BookCall)) (place me : ℕ) (account : Account) → KeepsAccount h place account →
@@ -92,13 +92,16 @@ kept_entered : (h : List (ℕ × BookCall)) (place me : ℕ) (account : Account)
 kept_entered h place me account keeps = by_test (account.busy == account.cap) refl where
   same_test : (b : Bool) → (account.busy == account.cap) ≡ b → (inside account.cap place h == account.cap) ≡ b
   same_test b is = ap (λ n. n == account.cap) (sym keeps.busy) ∙ is
+
   inside_now : (b : Bool) → (account.busy == account.cap) ≡ b →
       inside account.cap place (h ++ (me, Enter place) ∷ []) ≡ (if b then inside account.cap place h else inside account.cap place h + 1)
   inside_now b is =
       inside_entered account.cap place me h
       ∙ ap (λ (t : Bool). if t then inside account.cap place h else inside account.cap place h + 1) (same_test b is)
+
   longer : length (h ++ (me, Enter place) ∷ []) ≡ length h + 1
   longer = length-append h ((me, Enter place) ∷ [])
+
   by_test : (b : Bool) → (account.busy == account.cap) ≡ b →
       KeepsAccount (h ++ (me, Enter place) ∷ []) place (if b then account else record account { busy = account.busy + 1 })
   by_test true is = kept_more h (me, Enter place) place account keeps (inside_now true is) (total_after place h me (Enter place))
@@ -187,21 +190,22 @@ each_after : (accounts : List Account) (h : List (ℕ × BookCall)) (me : ℕ) (
 each_after accounts h me call account now at keeps kept = λ other found there.
     by_place other found (get_or_from_slice_get (set accounts (account_of call) now) other found found there)
     (slice_get_within (set accounts (account_of call) now) other found there) (account_of call == other) refl where
-  inside_of : account_of call < length accounts
-  inside_of = slice_get_within accounts (account_of call) account at
-  by_place : (other : ℕ) (found : Account) → get_or (set accounts (account_of call) now) other found ≡ found →
-      other < length (set accounts (account_of call) now) → (b : Bool) → (account_of call == other) ≡ b →
-      KeepsAccount (h ++ (me, call) ∷ []) other found
-  by_place other found is low true same =
-      let place_is : account_of call ≡ other = eqb-true (account_of call) other same in
-      let now_is : now ≡ found = sym (get_or-set_at accounts (account_of call) other now found (sym place_is) inside_of) ∙ is in
-      subst (λ (a : Account). KeepsAccount (h ++ (me, call) ∷ []) other a) now_is
-      (subst (λ (n : ℕ). KeepsAccount (h ++ (me, call) ∷ []) n now) place_is kept)
-  by_place other found is low false apart =
-      let unlike : other ≢ account_of call = λ e. eqb-false (account_of call) other apart (sym e) in
-      let old_is : get_or accounts other found ≡ found = sym (get_or-set_other accounts (account_of call) other now found unlike) ∙ is in
-      let old_low : other < length accounts = omega (arith, low, length-set accounts (account_of call) now) in
-      kept_other h me other call found apart (keeps other found (slice_get-get_or accounts other found old_low ∙ ap Some old_is))
+      inside_of : account_of call < length accounts
+      inside_of = slice_get_within accounts (account_of call) account at
+
+      by_place : (other : ℕ) (found : Account) → get_or (set accounts (account_of call) now) other found ≡ found →
+          other < length (set accounts (account_of call) now) → (b : Bool) → (account_of call == other) ≡ b →
+          KeepsAccount (h ++ (me, call) ∷ []) other found
+      by_place other found is low true same =
+          let place_is : account_of call ≡ other = eqb-true (account_of call) other same in
+          let now_is : now ≡ found = sym (get_or-set_at accounts (account_of call) other now found (sym place_is) inside_of) ∙ is in
+          subst (λ (a : Account). KeepsAccount (h ++ (me, call) ∷ []) other a) now_is
+          (subst (λ (n : ℕ). KeepsAccount (h ++ (me, call) ∷ []) n now) place_is kept)
+      by_place other found is low false apart =
+          let unlike : other ≢ account_of call = λ e. eqb-false (account_of call) other apart (sym e) in
+          let old_is : get_or accounts other found ≡ found = sym (get_or-set_other accounts (account_of call) other now found unlike) ∙ is in
+          let old_low : other < length accounts = omega (arith, low, length-set accounts (account_of call) now) in
+          kept_other h me other call found apart (keeps other found (slice_get-get_or accounts other found old_low ∙ ap Some old_is))
 
 pub each_entered : (accounts : List Account) (h : List (ℕ × BookCall)) (me place : ℕ) (account now : Account) →
     slice_get accounts place ≡ Some account → KeepsEach accounts h → now ≡ entered account →
@@ -277,19 +281,19 @@ pub each_opened : (accounts more : List Account) (last : Account) → more ≡ a
     KeepsEach accounts [] → KeepsEach more []
 each_opened accounts more last more_is nobody none keeps = λ place found there.
     by_side place found (new_or_old accounts last found place (ap (λ (l : List Account). slice_get l place) (sym more_is) ∙ there)) where
-  by_side : (place : ℕ) (found : Account) → (slice_get accounts place ≡ Some found) ⊎ (last ≡ found) → KeepsAccount [] place found
-  by_side place found (inl old) = keeps place found old
-  by_side place found (inr is) =
-      let busy : found.busy ≡ 0 = ap (λ (a : Account). a.busy) (sym is) ∙ nobody in
-      let sum : found.sum ≡ nothing = ap (λ (a : Account). a.sum) (sym is) ∙ none in
-      record {
-        busy = busy;
-        within = omega (arith, busy);
-        sum = sum;
-        sessions = omega (arith, ap (λ (s : Sum). s.sessions) sum);
-        sent = omega (arith, ap (λ (s : Sum). s.sent) sum);
-        overrun = omega (arith, ap (λ (s : Sum). s.overrun) sum);
-      }
+      by_side : (place : ℕ) (found : Account) → (slice_get accounts place ≡ Some found) ⊎ (last ≡ found) → KeepsAccount [] place found
+      by_side place found (inl old) = keeps place found old
+      by_side place found (inr is) =
+          let busy : found.busy ≡ 0 = ap (λ (a : Account). a.busy) (sym is) ∙ nobody in
+          let sum : found.sum ≡ nothing = ap (λ (a : Account). a.sum) (sym is) ∙ none in
+          record {
+            busy = busy;
+            within = omega (arith, busy);
+            sum = sum;
+            sessions = omega (arith, ap (λ (s : Sum). s.sessions) sum);
+            sent = omega (arith, ap (λ (s : Sum). s.sent) sum);
+            overrun = omega (arith, ap (λ (s : Sum). s.overrun) sum);
+          }
 
 -- its caps are those of the list that were reached
 pub caps_opened : (list : List ℕ) (index : ℕ) (accounts more : List Account) (last : Account) → more ≡ accounts ++ last ∷ [] →
@@ -331,12 +335,13 @@ entered_may caps h now me account is low answered =
     ∙ ap (is_among me) (callers_after cap account h me (Enter account))
     ∙ ap (λ (b : Bool). is_among me (if b then if inside cap account h == cap then callers_in cap account h else me ∷ callers_in cap account h else callers_in cap account h)) (eq-eqb account account refl)
     ∙ by_test (inside cap account h == cap) answered) where
-  cap : ℕ
-  cap = cap_at caps account
-  by_test : (b : Bool) → (if b then Full (inside cap account h) cap else Entered) ≡ Entered →
-      is_among me (if b then callers_in cap account h else me ∷ callers_in cap account h) ≡ true
-  by_test true full = absurd cc
-  by_test false entered = ap (λ (b : Bool). if b then true else is_among me (callers_in cap account h)) (eq-eqb me me refl)
+      cap : ℕ
+      cap = cap_at caps account
+
+      by_test : (b : Bool) → (if b then Full (inside cap account h) cap else Entered) ≡ Entered →
+          is_among me (if b then callers_in cap account h else me ∷ callers_in cap account h) ≡ true
+      by_test true full = absurd cc
+      by_test false entered = ap (λ (b : Bool). if b then true else is_among me (callers_in cap account h)) (eq-eqb me me refl)
 
 -- a turn that leaves, whether it was taken or refused, takes from no other caller what it may leave
 pub leave_stays : (caps later : List ℕ) (h now : List (ℕ × BookCall)) (me account sent overrun by place : ℕ)

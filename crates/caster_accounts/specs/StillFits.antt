@@ -27,33 +27,33 @@ among_without : (me by : ℕ) (callers : List ℕ) → by ≢ me → is_among me
 among_without me by [] apart mine = mine
 among_without me by (caller ∷ callers) apart mine =
     by_test (among_without me by callers apart) (caller == by) refl (caller == me) refl mine where
-  by_test : (is_among me callers ≡ true → is_among me (without by callers) ≡ true)
-      → (b : Bool) → (caller == by) ≡ b → (c : Bool) → (caller == me) ≡ c
-      → (if c then true else is_among me callers) ≡ true
-      → is_among me (if b then callers else caller ∷ without by callers) ≡ true
-  by_test later true is true also here =
-      absurd (apart (sym (eqb-true caller by is) ∙ eqb-true caller me also))
-  by_test later true is false other here = here
-  by_test later false not true is here =
-      ap (λ (b : Bool). if b then true else is_among me (without by callers)) is
-  by_test later false not false other here =
-      ap (λ (b : Bool). if b then true else is_among me (without by callers)) other ∙ later here
+      by_test : (is_among me callers ≡ true → is_among me (without by callers) ≡ true)
+          → (b : Bool) → (caller == by) ≡ b → (c : Bool) → (caller == me) ≡ c
+          → (if c then true else is_among me callers) ≡ true
+          → is_among me (if b then callers else caller ∷ without by callers) ≡ true
+      by_test later true is true also here =
+          absurd (apart (sym (eqb-true caller by is) ∙ eqb-true caller me also))
+      by_test later true is false other here = here
+      by_test later false not true is here =
+          ap (λ (b : Bool). if b then true else is_among me (without by callers)) is
+      by_test later false not false other here =
+          ap (λ (b : Bool). if b then true else is_among me (without by callers)) other ∙ later here
 
 -- a caller that is inside an account is still inside after a call of another one
 among_after : (cap account : ℕ) (callers : List ℕ) (me by : ℕ) (call : BookCall) → by ≢ me →
     is_among me callers ≡ true → is_among me (goes cap account callers by call) ≡ true
 among_after cap account callers me by (Enter entered) apart mine =
     by_tests (entered == account) (length callers == cap) where
-  by_tests : (b c : Bool) →
-      is_among me (if b then if c then callers else by ∷ callers else callers) ≡ true
-  by_tests true true = mine
-  by_tests true false = among_more me by callers mine
-  by_tests false c = mine
+      by_tests : (b c : Bool) →
+          is_among me (if b then if c then callers else by ∷ callers else callers) ≡ true
+      by_tests true true = mine
+      by_tests true false = among_more me by callers mine
+      by_tests false c = mine
 among_after cap account callers me by (Leave left sent overrun) apart mine =
     by_test (left == account) where
-  by_test : (b : Bool) → is_among me (if b then without by callers else callers) ≡ true
-  by_test true = among_without me by callers apart mine
-  by_test false = mine
+      by_test : (b : Bool) → is_among me (if b then without by callers else callers) ≡ true
+      by_test true = among_without me by callers apart mine
+      by_test false = mine
 
 -- what fits a history fits it with one more entry, as an object of turns has to show
 pub still_fits_one : (caps : List ℕ) (h : List (ℕ × BookCall)) (me by : ℕ) (call other : BookCall)

@@ -72,10 +72,16 @@ fn who_leaves_makes_room(rt: HostRuntime) -> Result<(), Fail> {
     let BookAnswer::Entered = enter(&mut desk, 1, 0)? else {
         return Err(Fail::from("the account is full"));
     };
-    assert_eq!(rt; enter(&mut desk, 2, 0)?, BookAnswer::Full { busy: 1, cap: 1 });
+    assert_eq!(rt;
+        enter(&mut desk, 2, 0)?,
+        BookAnswer::Full { busy: 1, cap: 1 }
+    );
     assert_eq!(rt; leave(&mut desk, 1, 0, 10, 2)?, BookAnswer::Left);
     assert_eq!(rt; enter(&mut desk, 2, 0)?, BookAnswer::Entered);
-    assert_eq!(rt; enter(&mut desk, 1, 0)?, BookAnswer::Full { busy: 1, cap: 1 });
+    assert_eq!(rt;
+        enter(&mut desk, 1, 0)?,
+        BookAnswer::Full { busy: 1, cap: 1 }
+    );
     assert_eq!(rt; desk.value().total(0), sum(1, 10, 2));
     Ok(())
 }
@@ -87,11 +93,20 @@ fn accounts_do_not_touch_each_other(rt: HostRuntime) -> Result<(), Fail> {
         return Err(Fail::from("the account is full"));
     };
     assert_eq!(rt; enter(&mut desk, 1, 0)?, BookAnswer::Entered);
-    assert_eq!(rt; enter(&mut desk, 1, 0)?, BookAnswer::Full { busy: 1, cap: 1 });
+    assert_eq!(rt;
+        enter(&mut desk, 1, 0)?,
+        BookAnswer::Full { busy: 1, cap: 1 }
+    );
     assert_eq!(rt; enter(&mut desk, 1, 1)?, BookAnswer::Entered);
-    assert_eq!(rt; enter(&mut desk, 1, 1)?, BookAnswer::Full { busy: 2, cap: 2 });
+    assert_eq!(rt;
+        enter(&mut desk, 1, 1)?,
+        BookAnswer::Full { busy: 2, cap: 2 }
+    );
     assert_eq!(rt; leave(&mut desk, 1, 1, 5, 0)?, BookAnswer::Left);
-    assert_eq!(rt; enter(&mut desk, 2, 0)?, BookAnswer::Full { busy: 1, cap: 1 });
+    assert_eq!(rt;
+        enter(&mut desk, 2, 0)?,
+        BookAnswer::Full { busy: 1, cap: 1 }
+    );
     assert_eq!(rt; desk.value().total(0), sum(0, 0, 0));
     assert_eq!(rt; desk.value().total(1), sum(1, 5, 0));
     Ok(())
@@ -119,7 +134,13 @@ fn many_accounts_are_kept(rt: HostRuntime) -> Result<(), Fail> {
     for account in 0..1024 {
         assert_eq!(rt; enter(&mut desk, 7, account)?, BookAnswer::Entered);
     }
-    assert_eq!(rt; enter(&mut desk, 8, 1023)?, BookAnswer::Full { busy: 1, cap: 1 });
-    assert_eq!(rt; enter(&mut desk, 8, 0)?, BookAnswer::Full { busy: 1, cap: 1 });
+    assert_eq!(rt;
+        enter(&mut desk, 8, 1023)?,
+        BookAnswer::Full { busy: 1, cap: 1 }
+    );
+    assert_eq!(rt;
+        enter(&mut desk, 8, 0)?,
+        BookAnswer::Full { busy: 1, cap: 1 }
+    );
     Ok(())
 }
