@@ -1,6 +1,6 @@
 -- What one more entry changes of the accounts that a book keeps.
-use Rattle.std.proofs.Common.{◌≡◌, ℕ, zero, suc, ◌⊎◌, inl, inr, ◌+◌, ◌-◌, ◌*◌, ◌^◌, ◌<◌, ◌≤◌, Bool, true, false, List, [], ◌∷◌, ◌++◌, length, map, take, get_or, set, refl, ap, subst, ◌∙◌, sym, arith, length-append, Some}
-use Rattle.std.specs.Prelude.{◌==◌, ◌≢◌, if◌then◌else◌, unwrap_or, slice_get, nat_lt, ◌&&◌, Result, Ok, Err, IfOk, IfErr}
+use Rattle.std.proofs.Common.{◌≡◌, ℕ, zero, suc, ◌⊎◌, inl, inr, ◌+◌, ◌^◌, ◌<◌, Bool, true, false, List, [], ◌∷◌, ◌++◌, length, map, take, get_or, set, refl, ap, subst, ◌∙◌, sym, arith, length-append, Some}
+use Rattle.std.specs.Prelude.{◌==◌, ◌≢◌, if◌then◌else◌, unwrap_or, slice_get, nat_lt, Result, Ok, Err, IfOk, IfErr}
 use Rattle.std.proofs.lemmas.Bool.{eqb-true, eqb-false, eq-eqb, and_parts, and_from, leb-true}
 use Rattle.std.proofs.lemmas.Option.{slice_get-map, slice_get_within, get_or_from_slice_get, slice_get-get_or, slice_get_read}
 use Rattle.std.proofs.lemmas.Grind.{get_or-set_at}

@@ -1,14 +1,8 @@
-use Rattle.std.proofs.Common.{◌≡◌, ℕ, ◌<◌, ◌^◌, Bool, true, List, length, refl, ap, ◌∙◌, sym, arith, Some}
+use Rattle.std.proofs.Common.{◌≡◌, ◌<◌, ◌^◌, true, length, refl, ap, ◌∙◌, arith, Some}
 use Rattle.std.specs.Prelude.{slice_get}
-use Rattle.std.proofs.lemmas.Bool.{and_parts, leb-true}
-use Rattle.std.proofs.lemmas.List.{length-map}
-use Rattle.std.proofs.lemmas.Option.{slice_get_read}
 use Rattle.caster_accounts.specs.declared.account.Account.{Account}
-use Rattle.caster_accounts.specs.declared.call.BookCall.{BookCall}
-use Rattle.caster_accounts.specs.declared.call.BookCall.TheVariants.{Enter, Leave}
-use Rattle.caster_accounts.specs.History.{fits, answer, entry_answer, is_among, callers_in, inside, cap_at}
-use Rattle.caster_accounts.specs.Kept.{caps_of}
-use Rattle.caster_accounts.proofs.BookLemmas.{caps, KeepsEach, cap_found, caps_stay, busy_of, each_entered, each_left, found_to_enter, found_to_leave, inside_to_leave, answer_entered, cap_entered}
+use Rattle.caster_accounts.specs.History.{is_among, callers_in}
+use Rattle.caster_accounts.proofs.BookLemmas.{caps_stay, busy_of, each_entered, each_left, found_to_enter, found_to_leave, inside_to_leave, answer_entered, cap_entered}
 use Rattle.caster_accounts.proofs.book.BookPlayed.play.Goals as goal
 
 pub enter-requires : goal.enter-requires
