@@ -1,6 +1,8 @@
 //! Laws of histories of a book, each the contract of a function that does nothing.
-ghost use Rattle.std.specs.Prelude.{◌≡◌, ℕ, ◌<◌, ◌≤◌, IsTrue, List, [], ◌∷◌, ◌++◌};
-ghost use Rattle.caster_accounts.specs.History.{answer, cap_at, fits, inside, may_leave};
+ghost use Rattle.std.specs.Prelude.{◌≡◌, ℕ, Bool, true, ◌+◌, ◌<◌, ◌≤◌, IsTrue, List, [], ◌∷◌, ◌++◌};
+ghost use Rattle.caster_accounts.specs.History.{answer, callers_in, cap_at, fits, inside, may_leave};
+ghost use Rattle.caster_accounts.specs.Counts.{count_of, ended, opened};
+ghost use Rattle.turn_log.specs.History.{IsLegal};
 ghost use Rattle.caster_accounts.specs.declared.call.BookCall.TheVariants.{Enter};
 ghost use Rattle.caster_accounts.specs.declared.call.BookAnswer.TheVariants.{Entered};
 
@@ -22,4 +24,17 @@ pub fn entered_may_leave()
 pub fn leaver_is_inside()
     ensures { (caps : List ℕ) (h : List (ℕ × BookCall)) (me account : ℕ)
         → IsTrue (may_leave caps h me account) → 0 < inside (cap_at caps account) account h }
+{}
+
+/// The open sessions are those that were opened less those that ended, after any history of calls
+/// that fitted: of all callers, and of those that any test chooses, such as one caller alone.
+pub fn sessions_are_counted()
+    ensures inside { (caps : List ℕ) (account : ℕ) (h : List (ℕ × BookCall))
+        → IsLegal (fits caps) h
+        → inside (cap_at caps account) account h + ended account (λ _. true) h
+        ≡ opened caps account (λ _. true) [] h }
+    ensures chosen { (caps : List ℕ) (account : ℕ) (is_of : ℕ → Bool) (h : List (ℕ × BookCall))
+        → IsLegal (fits caps) h
+        → count_of is_of (callers_in (cap_at caps account) account h) + ended account is_of h
+        ≡ opened caps account is_of [] h }
 {}
