@@ -1,12 +1,12 @@
 -- Open sessions, counted over the entries of a legal history.
-use Rattle.std.proofs.Common.{◌≡◌, ℕ, ◌+◌, ◌<◌, Bool, true, false, List, [], ◌∷◌, ◌++◌, length, refl, ap, subst, ◌∙◌, sym, arith, append_assoc, append-nil}
+use Rattle.std.proofs.Common.{◌≡◌, ℕ, suc, ◌+◌, ◌<◌, Bool, true, false, List, [], ◌∷◌, ◌++◌, length, refl, ap, subst, ◌∙◌, sym, arith, append_assoc, append-nil}
 use Rattle.std.specs.Prelude.{◌==◌, if◌then◌else◌, nat_lt, ◌&&◌, IsTrue}
-use Rattle.std.proofs.lemmas.Bool.{eqb-true, and_parts}
+use Rattle.std.proofs.lemmas.Bool.{eqb-true, and_parts, and_from, le-leb}
 use Rattle.turn_log.specs.History.{IsLegal, IsLegalAfter}
 use Rattle.caster_accounts.specs.declared.call.BookCall.{BookCall}
 use Rattle.caster_accounts.specs.declared.call.BookCall.TheVariants.{Enter, Leave}
 use Rattle.caster_accounts.specs.declared.call.BookAnswer.TheVariants.{Entered, Full}
-use Rattle.caster_accounts.specs.History.{cap_at, without, is_among, goes, callers_in, inside, fits, answer, entry_answer}
+use Rattle.caster_accounts.specs.History.{cap_at, without, is_among, goes, callers_in, inside, fits, may_leave, answer, entry_answer}
 use Rattle.caster_accounts.specs.StillFits.{callers_after}
 use Rattle.caster_accounts.specs.Counts.{one, count_of, is_entered, enters, leaves, opened, ended}
 
@@ -93,3 +93,39 @@ pub inside_counted : (caps : List ℕ) (account : ℕ) (h : List (ℕ × BookCal
     inside (cap_at caps account) account h + ended account (λ _. true) h ≡ opened caps account (λ _. true) [] h
 inside_counted caps account h legal =
     omega (arith, count_all (callers_in (cap_at caps account) account h), sessions_counted caps account (λ _. true) h legal)
+
+-- ---- one caller
+
+among_counts : (me : ℕ) (callers : List ℕ) → is_among me callers ≡ true → 0 < count_of (λ caller. caller == me) callers
+among_counts me [] mine = absurd cc
+among_counts me (caller ∷ callers) mine = by_test (among_counts me callers) (caller == me) mine where
+  by_test : (is_among me callers ≡ true → 0 < count_of (λ caller. caller == me) callers) → (b : Bool) →
+      (if b then true else is_among me callers) ≡ true → 0 < one b + count_of (λ caller. caller == me) callers
+  by_test later true here = omega arith
+  by_test later false here = omega (arith, later here)
+
+counts_among : (me : ℕ) (callers : List ℕ) → 0 < count_of (λ caller. caller == me) callers → is_among me callers ≡ true
+counts_among me [] some = absurd (let e : ⊥ = omega (arith, some) in e)
+counts_among me (caller ∷ callers) some = by_test (counts_among me callers) (caller == me) some where
+  by_test : (0 < count_of (λ caller. caller == me) callers → is_among me callers ≡ true) → (b : Bool) →
+      0 < one b + count_of (λ caller. caller == me) callers → (if b then true else is_among me callers) ≡ true
+  by_test later true here = refl
+  by_test later false here = later (omega (arith, here))
+
+pub leaver_opened : (caps : List ℕ) (h : List (ℕ × BookCall)) (me account : ℕ) → IsLegal (fits caps) h →
+    IsTrue (may_leave caps h me account) →
+    ended account (λ caller. caller == me) h < opened caps account (λ caller. caller == me) [] h
+leaver_opened caps h me account legal may =
+    omega (
+      arith,
+      sessions_counted caps account (λ caller. caller == me) h legal,
+      among_counts me (callers_in (cap_at caps account) account h) (and_parts (nat_lt account (length caps)) _ may).1,
+    )
+
+pub opener_leaves : (caps : List ℕ) (h : List (ℕ × BookCall)) (me account : ℕ) → IsLegal (fits caps) h → account < length caps →
+    ended account (λ caller. caller == me) h < opened caps account (λ caller. caller == me) [] h →
+    IsTrue (may_leave caps h me account)
+opener_leaves caps h me account legal low more =
+    and_from _ _ (le-leb (suc account) (length caps) low)
+    (counts_among me (callers_in (cap_at caps account) account h)
+    (omega (arith, more, sessions_counted caps account (λ caller. caller == me) h legal)))

@@ -1,5 +1,5 @@
 //! Laws of histories of a book, each the contract of a function that does nothing.
-ghost use Rattle.std.specs.Prelude.{◌≡◌, ℕ, Bool, true, ◌+◌, ◌<◌, ◌≤◌, IsTrue, List, [], ◌∷◌, ◌++◌};
+ghost use Rattle.std.specs.Prelude.{◌≡◌, ℕ, Bool, true, ◌+◌, ◌<◌, ◌≤◌, IsTrue, List, [], ◌∷◌, ◌++◌, ◌==◌, length};
 ghost use Rattle.caster_accounts.specs.History.{answer, callers_in, cap_at, fits, inside, may_leave};
 ghost use Rattle.caster_accounts.specs.Counts.{count_of, ended, opened};
 ghost use Rattle.turn_log.specs.History.{IsLegal};
@@ -37,4 +37,18 @@ pub fn sessions_are_counted()
         → IsLegal (fits caps) h
         → count_of is_of (callers_in (cap_at caps account) account h) + ended account is_of h
         ≡ opened caps account is_of [] h }
+{}
+
+/// Who may leave an account is who entered it more often than it left it, after any history of
+/// calls that fitted.
+pub fn leaver_entered_more()
+    ensures may { (caps : List ℕ) (h : List (ℕ × BookCall)) (me account : ℕ)
+        → IsLegal (fits caps) h → IsTrue (may_leave caps h me account)
+        → ended account (λ caller. caller == me) h
+        < opened caps account (λ caller. caller == me) [] h }
+    ensures only { (caps : List ℕ) (h : List (ℕ × BookCall)) (me account : ℕ)
+        → IsLegal (fits caps) h → account < length caps
+        → ended account (λ caller. caller == me) h
+        < opened caps account (λ caller. caller == me) [] h
+        → IsTrue (may_leave caps h me account) }
 {}
