@@ -6,7 +6,7 @@ use Rattle.turn_log.specs.History.{IsLegal, IsLegalAfter}
 use Rattle.caster_accounts.specs.declared.call.BookCall.{BookCall}
 use Rattle.caster_accounts.specs.declared.call.BookCall.TheVariants.{Enter, Leave}
 use Rattle.caster_accounts.specs.declared.call.BookAnswer.TheVariants.{Entered, Full}
-use Rattle.caster_accounts.specs.History.{cap_at, without, is_among, goes, callers_in, inside, fits, may_leave, answer, entry_answer}
+use Rattle.caster_accounts.specs.History.{cap_at, without, is_among, goes, callers_in, inside, fits, may_leave, entry_answer}
 use Rattle.caster_accounts.specs.StillFits.{callers_after}
 use Rattle.caster_accounts.specs.Counts.{one, count_of, is_entered, enters, leaves, opened, ended}
 
@@ -28,20 +28,21 @@ count_after : (is_of : ℕ → Bool) (cap account : ℕ) (callers : List ℕ) (m
 count_after is_of cap account callers me (Enter entered) mine =
     ap (λ (n : ℕ). n + one (is_of me && false)) (count_is (entered == account) (length callers == cap))
     ∙ by_tests (entered == account) (length callers == cap) (is_of me) where
-  count_is : (b c : Bool) → count_of is_of (if b then if c then callers else me ∷ callers else callers)
-      ≡ (if b then if c then count_of is_of callers else one (is_of me) + count_of is_of callers else count_of is_of callers)
-  count_is true true = refl
-  count_is true false = refl
-  count_is false c = refl
-  by_tests : (b c d : Bool) →
-      (if b then if c then count_of is_of callers else one d + count_of is_of callers else count_of is_of callers) + one (d && false)
-      ≡ count_of is_of callers + one (d && (b && is_entered (if c then Full (length callers) cap else Entered)))
-  by_tests true true true = refl
-  by_tests true true false = refl
-  by_tests true false true = omega arith
-  by_tests true false false = omega arith
-  by_tests false c true = refl
-  by_tests false c false = refl
+      count_is : (b c : Bool) → count_of is_of (if b then if c then callers else me ∷ callers else callers)
+          ≡ (if b then if c then count_of is_of callers else one (is_of me) + count_of is_of callers else count_of is_of callers)
+      count_is true true = refl
+      count_is true false = refl
+      count_is false c = refl
+
+      by_tests : (b c d : Bool) →
+          (if b then if c then count_of is_of callers else one d + count_of is_of callers else count_of is_of callers) + one (d && false)
+          ≡ count_of is_of callers + one (d && (b && is_entered (if c then Full (length callers) cap else Entered)))
+      by_tests true true true = refl
+      by_tests true true false = refl
+      by_tests true false true = omega arith
+      by_tests true false false = omega arith
+      by_tests false c true = refl
+      by_tests false c false = refl
 count_after is_of cap account callers me (Leave left sent overrun) mine = by_tests (left == account) mine (is_of me) refl where
   by_tests : (b : Bool) → (b ≡ true → is_among me callers ≡ true) → (d : Bool) → is_of me ≡ d →
       count_of is_of (if b then without me callers else callers) + one (d && b) ≡ count_of is_of callers + one (d && false)
@@ -77,8 +78,8 @@ counted_from caps account is_of before (entry ∷ entries) legal =
       goes_is,
       count_after is_of cap account (callers_in cap account before) entry.0 entry.1 (among_leaver caps before entry.0 account entry.1 fitting),
       counted_from caps account is_of (before ++ entry ∷ []) entries (λ b by call after is.
-      ap (λ (l : List (ℕ × BookCall)). fits caps l by call) (append_assoc before (entry ∷ []) b)
-      ∙ legal (entry ∷ b) by call after (ap (λ (l : List (ℕ × BookCall)). entry ∷ l) is)),
+          ap (λ (l : List (ℕ × BookCall)). fits caps l by call) (append_assoc before (entry ∷ []) b)
+          ∙ legal (entry ∷ b) by call after (ap (λ (l : List (ℕ × BookCall)). entry ∷ l) is)),
     )
 
 pub sessions_counted : (caps : List ℕ) (account : ℕ) (is_of : ℕ → Bool) (h : List (ℕ × BookCall)) → IsLegal (fits caps) h →

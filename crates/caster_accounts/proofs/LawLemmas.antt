@@ -1,10 +1,10 @@
 -- What every history of a book shows.
-use Rattle.std.proofs.Common.{◌≡◌, ℕ, suc, ◌+◌, ◌<◌, ◌≤◌, Bool, true, false, List, [], ◌∷◌, ◌++◌, length, refl, ap, ◌∙◌, sym, arith}
-use Rattle.std.specs.Prelude.{◌==◌, if◌then◌else◌, fold, nat_lt, ◌&&◌}
-use Rattle.std.proofs.lemmas.Bool.{eqb-true, eqb-false, and_parts}
+use Rattle.std.proofs.Common.{◌≡◌, ℕ, suc, ◌<◌, ◌≤◌, Bool, true, false, List, [], ◌∷◌, length, refl, arith}
+use Rattle.std.specs.Prelude.{◌==◌, if◌then◌else◌, fold, nat_lt}
+use Rattle.std.proofs.lemmas.Bool.{eqb-false, and_parts}
 use Rattle.caster_accounts.specs.declared.call.BookCall.{BookCall}
 use Rattle.caster_accounts.specs.declared.call.BookCall.TheVariants.{Enter, Leave}
-use Rattle.caster_accounts.specs.History.{cap_at, without, is_among, goes, callers_in, inside, may_leave}
+use Rattle.caster_accounts.specs.History.{cap_at, without, goes, callers_in, inside, may_leave}
 use Rattle.caster_accounts.proofs.BookLemmas.{length_without}
 
 -- who leaves does not make more callers
