@@ -9,7 +9,8 @@ use Rattle.caster_accounts.specs.History.{cap_at, without, is_among, goes, calle
 
 -- who is inside after one more entry
 pub callers_after : (cap account : ℕ) (h : List (ℕ × BookCall)) (by : ℕ) (call : BookCall) →
-    callers_in cap account (h ++ (by, call) ∷ []) ≡ goes cap account (callers_in cap account h) by call
+    callers_in cap account (h ++ (by, call) ∷ [])
+    ≡ goes cap account (callers_in cap account h) by call
 callers_after cap account h by call =
     fold-append (λ callers entry. goes cap account callers entry.0 entry.1) [] h ((by, call) ∷ [])
 
