@@ -1,5 +1,5 @@
 -- Known sentences, as the definitions compute them.
-use Rattle.std.proofs.Common.{◌≡◌, ℕ, List, Some, None, refl}
+use Rattle.std.proofs.Common.{◌≡◌, Some, None, refl}
 use Rattle.std.specs.Prelude.{codes, pos, neg_ℤ}
 use Rattle.gga_read.specs.Report.{report_of}
 

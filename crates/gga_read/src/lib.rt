@@ -2,8 +2,10 @@
 #![tactic(auto)]
 
 mod angle;
+mod reports;
 mod sentence;
 
+pub use reports::Reports;
 pub use sentence::parse_gga;
 
 /// A place on the earth, in units of 10^-7 degree. North and east are positive.

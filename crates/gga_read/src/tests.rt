@@ -103,3 +103,45 @@ fn other_lines_are_no_reports(rt: HostRuntime) {
     assert_eq!(rt; parse_gga(another), None);
     assert_eq!(rt; parse_gga(b""), None);
 }
+
+/// Pushes the bytes, and counts the reports.
+fn count_reports(reports: &mut Reports, bytes: &[u8]) -> u64 {
+    let mut count: u64 = 0;
+    for byte in bytes {
+        if reports.push(*byte).is_some() {
+            count = count.saturating_add(1);
+        }
+    }
+    count
+}
+
+#[test]
+fn reports_come_with_the_end_of_their_lines(rt: HostRuntime) -> Result<(), Fail> {
+    let line = b"$GPGGA,123519,4807.038,N,01131.000,E,1,08,0.9,545.4,M,46.9,M,,*47";
+    let at = Some(Position {
+        lat: 481173000,
+        lon: 115166666,
+    });
+    let mut reports = Reports::new(rt.alloc())?;
+    assert_eq!(rt; count_reports(&mut reports, line), 0);
+    assert_eq!(rt; reports.push(b'\n'), at);
+    assert_eq!(rt; count_reports(&mut reports, b"noise\r\n\r\n"), 0);
+    assert_eq!(rt; count_reports(&mut reports, line), 0);
+    assert_eq!(rt; reports.push(b'\r'), None);
+    assert_eq!(rt; reports.push(b'\n'), at);
+    Ok(())
+}
+
+#[test]
+fn lines_above_128_bytes_are_dropped(rt: HostRuntime) -> Result<(), Fail> {
+    let mut reports = Reports::new(rt.alloc())?;
+    let front = b"$GPGGA,123519,4807.038,N,01131.000,E,1,08,0.9,545.4,M,46.9,M,,";
+    let zeros = [b'0'; 63];
+    assert_eq!(rt; count_reports(&mut reports, front), 0);
+    assert_eq!(rt; count_reports(&mut reports, &zeros), 0);
+    assert_eq!(rt; count_reports(&mut reports, b"*77\r\n"), 1);
+    assert_eq!(rt; count_reports(&mut reports, front), 0);
+    assert_eq!(rt; count_reports(&mut reports, &zeros), 0);
+    assert_eq!(rt; count_reports(&mut reports, b"0*47\n"), 0);
+    Ok(())
+}

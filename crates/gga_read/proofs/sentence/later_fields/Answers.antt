@@ -1,4 +1,4 @@
-use Rattle.std.proofs.Common.{List, ℕ, ◌≡◌, ◌∷◌, sym, ap, ◌∙◌}
+use Rattle.std.proofs.Common.{List, ℕ, ◌∷◌, sym, ap, ◌∙◌}
 use Rattle.gga_read.specs.Sentence.{fields}
 use Rattle.gga_read.proofs.FieldLemmas.{behind, fields_at_none, fields_at_some, first_at_some}
 use Rattle.gga_read.proofs.sentence.later_fields.Goals as goal
