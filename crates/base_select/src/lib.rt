@@ -1,0 +1,17 @@
+//! The base that a rover takes: the nearest by a stated whole number, with hysteresis.
+#![tactic(auto)]
+
+mod distance;
+
+pub use distance::measure;
+
+use gga_read::Position;
+
+/// A base station: a mountpoint by its number, and where its antenna stands.
+#[derive(Clone, Copy, Debug)]
+pub struct Base {
+    /// The number of the mountpoint.
+    pub mount: u32,
+    /// Where the antenna stands.
+    pub at: Position,
+}
