@@ -1,6 +1,5 @@
 -- The choice of a base, of all bases at once.
 use Rattle.std.specs.Prelude.{◌≡◌, ℕ, ◌-◌, ◌*◌, ◌<◌, ◌≤◌, ◌==◌, nat_lt, if◌then◌else◌, List, length, map, slice_index, position, Option, Some, None}
-use Rattle.std.specs.Option.{option_and_then}
 use Rattle.gga_read.specs.declared.Position.{Position}
 use Rattle.base_select.specs.declared.Base.{Base}
 use Rattle.base_select.specs.Measure.{measure_of}
@@ -20,8 +19,9 @@ pub record IsNearest (all : List ℕ) (n : ℕ) : Type 0 where
   pub first : (k : ℕ) → k < n → slice_index all n < slice_index all k
 
 -- the place of the rover's present base, if it has one that is in the list
-abbrev pub place_of : Option ℕ → List ℕ → Option ℕ
-place_of current all = option_and_then (λ mount. position (λ m. m == mount) all) current
+abbrev pub place_of : Option ℕ → List Base → Option ℕ
+place_of None bases = None
+place_of (Some mount) bases = position (λ base. base.mount == mount) bases
 
 -- the place that is chosen of the nearest and the present one: the nearest where it beats the
 -- present one by the hysteresis, h percent of the distance
@@ -38,4 +38,4 @@ pub record IsChoice (current : Option ℕ) (rover : Position) (bases : List Base
   pub nearest : ℕ
   pub is_nearest : IsNearest (measures rover bases) nearest
   pub is_chosen : mount ≡ slice_index (mounts bases)
-    (chosen (measures rover bases) h nearest (place_of current (mounts bases)))
+    (chosen (measures rover bases) h nearest (place_of current bases))

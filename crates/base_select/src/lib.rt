@@ -1,8 +1,10 @@
 //! The base that a rover takes: the nearest by a stated whole number, with hysteresis.
 #![tactic(auto)]
 
+mod choice;
 mod distance;
 
+pub use choice::select;
 pub use distance::measure;
 
 use gga_read::Position;
@@ -15,3 +17,6 @@ pub struct Base {
     /// Where the antenna stands.
     pub at: Position,
 }
+
+#[cfg(test)]
+mod tests;
