@@ -1,5 +1,5 @@
 -- The best place so far.
-use Rattle.std.proofs.Common.{◌≡◌, ℕ, ◌+◌, ◌<◌, ◌≤◌, List, length, get_or, ap, subst, sym, arith, inl, inr}
+use Rattle.std.proofs.Common.{◌≡◌, ℕ, ◌+◌, ◌<◌, ◌≤◌, List, length, get_or, subst, arith, inl, inr}
 use Rattle.std.proofs.lemmas.Bool.{cases_lt}
 use Rattle.base_select.specs.Choice.{IsNearest}
 
@@ -13,7 +13,7 @@ pub best_of_one : (all : List ℕ) → IsBest all 1 0
 best_of_one all = record {
   within = omega arith;
   least = λ k lt. let zero : 0 ≡ k = omega arith in
-    subst (λ (m : ℕ). get_or all 0 0 ≤ get_or all m 0) zero (omega arith);
+      subst (λ (m : ℕ). get_or all 0 0 ≤ get_or all m 0) zero (omega arith);
   first = λ k lt. absurd (omega arith);
 }
 

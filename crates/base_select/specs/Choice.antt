@@ -29,7 +29,7 @@ abbrev pub chosen : List ℕ → ℕ → ℕ → Option ℕ → ℕ
 chosen all h nearest None = nearest
 chosen all h nearest (Some present) =
     if nat_lt (slice_index all nearest * 10000)
-        (slice_index all present * (100 - h) * (100 - h))
+    (slice_index all present * (100 - h) * (100 - h))
     then nearest else present
 
 -- the base that a rover takes: the one chosen of the nearest and the present one
@@ -38,4 +38,4 @@ pub record IsChoice (current : Option ℕ) (rover : Position) (bases : List Base
   pub nearest : ℕ
   pub is_nearest : IsNearest (measures rover bases) nearest
   pub is_chosen : mount ≡ slice_index (mounts bases)
-    (chosen (measures rover bases) h nearest (place_of current bases))
+      (chosen (measures rover bases) h nearest (place_of current bases))

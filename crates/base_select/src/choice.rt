@@ -4,8 +4,8 @@ ghost use Rattle.std.specs.Prelude.{◌≡◌, ◌==◌, position, ◌<◌, ◌�
 ghost use Rattle.base_select.specs.Measure.{IsOnEarth};
 ghost use Rattle.base_select.specs.Choice.{measures, mounts, IsNearest, place_of, chosen, IsChoice};
 
-use crate::distance::measure;
 use crate::Base;
+use crate::distance::measure;
 use gga_read::Position;
 
 /// The measure of the base at this place.
@@ -63,13 +63,7 @@ fn place_of(current: Option<u32>, bases: &[Base]) -> Option<usize>
 }
 
 /// The place that is chosen of the nearest and the present one.
-fn chosen(
-    rover: Position,
-    bases: &[Base],
-    h: u32,
-    nearest: usize,
-    present: Option<usize>,
-) -> usize
+fn chosen(rover: Position, bases: &[Base], h: u32, nearest: usize, present: Option<usize>) -> usize
     requires rover { IsOnEarth rover }
     requires bases { All (λ base. IsOnEarth base.at) bases.now }
     requires percent { h ≤ 50 }
@@ -84,7 +78,11 @@ fn chosen(
             let new = u128::from(measure_at(rover, bases, nearest));
             let old = u128::from(measure_at(rover, bases, place));
             let kept = u128::from(100 - h);
-            if new * 10000 < old * kept * kept { nearest } else { place }
+            if new * 10000 < old * kept * kept {
+                nearest
+            } else {
+                place
+            }
         }
     }
 }

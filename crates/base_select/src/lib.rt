@@ -6,7 +6,6 @@ mod distance;
 
 pub use choice::select;
 pub use distance::measure;
-
 use gga_read::Position;
 
 /// A base station: a mountpoint by its number, and where its antenna stands.
