@@ -143,10 +143,10 @@ fn position_in(text: &[u8]) -> Option<Position>
     Some(Position { lat, lon })
 }
 
-/// The position that the line reports, without its line end: it is a GGA sentence of NMEA 0183 with
-/// a fix, minutes below 60, a latitude of at most 90 degrees and a longitude of at most 180 degrees.
-/// Minutes are cut after five decimals, and the position is rounded towards 0. `None` exactly where
-/// the line is no such sentence.
+/// The position that the line, without its line end, reports: it is a GGA sentence of NMEA 0183
+/// with a fix, minutes below 60, a latitude of at most 90 degrees and a longitude of at most 180
+/// degrees. Minutes are cut after five decimals, and the position is rounded towards 0. `None`
+/// exactly where the line is no such sentence.
 #[tactic(auto, unfolding(crate::specs::Report::report_of))]
 pub fn parse_gga(line: &[u8]) -> Option<Position>
     ensures { result ≡ report_of line.now }
