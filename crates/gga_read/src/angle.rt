@@ -1,6 +1,6 @@
 //! Angles: degrees and minutes as digits, and a letter for the side.
 
-ghost use Rattle.std.specs.Prelude.{◌≡◌, ◌+◌, ◌-◌, ◌≤◌, ◌<◌, ◌^◌, ◌==◌, ◌&&◌, pos, ◌≤ℤ◌, negsuc, drop, slice_index, IfSome};
+ghost use Rattle.std.specs.Prelude.{◌≡◌, ◌+◌, ◌-◌, ◌≤◌, ◌<◌, ◌^◌, ◌==◌, ◌&&◌, pos, ◌≤ℤ◌, negsuc, drop, slice_index, unsigned_abs, IfSome};
 ghost use Rattle.std.specs.List.{list_all};
 ghost use Rattle.gga_read.specs.Angle.{is_digit, digit_at, ends_with_decimals, whole_minutes, decimals, has_minutes, magnitude, angle_within, latitude_size, longitude_size, is_letter, signed, latitude_of, longitude_of};
 
@@ -111,7 +111,7 @@ fn angle_within(limit: u64, degrees: u64, at: usize, text: &[u8]) -> Option<u64>
 /// The latitude without its sign.
 fn latitude_size(text: &[u8]) -> Option<u64>
     ensures value { result ≡ latitude_size text.now }
-    ensures within { IfSome result (λ size. size ≤ 1800000000) }
+    ensures within { IfSome result (λ size. size ≤ 900000000) }
 {
     if is_digit_at(text, 0) && is_digit_at(text, 1) {
         let degrees = 10 * digit_at(text, 0) + digit_at(text, 1);
@@ -144,7 +144,8 @@ fn is_letter(letter: u8, text: &[u8]) -> bool
 /// The angle with the sign that the letter says.
 fn signed(plus: u8, minus: u8, letter: &[u8], size: u64) -> Option<i64>
     requires { size ≤ 1800000000 }
-    ensures { result ≡ signed plus minus letter.now (Some size) }
+    ensures value { result ≡ signed plus minus letter.now (Some size) }
+    ensures within { IfSome result (λ angle. unsigned_abs angle ≤ size) }
 {
     if is_letter(plus, letter) {
         Some(size as i64)
@@ -157,7 +158,8 @@ fn signed(plus: u8, minus: u8, letter: &[u8], size: u64) -> Option<i64>
 
 /// The latitude: `ddmm` with decimals of the minutes, and `N` or `S`.
 pub fn latitude(text: &[u8], letter: &[u8]) -> Option<i64>
-    ensures { result ≡ latitude_of text.now letter.now }
+    ensures value { result ≡ latitude_of text.now letter.now }
+    ensures within { IfSome result (λ angle. unsigned_abs angle ≤ 900000000) }
 {
     match latitude_size(text) {
         None => None,
@@ -167,7 +169,8 @@ pub fn latitude(text: &[u8], letter: &[u8]) -> Option<i64>
 
 /// The longitude: `dddmm` with decimals of the minutes, and `E` or `W`.
 pub fn longitude(text: &[u8], letter: &[u8]) -> Option<i64>
-    ensures { result ≡ longitude_of text.now letter.now }
+    ensures value { result ≡ longitude_of text.now letter.now }
+    ensures within { IfSome result (λ angle. unsigned_abs angle ≤ 1800000000) }
 {
     match longitude_size(text) {
         None => None,

@@ -1,6 +1,6 @@
 //! The reports of a stream of bytes.
 
-ghost use Rattle.std.specs.Prelude.{◌≡◌, ℕ, List, [], ◌∷◌, ◌++◌, option_to_list, IfOk};
+ghost use Rattle.std.specs.Prelude.{unsigned_abs, ◌≤◌, IfSome, ◌≡◌, ℕ, List, [], ◌∷◌, ◌++◌, option_to_list, IfOk};
 
 use crate::Position;
 use crate::sentence::parse_gga;
@@ -51,6 +51,8 @@ impl Reports {
             → StandsFor self.new (bytes ++ byte ∷ []) }
         ensures reports { (bytes : List ℕ) → StandsFor self.old bytes
             → reports (bytes ++ byte ∷ []) ≡ reports bytes ++ option_to_list result }
+        ensures lat { IfSome result (λ at. unsigned_abs at.lat ≤ 900000000) }
+        ensures lon { IfSome result (λ at. unsigned_abs at.lon ≤ 1800000000) }
     {
         if self.lines.push(byte) {
             parse_gga(self.lines.line())

@@ -1,6 +1,6 @@
 //! GGA sentences: the frame, the checksum and the fields.
 
-ghost use Rattle.std.specs.Prelude.{◌≡◌, ◌<◌, ◌+◌, ◌∷◌, ◌==◌, ◌&&◌, IsTrue, IfSome, IfNone, length, List, [], slice_index_or, position};
+ghost use Rattle.std.specs.Prelude.{unsigned_abs, ◌≤◌, ◌≡◌, ◌<◌, ◌+◌, ◌∷◌, ◌==◌, ◌&&◌, IsTrue, IfSome, IfNone, length, List, [], slice_index_or, position};
 ghost use Rattle.std.specs.List.{slice_split, position_or_len};
 ghost use Rattle.std.specs.Option.{option_map};
 ghost use Rattle.gga_read.specs.Sentence.{exclusive_or, is_hex_digit_of, inner, has_checksum, is_framed, fields, field, is_capital, is_gga_name, is_gga};
@@ -136,7 +136,9 @@ fn is_fix(text: &[u8]) -> bool
 
 /// The position that the fields say.
 fn position_in(text: &[u8]) -> Option<Position>
-    ensures { result ≡ position_in text.now }
+    ensures value { result ≡ position_in text.now }
+    ensures lat { IfSome result (λ at. unsigned_abs at.lat ≤ 900000000) }
+    ensures lon { IfSome result (λ at. unsigned_abs at.lon ≤ 1800000000) }
 {
     let lat = latitude(field(2, text), field(3, text))?;
     let lon = longitude(field(4, text), field(5, text))?;
@@ -149,7 +151,9 @@ fn position_in(text: &[u8]) -> Option<Position>
 /// exactly where the line is no such sentence.
 #[tactic(auto, unfolding(crate::specs::Report::report_of))]
 pub fn parse_gga(line: &[u8]) -> Option<Position>
-    ensures { result ≡ report_of line.now }
+    ensures value { result ≡ report_of line.now }
+    ensures lat { IfSome result (λ at. unsigned_abs at.lat ≤ 900000000) }
+    ensures lon { IfSome result (λ at. unsigned_abs at.lon ≤ 1800000000) }
 {
     if !is_framed(line) {
         return None;
