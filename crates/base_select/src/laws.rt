@@ -1,0 +1,23 @@
+//! Laws of the choice, each a clause of a function that does nothing.
+
+ghost use Rattle.std.specs.Prelude.{◌≡◌, ℕ, ◌<◌, List, length, slice_index, Option};
+ghost use Rattle.gga_read.specs.declared.Position.{Position};
+ghost use Rattle.base_select.specs.declared.Base.{Base};
+ghost use Rattle.base_select.specs.Choice.{measures, mounts, IsNearest, place_of, IsChoice};
+
+/// What a choice is: one of the bases, and only one can be chosen. A rover without a base takes the
+/// one that no other is nearer than, and of equally near ones the first; a rover whose base is not
+/// in the list chooses as one without a base.
+pub fn choice_is_of_the_bases()
+    ensures among { (current : Option ℕ) (rover : Position) (bases : List Base) (h mount : ℕ)
+        → IsChoice current rover bases h mount
+        → (n : ℕ) × (n < length bases) × (mount ≡ slice_index (mounts bases) n) }
+    ensures only { (current : Option ℕ) (rover : Position) (bases : List Base) (h a b : ℕ)
+        → IsChoice current rover bases h a → IsChoice current rover bases h b → a ≡ b }
+    ensures without { (rover : Position) (bases : List Base) (h mount : ℕ)
+        → IsChoice None rover bases h mount
+        → (n : ℕ) × IsNearest (measures rover bases) n × (mount ≡ slice_index (mounts bases) n) }
+    ensures elsewhere { (present : ℕ) (rover : Position) (bases : List Base) (h mount : ℕ)
+        → place_of (Some present) bases ≡ None
+        → IsChoice (Some present) rover bases h mount → IsChoice None rover bases h mount }
+{}

@@ -1,0 +1,23 @@
+//! The base that a rover takes: the nearest by a stated whole number, with hysteresis.
+#![tactic(auto)]
+
+mod choice;
+mod distance;
+mod laws;
+
+pub use choice::select;
+pub use distance::measure;
+use gga_read::Position;
+pub use laws::choice_is_of_the_bases;
+
+/// A base station: a mountpoint by its number, and where its antenna stands.
+#[derive(Clone, Copy, Debug)]
+pub struct Base {
+    /// The number of the mountpoint.
+    pub mount: u32,
+    /// Where the antenna stands.
+    pub at: Position,
+}
+
+#[cfg(test)]
+mod tests;
