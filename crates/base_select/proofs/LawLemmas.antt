@@ -1,7 +1,7 @@
 -- Laws of the choice.
-use Rattle.std.proofs.Common.{◌≡◌, ℕ, ◌<◌, ◌*◌, ◌-◌, Bool, eqb, ltb, List, length, get_or, Option, Some, None, IfSome, refl, ap, sym, ◌∙◌, arith, inl, inr}
+use Rattle.std.proofs.Common.{◌≡◌, ℕ, ◌<◌, ◌≤◌, ◌*◌, ◌-◌, Bool, eqb, ltb, List, length, get_or, Option, Some, None, IfSome, refl, ap, sym, ◌∙◌, arith, inl, inr}
 use Rattle.std.specs.Prelude.{position, slice_index, pos}
-use Rattle.std.proofs.lemmas.Bool.{cases_lt, cases_Bool}
+use Rattle.std.proofs.lemmas.Bool.{cases_lt, cases_Bool, lt-ltb, le-ltb}
 use Rattle.std.proofs.lemmas.List.{length-map}
 use Rattle.std.proofs.lemmas.List.Quantifiers.{position-Some}
 use Rattle.gga_read.specs.declared.Position.{Position}
@@ -70,3 +70,41 @@ elsewhere present rover bases h mount none c = record {
   is_chosen = c.is_chosen
       ∙ ap (λ (place : Option ℕ). slice_index (mounts bases) (chosen (measures rover bases) h c.nearest place)) none;
 }
+
+-- what is chosen of the nearest and the present base, where the places are known
+of_places : (present place near : ℕ) (rover : Position) (bases : List Base) (h mount : ℕ) → place_of (Some present) bases ≡ Some place
+    → IsNearest (measures rover bases) near → IsChoice (Some present) rover bases h mount
+    → mount ≡ slice_index (mounts bases) (chosen (measures rover bases) h near (Some place))
+of_places present place near rover bases h mount at nearest c =
+    c.is_chosen
+    ∙ ap (λ (p : Option ℕ). slice_index (mounts bases) (chosen (measures rover bases) h c.nearest p)) at
+    ∙ ap (λ (n : ℕ). slice_index (mounts bases) (chosen (measures rover bases) h n (Some place)))
+    (nearest_unique (measures rover bases) c.nearest near c.is_nearest nearest)
+
+-- the nearest is chosen where it beats the present one
+nearest_chosen : (all : List ℕ) (h near place : ℕ)
+    → get_or all near 0 * 10000 < get_or all place 0 * (100 - h) * (100 - h) → chosen all h near (Some place) ≡ near
+nearest_chosen all h near place beats =
+    rw (lt-ltb (get_or all near 0 * 10000) (get_or all place 0 * (100 - h) * (100 - h)) beats) refl
+
+-- and else the present one
+present_chosen : (all : List ℕ) (h near place : ℕ)
+    → get_or all place 0 * (100 - h) * (100 - h) ≤ get_or all near 0 * 10000 → chosen all h near (Some place) ≡ place
+present_chosen all h near place kept =
+    rw (le-ltb (get_or all near 0 * 10000) (get_or all place 0 * (100 - h) * (100 - h)) kept) refl
+
+pub leaves : (present place near : ℕ) (rover : Position) (bases : List Base) (h mount : ℕ) → place_of (Some present) bases ≡ Some place
+    → IsNearest (measures rover bases) near
+    → slice_index (measures rover bases) near * 10000 < slice_index (measures rover bases) place * (100 - h) * (100 - h)
+    → IsChoice (Some present) rover bases h mount → mount ≡ slice_index (mounts bases) near
+leaves present place near rover bases h mount at nearest beats c =
+    of_places present place near rover bases h mount at nearest c
+    ∙ ap (slice_index (mounts bases)) (nearest_chosen (measures rover bases) h near place beats)
+
+pub stays : (present place near : ℕ) (rover : Position) (bases : List Base) (h mount : ℕ) → place_of (Some present) bases ≡ Some place
+    → IsNearest (measures rover bases) near
+    → slice_index (measures rover bases) place * (100 - h) * (100 - h) ≤ slice_index (measures rover bases) near * 10000
+    → IsChoice (Some present) rover bases h mount → mount ≡ slice_index (mounts bases) place
+stays present place near rover bases h mount at nearest kept c =
+    of_places present place near rover bases h mount at nearest c
+    ∙ ap (slice_index (mounts bases)) (present_chosen (measures rover bases) h near place kept)

@@ -1,6 +1,6 @@
 //! Laws of the choice, each a clause of a function that does nothing.
 
-ghost use Rattle.std.specs.Prelude.{◌≡◌, ℕ, ◌<◌, List, length, slice_index, Option};
+ghost use Rattle.std.specs.Prelude.{◌≡◌, ℕ, ◌-◌, ◌*◌, ◌<◌, ◌≤◌, List, length, slice_index, Option};
 ghost use Rattle.gga_read.specs.declared.Position.{Position};
 ghost use Rattle.base_select.specs.declared.Base.{Base};
 ghost use Rattle.base_select.specs.Choice.{measures, mounts, IsNearest, place_of, IsChoice};
@@ -20,4 +20,19 @@ pub fn choice_is_of_the_bases()
     ensures elsewhere { (present : ℕ) (rover : Position) (bases : List Base) (h mount : ℕ)
         → place_of (Some present) bases ≡ None
         → IsChoice (Some present) rover bases h mount → IsChoice None rover bases h mount }
+{}
+
+/// A rover whose base is in the list leaves it for the nearest where that beats it by the
+/// hysteresis, `h` percent of the distance, and else stays.
+pub fn choice_is_kept_unless_beaten()
+    ensures leaves { (present place near : ℕ) (rover : Position) (bases : List Base) (h mount : ℕ)
+        → place_of (Some present) bases ≡ Some place → IsNearest (measures rover bases) near
+        → slice_index (measures rover bases) near * 10000
+        < slice_index (measures rover bases) place * (100 - h) * (100 - h)
+        → IsChoice (Some present) rover bases h mount → mount ≡ slice_index (mounts bases) near }
+    ensures stays { (present place near : ℕ) (rover : Position) (bases : List Base) (h mount : ℕ)
+        → place_of (Some present) bases ≡ Some place → IsNearest (measures rover bases) near
+        → slice_index (measures rover bases) place * (100 - h) * (100 - h)
+        ≤ slice_index (measures rover bases) near * 10000
+        → IsChoice (Some present) rover bases h mount → mount ≡ slice_index (mounts bases) place }
 {}
