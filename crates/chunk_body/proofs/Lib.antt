@@ -1,1 +1,4 @@
 pub mod SizeLemmas
+pub mod Machines
+pub mod StepLemmas
+pub mod PrintLemmas

@@ -8,3 +8,5 @@ mod phase;
 
 pub use chunks::chunk;
 pub use dechunk::{Dechunk, Step};
+
+pub mod laws;

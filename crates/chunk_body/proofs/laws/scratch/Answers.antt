@@ -1,0 +1,8 @@
+use Rattle.std.proofs.Common.{refl}
+use Rattle.chunk_body.proofs.Machines
+use Rattle.chunk_body.proofs.StepLemmas
+use Rattle.chunk_body.proofs.PrintLemmas
+use Rattle.chunk_body.proofs.laws.scratch.Goals as goal
+
+pub returns : goal.returns
+returns c = λ n. refl
