@@ -67,7 +67,7 @@ impl Dechunk {
         ensures taken { self.new.taken ≤ self.old.taken + 1 }
         ensures read { (text : List ℕ) → self.old ≡ read text
             → self.new ≡ read (text ++ byte ∷ []) }
-        ensures open { (text : List ℕ) → self.old ≡ read text
+        ensures goes_on { (text : List ℕ) → self.old ≡ read text
             → IsTrue (goes_on result) ↔ IsOpen (text ++ byte ∷ []) }
         ensures done { (text : List ℕ) → self.old ≡ read text
             → (result ≡ steps.Done) ↔ HasEnded (text ++ byte ∷ []) }
