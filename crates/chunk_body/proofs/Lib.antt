@@ -6,3 +6,6 @@ pub mod Rests
 pub mod WithinLemmas
 pub mod RestLemmas
 pub mod TextLemmas
+pub mod PlainLemmas
+pub mod ReadingLemmas
+pub mod ChunkLemmas

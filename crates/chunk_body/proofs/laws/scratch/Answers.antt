@@ -6,6 +6,9 @@ use Rattle.chunk_body.proofs.Rests
 use Rattle.chunk_body.proofs.WithinLemmas
 use Rattle.chunk_body.proofs.RestLemmas
 use Rattle.chunk_body.proofs.TextLemmas
+use Rattle.chunk_body.proofs.PlainLemmas
+use Rattle.chunk_body.proofs.ReadingLemmas
+use Rattle.chunk_body.proofs.ChunkLemmas
 use Rattle.chunk_body.proofs.laws.scratch.Goals as goal
 
 pub returns : goal.returns
