@@ -284,3 +284,53 @@ exactly_bad t (Bad k) place bad = (
   where
     place_of : (j k : ℕ) → Bad j ≡ Bad k → j ≡ k
     place_of j k same = cc
+
+-- ---- what a reading is, exactly
+
+-- an open text is at neither end
+open_phase_is : (t : List ℕ) → IsOpen t → (run start t ≡ Ended → ⊥) × (run start t ≡ Broken → ⊥)
+open_phase_is t is = ((λ e. is.going (ended_at t e)), (λ e. live_fine t is.live e))
+
+pub ended_reading : (t : List ℕ) (r : Reading) → Knows t r → (r.phase ≡ Ended) ↔ HasEnded t
+ended_reading t r (in_body is phase taken) =
+    ((λ e. absurd ((open_phase_is t is).0 (sym phase ∙ e))), (λ ended. absurd (is.going ended)))
+ended_reading t r (behind_body phase ended) = ((λ _. ended), (λ _. phase))
+ended_reading t r (behind_fault phase bad) =
+    ((λ e. absurd (apart (sym e ∙ phase))), (λ ended. absurd (bad_not_ended t r.taken bad ended)))
+  where
+    apart : Ended ≡ Broken → ⊥
+    apart same = absurd cc
+
+pub bad_reading : (t : List ℕ) (r : Reading) (place : ℕ) → Knows t r
+    → ((r.phase ≡ Broken) × (r.taken ≡ place)) ↔ IsBadAt t place
+bad_reading t r place (in_body is phase taken) =
+    ((λ e. absurd ((open_phase_is t is).1 (sym phase ∙ e.0))), (λ bad. absurd (bad_dead t place bad is.live)))
+bad_reading t r place (behind_body phase ended) =
+    ((λ e. absurd (apart (sym phase ∙ e.0))), (λ bad. absurd (bad_not_ended t place bad ended)))
+  where
+    apart : Ended ≡ Broken → ⊥
+    apart same = absurd cc
+bad_reading t r place (behind_fault phase bad) =
+    ((λ e. subst (λ (k : ℕ). IsBadAt t k) e.1 bad), (λ other. (phase, one_fault t r.taken place bad other)))
+
+pub open_taken : (t : List ℕ) (r : Reading) → Knows t r → IsOpen t → r.taken ≡ length t
+open_taken t r (in_body is phase taken) still = taken
+open_taken t r (behind_body phase ended) still = absurd (still.going ended)
+open_taken t r (behind_fault phase bad) still = absurd (bad_dead t r.taken bad still.live)
+
+folded_most : (t : List ℕ) (r : Reading) → (fold after r t).taken ≤ r.taken + length t
+folded_most [] r = omega arith
+folded_most (b ∷ t) r = omega (arith, folded_most t (after r b), taken_more r b)
+
+-- no more bytes are counted than came
+pub taken_most : (t : List ℕ) → (read t).taken ≤ length t
+unfolding read
+taken_most t = omega (arith, folded_most t nothing_read)
+
+-- every text is open, has ended or is bad somewhere
+pub one_of_three : (t : List ℕ) → IsOpen t ⊎ (HasEnded t ⊎ ((place : ℕ) × IsBadAt t place))
+one_of_three t = elim (known t) [
+  | in_body is phase taken ↦ inl is
+  | behind_body phase ended ↦ inr (inl ended)
+  | behind_fault phase bad ↦ inr (inr ((read t).taken, bad))
+]

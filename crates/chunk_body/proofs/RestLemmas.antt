@@ -332,7 +332,7 @@ back_all q (b ∷ t) u x is r =
 -- ---- from every phase but the broken one some rest leads to the end
 
 -- the shortest body
-pub ending : List ℕ
+abbrev pub ending : List ℕ
 ending = 48 ∷ 13 ∷ 10 ∷ 13 ∷ 10 ∷ []
 
 -- a phase has a rest
@@ -356,7 +356,6 @@ no_trailers n few = record {
 }
 
 pub shortest : BodyText ending []
-unfolding ending
 shortest = from_start ending [] (record {
   digits = 48 ∷ [];
   extension = [];
