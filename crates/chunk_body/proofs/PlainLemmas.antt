@@ -4,7 +4,7 @@ use Rattle.std.proofs.lemmas.List.{append-nil}
 use Rattle.std.proofs.lemmas.Bool.{cond_both}
 use Rattle.std.proofs.Math.Seq.{take-append_seam}
 use Rattle.chunk_body.specs.declared.phase.Phase.{Phase}
-use Rattle.chunk_body.specs.declared.phase.Phase.TheVariants.{Digits, Extension, SizeLf, Data, DataCr, DataLf, Trailers, Trailer, TrailerLf, LastLf, Ended, Broken}
+use Rattle.chunk_body.specs.declared.phase.Phase.TheVariants.{Digits, Extension, SizeLf, Data, DataCr, DataLf, TrailerStart, Trailer, TrailerLf, LastLf, Ended, Broken}
 use Rattle.chunk_body.specs.Body.{Body, print_body, IsBody, data_within}
 use Rattle.chunk_body.specs.Text.{BodyText, IsLive, HasEnded, IsPlain}
 use Rattle.chunk_body.specs.Machine.{step, in_data}
@@ -28,7 +28,7 @@ given_broken (Extension n v) b broken = refl
 given_broken (SizeLf v) b broken = refl
 given_broken DataCr b broken = refl
 given_broken DataLf b broken = refl
-given_broken (Trailers n) b broken = refl
+given_broken (TrailerStart n) b broken = refl
 given_broken (Trailer n) b broken = refl
 given_broken (TrailerLf n) b broken = refl
 given_broken LastLf b broken = refl
@@ -43,7 +43,7 @@ given_ended (Extension n v) b ends = refl
 given_ended (SizeLf v) b ends = refl
 given_ended DataCr b ends = refl
 given_ended DataLf b ends = refl
-given_ended (Trailers n) b ends = refl
+given_ended (TrailerStart n) b ends = refl
 given_ended (Trailer n) b ends = refl
 given_ended (TrailerLf n) b ends = refl
 given_ended LastLf b ends = refl

@@ -7,7 +7,7 @@ use Rattle.std.specs.Char.{digit_value}
 use Rattle.std.proofs.lemmas.Bool.{cases_lt}
 use Rattle.std.specs.Str.Parse.{AllDigits, digits_value_after, digits_value}
 use Rattle.chunk_body.specs.declared.phase.Phase.{Phase}
-use Rattle.chunk_body.specs.declared.phase.Phase.TheVariants.{Digits, Extension, SizeLf, Data, DataCr, DataLf, Trailers, Trailer, TrailerLf, LastLf, Ended, Broken}
+use Rattle.chunk_body.specs.declared.phase.Phase.TheVariants.{Digits, Extension, SizeLf, Data, DataCr, DataLf, TrailerStart, Trailer, TrailerLf, LastLf, Ended, Broken}
 use Rattle.chunk_body.specs.Body.{line_end, IsLineByte, SizeLine, print_size, size_of, IsExtension, IsSizeLine, Chunk, print_chunk, IsChunk, IsTrailer, print_trailers, Body, print_body, IsBody, data_of, data_within}
 use Rattle.chunk_body.specs.Machine.{step, behind_size}
 use Rattle.chunk_body.proofs.Machines.{run, given, plain, Goes, goes_append, goes_cons, quiet, plain-append, plain-take}
@@ -133,29 +133,29 @@ goes_chunk chunk is =
 -- ---- trailers
 
 goes_trailer : (n : ℕ) (bytes : List ℕ) → All IsLineByte bytes → n + length bytes + 4 ≤ 1024
-    → Goes (Trailer n) (bytes ++ line_end) (Trailers (n + length bytes + 2)) []
+    → Goes (Trailer n) (bytes ++ line_end) (TrailerStart (n + length bytes + 2)) []
 goes_trailer n [] all room =
-    goes_to _ _ _ _ _ (ap Trailers (omega arith))
-    (goes_cons (Trailer n) (TrailerLf (n + 1)) (Trailers (n + 1 + 1)) 13 (10 ∷ []) [] (step_trailer_cr n)
-    (goes_cons (TrailerLf (n + 1)) (Trailers (n + 1 + 1)) (Trailers (n + 1 + 1)) 10 [] [] (step_trailer_lf (n + 1)) (nothing (Trailers (n + 1 + 1)))))
+    goes_to _ _ _ _ _ (ap TrailerStart (omega arith))
+    (goes_cons (Trailer n) (TrailerLf (n + 1)) (TrailerStart (n + 1 + 1)) 13 (10 ∷ []) [] (step_trailer_cr n)
+    (goes_cons (TrailerLf (n + 1)) (TrailerStart (n + 1 + 1)) (TrailerStart (n + 1 + 1)) 10 [] [] (step_trailer_lf (n + 1)) (nothing (TrailerStart (n + 1 + 1)))))
 goes_trailer n (b ∷ bytes) all room =
     let one = step_trailer n b (All-head IsLineByte b bytes all) (omega arith) in
     let others = goes_trailer (n + 1) bytes (All-tail IsLineByte b bytes all) (omega arith) in
-    goes_to _ _ _ _ _ (ap Trailers (omega arith)) (goes_cons _ _ _ b (bytes ++ line_end) [] one others)
+    goes_to _ _ _ _ _ (ap TrailerStart (omega arith)) (goes_cons _ _ _ b (bytes ++ line_end) [] one others)
 
 -- a whole trailer line
 goes_trailer_line : (n : ℕ) (line : List ℕ) → IsTrailer line → n + length line + 4 ≤ 1024
-    → Goes (Trailers n) (line ++ line_end) (Trailers (n + length line + 2)) []
+    → Goes (TrailerStart n) (line ++ line_end) (TrailerStart (n + length line + 2)) []
 goes_trailer_line n [] is room = absurd (omega (arith, is.some))
 goes_trailer_line n (b ∷ bytes) is room =
     let one = step_trailers n b (All-head IsLineByte b bytes is.bytes) (omega arith) in
     let others = goes_trailer (n + 1) bytes (All-tail IsLineByte b bytes is.bytes) (omega arith) in
-    goes_to _ _ _ _ _ (ap Trailers (omega arith)) (goes_cons _ _ _ b (bytes ++ line_end) [] one others)
+    goes_to _ _ _ _ _ (ap TrailerStart (omega arith)) (goes_cons _ _ _ b (bytes ++ line_end) [] one others)
 
 pub goes_trailers : (n : ℕ) (lines : List (List ℕ)) → All IsTrailer lines → n + length (print_trailers lines) ≤ 1024
-    → Goes (Trailers n) (print_trailers lines) Ended []
+    → Goes (TrailerStart n) (print_trailers lines) Ended []
 goes_trailers n [] all room =
-    goes_cons (Trailers n) LastLf Ended 13 (10 ∷ []) [] (step_trailers_cr n)
+    goes_cons (TrailerStart n) LastLf Ended 13 (10 ∷ []) [] (step_trailers_cr n)
     (goes_cons LastLf Ended Ended 10 [] [] step_last_lf (nothing Ended))
 goes_trailers n (line ∷ lines) all room =
     let others = flat_map (λ (l : List ℕ). l ++ line_end) lines in
@@ -168,7 +168,7 @@ goes_trailers n (line ∷ lines) all room =
     let least : 2 ≤ length (print_trailers lines) = omega (arith, length-append others line_end) in
     let first = goes_trailer_line n line (All-head IsTrailer line lines all) (omega arith) in
     let rest = goes_trailers (n + length line + 2) lines (All-tail IsTrailer line lines all) (omega arith) in
-    subst (λ (t : List ℕ). Goes (Trailers n) t Ended []) (sym split)
+    subst (λ (t : List ℕ). Goes (TrailerStart n) t Ended []) (sym split)
     (goes_append _ _ _ (line ++ line_end) (print_trailers lines) [] [] first rest)
 
 -- ---- bodies

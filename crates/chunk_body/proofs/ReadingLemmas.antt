@@ -5,7 +5,7 @@ use Rattle.std.proofs.lemmas.List.{append-nil}
 use Rattle.std.proofs.lemmas.List.Sums.{fold-append}
 use Rattle.std.proofs.lemmas.Bool.{cases_order, cond_both}
 use Rattle.chunk_body.specs.declared.phase.Phase.{Phase}
-use Rattle.chunk_body.specs.declared.phase.Phase.TheVariants.{Digits, Extension, SizeLf, Data, DataCr, DataLf, Trailers, Trailer, TrailerLf, LastLf, Ended, Broken}
+use Rattle.chunk_body.specs.declared.phase.Phase.TheVariants.{Digits, Extension, SizeLf, Data, DataCr, DataLf, TrailerStart, Trailer, TrailerLf, LastLf, Ended, Broken}
 use Rattle.chunk_body.specs.declared.dechunk.Step.{Step}
 use Rattle.chunk_body.specs.declared.dechunk.Step.TheVariants.{More, Byte, Done, Bad}
 use Rattle.chunk_body.specs.Text.{BodyText, IsLive, HasEnded, IsOpen, IsBadAt, IsPlain}
@@ -47,7 +47,7 @@ next_is (SizeLf v) = within_body refl refl (λ e. absurd cc) (λ e. absurd cc)
 next_is (Data n) = within_body refl refl (λ e. absurd cc) (λ e. absurd cc)
 next_is DataCr = within_body refl refl (λ e. absurd cc) (λ e. absurd cc)
 next_is DataLf = within_body refl refl (λ e. absurd cc) (λ e. absurd cc)
-next_is (Trailers n) = within_body refl refl (λ e. absurd cc) (λ e. absurd cc)
+next_is (TrailerStart n) = within_body refl refl (λ e. absurd cc) (λ e. absurd cc)
 next_is (Trailer n) = within_body refl refl (λ e. absurd cc) (λ e. absurd cc)
 next_is (TrailerLf n) = within_body refl refl (λ e. absurd cc) (λ e. absurd cc)
 next_is LastLf = within_body refl refl (λ e. absurd cc) (λ e. absurd cc)
@@ -156,7 +156,7 @@ after_open t r b is phase taken = elim (next_is (step r.phase b)) [
     data_given (SizeLf v) = refl
     data_given DataCr = refl
     data_given DataLf = refl
-    data_given (Trailers n) = refl
+    data_given (TrailerStart n) = refl
     data_given (Trailer n) = refl
     data_given (TrailerLf n) = refl
     data_given LastLf = refl

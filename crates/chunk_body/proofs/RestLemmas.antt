@@ -3,11 +3,11 @@ use Rattle.std.proofs.Common.{◌≡◌, ℕ, zero, suc, ◌+◌, ◌-◌, ◌*�
 use Rattle.std.specs.Char.{digit_value, is_digit}
 use Rattle.std.proofs.lemmas.Bool.{ltb-true, ltb-false, leb-true, eqb-true, eqb-false, and_parts, cond_both, not-true, cases_Bool}
 use Rattle.std.proofs.lemmas.List.{append-nil, length-replicate}
-use Rattle.std.proofs.lemmas.List.Elements.{All-nil, All-cons}
+use Rattle.std.proofs.lemmas.List.Elements.{All-nil, All-cons, All-append, All-replicate}
 use Rattle.std.specs.List.{All, flat_map}
 use Rattle.std.specs.Str.Parse.{AllDigits, digits_value_after, digits_value}
 use Rattle.chunk_body.specs.declared.phase.Phase.{Phase}
-use Rattle.chunk_body.specs.declared.phase.Phase.TheVariants.{Digits, Extension, SizeLf, Data, DataCr, DataLf, Trailers, Trailer, TrailerLf, LastLf, Ended, Broken}
+use Rattle.chunk_body.specs.declared.phase.Phase.TheVariants.{Digits, Extension, SizeLf, Data, DataCr, DataLf, TrailerStart, Trailer, TrailerLf, LastLf, Ended, Broken}
 use Rattle.chunk_body.specs.Body.{line_end, IsLineByte, SizeLine, print_size, size_of, IsExtension, IsSizeLine, Chunk, print_chunk, IsChunk, IsTrailer, print_trailers, Body, print_body, IsBody, data_of}
 use Rattle.chunk_body.specs.Text.{BodyText}
 use Rattle.chunk_body.specs.Machine.{step, expected, in_digits, in_extension, behind_size, in_data, in_trailers, is_within}
@@ -305,10 +305,10 @@ back DataLf b u x is r =
       text = ap (λ (c : ℕ). c ∷ u) both.0;
       body = from_start u x both.1;
     }
-back (Trailers n) b u x is r = back_trailers n b u x (trailers_are n is) r
+back (TrailerStart n) b u x is r = back_trailers n b u x (trailers_are n is) r
 back (Trailer n) b u x is r = back_trailer n b u x r
 back (TrailerLf n) b u x is r =
-    let both = back_expected 10 b (Trailers (n + 1)) u x r in
+    let both = back_expected 10 b (TrailerStart (n + 1)) u x r in
     record {
       lines = both.1.lines;
       others = both.1.all;
@@ -335,16 +335,41 @@ back_all q (b ∷ t) u x is r =
 abbrev pub ending : List ℕ
 ending = 48 ∷ 13 ∷ 10 ∷ 13 ∷ 10 ∷ []
 
--- a phase has a rest
+abbrev pub IsByte : ℕ → Type 0
+IsByte n = n < 256
+
+-- a phase has a rest of bytes
 pub record HasRest (q : Phase) : Type 0 where
   pub text : List ℕ
   pub content : List ℕ
   pub rest : Rest q text content
+  pub bytes : All IsByte text
 
 record HasBehind (v : ℕ) : Type 0 where
   text : List ℕ
   content : List ℕ
   rest : Behind v text content
+  bytes : All IsByte text
+
+-- one more byte, and then bytes
+and_then : (b : ℕ) (t : List ℕ) → b < 256 → All IsByte t → All IsByte (b ∷ t)
+and_then b t byte bytes = All-cons IsByte b t byte bytes
+
+end_bytes : All IsByte line_end
+end_bytes = and_then 13 (10 ∷ []) (omega arith) (and_then 10 [] (omega arith) (All-nil IsByte))
+
+-- a line's end, and then bytes
+line_bytes : (t : List ℕ) → All IsByte t → All IsByte (13 ∷ 10 ∷ t)
+line_bytes t bytes = and_then 13 (10 ∷ t) (omega arith) (and_then 10 t (omega arith) bytes)
+
+ending_bytes : All IsByte ending
+ending_bytes = and_then 48 (13 ∷ 10 ∷ 13 ∷ 10 ∷ []) (omega arith) (line_bytes line_end end_bytes)
+
+zeros_bytes : (n : ℕ) → All IsByte (replicate n 0 ++ (13 ∷ 10 ∷ ending))
+zeros_bytes n =
+    All-append IsByte (replicate n 0) (13 ∷ 10 ∷ ending)
+    (All-replicate IsByte n 0 (omega arith))
+    (line_bytes ending ending_bytes)
 
 no_trailers : (n : ℕ) → n ≤ 1022 → RestTrailers n line_end []
 no_trailers n few = record {
@@ -381,11 +406,12 @@ zeros n = record {
 }
 
 has_behind : (v : ℕ) → HasBehind v
-has_behind zero = record { text = line_end; content = []; rest = no_trailers 0 (omega arith) }
+has_behind zero = record { text = line_end; content = []; rest = no_trailers 0 (omega arith); bytes = end_bytes }
 has_behind (suc n) = record {
   text = replicate (suc n) 0 ++ (13 ∷ 10 ∷ ending);
   content = replicate (suc n) 0 ++ [];
   rest = zeros (suc n);
+  bytes = zeros_bytes (suc n);
 }
 
 -- after one digit or more, the line may end
@@ -407,6 +433,7 @@ end_digits n v some few =
         text = refl;
         rest = h.rest;
       };
+      bytes = line_bytes h.text h.bytes;
     }
 
 has_digits : (n v : ℕ) → n ≤ 6 → HasRest (Digits n v)
@@ -427,6 +454,7 @@ has_digits zero v few =
         text = refl;
         rest = h.rest;
       };
+      bytes = and_then 48 (13 ∷ 10 ∷ h.text) (omega arith) (line_bytes h.text h.bytes);
     }
 has_digits (suc n) v few = end_digits (suc n) v (omega arith) few
 
@@ -446,6 +474,7 @@ has_rest (Extension n v) is fine =
         text = refl;
         rest = h.rest;
       };
+      bytes = line_bytes h.text h.bytes;
     }
 has_rest (SizeLf v) is fine =
     let h = has_behind v in
@@ -453,26 +482,31 @@ has_rest (SizeLf v) is fine =
       text = 10 ∷ h.text;
       content = h.content;
       rest = record { behind = h.text; text = refl; rest = h.rest };
+      bytes = and_then 10 h.text (omega arith) h.bytes;
     }
 has_rest (Data n) is fine = record {
   text = replicate n 0 ++ (13 ∷ 10 ∷ ending);
   content = replicate n 0 ++ [];
   rest = zeros n;
+  bytes = zeros_bytes n;
 }
 has_rest DataCr is fine = record {
   text = 13 ∷ 10 ∷ ending;
   content = [];
   rest = record { behind = ending; text = refl; body = shortest };
+  bytes = line_bytes ending ending_bytes;
 }
 has_rest DataLf is fine = record {
   text = 10 ∷ ending;
   content = [];
   rest = record { behind = ending; text = refl; body = shortest };
+  bytes = and_then 10 ending (omega arith) ending_bytes;
 }
-has_rest (Trailers n) is fine = record {
+has_rest (TrailerStart n) is fine = record {
   text = line_end;
   content = [];
   rest = no_trailers n (trailers_are n is);
+  bytes = end_bytes;
 }
 has_rest (Trailer n) is fine =
     let few = trailer_are n is in
@@ -488,6 +522,7 @@ has_rest (Trailer n) is fine =
         text = refl;
         content = refl;
       };
+      bytes = line_bytes line_end end_bytes;
     }
 has_rest (TrailerLf n) is fine =
     let few = trailer_lf_are n is in
@@ -501,7 +536,13 @@ has_rest (TrailerLf n) is fine =
         text = refl;
         content = refl;
       };
+      bytes = and_then 10 line_end (omega arith) end_bytes;
     }
-has_rest LastLf is fine = record { text = 10 ∷ []; content = []; rest = (refl, refl) }
-has_rest Ended is fine = record { text = []; content = []; rest = (refl, refl) }
+has_rest LastLf is fine = record {
+  text = 10 ∷ [];
+  content = [];
+  rest = (refl, refl);
+  bytes = and_then 10 [] (omega arith) (All-nil IsByte);
+}
+has_rest Ended is fine = record { text = []; content = []; rest = (refl, refl); bytes = All-nil IsByte }
 has_rest Broken is fine = absurd (fine refl)

@@ -3,7 +3,7 @@ use Rattle.std.proofs.Common.{◌≡◌, ℕ, zero, suc, ◌+◌, ◌≤◌, Lis
 use Rattle.std.specs.List.{All}
 use Rattle.std.specs.Str.Parse.{AllDigits, digits_value_after}
 use Rattle.chunk_body.specs.declared.phase.Phase.{Phase}
-use Rattle.chunk_body.specs.declared.phase.Phase.TheVariants.{Digits, Extension, SizeLf, Data, DataCr, DataLf, Trailers, Trailer, TrailerLf, LastLf, Ended, Broken}
+use Rattle.chunk_body.specs.declared.phase.Phase.TheVariants.{Digits, Extension, SizeLf, Data, DataCr, DataLf, TrailerStart, Trailer, TrailerLf, LastLf, Ended, Broken}
 use Rattle.chunk_body.specs.Body.{line_end, IsLineByte, IsExtension, IsTrailer, print_trailers}
 use Rattle.chunk_body.specs.Text.{BodyText}
 
@@ -89,7 +89,7 @@ Rest (SizeLf v) u x = RestSizeLf v u x
 Rest (Data n) u x = RestData n u x
 Rest DataCr u x = RestBody line_end u x
 Rest DataLf u x = RestBody (10 ∷ []) u x
-Rest (Trailers n) u x = RestTrailers n u x
+Rest (TrailerStart n) u x = RestTrailers n u x
 Rest (Trailer n) u x = RestTrailer n u x
 Rest (TrailerLf n) u x = RestTrailerLf n u x
 Rest LastLf u x = (u ≡ 10 ∷ []) × (x ≡ [])

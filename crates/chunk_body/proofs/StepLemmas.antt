@@ -3,7 +3,7 @@ use Rattle.std.proofs.Common.{◌≡◌, ℕ, zero, suc, ◌+◌, ◌-◌, ◌*�
 use Rattle.std.specs.Char.{digit_value, is_digit}
 use Rattle.std.proofs.lemmas.Bool.{lt-ltb, le-ltb, le-leb, eq-eqb, ne_eqb, cond-true, cond-false, and_from}
 use Rattle.chunk_body.specs.declared.phase.Phase.{Phase}
-use Rattle.chunk_body.specs.declared.phase.Phase.TheVariants.{Digits, Extension, SizeLf, Data, DataCr, DataLf, Trailers, Trailer, TrailerLf, LastLf, Ended, Broken}
+use Rattle.chunk_body.specs.declared.phase.Phase.TheVariants.{Digits, Extension, SizeLf, Data, DataCr, DataLf, TrailerStart, Trailer, TrailerLf, LastLf, Ended, Broken}
 use Rattle.chunk_body.specs.Body.{IsLineByte}
 use Rattle.chunk_body.specs.Machine.{step, expected, in_digits, in_extension, behind_size, in_data, in_trailers}
 
@@ -35,7 +35,7 @@ pub behind_some : (v : ℕ) → 0 < v → behind_size v ≡ Data v
 unfolding behind_size
 behind_some v some = rw (ne_eqb v 0 (omega arith)) refl
 
-pub behind_none : (v : ℕ) → v ≡ 0 → behind_size v ≡ Trailers 0
+pub behind_none : (v : ℕ) → v ≡ 0 → behind_size v ≡ TrailerStart 0
 unfolding behind_size
 behind_none v none = rw none refl
 
@@ -55,11 +55,11 @@ pub step_data_lf : step DataLf 10 ≡ Digits 0 0
 unfolding step expected
 step_data_lf = refl
 
-pub step_trailers : (n b : ℕ) → IsLineByte b → n + 5 ≤ 1024 → step (Trailers n) b ≡ Trailer (n + 1)
+pub step_trailers : (n b : ℕ) → IsLineByte b → n + 5 ≤ 1024 → step (TrailerStart n) b ≡ Trailer (n + 1)
 unfolding step in_trailers
 step_trailers n b line room = rw (ne_eqb b 13 line.0, ne_eqb b 10 line.1, le-leb (n + 5) 1024 room) refl
 
-pub step_trailers_cr : (n : ℕ) → step (Trailers n) 13 ≡ LastLf
+pub step_trailers_cr : (n : ℕ) → step (TrailerStart n) 13 ≡ LastLf
 unfolding step in_trailers
 step_trailers_cr n = refl
 
@@ -71,7 +71,7 @@ pub step_trailer_cr : (n : ℕ) → step (Trailer n) 13 ≡ TrailerLf (n + 1)
 unfolding step in_trailers
 step_trailer_cr n = refl
 
-pub step_trailer_lf : (n : ℕ) → step (TrailerLf n) 10 ≡ Trailers (n + 1)
+pub step_trailer_lf : (n : ℕ) → step (TrailerLf n) 10 ≡ TrailerStart (n + 1)
 unfolding step expected
 step_trailer_lf n = refl
 

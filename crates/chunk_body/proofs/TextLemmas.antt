@@ -3,8 +3,9 @@ use Rattle.std.proofs.Common.{◌≡◌, ℕ, zero, suc, ◌+◌, ◌-◌, ◌<�
 use Rattle.std.proofs.lemmas.List.{append-nil, take-append-drop, take_all, take-append-le}
 use Rattle.std.proofs.lemmas.Bool.{cases_lt}
 use Rattle.std.proofs.Math.Seq.{take-append_seam, take-append-add}
+use Rattle.std.specs.List.{All}
 use Rattle.chunk_body.specs.declared.phase.Phase.{Phase}
-use Rattle.chunk_body.specs.declared.phase.Phase.TheVariants.{Digits, Extension, SizeLf, Data, DataCr, DataLf, Trailers, Trailer, TrailerLf, LastLf, Ended, Broken}
+use Rattle.chunk_body.specs.declared.phase.Phase.TheVariants.{Digits, Extension, SizeLf, Data, DataCr, DataLf, TrailerStart, Trailer, TrailerLf, LastLf, Ended, Broken}
 use Rattle.chunk_body.specs.Body.{Body, print_body, IsBody, data_of, data_within}
 use Rattle.chunk_body.specs.Text.{BodyText, IsLive, HasEnded, IsOpen, IsBadAt, IsPlain}
 use Rattle.chunk_body.specs.Machine.{step, is_within}
@@ -84,12 +85,24 @@ live_fine t live broken =
       ∙ run_broken live.0
     )
 
--- every other text is live
+-- every other text has a continuation of bytes that is a body
+fine_bytes : (t : List ℕ) → (run start t ≡ Broken → ⊥)
+    → (behind x : List ℕ) × All (λ b. b < 256) behind × BodyText (t ++ behind) x
+fine_bytes t fine =
+    let h = has_rest (run start t) (run_within start t start_within) fine in
+    (h.text, plain start t ++ h.content, h.bytes,
+    from_start (t ++ h.text) (plain start t ++ h.content) (back_all start t h.text h.content start_within h.rest))
+
+-- so it is live
 pub fine_live : (t : List ℕ) → (run start t ≡ Broken → ⊥) → IsLive t
 fine_live t fine =
-    let h = has_rest (run start t) (run_within start t start_within) fine in
-    (h.text, plain start t ++ h.content,
-    from_start (t ++ h.text) (plain start t ++ h.content) (back_all start t h.text h.content start_within h.rest))
+    let h = fine_bytes t fine in
+    (h.0, h.1, h.3)
+
+-- what is live has a continuation of bytes
+pub live_by_bytes : (t : List ℕ) → IsLive t
+    → (behind x : List ℕ) × All (λ b. b < 256) behind × BodyText (t ++ behind) x
+live_by_bytes t live = fine_bytes t (live_fine t live)
 
 -- ---- cases
 
@@ -102,7 +115,7 @@ broken_or_not (SizeLf v) = inr (λ e. absurd cc)
 broken_or_not (Data n) = inr (λ e. absurd cc)
 broken_or_not DataCr = inr (λ e. absurd cc)
 broken_or_not DataLf = inr (λ e. absurd cc)
-broken_or_not (Trailers n) = inr (λ e. absurd cc)
+broken_or_not (TrailerStart n) = inr (λ e. absurd cc)
 broken_or_not (Trailer n) = inr (λ e. absurd cc)
 broken_or_not (TrailerLf n) = inr (λ e. absurd cc)
 broken_or_not LastLf = inr (λ e. absurd cc)

@@ -4,7 +4,7 @@ use Rattle.std.specs.Char.{digit_value, is_digit}
 use Rattle.std.proofs.lemmas.Bool.{ltb-true, ltb-false, leb-true, lt-ltb, le-leb, and_parts, and_from, cond_both}
 use Rattle.std.proofs.lemmas.Grind.{pow_more}
 use Rattle.chunk_body.specs.declared.phase.Phase.{Phase}
-use Rattle.chunk_body.specs.declared.phase.Phase.TheVariants.{Digits, Extension, SizeLf, Data, DataCr, DataLf, Trailers, Trailer, TrailerLf, LastLf, Ended, Broken}
+use Rattle.chunk_body.specs.declared.phase.Phase.TheVariants.{Digits, Extension, SizeLf, Data, DataCr, DataLf, TrailerStart, Trailer, TrailerLf, LastLf, Ended, Broken}
 use Rattle.chunk_body.specs.Machine.{step, expected, in_digits, in_extension, behind_size, in_data, in_trailers, is_within}
 use Rattle.chunk_body.proofs.SizeLemmas.{six_digits}
 
@@ -21,7 +21,7 @@ expected_within wanted b q is = cond_both (eqb b wanted) q Broken (λ (p : Phase
 
 behind_within : (v : ℕ) → v < 16 ^ 6 → Within (behind_size v)
 unfolding behind_size is_within
-behind_within v small = cond_both (eqb v 0) (Trailers 0) (Data v) (λ (p : Phase). Within p) (λ _. refl)
+behind_within v small = cond_both (eqb v 0) (TrailerStart 0) (Data v) (λ (p : Phase). Within p) (λ _. refl)
     (λ other. and_from (ltb 0 v) (ltb v (16 ^ 6)) (lt-ltb 0 v (some v other)) (lt-ltb v (16 ^ 6) small))
   where
     some : (n : ℕ) → eqb n 0 ≡ false → 0 < n
@@ -105,7 +105,7 @@ data_are n is =
     let parts = and_parts (ltb 0 n) (ltb n (16 ^ 6)) is in
     (ltb-true 0 n parts.0, ltb-true n (16 ^ 6) parts.1)
 
-pub trailers_are : (n : ℕ) → Within (Trailers n) → n ≤ 1022
+pub trailers_are : (n : ℕ) → Within (TrailerStart n) → n ≤ 1022
 unfolding is_within
 trailers_are n is = leb-true n 1022 is
 
@@ -117,7 +117,7 @@ pub trailer_lf_are : (n : ℕ) → Within (TrailerLf n) → n ≤ 1021
 unfolding is_within
 trailer_lf_are n is = leb-true n 1021 is
 
-trailers_within : (n : ℕ) → n ≤ 1022 → Within (Trailers n)
+trailers_within : (n : ℕ) → n ≤ 1022 → Within (TrailerStart n)
 unfolding is_within
 trailers_within n few = le-leb n 1022 few
 
@@ -149,11 +149,11 @@ step_within (SizeLf v) b is = expected_within 10 b (behind_size v) (behind_withi
 step_within (Data n) b is = in_data_within n (data_are n is).1
 step_within DataCr b is = expected_within 13 b DataLf data_lf_within
 step_within DataLf b is = expected_within 10 b (Digits 0 0) start_within
-step_within (Trailers n) b is = in_trailers_within n b LastLf last_lf_within
+step_within (TrailerStart n) b is = in_trailers_within n b LastLf last_lf_within
 step_within (Trailer n) b is =
     in_trailers_within n b (TrailerLf (n + 1)) (trailer_lf_within (n + 1) (omega (arith, trailer_are n is)))
 step_within (TrailerLf n) b is =
-    expected_within 10 b (Trailers (n + 1)) (trailers_within (n + 1) (omega (arith, trailer_lf_are n is)))
+    expected_within 10 b (TrailerStart (n + 1)) (trailers_within (n + 1) (omega (arith, trailer_lf_are n is)))
 step_within LastLf b is = expected_within 10 b Ended ended_within
 step_within Ended b is = broken_within
 step_within Broken b is = broken_within

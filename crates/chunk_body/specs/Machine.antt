@@ -3,7 +3,7 @@ use Rattle.std.specs.Prelude.{◌≡◌, ℕ, ◌+◌, ◌-◌, ◌*◌, ◌^◌
 use Rattle.std.specs.Char.{digit_value, is_digit}
 use Rattle.std.specs.List.{fold}
 use Rattle.chunk_body.specs.declared.phase.Phase.{Phase}
-use Rattle.chunk_body.specs.declared.phase.Phase.TheVariants.{Digits, Extension, SizeLf, Data, DataCr, DataLf, Trailers, Trailer, TrailerLf, LastLf, Ended, Broken}
+use Rattle.chunk_body.specs.declared.phase.Phase.TheVariants.{Digits, Extension, SizeLf, Data, DataCr, DataLf, TrailerStart, Trailer, TrailerLf, LastLf, Ended, Broken}
 
 -- the next phase where the byte is the one that must come here
 unfoldable pub expected : ℕ → ℕ → Phase → Phase
@@ -24,7 +24,7 @@ in_extension count value byte =
 
 -- behind a size line: the bytes of a chunk, or the trailers
 unfoldable pub behind_size : ℕ → Phase
-behind_size value = if value == 0 then Trailers 0 else Data value
+behind_size value = if value == 0 then TrailerStart 0 else Data value
 
 -- behind one more byte of a chunk
 unfoldable pub in_data : ℕ → Phase
@@ -44,9 +44,9 @@ step (SizeLf value) byte = expected 10 byte (behind_size value)
 step (Data left) byte = in_data left
 step DataCr byte = expected 13 byte DataLf
 step DataLf byte = expected 10 byte (Digits 0 0)
-step (Trailers count) byte = in_trailers count byte LastLf
+step (TrailerStart count) byte = in_trailers count byte LastLf
 step (Trailer count) byte = in_trailers count byte (TrailerLf (count + 1))
-step (TrailerLf count) byte = expected 10 byte (Trailers (count + 1))
+step (TrailerLf count) byte = expected 10 byte (TrailerStart (count + 1))
 step LastLf byte = expected 10 byte Ended
 step Ended byte = Broken
 step Broken byte = Broken
@@ -59,7 +59,7 @@ is_within (SizeLf value) = nat_lt value (16 ^ 6)
 is_within (Data left) = nat_lt 0 left && nat_lt left (16 ^ 6)
 is_within DataCr = true
 is_within DataLf = true
-is_within (Trailers count) = nat_le count 1022
+is_within (TrailerStart count) = nat_le count 1022
 is_within (Trailer count) = nat_le count 1020
 is_within (TrailerLf count) = nat_le count 1021
 is_within LastLf = true

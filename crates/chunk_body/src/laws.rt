@@ -17,6 +17,13 @@ pub fn bodies_are_plain()
         → BodyText text content → IsLive (text ++ byte ∷ more) → ⊥ }
 {}
 
+/// A live text has a continuation of bytes that is a body, and its fronts are live.
+pub fn live_texts()
+    ensures bytes { (text : List ℕ) → IsLive text → (behind content : List ℕ)
+        × All (λ byte. byte < 256) behind × BodyText (text ++ behind) content }
+    ensures fronts { (front behind : List ℕ) → IsLive (front ++ behind) → IsLive front }
+{}
+
 /// A text is open, has ended or is bad at one place, and no two of these. What has ended or is bad
 /// stays so, whatever comes behind.
 pub fn texts_are_one_of_three()

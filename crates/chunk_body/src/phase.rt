@@ -30,7 +30,7 @@ pub enum Phase {
     /// Before the LF behind a chunk's bytes.
     DataLf,
     /// At the start of a trailer line or of the empty line, behind this many bytes of trailers.
-    Trailers { count: u16 },
+    TrailerStart { count: u16 },
     /// In a trailer line, behind this many bytes of trailers.
     Trailer { count: u16 },
     /// Before the LF of a trailer line, behind this many bytes of trailers.
@@ -58,12 +58,12 @@ impl Phase {
             Phase::Data { left } => next_in_data(left),
             Phase::DataCr => next_if(CR, byte, Phase::DataLf),
             Phase::DataLf => next_if(LF, byte, Phase::Digits { count: 0, value: 0 }),
-            Phase::Trailers { count } => next_in_trailers(count, byte, Phase::LastLf),
+            Phase::TrailerStart { count } => next_in_trailers(count, byte, Phase::LastLf),
             Phase::Trailer { count } => {
                 next_in_trailers(count, byte, Phase::TrailerLf { count: count + 1 })
             }
             Phase::TrailerLf { count } => {
-                next_if(LF, byte, Phase::Trailers { count: count + 1 })
+                next_if(LF, byte, Phase::TrailerStart { count: count + 1 })
             }
             Phase::LastLf => next_if(LF, byte, Phase::Ended),
             Phase::Ended | Phase::Broken => Phase::Broken,
@@ -159,7 +159,7 @@ fn next_behind_size(value: u32) -> Phase
     ensures within { IsTrue (is_within result) }
 {
     if value == 0 {
-        Phase::Trailers { count: 0 }
+        Phase::TrailerStart { count: 0 }
     } else {
         Phase::Data { left: value }
     }
