@@ -15,9 +15,9 @@ use Rattle.chunk_body.specs.Body.{line_end, SizeLine, print_size, Chunk, print_c
 use Rattle.chunk_body.specs.Text.{BodyText, IsOpen, IsPlain}
 use Rattle.chunk_body.specs.Machine.{step}
 use Rattle.chunk_body.specs.Written.{chunk_of}
-use Rattle.chunk_body.proofs.Machines.{run, plain, Goes, goes_append}
+use Rattle.chunk_body.proofs.Machines.{start, run, plain, Goes, goes_append}
 use Rattle.chunk_body.proofs.PrintLemmas.{goes_chunk}
-use Rattle.chunk_body.proofs.TextLemmas.{start, open_at, body_goes, ended_body}
+use Rattle.chunk_body.proofs.TextLemmas.{open_at, body_goes, ended_body}
 use Rattle.chunk_body.proofs.PlainLemmas.{plain_is}
 use Rattle.chunk_body.proofs.RestLemmas.{ending, shortest}
 
@@ -53,6 +53,9 @@ chunk_fits bytes most =
     let ds = digits 16 false (length bytes) in
     let few : length ds ≤ 3 = length-digits 2 (length bytes) (omega arith) in
     omega (arith, length-append ds (line_end ++ (bytes ++ line_end)), length-append bytes line_end)
+
+pub frame_fits : (frame : List ℕ) → IsTrue (is_frame frame) → length (chunk_of frame) ≤ length frame + 7
+frame_fits frame valid = chunk_fits frame (frame_bounds frame valid).1
 
 -- ---- chunks as the grammar has them
 

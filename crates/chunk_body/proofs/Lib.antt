@@ -9,3 +9,4 @@ pub mod TextLemmas
 pub mod PlainLemmas
 pub mod ReadingLemmas
 pub mod ChunkLemmas
+pub mod Rows

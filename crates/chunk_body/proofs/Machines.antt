@@ -9,6 +9,10 @@ use Rattle.chunk_body.specs.declared.phase.Phase.{Phase}
 use Rattle.chunk_body.specs.declared.phase.Phase.TheVariants.{Digits, Extension, SizeLf, Data, DataCr, DataLf, TrailerStart, Trailer, TrailerLf, LastLf, Ended, Broken}
 use Rattle.chunk_body.specs.Machine.{step}
 
+-- before the first byte
+abbrev pub start : Phase
+start = Digits 0 0
+
 -- the phase after these bytes
 abbrev pub run : Phase → List ℕ → Phase
 run q t = fold step q t

@@ -8,9 +8,9 @@ use Rattle.chunk_body.specs.declared.phase.Phase.TheVariants.{Digits, Extension,
 use Rattle.chunk_body.specs.Body.{Body, print_body, IsBody, data_within}
 use Rattle.chunk_body.specs.Text.{BodyText, IsLive, HasEnded, IsPlain}
 use Rattle.chunk_body.specs.Machine.{step, in_data}
-use Rattle.chunk_body.proofs.Machines.{run, given, plain, run-append, plain-append}
+use Rattle.chunk_body.proofs.Machines.{start, run, given, plain, run-append, plain-append}
 use Rattle.chunk_body.proofs.PrintLemmas.{plain_body}
-use Rattle.chunk_body.proofs.TextLemmas.{start, body_goes, live_fine, live_or_broken, live_nothing, plain_broken, plain_ended}
+use Rattle.chunk_body.proofs.TextLemmas.{body_goes, live_fine, live_or_broken, live_nothing, plain_broken, plain_ended}
 
 -- a byte of a chunk neither breaks a body nor ends it
 pub data_goes_on : (n b : ℕ) → (step (Data n) b ≡ Broken → ⊥) × (step (Data n) b ≡ Ended → ⊥)

@@ -10,11 +10,8 @@ use Rattle.chunk_body.specs.declared.phase.Phase.{Phase}
 use Rattle.chunk_body.specs.declared.phase.Phase.TheVariants.{Digits, Extension, SizeLf, Data, DataCr, DataLf, TrailerStart, Trailer, TrailerLf, LastLf, Ended, Broken}
 use Rattle.chunk_body.specs.Body.{line_end, IsLineByte, SizeLine, print_size, size_of, IsExtension, IsSizeLine, Chunk, print_chunk, IsChunk, IsTrailer, print_trailers, Body, print_body, IsBody, data_of, data_within}
 use Rattle.chunk_body.specs.Machine.{step, behind_size}
-use Rattle.chunk_body.proofs.Machines.{run, given, plain, Goes, goes_append, goes_cons, quiet, plain-append, plain-take}
+use Rattle.chunk_body.proofs.Machines.{start, run, given, plain, Goes, goes_append, goes_cons, quiet, plain-append, plain-take}
 use Rattle.chunk_body.proofs.StepLemmas.{step_digit, step_semicolon, step_digits_cr, step_extension, step_extension_cr, step_size_lf, behind_some, behind_none, step_data, step_data_last, step_data_cr, step_data_lf, step_trailers, step_trailers_cr, step_trailer, step_trailer_cr, step_trailer_lf, step_last_lf}
-
-abbrev start : Phase
-start = Digits 0 0
 
 -- the same, where only the phase at the end is known by an equation
 goes_to : (q p r : Phase) (t x : List ℕ) → p ≡ r → Goes q t p x → Goes q t r x

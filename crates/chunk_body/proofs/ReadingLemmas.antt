@@ -11,9 +11,9 @@ use Rattle.chunk_body.specs.declared.dechunk.Step.TheVariants.{More, Byte, Done,
 use Rattle.chunk_body.specs.Text.{BodyText, IsLive, HasEnded, IsOpen, IsBadAt, IsPlain}
 use Rattle.chunk_body.specs.Machine.{step, is_ended, is_broken, is_data, Reading, nothing_read, after, read}
 use Rattle.chunk_body.specs.Answer.{answer, given_by, goes_on}
-use Rattle.chunk_body.proofs.Machines.{run, given, plain, run-append, plain-append}
+use Rattle.chunk_body.proofs.Machines.{start, run, given, plain, run-append, plain-append}
 use Rattle.chunk_body.proofs.StepLemmas.{step_broken}
-use Rattle.chunk_body.proofs.TextLemmas.{start, body_goes, live_fine, live_or_broken, live_nothing, run_ended, run_broken, ended_at, ended_on, open_at, bad_at, bad_on, bad_dead, bad_not_ended, bad_once}
+use Rattle.chunk_body.proofs.TextLemmas.{body_goes, live_fine, live_or_broken, live_nothing, run_ended, run_broken, ended_at, ended_on, open_at, bad_at, bad_on, bad_dead, bad_not_ended, bad_once}
 use Rattle.chunk_body.proofs.PlainLemmas.{given_broken, given_ended, plain_is, plain_only}
 
 -- the body goes on, and the reading has the machine's phase and the count of all bytes; or it has

@@ -13,11 +13,8 @@ use Rattle.chunk_body.specs.Text.{BodyText}
 use Rattle.chunk_body.specs.Machine.{step, expected, in_digits, in_extension, behind_size, in_data, in_trailers, is_within}
 use Rattle.chunk_body.proofs.Machines.{run, given, plain}
 use Rattle.chunk_body.proofs.StepLemmas.{behind_some, behind_none}
-use Rattle.chunk_body.proofs.WithinLemmas.{digits_are, extension_are, data_are, trailers_are, trailer_are, trailer_lf_are, step_within, start_within}
+use Rattle.chunk_body.proofs.WithinLemmas.{Within, digits_are, extension_are, data_are, trailers_are, trailer_are, trailer_lf_are, step_within, start_within}
 use Rattle.chunk_body.proofs.Rests.{RestData, RestTrailers, Behind, RestDigits, RestExtension, RestSizeLf, RestBody, RestTrailer, RestTrailerLf, Rest}
-
-abbrev Within : Phase → Type 0
-Within q = IsTrue (is_within q)
 
 -- ---- from the start: a body
 

@@ -9,15 +9,12 @@ use Rattle.chunk_body.specs.declared.phase.Phase.TheVariants.{Digits, Extension,
 use Rattle.chunk_body.specs.Body.{Body, print_body, IsBody, data_of, data_within}
 use Rattle.chunk_body.specs.Text.{BodyText, IsLive, HasEnded, IsOpen, IsBadAt, IsPlain}
 use Rattle.chunk_body.specs.Machine.{step, is_within}
-use Rattle.chunk_body.proofs.Machines.{run, given, plain, Goes, run-append, plain-append}
+use Rattle.chunk_body.proofs.Machines.{start, run, given, plain, Goes, run-append, plain-append}
 use Rattle.chunk_body.proofs.StepLemmas.{step_ended, step_broken}
 use Rattle.chunk_body.proofs.PrintLemmas.{goes_body, plain_body}
 use Rattle.chunk_body.proofs.WithinLemmas.{start_within, step_within}
 use Rattle.chunk_body.proofs.Rests.{Rest}
 use Rattle.chunk_body.proofs.RestLemmas.{from_start, back_all, HasRest, has_rest}
-
-abbrev pub start : Phase
-start = Digits 0 0
 
 -- ---- lists
 

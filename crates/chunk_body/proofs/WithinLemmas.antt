@@ -8,7 +8,8 @@ use Rattle.chunk_body.specs.declared.phase.Phase.TheVariants.{Digits, Extension,
 use Rattle.chunk_body.specs.Machine.{step, expected, in_digits, in_extension, behind_size, in_data, in_trailers, is_within}
 use Rattle.chunk_body.proofs.SizeLemmas.{six_digits}
 
-abbrev Within : Phase → Type 0
+-- the counts of the phase can be reached
+abbrev pub Within : Phase → Type 0
 Within q = IsTrue (is_within q)
 
 broken_within : Within Broken

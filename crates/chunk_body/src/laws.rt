@@ -48,8 +48,11 @@ pub fn reading_follows_grammar()
 {}
 
 /// Frames that are written as chunks are joined to an open text, whose plain data are the frames
-/// joined; and with the shortest last chunk behind them, `0` CR LF CR LF, to a whole body.
+/// joined; and with the shortest last chunk behind them, `0` CR LF CR LF, to a whole body. A chunk
+/// has at most 7 bytes more than its frame.
 pub fn frames_in_chunks()
+    ensures room { (frame : List ℕ) → IsTrue (is_frame frame)
+        → length (chunk_of frame) ≤ length frame + 7 }
     ensures goes_on { (frames : List (List ℕ)) → All (λ frame. IsTrue (is_frame frame)) frames
         → IsOpen (flat_map chunk_of frames) }
     ensures plain { (frames : List (List ℕ)) → All (λ frame. IsTrue (is_frame frame)) frames

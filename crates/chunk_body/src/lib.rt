@@ -10,3 +10,6 @@ pub use chunks::chunk;
 pub use dechunk::{Dechunk, Step};
 
 pub mod laws;
+
+#[cfg(test)]
+mod tests;
