@@ -1,5 +1,5 @@
 -- Chunks as they are written.
-use Rattle.std.proofs.Common.{◌≡◌, ℕ, zero, suc, ◌+◌, ◌*◌, ◌/◌, ◌%◌, ◌^◌, ◌<◌, ◌≤◌, false, eqb, IsTrue, List, [], ◌∷◌, ◌++◌, length, refl, ap, ap₂, ◌∙◌, sym, subst, arith, append_assoc, length-append}
+use Rattle.std.proofs.Common.{◌≡◌, ℕ, zero, suc, ◌+◌, ◌*◌, ◌/◌, ◌%◌, ◌^◌, ◌<◌, ◌≤◌, false, eqb, IsTrue, List, [], ◌∷◌, ◌++◌, length, refl, ap, ◌∙◌, sym, subst, arith, append_assoc, length-append}
 use Rattle.std.specs.Fmt.{digits, digits_onto, digit_glyph}
 use Rattle.std.specs.List.{All, concat, flat_map}
 use Rattle.std.proofs.lemmas.Fmt.{digits_is_IsNumeral}
@@ -9,13 +9,11 @@ use Rattle.std.proofs.lemmas.List.{append-nil}
 use Rattle.std.proofs.lemmas.List.Elements.{All-head, All-tail}
 use Rattle.rtcm_frame.specs.Transport.{is_frame}
 use Rattle.rtcm_frame.proofs.FrameLemmas.{frame_bounds}
-use Rattle.chunk_body.specs.declared.phase.Phase.{Phase}
-use Rattle.chunk_body.specs.declared.phase.Phase.TheVariants.{Digits, Ended, Broken}
-use Rattle.chunk_body.specs.Body.{line_end, SizeLine, print_size, Chunk, print_chunk, IsChunk}
+use Rattle.chunk_body.specs.declared.phase.Phase.TheVariants.{Ended, Broken}
+use Rattle.chunk_body.specs.Body.{line_end, Chunk, print_chunk, IsChunk}
 use Rattle.chunk_body.specs.Text.{BodyText, IsOpen, IsPlain}
-use Rattle.chunk_body.specs.Machine.{step}
 use Rattle.chunk_body.specs.Written.{chunk_of}
-use Rattle.chunk_body.proofs.Machines.{start, run, plain, Goes, goes_append}
+use Rattle.chunk_body.proofs.Machines.{start, Goes, goes_append}
 use Rattle.chunk_body.proofs.PrintLemmas.{goes_chunk}
 use Rattle.chunk_body.proofs.TextLemmas.{open_at, body_goes, ended_body}
 use Rattle.chunk_body.proofs.PlainLemmas.{plain_is}
@@ -109,6 +107,7 @@ frames_open frames all =
   where
     not_broken : start ≡ Broken → ⊥
     not_broken e = absurd cc
+
     not_ended : start ≡ Ended → ⊥
     not_ended e = absurd cc
 
@@ -122,7 +121,7 @@ pub frames_whole : (frames : List (List ℕ)) → All (λ frame. IsTrue (is_fram
     → BodyText (flat_map chunk_of frames ++ (48 ∷ 13 ∷ 10 ∷ 13 ∷ 10 ∷ [])) (concat frames)
 frames_whole frames all =
     let whole = goes_append start start Ended (flat_map chunk_of frames) ending (concat frames) []
-        (goes_frames frames all) (body_goes ending [] shortest)
+    (goes_frames frames all) (body_goes ending [] shortest)
     in
     subst (λ (x : List ℕ). BodyText (flat_map chunk_of frames ++ ending) x)
     (whole.gives ∙ append-nil (concat frames))

@@ -1,12 +1,12 @@
 -- The machine over a whole list: the phase that it comes to, and the data that it gives.
-use Rattle.std.proofs.Common.{◌≡◌, ℕ, ◌-◌, ◌+◌, ◌≤◌, ◌<◌, inl, inr, List, [], ◌∷◌, ◌++◌, length, take, drop, refl, ap, ◌∙◌, sym, arith, append_assoc}
+use Rattle.std.proofs.Common.{◌≡◌, ℕ, ◌-◌, ◌+◌, inl, inr, List, [], ◌∷◌, ◌++◌, length, take, drop, refl, ap, ◌∙◌, sym, arith, append_assoc}
 use Rattle.std.specs.List.{fold}
 use Rattle.std.proofs.lemmas.List.{take-append-drop, take_all, take-append-le, append-nil}
 use Rattle.std.proofs.lemmas.List.Sums.{fold-append}
 use Rattle.std.proofs.lemmas.Bool.{cases_lt}
 use Rattle.std.proofs.Math.Seq.{take-append-add}
 use Rattle.chunk_body.specs.declared.phase.Phase.{Phase}
-use Rattle.chunk_body.specs.declared.phase.Phase.TheVariants.{Digits, Extension, SizeLf, Data, DataCr, DataLf, TrailerStart, Trailer, TrailerLf, LastLf, Ended, Broken}
+use Rattle.chunk_body.specs.declared.phase.Phase.TheVariants.{Digits, Data}
 use Rattle.chunk_body.specs.Machine.{step}
 
 -- before the first byte
@@ -65,9 +65,9 @@ nil_left (x ∷ xs) ys none = absurd cc
 pub quiet : (q : Phase) (t : List ℕ) (k : ℕ) → plain q t ≡ [] → plain q (take k t) ≡ []
 quiet q t k none =
     nil_left (plain q (take k t)) (plain (run q (take k t)) (drop k t)) (
-      sym (plain-append q (take k t) (drop k t))
-      ∙ ap (λ (s : List ℕ). plain q s) (take-append-drop k t)
-      ∙ none
+    sym (plain-append q (take k t) (drop k t))
+    ∙ ap (λ (s : List ℕ). plain q s) (take-append-drop k t)
+    ∙ none
     )
 
 -- the data of a front of two lists joined

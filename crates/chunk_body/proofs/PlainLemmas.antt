@@ -1,16 +1,16 @@
 -- The data that the machine gives is the plain data of the text.
-use Rattle.std.proofs.Common.{◌≡◌, ℕ, zero, suc, ◌+◌, ◌-◌, ◌<◌, ◌≤◌, ◌⊎◌, inl, inr, ltb, List, [], ◌∷◌, ◌++◌, length, take, refl, ap, ap₂, ◌∙◌, sym, subst, append_assoc}
+use Rattle.std.proofs.Common.{◌≡◌, ℕ, ◌-◌, inl, inr, ltb, List, [], ◌∷◌, ◌++◌, length, take, refl, ap, ap₂, ◌∙◌, sym, subst, append_assoc}
 use Rattle.std.proofs.lemmas.List.{append-nil}
 use Rattle.std.proofs.lemmas.Bool.{cond_both}
 use Rattle.std.proofs.Math.Seq.{take-append_seam}
 use Rattle.chunk_body.specs.declared.phase.Phase.{Phase}
 use Rattle.chunk_body.specs.declared.phase.Phase.TheVariants.{Digits, Extension, SizeLf, Data, DataCr, DataLf, TrailerStart, Trailer, TrailerLf, LastLf, Ended, Broken}
 use Rattle.chunk_body.specs.Body.{Body, print_body, IsBody, data_within}
-use Rattle.chunk_body.specs.Text.{BodyText, IsLive, HasEnded, IsPlain}
+use Rattle.chunk_body.specs.Text.{BodyText, IsLive, IsPlain}
 use Rattle.chunk_body.specs.Machine.{step, in_data}
 use Rattle.chunk_body.proofs.Machines.{start, run, given, plain, run-append, plain-append}
 use Rattle.chunk_body.proofs.PrintLemmas.{plain_body}
-use Rattle.chunk_body.proofs.TextLemmas.{body_goes, live_fine, live_or_broken, live_nothing, plain_broken, plain_ended}
+use Rattle.chunk_body.proofs.TextLemmas.{body_goes, live_fine, live_or_broken, live_nothing, plain_broken}
 
 -- a byte of a chunk neither breaks a body nor ends it
 pub data_goes_on : (n b : ℕ) → (step (Data n) b ≡ Broken → ⊥) × (step (Data n) b ≡ Ended → ⊥)
@@ -89,15 +89,15 @@ plain_from s (b ∷ t) live = elim (live_or_broken (s ++ b ∷ [])) [
       subst (λ (u : List ℕ). IsPlain u (plain start u)) (append_assoc s (b ∷ []) t)
       (plain_from (s ++ b ∷ []) t longer)
   | inr broken ↦ record {
-      front = s;
-      rest = b ∷ t;
-      split = refl;
-      live = live;
-      longest = λ byte more same longer. live_fine (s ++ byte ∷ []) longer (
+    front = s;
+    rest = b ∷ t;
+    split = refl;
+    live = live;
+    longest = λ byte more same longer. live_fine (s ++ byte ∷ []) longer (
         ap (λ (c : ℕ). run start (s ++ c ∷ [])) (head_same byte b more t same) ∙ broken
-      );
-      holds = λ body behind is text. plain_stops s b t broken ∙ plain_front s behind body is text;
-    }
+        );
+    holds = λ body behind is text. plain_stops s b t broken ∙ plain_front s behind body is text;
+  }
 ]
   where
     head_same : (x y : ℕ) (xs ys : List ℕ) → y ∷ ys ≡ x ∷ xs → x ≡ y

@@ -7,10 +7,10 @@ use Rattle.std.specs.Char.{digit_value}
 use Rattle.std.proofs.lemmas.Bool.{cases_lt}
 use Rattle.std.specs.Str.Parse.{AllDigits, digits_value_after, digits_value}
 use Rattle.chunk_body.specs.declared.phase.Phase.{Phase}
-use Rattle.chunk_body.specs.declared.phase.Phase.TheVariants.{Digits, Extension, SizeLf, Data, DataCr, DataLf, TrailerStart, Trailer, TrailerLf, LastLf, Ended, Broken}
+use Rattle.chunk_body.specs.declared.phase.Phase.TheVariants.{Digits, Extension, SizeLf, Data, DataCr, DataLf, TrailerStart, Trailer, TrailerLf, LastLf, Ended}
 use Rattle.chunk_body.specs.Body.{line_end, IsLineByte, SizeLine, print_size, size_of, IsExtension, IsSizeLine, Chunk, print_chunk, IsChunk, IsTrailer, print_trailers, Body, print_body, IsBody, data_of, data_within}
 use Rattle.chunk_body.specs.Machine.{step, behind_size}
-use Rattle.chunk_body.proofs.Machines.{start, run, given, plain, Goes, goes_append, goes_cons, quiet, plain-append, plain-take}
+use Rattle.chunk_body.proofs.Machines.{start, run, given, plain, Goes, goes_append, goes_cons, quiet, plain-take}
 use Rattle.chunk_body.proofs.StepLemmas.{step_digit, step_semicolon, step_digits_cr, step_extension, step_extension_cr, step_size_lf, behind_some, behind_none, step_data, step_data_last, step_data_cr, step_data_lf, step_trailers, step_trailers_cr, step_trailer, step_trailer_cr, step_trailer_lf, step_last_lf}
 
 -- the same, where only the phase at the end is known by an equation
@@ -83,11 +83,11 @@ plain_bytes n (suc k) (b ∷ bytes) fits = elim (cases_lt 1 n) [
   | inl more ↦ ap (λ (ys : List ℕ). b ∷ ys) (
       ap (λ (m : Phase). plain m (take k bytes)) (step_data n b more)
       ∙ plain_bytes (n - 1) k bytes (omega arith)
-    )
+      )
   | inr last ↦ ap (λ (ys : List ℕ). b ∷ ys) (
       ap (λ (m : Phase). plain m (take k bytes)) (step_data_last n b last)
       ∙ none bytes (omega arith)
-    )
+      )
 ]
   where
     none : (rest : List ℕ) → length rest ≤ 0 → plain DataCr (take k rest) ≡ take k rest
@@ -122,9 +122,9 @@ goes_sized chunk is =
 pub goes_chunk : (chunk : Chunk) → IsChunk chunk → Goes start (print_chunk chunk) start chunk.bytes
 goes_chunk chunk is =
     goes_append start _ _ (print_size chunk.size) (chunk.bytes ++ line_end) [] chunk.bytes (goes_sized chunk is) (
-      subst (λ (x : List ℕ). Goes (Data (length chunk.bytes)) (chunk.bytes ++ line_end) start x)
-      (append-nil chunk.bytes)
-      (goes_append _ _ _ chunk.bytes line_end chunk.bytes [] (goes_bytes (length chunk.bytes) chunk.bytes refl is.some) goes_behind)
+    subst (λ (x : List ℕ). Goes (Data (length chunk.bytes)) (chunk.bytes ++ line_end) start x)
+    (append-nil chunk.bytes)
+    (goes_append _ _ _ chunk.bytes line_end chunk.bytes [] (goes_bytes (length chunk.bytes) chunk.bytes refl is.some) goes_behind)
     )
 
 -- ---- trailers

@@ -1,5 +1,5 @@
 -- What a reading knows of the bytes read, and what its answers say of them.
-use Rattle.std.proofs.Common.{◌≡◌, ℕ, ◌+◌, ◌<◌, ◌≤◌, ◌↔◌, ◌⊎◌, inl, inr, Bool, true, false, ◌||◌, cond, IsTrue, List, [], ◌∷◌, ◌++◌, length, refl, ap, ap₂, ◌∙◌, sym, subst, arith, append_assoc, length-append}
+use Rattle.std.proofs.Common.{◌≡◌, ℕ, ◌+◌, ◌≤◌, ◌↔◌, ◌⊎◌, inl, inr, Bool, true, false, ◌||◌, cond, IsTrue, List, [], ◌∷◌, ◌++◌, length, refl, ap, ap₂, ◌∙◌, sym, subst, arith, append_assoc, length-append}
 use Rattle.std.specs.List.{fold}
 use Rattle.std.proofs.lemmas.List.{append-nil}
 use Rattle.std.proofs.lemmas.List.Sums.{fold-append}
@@ -8,12 +8,12 @@ use Rattle.chunk_body.specs.declared.phase.Phase.{Phase}
 use Rattle.chunk_body.specs.declared.phase.Phase.TheVariants.{Digits, Extension, SizeLf, Data, DataCr, DataLf, TrailerStart, Trailer, TrailerLf, LastLf, Ended, Broken}
 use Rattle.chunk_body.specs.declared.dechunk.Step.{Step}
 use Rattle.chunk_body.specs.declared.dechunk.Step.TheVariants.{More, Byte, Done, Bad}
-use Rattle.chunk_body.specs.Text.{BodyText, IsLive, HasEnded, IsOpen, IsBadAt, IsPlain}
+use Rattle.chunk_body.specs.Text.{HasEnded, IsOpen, IsBadAt, IsPlain}
 use Rattle.chunk_body.specs.Machine.{step, is_ended, is_broken, is_data, Reading, nothing_read, after, read}
 use Rattle.chunk_body.specs.Answer.{answer, given_by, goes_on}
 use Rattle.chunk_body.proofs.Machines.{start, run, given, plain, run-append, plain-append}
 use Rattle.chunk_body.proofs.StepLemmas.{step_broken}
-use Rattle.chunk_body.proofs.TextLemmas.{body_goes, live_fine, live_or_broken, live_nothing, run_ended, run_broken, ended_at, ended_on, open_at, bad_at, bad_on, bad_dead, bad_not_ended, bad_once}
+use Rattle.chunk_body.proofs.TextLemmas.{body_goes, live_fine, live_or_broken, run_ended, ended_at, ended_on, open_at, bad_at, bad_on, bad_dead, bad_not_ended, bad_once}
 use Rattle.chunk_body.proofs.PlainLemmas.{given_broken, given_ended, plain_is, plain_only}
 
 -- the body goes on, and the reading has the machine's phase and the count of all bytes; or it has
@@ -143,12 +143,16 @@ after_open t r b is phase taken = elim (next_is (step r.phase b)) [
   where
     open_phase : is_ended r.phase ≡ false
     open_phase = ap is_ended phase ∙ going_on t is
+
     from_phase : (p : Phase) → step r.phase b ≡ p → step (run start t) b ≡ p
     from_phase p next = ap (λ (q : Phase). step q b) (sym phase) ∙ next
+
     came : (p : Phase) → step r.phase b ≡ p → run start (t ++ b ∷ []) ≡ p
     came p next = run_more t b ∙ from_phase p next
+
     says : (q : Phase) → IsOpen (t ++ b ∷ []) → Answers (t ++ b ∷ []) (cond (is_data q) (Byte b) More)
     says q still = cond_both (is_data q) (Byte b) More (λ (a : Step). Answers (t ++ b ∷ []) a) (λ _. still) (λ _. still)
+
     data_given : (q : Phase) → given_by (cond (is_data q) (Byte b) More) ≡ given q b
     data_given (Data n) = refl
     data_given (Digits n v) = refl
@@ -167,9 +171,9 @@ after_open t r b is phase taken = elim (next_is (step r.phase b)) [
 given_behind : (t : List ℕ) (b : ℕ) → HasEnded t → given (run start t) b ≡ []
 given_behind t b ended =
     ap (λ (q : Phase). given q b) (
-      ap (λ (s : List ℕ). run start s) ended.3
-      ∙ run-append start ended.0 ended.1
-      ∙ ap (λ (q : Phase). run q ended.1) (body_goes ended.0 ended.2 ended.4).ends
+    ap (λ (s : List ℕ). run start s) ended.3
+    ∙ run-append start ended.0 ended.1
+    ∙ ap (λ (q : Phase). run q ended.1) (body_goes ended.0 ended.2 ended.4).ends
     )
     ∙ none ended.1
   where

@@ -1,19 +1,18 @@
 -- What may come behind a byte, with that byte in front, may come before it.
-use Rattle.std.proofs.Common.{◌≡◌, ℕ, zero, suc, ◌+◌, ◌-◌, ◌*◌, ◌<◌, ◌≤◌, inl, inr, Bool, true, false, not, ◌&&◌, eqb, ltb, leb, cond, IsTrue, List, [], ◌∷◌, ◌++◌, length, replicate, refl, ap, ap₂, ◌∙◌, sym, subst, arith, append_assoc, length-append}
+use Rattle.std.proofs.Common.{◌≡◌, ℕ, zero, suc, ◌+◌, ◌-◌, ◌*◌, ◌<◌, ◌≤◌, true, false, not, ◌&&◌, eqb, ltb, leb, List, [], ◌∷◌, ◌++◌, length, replicate, refl, ap, ap₂, ◌∙◌, sym, subst, arith, append_assoc, length-append}
 use Rattle.std.specs.Char.{digit_value, is_digit}
-use Rattle.std.proofs.lemmas.Bool.{ltb-true, ltb-false, leb-true, eqb-true, eqb-false, and_parts, cond_both, not-true, cases_Bool}
-use Rattle.std.proofs.lemmas.List.{append-nil, length-replicate}
+use Rattle.std.proofs.lemmas.Bool.{ltb-true, ltb-false, eqb-true, eqb-false, and_parts, cond_both, not-true}
+use Rattle.std.proofs.lemmas.List.{length-replicate}
 use Rattle.std.proofs.lemmas.List.Elements.{All-nil, All-cons, All-append, All-replicate}
 use Rattle.std.specs.List.{All, flat_map}
-use Rattle.std.specs.Str.Parse.{AllDigits, digits_value_after, digits_value}
 use Rattle.chunk_body.specs.declared.phase.Phase.{Phase}
 use Rattle.chunk_body.specs.declared.phase.Phase.TheVariants.{Digits, Extension, SizeLf, Data, DataCr, DataLf, TrailerStart, Trailer, TrailerLf, LastLf, Ended, Broken}
-use Rattle.chunk_body.specs.Body.{line_end, IsLineByte, SizeLine, print_size, size_of, IsExtension, IsSizeLine, Chunk, print_chunk, IsChunk, IsTrailer, print_trailers, Body, print_body, IsBody, data_of}
+use Rattle.chunk_body.specs.Body.{line_end, IsLineByte, SizeLine, print_size, size_of, IsSizeLine, Chunk, print_chunk, IsChunk, IsTrailer, print_trailers, Body, print_body}
 use Rattle.chunk_body.specs.Text.{BodyText}
-use Rattle.chunk_body.specs.Machine.{step, expected, in_digits, in_extension, behind_size, in_data, in_trailers, is_within}
+use Rattle.chunk_body.specs.Machine.{step, expected, in_digits, in_extension, behind_size, in_data, in_trailers}
 use Rattle.chunk_body.proofs.Machines.{run, given, plain}
 use Rattle.chunk_body.proofs.StepLemmas.{behind_some, behind_none}
-use Rattle.chunk_body.proofs.WithinLemmas.{Within, digits_are, extension_are, data_are, trailers_are, trailer_are, trailer_lf_are, step_within, start_within}
+use Rattle.chunk_body.proofs.WithinLemmas.{Within, digits_are, extension_are, data_are, trailers_are, trailer_are, trailer_lf_are, step_within}
 use Rattle.chunk_body.proofs.Rests.{RestData, RestTrailers, Behind, RestDigits, RestExtension, RestSizeLf, RestBody, RestTrailer, RestTrailerLf, Rest}
 
 -- ---- from the start: a body
@@ -29,14 +28,18 @@ line_text digits extension behind =
 from_line : (line : SizeLine) (v : ℕ) (u x : List ℕ) → IsSizeLine line → size_of line ≡ v → Behind v u x
     → BodyText (print_size line ++ u) x
 from_line line zero u x is value rest =
-    let body : Body = record { chunks = []; last = line; trailers = rest.lines } in
-    (body, record {
-      chunks = All-nil IsChunk;
-      last = is;
-      zero = value;
-      trailers = rest.all;
-      room = omega (arith, rest.room);
-    }, ap (λ (t : List ℕ). print_size line ++ t) rest.text, rest.content)
+    let body : Body = record { chunks = []; last = line; trailers = rest.lines } in (
+      body,
+      record {
+        chunks = All-nil IsChunk;
+        last = is;
+        zero = value;
+        trailers = rest.all;
+        room = omega (arith, rest.room);
+      },
+      ap (λ (t : List ℕ). print_size line ++ t) rest.text,
+      rest.content,
+    )
 from_line line (suc n) u x is value rest =
     let first : Chunk = record { size = line; bytes = rest.bytes } in
     let inner = rest.body.0 in
@@ -50,20 +53,24 @@ from_line line (suc n) u x is value rest =
     let last = print_size inner.last ++ print_trailers inner.trailers in
     let text : print_size line ++ u ≡ (print_size line ++ (rest.bytes ++ line_end) ++ others) ++ last =
     ap (λ (t : List ℕ). print_size line ++ t) (
-      rest.text
-      ∙ ap (λ (t : List ℕ). rest.bytes ++ (13 ∷ 10 ∷ t)) rest.body.2
-      ∙ sym (append_assoc rest.bytes line_end (print_body inner))
+    rest.text
+    ∙ ap (λ (t : List ℕ). rest.bytes ++ (13 ∷ 10 ∷ t)) rest.body.2
+    ∙ sym (append_assoc rest.bytes line_end (print_body inner))
     )
     ∙ sym (append_assoc (print_size line) (rest.bytes ++ line_end) (others ++ last))
     ∙ sym (append_assoc (print_chunk first) others last)
-    in
-    (body, record {
-      chunks = All-cons IsChunk first inner.chunks is_first rest.body.1.chunks;
-      last = rest.body.1.last;
-      zero = rest.body.1.zero;
-      trailers = rest.body.1.trailers;
-      room = rest.body.1.room;
-    }, text, rest.content ∙ ap (λ (y : List ℕ). rest.bytes ++ y) rest.body.3)
+    in (
+      body,
+      record {
+        chunks = All-cons IsChunk first inner.chunks is_first rest.body.1.chunks;
+        last = rest.body.1.last;
+        zero = rest.body.1.zero;
+        trailers = rest.body.1.trailers;
+        room = rest.body.1.room;
+      },
+      text,
+      rest.content ∙ ap (λ (y : List ℕ). rest.bytes ++ y) rest.body.3,
+    )
 
 -- what may come at the start is a body
 pub from_start : (u x : List ℕ) → Rest (Digits 0 0) u x → BodyText u x
@@ -98,11 +105,11 @@ back_digits n v b u x few =
     cond_both (is_digit b 16 && ltb n 6) _ _ (λ (p : Phase). Rest p u x → RestDigits n v (b ∷ u) x)
     (λ both. λ r. another (ltb-true (digit_value b) 16 (and_parts (is_digit b 16) (ltb n 6) both).0) r)
     (λ _. cond_both (ltb 0 n && eqb b 59) _ _ (λ (p : Phase). Rest p u x → RestDigits n v (b ∷ u) x)
-      (λ both. λ r. semicolon (ltb-true 0 n (and_parts (ltb 0 n) (eqb b 59) both).0)
-        (eqb-true b 59 (and_parts (ltb 0 n) (eqb b 59) both).1) r)
-      (λ _. cond_both (ltb 0 n) _ _ (λ (p : Phase). Rest p u x → RestDigits n v (b ∷ u) x)
-        (λ some. λ r. end (ltb-true 0 n some) (back_expected 13 b (SizeLf v) u x r))
-        (λ _. λ r. absurd r)))
+    (λ both. λ r. semicolon (ltb-true 0 n (and_parts (ltb 0 n) (eqb b 59) both).0)
+    (eqb-true b 59 (and_parts (ltb 0 n) (eqb b 59) both).1) r)
+    (λ _. cond_both (ltb 0 n) _ _ (λ (p : Phase). Rest p u x → RestDigits n v (b ∷ u) x)
+    (λ some. λ r. end (ltb-true 0 n some) (back_expected 13 b (SizeLf v) u x r))
+    (λ _. λ r. absurd r)))
   where
     another : digit_value b < 16 → RestDigits (n + 1) (v * 16 + digit_value b) u x → RestDigits n v (b ∷ u) x
     another digit r = record {
@@ -117,6 +124,7 @@ back_digits n v b u x few =
       text = ap (λ (t : List ℕ). b ∷ t) r.text;
       rest = r.rest;
     }
+
     semicolon : 0 < n → b ≡ 59 → RestExtension (n + 1) v u x → RestDigits n v (b ∷ u) x
     semicolon some is r = record {
       digits = [];
@@ -130,6 +138,7 @@ back_digits n v b u x few =
       text = ap (λ (t : List ℕ). b ∷ t) r.text;
       rest = r.rest;
     }
+
     end : 0 < n → (b ≡ 13) × RestSizeLf v u x → RestDigits n v (b ∷ u) x
     end some both = record {
       digits = [];
@@ -154,8 +163,8 @@ back_extension n v b u x few =
     cond_both (eqb b 13) _ _ (λ (p : Phase). Rest p u x → RestExtension n v (b ∷ u) x)
     (λ cr. λ r. end (eqb-true b 13 cr) r)
     (λ other. cond_both (not (eqb b 10) && leb (n + 3) 256) _ _ (λ (p : Phase). Rest p u x → RestExtension n v (b ∷ u) x)
-      (λ both. λ r. another (line_byte b other (and_parts (not (eqb b 10)) (leb (n + 3) 256) both).0) r)
-      (λ _. λ r. absurd r))
+    (λ both. λ r. another (line_byte b other (and_parts (not (eqb b 10)) (leb (n + 3) 256) both).0) r)
+    (λ _. λ r. absurd r))
   where
     end : b ≡ 13 → RestSizeLf v u x → RestExtension n v (b ∷ u) x
     end cr r = record {
@@ -166,6 +175,7 @@ back_extension n v b u x few =
       text = ap₂ (λ (c : ℕ) (t : List ℕ). c ∷ t) cr r.text;
       rest = r.rest;
     }
+
     another : IsLineByte b → RestExtension (n + 1) v u x → RestExtension n v (b ∷ u) x
     another line r = record {
       bytes = b ∷ r.bytes;
@@ -193,6 +203,7 @@ back_data n b u x some =
       body = r.body;
       content = ap (λ (t : List ℕ). b ∷ t) r.content;
     }
+
     end : n ≤ 1 → RestBody line_end u x → RestData n (b ∷ u) (b ∷ x)
     end last r = record {
       bytes = b ∷ [];
@@ -210,8 +221,8 @@ back_trailers n b u x few =
     cond_both (eqb b 13) _ _ (λ (p : Phase). Rest p u x → RestTrailers n (b ∷ u) x)
     (λ cr. λ r. end (eqb-true b 13 cr) r)
     (λ other. cond_both (not (eqb b 10) && leb (n + 5) 1024) _ _ (λ (p : Phase). Rest p u x → RestTrailers n (b ∷ u) x)
-      (λ both. λ r. another (line_byte b other (and_parts (not (eqb b 10)) (leb (n + 5) 1024) both).0) r)
-      (λ _. λ r. absurd r))
+    (λ both. λ r. another (line_byte b other (and_parts (not (eqb b 10)) (leb (n + 5) 1024) both).0) r)
+    (λ _. λ r. absurd r))
   where
     end : b ≡ 13 → (u ≡ 10 ∷ []) × (x ≡ []) → RestTrailers n (b ∷ u) x
     end cr r = record {
@@ -221,6 +232,7 @@ back_trailers n b u x few =
       text = ap₂ (λ (c : ℕ) (t : List ℕ). c ∷ t) cr r.0;
       content = r.1;
     }
+
     another : IsLineByte b → RestTrailer (n + 1) u x → RestTrailers n (b ∷ u) x
     another line r =
         let first = b ∷ r.bytes in
@@ -252,8 +264,8 @@ back_trailer n b u x =
     cond_both (eqb b 13) _ _ (λ (p : Phase). Rest p u x → RestTrailer n (b ∷ u) x)
     (λ cr. λ r. end (eqb-true b 13 cr) r)
     (λ other. cond_both (not (eqb b 10) && leb (n + 5) 1024) _ _ (λ (p : Phase). Rest p u x → RestTrailer n (b ∷ u) x)
-      (λ both. λ r. another (line_byte b other (and_parts (not (eqb b 10)) (leb (n + 5) 1024) both).0) r)
-      (λ _. λ r. absurd r))
+    (λ both. λ r. another (line_byte b other (and_parts (not (eqb b 10)) (leb (n + 5) 1024) both).0) r)
+    (λ _. λ r. absurd r))
   where
     end : b ≡ 13 → RestTrailerLf (n + 1) u x → RestTrailer n (b ∷ u) x
     end cr r = record {
@@ -265,6 +277,7 @@ back_trailer n b u x =
       text = ap₂ (λ (c : ℕ) (t : List ℕ). c ∷ t) cr r.text;
       content = r.content;
     }
+
     another : IsLineByte b → RestTrailer (n + 1) u x → RestTrailer n (b ∷ u) x
     another line r = record {
       bytes = b ∷ r.bytes;

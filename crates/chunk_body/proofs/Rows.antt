@@ -1,12 +1,12 @@
 -- Worked rows, which the definitions compute.
-use Rattle.std.proofs.Common.{◌≡◌, ℕ, false, ◌≤◌, List, [], ◌∷◌, ◌++◌, refl, arith}
+use Rattle.std.proofs.Common.{◌≡◌, ℕ, false, List, [], ◌∷◌, ◌++◌, refl, arith}
 use Rattle.std.specs.Prelude.{codes}
 use Rattle.std.specs.Fmt.{digits}
-use Rattle.std.proofs.lemmas.List.Elements.{All-nil, All-cons}
-use Rattle.chunk_body.specs.declared.phase.Phase.TheVariants.{Digits, Extension, Data, TrailerStart, Ended, Broken}
-use Rattle.chunk_body.specs.Body.{IsLineByte, SizeLine, size_of, Chunk, IsChunk, IsTrailer, Body, IsBody, print_body, data_of, data_within}
+use Rattle.std.proofs.lemmas.List.Elements.{All-nil}
+use Rattle.chunk_body.specs.declared.phase.Phase.TheVariants.{Digits, Data, Ended, Broken}
+use Rattle.chunk_body.specs.Body.{SizeLine, size_of, IsChunk, IsTrailer, Body, print_body, data_of, data_within}
 use Rattle.chunk_body.specs.Text.{BodyText}
-use Rattle.chunk_body.specs.Machine.{Reading, read, after, step, expected, in_digits, in_extension, behind_size, in_data, in_trailers}
+use Rattle.chunk_body.specs.Machine.{read, after, step, expected, in_digits, in_extension, behind_size, in_data, in_trailers}
 use Rattle.chunk_body.specs.Written.{chunk_of}
 
 -- a frame whose payload is the number 1005 alone
@@ -19,11 +19,11 @@ frame_a = 0xD3 ∷ 0x00 ∷ 0x02 ∷ 0x3E ∷ 0xD0 ∷ 0xA4 ∷ 0xE0 ∷ 0x00 �
 abbrev tree : Body
 tree = record {
   chunks = record {
-      size = record { digits = codes "0A"; extension = codes ";q=1" };
-      bytes = codes "0123\r\n6789";
-    }
-    ∷ record { size = record { digits = codes "8"; extension = [] }; bytes = frame_a }
-    ∷ [];
+    size = record { digits = codes "0A"; extension = codes ";q=1" };
+    bytes = codes "0123\r\n6789";
+  }
+      ∷ record { size = record { digits = codes "8"; extension = [] }; bytes = frame_a }
+      ∷ [];
   last = record { digits = codes "000"; extension = [] };
   trailers = codes "X: y" ∷ [];
 }
@@ -55,18 +55,23 @@ upper_case = refl
 
 -- the shortest body
 shortest : BodyText (codes "0\r\n\r\n") []
-shortest = (record { chunks = []; last = line; trailers = [] }, record {
-  chunks = All-nil IsChunk;
-  last = record {
-    numeral = (omega arith, (omega arith, tt));
-    digits = omega arith;
-    extension = tt;
-    bytes = omega arith;
-  };
-  zero = refl;
-  trailers = All-nil IsTrailer;
-  room = omega arith;
-}, refl, refl)
+shortest = (
+  record { chunks = []; last = line; trailers = [] },
+  record {
+    chunks = All-nil IsChunk;
+    last = record {
+      numeral = (omega arith, (omega arith, tt));
+      digits = omega arith;
+      extension = tt;
+      bytes = omega arith;
+    };
+    zero = refl;
+    trailers = All-nil IsTrailer;
+    room = omega arith;
+  },
+  refl,
+  refl,
+)
   where
     line : SizeLine
     line = record { digits = codes "0"; extension = [] }

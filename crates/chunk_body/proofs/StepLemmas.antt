@@ -1,8 +1,7 @@
 -- The machine's steps, one by one.
-use Rattle.std.proofs.Common.{◌≡◌, ℕ, zero, suc, ◌+◌, ◌-◌, ◌*◌, ◌^◌, ◌<◌, ◌≤◌, ◌≢◌, Bool, true, false, not, ◌&&◌, eqb, ltb, leb, cond, IsTrue, List, [], ◌∷◌, refl, ap, ◌∙◌, sym, arith}
+use Rattle.std.proofs.Common.{◌≡◌, ℕ, ◌+◌, ◌-◌, ◌*◌, ◌<◌, ◌≤◌, true, ◌&&◌, ltb, refl, arith}
 use Rattle.std.specs.Char.{digit_value, is_digit}
-use Rattle.std.proofs.lemmas.Bool.{lt-ltb, le-ltb, le-leb, eq-eqb, ne_eqb, cond-true, cond-false, and_from}
-use Rattle.chunk_body.specs.declared.phase.Phase.{Phase}
+use Rattle.std.proofs.lemmas.Bool.{lt-ltb, le-ltb, le-leb, ne_eqb, cond-true, and_from}
 use Rattle.chunk_body.specs.declared.phase.Phase.TheVariants.{Digits, Extension, SizeLf, Data, DataCr, DataLf, TrailerStart, Trailer, TrailerLf, LastLf, Ended, Broken}
 use Rattle.chunk_body.specs.Body.{IsLineByte}
 use Rattle.chunk_body.specs.Machine.{step, expected, in_digits, in_extension, behind_size, in_data, in_trailers}

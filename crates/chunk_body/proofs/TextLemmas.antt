@@ -1,20 +1,20 @@
 -- What the machine says of whole texts.
-use Rattle.std.proofs.Common.{◌≡◌, ℕ, zero, suc, ◌+◌, ◌-◌, ◌<◌, ◌≤◌, ◌⊎◌, inl, inr, IsTrue, List, [], ◌∷◌, ◌++◌, length, take, drop, refl, ap, ap₂, ◌∙◌, sym, subst, arith, append_assoc, length-append, length-take-le}
+use Rattle.std.proofs.Common.{◌≡◌, ℕ, zero, suc, ◌+◌, ◌-◌, ◌<◌, ◌≤◌, ◌⊎◌, inl, inr, IsTrue, List, [], ◌∷◌, ◌++◌, length, take, drop, refl, ap, ◌∙◌, sym, subst, arith, append_assoc, length-append}
 use Rattle.std.proofs.lemmas.List.{append-nil, take-append-drop, take_all, take-append-le}
 use Rattle.std.proofs.lemmas.Bool.{cases_lt}
 use Rattle.std.proofs.Math.Seq.{take-append_seam, take-append-add}
 use Rattle.std.specs.List.{All}
 use Rattle.chunk_body.specs.declared.phase.Phase.{Phase}
 use Rattle.chunk_body.specs.declared.phase.Phase.TheVariants.{Digits, Extension, SizeLf, Data, DataCr, DataLf, TrailerStart, Trailer, TrailerLf, LastLf, Ended, Broken}
-use Rattle.chunk_body.specs.Body.{Body, print_body, IsBody, data_of, data_within}
-use Rattle.chunk_body.specs.Text.{BodyText, IsLive, HasEnded, IsOpen, IsBadAt, IsPlain}
+use Rattle.chunk_body.specs.Body.{print_body}
+use Rattle.chunk_body.specs.Text.{BodyText, IsLive, HasEnded, IsOpen, IsBadAt}
 use Rattle.chunk_body.specs.Machine.{step, is_within}
-use Rattle.chunk_body.proofs.Machines.{start, run, given, plain, Goes, run-append, plain-append}
+use Rattle.chunk_body.proofs.Machines.{start, run, plain, Goes, run-append}
 use Rattle.chunk_body.proofs.StepLemmas.{step_ended, step_broken}
-use Rattle.chunk_body.proofs.PrintLemmas.{goes_body, plain_body}
+use Rattle.chunk_body.proofs.PrintLemmas.{goes_body}
 use Rattle.chunk_body.proofs.WithinLemmas.{start_within, step_within}
 use Rattle.chunk_body.proofs.Rests.{Rest}
-use Rattle.chunk_body.proofs.RestLemmas.{from_start, back_all, HasRest, has_rest}
+use Rattle.chunk_body.proofs.RestLemmas.{from_start, back_all, has_rest}
 
 -- ---- lists
 
@@ -76,19 +76,22 @@ pub live_fine : (t : List ℕ) → IsLive t → run start t ≡ Broken → ⊥
 live_fine t live broken =
     let goes = body_goes (t ++ live.0) live.1 live.2 in
     ended≢broken (
-      sym goes.ends
-      ∙ run-append start t live.0
-      ∙ ap (λ (q : Phase). run q live.0) broken
-      ∙ run_broken live.0
+    sym goes.ends
+    ∙ run-append start t live.0
+    ∙ ap (λ (q : Phase). run q live.0) broken
+    ∙ run_broken live.0
     )
 
 -- every other text has a continuation of bytes that is a body
 fine_bytes : (t : List ℕ) → (run start t ≡ Broken → ⊥)
     → (behind x : List ℕ) × All (λ b. b < 256) behind × BodyText (t ++ behind) x
 fine_bytes t fine =
-    let h = has_rest (run start t) (run_within start t start_within) fine in
-    (h.text, plain start t ++ h.content, h.bytes,
-    from_start (t ++ h.text) (plain start t ++ h.content) (back_all start t h.text h.content start_within h.rest))
+    let h = has_rest (run start t) (run_within start t start_within) fine in (
+      h.text,
+      plain start t ++ h.content,
+      h.bytes,
+      from_start (t ++ h.text) (plain start t ++ h.content) (back_all start t h.text h.content start_within h.rest),
+    )
 
 -- so it is live
 pub fine_live : (t : List ℕ) → (run start t ≡ Broken → ⊥) → IsLive t
@@ -143,9 +146,9 @@ body_live t x b = ([], x, subst (λ (s : List ℕ). BodyText s x) (sym (append-n
 pub dead_behind : (front : List ℕ) (b : ℕ) (more x : List ℕ) → BodyText front x → IsLive (front ++ b ∷ more) → ⊥
 dead_behind front b more x body live =
     live_fine (front ++ b ∷ more) live (
-      run-append start front (b ∷ more)
-      ∙ ap (λ (q : Phase). run q (b ∷ more)) (body_goes front x body).ends
-      ∙ run_ended b more
+    run-append start front (b ∷ more)
+    ∙ ap (λ (q : Phase). run q (b ∷ more)) (body_goes front x body).ends
+    ∙ run_ended b more
     )
 
 -- what has ended and is live is a body
@@ -160,9 +163,13 @@ ended_live t ended live = whole ended.0 ended.1 ended.2 ended.3 ended.4
 
 -- what goes on behind what has ended has ended
 pub ended_on : (t u : List ℕ) → HasEnded t → HasEnded (t ++ u)
-ended_on t u ended =
-    (ended.0, ended.1 ++ u, ended.2,
-    ap (λ (s : List ℕ). s ++ u) ended.3 ∙ append_assoc ended.0 ended.1 u, ended.4)
+ended_on t u ended = (
+  ended.0,
+  ended.1 ++ u,
+  ended.2,
+  ap (λ (s : List ℕ). s ++ u) ended.3 ∙ append_assoc ended.0 ended.1 u,
+  ended.4,
+)
 
 -- ---- which of the three a text is
 

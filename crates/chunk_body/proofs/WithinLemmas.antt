@@ -1,7 +1,7 @@
 -- The counts of a phase stay those that can be reached.
-use Rattle.std.proofs.Common.{◌≡◌, ℕ, ◌+◌, ◌-◌, ◌*◌, ◌^◌, ◌<◌, ◌≤◌, Bool, true, false, not, ◌&&◌, eqb, ltb, leb, cond, IsTrue, zero, suc, refl, arith}
+use Rattle.std.proofs.Common.{◌≡◌, ℕ, ◌+◌, ◌-◌, ◌*◌, ◌^◌, ◌<◌, ◌≤◌, false, not, ◌&&◌, eqb, ltb, leb, IsTrue, zero, suc, refl, arith}
 use Rattle.std.specs.Char.{digit_value, is_digit}
-use Rattle.std.proofs.lemmas.Bool.{ltb-true, ltb-false, leb-true, lt-ltb, le-leb, and_parts, and_from, cond_both}
+use Rattle.std.proofs.lemmas.Bool.{ltb-true, leb-true, lt-ltb, le-leb, and_parts, and_from, cond_both}
 use Rattle.std.proofs.lemmas.Grind.{pow_more}
 use Rattle.chunk_body.specs.declared.phase.Phase.{Phase}
 use Rattle.chunk_body.specs.declared.phase.Phase.TheVariants.{Digits, Extension, SizeLf, Data, DataCr, DataLf, TrailerStart, Trailer, TrailerLf, LastLf, Ended, Broken}
@@ -47,31 +47,31 @@ in_digits_within n v b few small =
     let sized = six_digits n v few small in
     cond_both (is_digit b 16 && ltb n 6) _ _ (λ (p : Phase). Within p)
     (λ both.
-      let parts = and_parts (is_digit b 16) (ltb n 6) both in
-      let digit = ltb-true (digit_value b) 16 parts.0 in
-      digits_within (n + 1) (v * 16 + digit_value b) (omega (arith, ltb-true n 6 parts.1))
-      (omega (arith, pow_more 16 n, digit)))
+    let parts = and_parts (is_digit b 16) (ltb n 6) both in
+    let digit = ltb-true (digit_value b) 16 parts.0 in
+    digits_within (n + 1) (v * 16 + digit_value b) (omega (arith, ltb-true n 6 parts.1))
+    (omega (arith, pow_more 16 n, digit)))
     (λ _. cond_both (ltb 0 n && eqb b 59) _ _ (λ (p : Phase). Within p)
-      (λ _. extension_within (n + 1) v (omega arith) sized)
-      (λ _. cond_both (ltb 0 n) _ _ (λ (p : Phase). Within p)
-        (λ _. expected_within 13 b (SizeLf v) (size_within v sized))
-        (λ _. broken_within)))
+    (λ _. extension_within (n + 1) v (omega arith) sized)
+    (λ _. cond_both (ltb 0 n) _ _ (λ (p : Phase). Within p)
+    (λ _. expected_within 13 b (SizeLf v) (size_within v sized))
+    (λ _. broken_within)))
 
 in_extension_within : (n v b : ℕ) → v < 16 ^ 6 → Within (in_extension n v b)
 unfolding in_extension is_within
 in_extension_within n v b small =
     cond_both (eqb b 13) _ _ (λ (p : Phase). Within p) (λ _. size_within v small)
     (λ _. cond_both (not (eqb b 10) && leb (n + 3) 256) _ _ (λ (p : Phase). Within p)
-      (λ both. extension_within (n + 1) v
-        (omega (arith, leb-true (n + 3) 256 (and_parts (not (eqb b 10)) (leb (n + 3) 256) both).1)) small)
-      (λ _. refl))
+    (λ both. extension_within (n + 1) v
+    (omega (arith, leb-true (n + 3) 256 (and_parts (not (eqb b 10)) (leb (n + 3) 256) both).1)) small)
+    (λ _. refl))
 
 in_data_within : (n : ℕ) → n < 16 ^ 6 → Within (in_data n)
 unfolding in_data is_within
 in_data_within n small =
     cond_both (ltb 1 n) _ _ (λ (p : Phase). Within p)
     (λ more. let most = ltb-true 1 n more in
-      and_from (ltb 0 (n - 1)) (ltb (n - 1) (16 ^ 6)) (lt-ltb 0 (n - 1) (omega arith)) (lt-ltb (n - 1) (16 ^ 6) (omega arith)))
+    and_from (ltb 0 (n - 1)) (ltb (n - 1) (16 ^ 6)) (lt-ltb 0 (n - 1) (omega arith)) (lt-ltb (n - 1) (16 ^ 6) (omega arith)))
     (λ _. refl)
 
 in_trailers_within : (n b : ℕ) (q : Phase) → Within q → Within (in_trailers n b q)
@@ -79,9 +79,9 @@ unfolding in_trailers is_within
 in_trailers_within n b q is =
     cond_both (eqb b 13) _ _ (λ (p : Phase). Within p) (λ _. is)
     (λ _. cond_both (not (eqb b 10) && leb (n + 5) 1024) _ _ (λ (p : Phase). Within p)
-      (λ both. le-leb (n + 1) 1020
-        (omega (arith, leb-true (n + 5) 1024 (and_parts (not (eqb b 10)) (leb (n + 5) 1024) both).1)))
-      (λ _. refl))
+    (λ both. le-leb (n + 1) 1020
+    (omega (arith, leb-true (n + 5) 1024 (and_parts (not (eqb b 10)) (leb (n + 5) 1024) both).1)))
+    (λ _. refl))
 
 -- what the test says, phase by phase
 pub digits_are : (n v : ℕ) → Within (Digits n v) → (n ≤ 6) × (v < 16 ^ n)

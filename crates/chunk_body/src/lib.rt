@@ -4,12 +4,11 @@
 
 mod chunks;
 mod dechunk;
+pub mod laws;
 mod phase;
 
 pub use chunks::chunk;
 pub use dechunk::{Dechunk, Step};
-
-pub mod laws;
 
 #[cfg(test)]
 mod tests;

@@ -3,6 +3,7 @@ ghost use Rattle.std.specs.Prelude.{◌≡◌, ◌+◌, ◌≤◌, ◌<◌, ◌^
 ghost use Rattle.chunk_body.specs.Machine.{step, is_within, in_digits, in_extension, in_trailers, behind_size, in_data, expected, is_ended, is_broken, is_data};
 
 const CR: u8 = b'\r';
+
 const LF: u8 = b'\n';
 
 /// The most digits of a size.

@@ -17,8 +17,8 @@ const FRAME_S: [u8; 25] = [
 
 // FRAME_A in two chunks.
 const TWO_CHUNKS: [u8; 26] = [
-    b'8', b'\r', b'\n', 0xD3, 0x00, 0x02, 0x3E, 0xD0, 0xA4, 0xE0, 0x00, b'\r', b'\n',
-    b'8', b'\r', b'\n', 0xD3, 0x00, 0x02, 0x3E, 0xD0, 0xA4, 0xE0, 0x00, b'\r', b'\n',
+    b'8', b'\r', b'\n', 0xD3, 0x00, 0x02, 0x3E, 0xD0, 0xA4, 0xE0, 0x00, b'\r', b'\n', b'8', b'\r',
+    b'\n', 0xD3, 0x00, 0x02, 0x3E, 0xD0, 0xA4, 0xE0, 0x00, b'\r', b'\n',
 ];
 
 // The data that a text gives, and the answer to its last byte.
@@ -110,7 +110,10 @@ fn two_pieces_give_what_the_whole_gives(rt: HostRuntime) -> Result<(), Fail> {
 fn extensions_trailers_and_digits_of_either_case(rt: HostRuntime) -> Result<(), Fail> {
     let text = b"0A;name=\"v;\"\r\n0123\r\n6789\r\nb;\r\nabcdefghijk\r\n00;x\r\nX: y\r\n0\r\n\r\n";
     let given = given_by(rt.alloc(), text)?;
-    assert_eq!(rt; given.data.as_slice(), b"0123\r\n6789abcdefghijk".as_slice());
+    assert_eq!(rt;
+        given.data.as_slice(),
+        b"0123\r\n6789abcdefghijk".as_slice()
+    );
     assert_eq!(rt; given.last, Step::Done);
     Ok(())
 }
