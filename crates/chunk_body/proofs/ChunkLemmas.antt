@@ -20,7 +20,8 @@ use Rattle.chunk_body.proofs.PlainLemmas.{plain_is}
 use Rattle.chunk_body.proofs.RestLemmas.{ending, shortest}
 
 -- a number below a power of 16 has at most so many digits
-digits_onto_short : (k j n : ℕ) (acc : List ℕ) → n < 16 ^ suc j → length (digits_onto k 16 false n acc) ≤ suc j + length acc
+digits_onto_short : (k j n : ℕ) (acc : List ℕ) → n < 16 ^ suc j
+    → length (digits_onto k 16 false n acc) ≤ suc j + length acc
 digits_onto_short zero j n acc below = omega arith
 digits_onto_short (suc k) zero n acc below =
     cond_both (eqb (n / 16) 0) (digit_glyph false (n % 16) ∷ acc)
@@ -52,7 +53,8 @@ chunk_fits bytes most =
     let few : length ds ≤ 3 = length-digits 2 (length bytes) (omega arith) in
     omega (arith, length-append ds (line_end ++ (bytes ++ line_end)), length-append bytes line_end)
 
-pub frame_fits : (frame : List ℕ) → IsTrue (is_frame frame) → length (chunk_of frame) ≤ length frame + 7
+pub frame_fits : (frame : List ℕ) → IsTrue (is_frame frame)
+    → length (chunk_of frame) ≤ length frame + 7
 frame_fits frame valid = chunk_fits frame (frame_bounds frame valid).1
 
 -- ---- chunks as the grammar has them
@@ -86,7 +88,8 @@ unfolding tree_of
 printed bytes = append_assoc (digits 16 false (length bytes)) line_end (bytes ++ line_end)
 
 -- a chunk leads from the start of a size line back to it
-pub goes_written : (bytes : List ℕ) → 0 < length bytes → length bytes < 16 ^ 6 → Goes start (chunk_of bytes) start bytes
+pub goes_written : (bytes : List ℕ) → 0 < length bytes → length bytes < 16 ^ 6
+    → Goes start (chunk_of bytes) start bytes
 unfolding tree_of
 goes_written bytes some small =
     subst (λ (t : List ℕ). Goes start t start bytes) (printed bytes) (goes_chunk (tree_of bytes) (written bytes some small))
@@ -100,7 +103,8 @@ goes_frames (frame ∷ frames) all =
     (goes_written frame (omega (arith, bounds.0)) (omega (arith, bounds.1)))
     (goes_frames frames (All-tail (λ (f : List ℕ). IsTrue (is_frame f)) frame frames all))
 
-pub frames_open : (frames : List (List ℕ)) → All (λ frame. IsTrue (is_frame frame)) frames → IsOpen (flat_map chunk_of frames)
+pub frames_open : (frames : List (List ℕ)) → All (λ frame. IsTrue (is_frame frame)) frames
+    → IsOpen (flat_map chunk_of frames)
 frames_open frames all =
     let goes = goes_frames frames all in
     open_at (flat_map chunk_of frames) (λ e. absurd (not_broken (sym goes.ends ∙ e))) (λ e. absurd (not_ended (sym goes.ends ∙ e)))

@@ -41,7 +41,8 @@ plain-append q (byte ∷ s) t =
     ap (λ (ys : List ℕ). given q byte ++ ys) (plain-append (step q byte) s t)
     ∙ sym (append_assoc (given q byte) (plain (step q byte) s) (plain (run (step q byte) s) t))
 
-pub goes_append : (q p r : Phase) (s t x y : List ℕ) → Goes q s p x → Goes p t r y → Goes q (s ++ t) r (x ++ y)
+pub goes_append : (q p r : Phase) (s t x y : List ℕ) → Goes q s p x → Goes p t r y
+    → Goes q (s ++ t) r (x ++ y)
 goes_append q p r s t x y first second = record {
   ends = run-append q s t ∙ ap (λ (m : Phase). run m t) first.ends ∙ second.ends;
   gives = plain-append q s t
@@ -51,7 +52,8 @@ goes_append q p r s t x y first second = record {
 }
 
 -- one byte, and then others
-pub goes_cons : (q p r : Phase) (byte : ℕ) (t y : List ℕ) → step q byte ≡ p → Goes p t r y → Goes q (byte ∷ t) r (given q byte ++ y)
+pub goes_cons : (q p r : Phase) (byte : ℕ) (t y : List ℕ) → step q byte ≡ p → Goes p t r y
+    → Goes q (byte ∷ t) r (given q byte ++ y)
 goes_cons q p r byte t y one others = record {
   ends = ap (λ (m : Phase). run m t) one ∙ others.ends;
   gives = ap (λ (m : Phase). given q byte ++ plain m t) one ∙ ap (λ (ys : List ℕ). given q byte ++ ys) others.gives;
@@ -71,7 +73,8 @@ quiet q t k none =
     )
 
 -- the data of a front of two lists joined
-pub plain-take : (q : Phase) (k : ℕ) (s t : List ℕ) → plain q (take k (s ++ t)) ≡ plain q (take k s) ++ plain (run q s) (take (k - length s) t)
+pub plain-take : (q : Phase) (k : ℕ) (s t : List ℕ)
+    → plain q (take k (s ++ t)) ≡ plain q (take k s) ++ plain (run q s) (take (k - length s) t)
 plain-take q k s t = elim (cases_lt k (length s)) [
   | inl short ↦
       let none : k - length s ≡ 0 = omega arith in

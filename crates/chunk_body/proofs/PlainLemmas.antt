@@ -51,7 +51,8 @@ given_ended Ended b ends = refl
 given_ended Broken b ends = refl
 
 -- the data of a front of a body's text
-plain_front : (front behind : List ℕ) (body : Body) → IsBody body → front ++ behind ≡ print_body body
+plain_front : (front behind : List ℕ) (body : Body) → IsBody body
+    → front ++ behind ≡ print_body body
     → plain start front ≡ data_within (length front) body.chunks
 plain_front front behind body is text =
     ap (λ (t : List ℕ). plain start t) (sym (take-append_seam front behind) ∙ ap (λ (t : List ℕ). take (length front) t) text)

@@ -45,7 +45,8 @@ goes_line n v (b ∷ bytes) all room =
     (goes_cons _ _ _ b bytes [] one others)
 
 -- the line's end, from a phase that takes CR
-goes_end : (q : Phase) (v : ℕ) → step q 13 ≡ SizeLf v → given q 13 ≡ [] → Goes q line_end (behind_size v) []
+goes_end : (q : Phase) (v : ℕ) → step q 13 ≡ SizeLf v → given q 13 ≡ []
+    → Goes q line_end (behind_size v) []
 goes_end q v cr quietly =
     subst (λ (x : List ℕ). Goes q line_end (behind_size v) (x ++ [])) quietly
     (goes_cons q (SizeLf v) (behind_size v) 13 (10 ∷ []) [] cr
@@ -62,7 +63,8 @@ goes_extension n v (x ∷ ext) some is room =
     let end = goes_end (Extension (n + 1 + length ext) v) v (step_extension_cr (n + 1 + length ext) v) refl in
     goes_cons _ _ _ x (ext ++ line_end) [] first (goes_append _ _ _ ext line_end [] [] line end)
 
-pub goes_size : (line : SizeLine) → IsSizeLine line → Goes start (print_size line) (behind_size (size_of line)) []
+pub goes_size : (line : SizeLine) → IsSizeLine line
+    → Goes start (print_size line) (behind_size (size_of line)) []
 goes_size line is =
     let ds = line.digits in
     let ext = line.extension in
@@ -76,7 +78,8 @@ goes_size line is =
 -- ---- chunks
 
 -- the bytes of a chunk are given, as far as they have come
-plain_bytes : (n k : ℕ) (bytes : List ℕ) → length bytes ≤ n → plain (Data n) (take k bytes) ≡ take k bytes
+plain_bytes : (n k : ℕ) (bytes : List ℕ) → length bytes ≤ n
+    → plain (Data n) (take k bytes) ≡ take k bytes
 plain_bytes n zero bytes fits = refl
 plain_bytes n (suc k) [] fits = refl
 plain_bytes n (suc k) (b ∷ bytes) fits = elim (cases_lt 1 n) [
@@ -113,7 +116,8 @@ goes_behind =
     (goes_cons DataLf start start 10 [] [] step_data_lf (nothing start))
 
 -- behind a chunk's size line
-goes_sized : (chunk : Chunk) → IsChunk chunk → Goes start (print_size chunk.size) (Data (length chunk.bytes)) []
+goes_sized : (chunk : Chunk) → IsChunk chunk
+    → Goes start (print_size chunk.size) (Data (length chunk.bytes)) []
 goes_sized chunk is =
     goes_to _ _ _ _ _
     (ap behind_size (sym is.bytes) ∙ behind_some (length chunk.bytes) is.some)
@@ -149,7 +153,8 @@ goes_trailer_line n (b ∷ bytes) is room =
     let others = goes_trailer (n + 1) bytes (All-tail IsLineByte b bytes is.bytes) (omega arith) in
     goes_to _ _ _ _ _ (ap TrailerStart (omega arith)) (goes_cons _ _ _ b (bytes ++ line_end) [] one others)
 
-pub goes_trailers : (n : ℕ) (lines : List (List ℕ)) → All IsTrailer lines → n + length (print_trailers lines) ≤ 1024
+pub goes_trailers : (n : ℕ) (lines : List (List ℕ)) → All IsTrailer lines
+    → n + length (print_trailers lines) ≤ 1024
     → Goes (TrailerStart n) (print_trailers lines) Ended []
 goes_trailers n [] all room =
     goes_cons (TrailerStart n) LastLf Ended 13 (10 ∷ []) [] (step_trailers_cr n)
@@ -160,7 +165,8 @@ goes_trailers n (line ∷ lines) all room =
     append_assoc (line ++ line_end) others line_end
     in
     let count : length (print_trailers (line ∷ lines)) ≡ length line + 2 + length (print_trailers lines) =
-    ap length split ∙ omega (arith, length-append (line ++ line_end) (print_trailers lines), length-append line line_end)
+    ap length split
+    ∙ omega (arith, length-append (line ++ line_end) (print_trailers lines), length-append line line_end)
     in
     let least : 2 ≤ length (print_trailers lines) = omega (arith, length-append others line_end) in
     let first = goes_trailer_line n line (All-head IsTrailer line lines all) (omega arith) in
@@ -171,7 +177,8 @@ goes_trailers n (line ∷ lines) all room =
 -- ---- bodies
 
 -- behind the chunks
-goes_last : (body : Body) → IsBody body → Goes start (print_size body.last ++ print_trailers body.trailers) Ended []
+goes_last : (body : Body) → IsBody body
+    → Goes start (print_size body.last ++ print_trailers body.trailers) Ended []
 goes_last body is =
     goes_append start _ _ (print_size body.last) (print_trailers body.trailers) [] []
     (goes_to _ _ _ _ _ (behind_none (size_of body.last) is.zero) (goes_size body.last is.last))
@@ -227,6 +234,7 @@ plain_chunks k (chunk ∷ chunks) behind all quietly =
     ∙ plain_chunks m chunks behind (All-tail IsChunk chunk chunks all) quietly)
 
 -- the data among the first bytes of a body's text
-pub plain_body : (k : ℕ) (body : Body) → IsBody body → plain start (take k (print_body body)) ≡ data_within k body.chunks
+pub plain_body : (k : ℕ) (body : Body) → IsBody body
+    → plain start (take k (print_body body)) ≡ data_within k body.chunks
 plain_body k body is =
     plain_chunks k body.chunks (print_size body.last ++ print_trailers body.trailers) is.chunks (goes_last body is).gives

@@ -36,7 +36,8 @@ Answers t (Bad place) = IsBadAt t place
 data NextIs (p : Phase) : Type 0 where
   at_end : p ≡ Ended → NextIs p
   at_fault : p ≡ Broken → NextIs p
-  within_body : is_ended p ≡ false → is_broken p ≡ false → (p ≡ Ended → ⊥) → (p ≡ Broken → ⊥) → NextIs p
+  within_body : is_ended p ≡ false → is_broken p ≡ false → (p ≡ Ended → ⊥) → (p ≡ Broken → ⊥)
+      → NextIs p
 
 next_is : (p : Phase) → NextIs p
 next_is Ended = at_end refl
@@ -65,7 +66,8 @@ going_on t is = at (run start t) refl
 
 -- ---- one byte
 
-after_end : (n b : ℕ) → after record { phase = Ended; taken = n } b ≡ record { phase = Ended; taken = n }
+after_end : (n b : ℕ)
+    → after record { phase = Ended; taken = n } b ≡ record { phase = Ended; taken = n }
 unfolding after
 after_end n b = refl
 
@@ -98,10 +100,13 @@ run_more : (t : List ℕ) (b : ℕ) → run start (t ++ b ∷ []) ≡ step (run 
 run_more t b = run-append start t (b ∷ [])
 
 -- from an open text
-after_open : (t : List ℕ) (r : Reading) (b : ℕ) → IsOpen t → r.phase ≡ run start t → r.taken ≡ length t → After t r b
+after_open : (t : List ℕ) (r : Reading) (b : ℕ) → IsOpen t → r.phase ≡ run start t
+    → r.taken ≡ length t → After t r b
 after_open t r b is phase taken = elim (next_is (step r.phase b)) [
   | at_end ends ↦
-      let now : after r b ≡ reading_of Ended r.taken = after_to r.phase Ended r.taken b open_phase ends true refl in
+      let now : after r b ≡ reading_of Ended r.taken =
+      after_to r.phase Ended r.taken b open_phase ends true refl
+      in
       let answered : answer r b ≡ Done = answer_to r.phase Ended r.taken b open_phase ends in
       let ended = ended_at (t ++ b ∷ []) (came Ended ends) in
       record {
@@ -110,8 +115,12 @@ after_open t r b is phase taken = elim (next_is (step r.phase b)) [
         gives = ap given_by answered ∙ sym (given_ended (run start t) b (from_phase Ended ends));
       }
   | at_fault faulty ↦
-      let now : after r b ≡ reading_of Broken r.taken = after_to r.phase Broken r.taken b open_phase faulty true refl in
-      let answered : answer r b ≡ Bad r.taken = answer_to r.phase Broken r.taken b open_phase faulty in
+      let now : after r b ≡ reading_of Broken r.taken =
+      after_to r.phase Broken r.taken b open_phase faulty true refl
+      in
+      let answered : answer r b ≡ Bad r.taken =
+      answer_to r.phase Broken r.taken b open_phase faulty
+      in
       let bad : IsBadAt (t ++ b ∷ []) r.taken =
       subst (λ (k : ℕ). IsBadAt (t ++ b ∷ []) k) (sym taken) (bad_at t b is (came Broken faulty))
       in
@@ -150,7 +159,8 @@ after_open t r b is phase taken = elim (next_is (step r.phase b)) [
     came : (p : Phase) → step r.phase b ≡ p → run start (t ++ b ∷ []) ≡ p
     came p next = run_more t b ∙ from_phase p next
 
-    says : (q : Phase) → IsOpen (t ++ b ∷ []) → Answers (t ++ b ∷ []) (cond (is_data q) (Byte b) More)
+    says : (q : Phase) → IsOpen (t ++ b ∷ [])
+        → Answers (t ++ b ∷ []) (cond (is_data q) (Byte b) More)
     says q still = cond_both (is_data q) (Byte b) More (λ (a : Step). Answers (t ++ b ∷ []) a) (λ _. still) (λ _. still)
 
     data_given : (q : Phase) → given_by (cond (is_data q) (Byte b) More) ≡ given q b
@@ -192,8 +202,12 @@ after_byte : (t : List ℕ) (r : Reading) (b : ℕ) → Knows t r → After t r 
 after_byte t r b (in_body is phase taken) = after_open t r b is phase taken
 after_byte t r b (behind_body phase ended) =
     let same : r ≡ reading_of Ended r.taken = ap (λ (q : Phase). reading_of q r.taken) phase in
-    let now : after r b ≡ reading_of Ended r.taken = ap (λ (s : Reading). after s b) same ∙ after_end r.taken b in
-    let answered : answer r b ≡ Done = ap (λ (s : Reading). answer s b) same ∙ answer_end r.taken b in
+    let now : after r b ≡ reading_of Ended r.taken =
+    ap (λ (s : Reading). after s b) same ∙ after_end r.taken b
+    in
+    let answered : answer r b ≡ Done =
+    ap (λ (s : Reading). answer s b) same ∙ answer_end r.taken b
+    in
     let on = ended_on t (b ∷ []) ended in
     record {
       knows = subst (λ (s : Reading). Knows (t ++ b ∷ []) s) (sym now) (behind_body refl on);
@@ -203,7 +217,9 @@ after_byte t r b (behind_body phase ended) =
 after_byte t r b (behind_fault phase bad) =
     let open_phase : is_ended r.phase ≡ false = ap is_ended phase in
     let next : step r.phase b ≡ Broken = ap (λ (q : Phase). step q b) phase ∙ step_broken b in
-    let now : after r b ≡ reading_of Broken r.taken = after_to r.phase Broken r.taken b open_phase next true refl in
+    let now : after r b ≡ reading_of Broken r.taken =
+    after_to r.phase Broken r.taken b open_phase next true refl
+    in
     let answered : answer r b ≡ Bad r.taken = answer_to r.phase Broken r.taken b open_phase next in
     let on = bad_on t (b ∷ []) r.taken bad in
     record {
@@ -223,7 +239,8 @@ knows_more t (b ∷ s) r known =
 -- what is read is known
 pub known : (t : List ℕ) → Knows t (read t)
 unfolding read
-known t = knows_more [] t nothing_read (in_body (open_at [] (λ e. absurd cc) (λ e. absurd cc)) refl refl)
+known t =
+    knows_more [] t nothing_read (in_body (open_at [] (λ e. absurd cc) (λ e. absurd cc)) refl refl)
 
 pub read_more : (t : List ℕ) (b : ℕ) → after (read t) b ≡ read (t ++ b ∷ [])
 unfolding read
@@ -244,7 +261,8 @@ pub answered : (t : List ℕ) (b : ℕ) → Answers (t ++ b ∷ []) (answer (rea
 answered t b = (after_byte t (read t) b (known t)).answers
 
 -- the data that it gives comes behind the plain data so far
-pub plain_more : (t x : List ℕ) (b : ℕ) → IsPlain t x → IsPlain (t ++ b ∷ []) (x ++ given_by (answer (read t) b))
+pub plain_more : (t x : List ℕ) (b : ℕ) → IsPlain t x
+    → IsPlain (t ++ b ∷ []) (x ++ given_by (answer (read t) b))
 plain_more t x b is =
     let more : plain start (t ++ b ∷ []) ≡ x ++ given_by (answer (read t) b) =
     plain-append start t (b ∷ [])
@@ -277,10 +295,12 @@ one_fault t j k first second = elim (cases_order j k) [
   ]
 ]
 
-pub exactly_bad : (t : List ℕ) (a : Step) (place : ℕ) → Answers t a → (a ≡ Bad place) ↔ IsBadAt t place
+pub exactly_bad : (t : List ℕ) (a : Step) (place : ℕ) → Answers t a
+    → (a ≡ Bad place) ↔ IsBadAt t place
 exactly_bad t More place is = ((λ e. absurd cc), (λ bad. absurd (bad_dead t place bad is.live)))
 exactly_bad t (Byte b) place is = ((λ e. absurd cc), (λ bad. absurd (bad_dead t place bad is.live)))
-exactly_bad t Done place ended = ((λ e. absurd cc), (λ bad. absurd (bad_not_ended t place bad ended)))
+exactly_bad t Done place ended =
+    ((λ e. absurd cc), (λ bad. absurd (bad_not_ended t place bad ended)))
 exactly_bad t (Bad k) place bad = (
   (λ e. subst (λ (j : ℕ). IsBadAt t j) (place_of k place e) bad),
   (λ other. ap Bad (one_fault t k place bad other)),

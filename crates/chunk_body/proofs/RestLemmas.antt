@@ -25,7 +25,8 @@ line_text digits extension behind =
     ∙ sym (append_assoc digits (extension ++ line_end) behind)
 
 -- a size line, and behind it what its size wants, is a body
-from_line : (line : SizeLine) (v : ℕ) (u x : List ℕ) → IsSizeLine line → size_of line ≡ v → Behind v u x
+from_line : (line : SizeLine) (v : ℕ) (u x : List ℕ) → IsSizeLine line → size_of line ≡ v
+    → Behind v u x
     → BodyText (print_size line ++ u) x
 from_line line zero u x is value rest =
     let body : Body = record { chunks = []; last = line; trailers = rest.lines } in (
@@ -43,7 +44,9 @@ from_line line zero u x is value rest =
 from_line line (suc n) u x is value rest =
     let first : Chunk = record { size = line; bytes = rest.bytes } in
     let inner = rest.body.0 in
-    let body : Body = record { chunks = first ∷ inner.chunks; last = inner.last; trailers = inner.trailers } in
+    let body : Body =
+    record { chunks = first ∷ inner.chunks; last = inner.last; trailers = inner.trailers }
+    in
     let is_first : IsChunk first = record {
       size = is;
       bytes = rest.counted ∙ sym value;
@@ -89,17 +92,20 @@ from_start u x r =
 
 behind_size_rest : (v : ℕ) (u x : List ℕ) → Rest (behind_size v) u x → Behind v u x
 behind_size_rest zero u x r = subst (λ (q : Phase). Rest q u x) (behind_none 0 refl) r
-behind_size_rest (suc n) u x r = subst (λ (q : Phase). Rest q u x) (behind_some (suc n) (omega arith)) r
+behind_size_rest (suc n) u x r =
+    subst (λ (q : Phase). Rest q u x) (behind_some (suc n) (omega arith)) r
 
 -- behind the byte that must come
-back_expected : (wanted b : ℕ) (q : Phase) (u x : List ℕ) → Rest (expected wanted b q) u x → (b ≡ wanted) × Rest q u x
+back_expected : (wanted b : ℕ) (q : Phase) (u x : List ℕ) → Rest (expected wanted b q) u x
+    → (b ≡ wanted) × Rest q u x
 unfolding expected
 back_expected wanted b q u x =
     cond_both (eqb b wanted) q Broken (λ (p : Phase). Rest p u x → (b ≡ wanted) × Rest q u x)
     (λ same. λ r. (eqb-true b wanted same, r))
     (λ _. λ r. absurd r)
 
-back_digits : (n v b : ℕ) (u x : List ℕ) → n ≤ 6 → Rest (in_digits n v b) u x → RestDigits n v (b ∷ u) x
+back_digits : (n v b : ℕ) (u x : List ℕ) → n ≤ 6 → Rest (in_digits n v b) u x
+    → RestDigits n v (b ∷ u) x
 unfolding in_digits
 back_digits n v b u x few =
     cond_both (is_digit b 16 && ltb n 6) _ _ (λ (p : Phase). Rest p u x → RestDigits n v (b ∷ u) x)
@@ -111,7 +117,8 @@ back_digits n v b u x few =
     (λ some. λ r. end (ltb-true 0 n some) (back_expected 13 b (SizeLf v) u x r))
     (λ _. λ r. absurd r)))
   where
-    another : digit_value b < 16 → RestDigits (n + 1) (v * 16 + digit_value b) u x → RestDigits n v (b ∷ u) x
+    another : digit_value b < 16 → RestDigits (n + 1) (v * 16 + digit_value b) u x
+        → RestDigits n v (b ∷ u) x
     another digit r = record {
       digits = b ∷ r.digits;
       extension = r.extension;
@@ -157,7 +164,8 @@ back_digits n v b u x few =
 line_byte : (b : ℕ) → eqb b 13 ≡ false → not (eqb b 10) ≡ true → IsLineByte b
 line_byte b cr lf = (eqb-false b 13 cr, eqb-false b 10 (not-true (eqb b 10) lf))
 
-back_extension : (n v b : ℕ) (u x : List ℕ) → n ≤ 254 → Rest (in_extension n v b) u x → RestExtension n v (b ∷ u) x
+back_extension : (n v b : ℕ) (u x : List ℕ) → n ≤ 254 → Rest (in_extension n v b) u x
+    → RestExtension n v (b ∷ u) x
 unfolding in_extension
 back_extension n v b u x few =
     cond_both (eqb b 13) _ _ (λ (p : Phase). Rest p u x → RestExtension n v (b ∷ u) x)
@@ -215,7 +223,8 @@ back_data n b u x some =
       content = refl;
     }
 
-back_trailers : (n b : ℕ) (u x : List ℕ) → n ≤ 1022 → Rest (in_trailers n b LastLf) u x → RestTrailers n (b ∷ u) x
+back_trailers : (n b : ℕ) (u x : List ℕ) → n ≤ 1022 → Rest (in_trailers n b LastLf) u x
+    → RestTrailers n (b ∷ u) x
 unfolding in_trailers
 back_trailers n b u x few =
     cond_both (eqb b 13) _ _ (λ (p : Phase). Rest p u x → RestTrailers n (b ∷ u) x)
@@ -248,7 +257,8 @@ back_trailers n b u x few =
         append_assoc first line_end (print_trailers r.lines)
         in
         let count : length (print_trailers (first ∷ r.lines)) ≡ length first + 2 + length (print_trailers r.lines) =
-        ap length split ∙ omega (arith, length-append (first ++ line_end) (print_trailers r.lines), length-append first line_end)
+        ap length split
+        ∙ omega (arith, length-append (first ++ line_end) (print_trailers r.lines), length-append first line_end)
         in
         record {
           lines = first ∷ r.lines;
@@ -258,7 +268,8 @@ back_trailers n b u x few =
           content = r.content;
         }
 
-back_trailer : (n b : ℕ) (u x : List ℕ) → Rest (in_trailers n b (TrailerLf (n + 1))) u x → RestTrailer n (b ∷ u) x
+back_trailer : (n b : ℕ) (u x : List ℕ) → Rest (in_trailers n b (TrailerLf (n + 1))) u x
+    → RestTrailer n (b ∷ u) x
 unfolding in_trailers
 back_trailer n b u x =
     cond_both (eqb b 13) _ _ (λ (p : Phase). Rest p u x → RestTrailer n (b ∷ u) x)
@@ -289,7 +300,8 @@ back_trailer n b u x =
       content = r.content;
     }
 
-pub back : (q : Phase) (b : ℕ) (u x : List ℕ) → Within q → Rest (step q b) u x → Rest q (b ∷ u) (given q b ++ x)
+pub back : (q : Phase) (b : ℕ) (u x : List ℕ) → Within q → Rest (step q b) u x
+    → Rest q (b ∷ u) (given q b ++ x)
 unfolding step
 back (Digits n v) b u x is r = back_digits n v b u x (digits_are n v is).0 r
 back (Extension n v) b u x is r = back_extension n v b u x (extension_are n v is).0 r
@@ -333,7 +345,8 @@ back Ended b u x is r = absurd r
 back Broken b u x is r = absurd r
 
 -- the same of many bytes
-pub back_all : (q : Phase) (t u x : List ℕ) → Within q → Rest (run q t) u x → Rest q (t ++ u) (plain q t ++ x)
+pub back_all : (q : Phase) (t u x : List ℕ) → Within q → Rest (run q t) u x
+    → Rest q (t ++ u) (plain q t ++ x)
 back_all q [] u x is r = r
 back_all q (b ∷ t) u x is r =
     subst (λ (y : List ℕ). Rest q (b ∷ (t ++ u)) y) (sym (append_assoc (given q b) (plain (step q b) t) x))
@@ -416,7 +429,8 @@ zeros n = record {
 }
 
 has_behind : (v : ℕ) → HasBehind v
-has_behind zero = record { text = line_end; content = []; rest = no_trailers 0 (omega arith); bytes = end_bytes }
+has_behind zero =
+    record { text = line_end; content = []; rest = no_trailers 0 (omega arith); bytes = end_bytes }
 has_behind (suc n) = record {
   text = replicate (suc n) 0 ++ (13 ∷ 10 ∷ ending);
   content = replicate (suc n) 0 ++ [];
@@ -554,5 +568,6 @@ has_rest LastLf is fine = record {
   rest = (refl, refl);
   bytes = and_then 10 [] (omega arith) (All-nil IsByte);
 }
-has_rest Ended is fine = record { text = []; content = []; rest = (refl, refl); bytes = All-nil IsByte }
+has_rest Ended is fine =
+    record { text = []; content = []; rest = (refl, refl); bytes = All-nil IsByte }
 has_rest Broken is fine = absurd (fine refl)

@@ -29,7 +29,8 @@ take_shorter : (j k : ℕ) (t : List ℕ) → j ≤ k → take j (take k t) ≡ 
 take_shorter zero k t less = refl
 take_shorter (suc j) zero t less = absurd (omega arith)
 take_shorter (suc j) (suc k) [] less = refl
-take_shorter (suc j) (suc k) (x ∷ t) less = ap (λ (s : List ℕ). x ∷ s) (take_shorter j k t (omega arith))
+take_shorter (suc j) (suc k) (x ∷ t) less =
+    ap (λ (s : List ℕ). x ∷ s) (take_shorter j k t (omega arith))
 
 -- ---- the machine over a whole text
 
@@ -46,7 +47,9 @@ body_goes t x b =
 -- a text that leads to the end is a body's
 pub ended_body : (t : List ℕ) → run start t ≡ Ended → BodyText t (plain start t)
 ended_body t ends =
-    let rest : Rest (run start t) [] [] = subst (λ (q : Phase). Rest q [] []) (sym ends) (refl, refl) in
+    let rest : Rest (run start t) [] [] =
+    subst (λ (q : Phase). Rest q [] []) (sym ends) (refl, refl)
+    in
     let body = from_start (t ++ []) (plain start t ++ []) (back_all start t [] [] start_within rest) in
     subst (λ (x : List ℕ). BodyText t x) (append-nil (plain start t))
     (subst (λ (s : List ℕ). BodyText s (plain start t ++ [])) (append-nil t) body)
@@ -143,7 +146,8 @@ pub body_live : (t x : List ℕ) → BodyText t x → IsLive t
 body_live t x b = ([], x, subst (λ (s : List ℕ). BodyText s x) (sym (append-nil t)) b)
 
 -- behind a body nothing is live
-pub dead_behind : (front : List ℕ) (b : ℕ) (more x : List ℕ) → BodyText front x → IsLive (front ++ b ∷ more) → ⊥
+pub dead_behind : (front : List ℕ) (b : ℕ) (more x : List ℕ) → BodyText front x
+    → IsLive (front ++ b ∷ more) → ⊥
 dead_behind front b more x body live =
     live_fine (front ++ b ∷ more) live (
     run-append start front (b ∷ more)
@@ -155,7 +159,8 @@ dead_behind front b more x body live =
 pub ended_live : (t : List ℕ) → HasEnded t → IsLive t → (x : List ℕ) × BodyText t x
 ended_live t ended live = whole ended.0 ended.1 ended.2 ended.3 ended.4
   where
-    whole : (front behind x : List ℕ) → t ≡ front ++ behind → BodyText front x → (y : List ℕ) × BodyText t y
+    whole : (front behind x : List ℕ) → t ≡ front ++ behind → BodyText front x
+        → (y : List ℕ) × BodyText t y
     whole front [] x split body =
         (x, subst (λ (s : List ℕ). BodyText s x) (sym (split ∙ append-nil front)) body)
     whole front (b ∷ more) x split body =
@@ -206,7 +211,8 @@ bad_not_ended t k bad ended =
     elim (cases_lt k (length front)) [
       | inl before ↦
           let same : take (k + 1) t ≡ take (k + 1) front =
-          ap (λ (s : List ℕ). take (k + 1) s) split ∙ take-append-le (k + 1) front behind (omega arith)
+          ap (λ (s : List ℕ). take (k + 1) s) split
+          ∙ take-append-le (k + 1) front behind (omega arith)
           in
           let live : IsLive (take (k + 1) front) =
           live_front (take (k + 1) front) (drop (k + 1) front)
@@ -236,7 +242,9 @@ bad_once t j k first second less =
 pub bad_on : (t u : List ℕ) (k : ℕ) → IsBadAt t k → IsBadAt (t ++ u) k
 bad_on t u k bad =
     let before : take k (t ++ u) ≡ take k t = take-append-le k t u (omega (arith, bad.within)) in
-    let with : take (k + 1) (t ++ u) ≡ take (k + 1) t = take-append-le (k + 1) t u (omega (arith, bad.within)) in
+    let with : take (k + 1) (t ++ u) ≡ take (k + 1) t =
+    take-append-le (k + 1) t u (omega (arith, bad.within))
+    in
     record {
       within = omega (arith, bad.within, length-append t u);
       before = subst (λ (s : List ℕ). IsOpen s) (sym before) bad.before;
@@ -244,7 +252,8 @@ bad_on t u k bad =
     }
 
 -- an open text has its fault at the byte behind it that breaks it
-pub bad_at : (t : List ℕ) (b : ℕ) → IsOpen t → run start (t ++ b ∷ []) ≡ Broken → IsBadAt (t ++ b ∷ []) (length t)
+pub bad_at : (t : List ℕ) (b : ℕ) → IsOpen t → run start (t ++ b ∷ []) ≡ Broken
+    → IsBadAt (t ++ b ∷ []) (length t)
 bad_at t b is broken = record {
   within = omega (arith, length-append t (b ∷ []));
   before = subst (λ (s : List ℕ). IsOpen s) (sym (take-append_seam t (b ∷ []))) is;

@@ -18,11 +18,13 @@ broken_within = refl
 
 expected_within : (wanted b : ℕ) (q : Phase) → Within q → Within (expected wanted b q)
 unfolding expected is_within
-expected_within wanted b q is = cond_both (eqb b wanted) q Broken (λ (p : Phase). Within p) (λ _. is) (λ _. refl)
+expected_within wanted b q is =
+    cond_both (eqb b wanted) q Broken (λ (p : Phase). Within p) (λ _. is) (λ _. refl)
 
 behind_within : (v : ℕ) → v < 16 ^ 6 → Within (behind_size v)
 unfolding behind_size is_within
-behind_within v small = cond_both (eqb v 0) (TrailerStart 0) (Data v) (λ (p : Phase). Within p) (λ _. refl)
+behind_within v small =
+    cond_both (eqb v 0) (TrailerStart 0) (Data v) (λ (p : Phase). Within p) (λ _. refl)
     (λ other. and_from (ltb 0 v) (ltb v (16 ^ 6)) (lt-ltb 0 v (some v other)) (lt-ltb v (16 ^ 6) small))
   where
     some : (n : ℕ) → eqb n 0 ≡ false → 0 < n
@@ -35,11 +37,13 @@ size_within v small = lt-ltb v (16 ^ 6) small
 
 extension_within : (n v : ℕ) → n ≤ 254 → v < 16 ^ 6 → Within (Extension n v)
 unfolding is_within
-extension_within n v few small = and_from (leb n 254) (ltb v (16 ^ 6)) (le-leb n 254 few) (lt-ltb v (16 ^ 6) small)
+extension_within n v few small =
+    and_from (leb n 254) (ltb v (16 ^ 6)) (le-leb n 254 few) (lt-ltb v (16 ^ 6) small)
 
 digits_within : (n v : ℕ) → n ≤ 6 → v < 16 ^ n → Within (Digits n v)
 unfolding is_within
-digits_within n v few small = and_from (leb n 6) (ltb v (16 ^ n)) (le-leb n 6 few) (lt-ltb v (16 ^ n) small)
+digits_within n v few small =
+    and_from (leb n 6) (ltb v (16 ^ n)) (le-leb n 6 few) (lt-ltb v (16 ^ n) small)
 
 in_digits_within : (n v b : ℕ) → n ≤ 6 → v < 16 ^ n → Within (in_digits n v b)
 unfolding in_digits
@@ -146,7 +150,8 @@ pub step_within : (q : Phase) (b : ℕ) → Within q → Within (step q b)
 unfolding step
 step_within (Digits n v) b is = in_digits_within n v b (digits_are n v is).0 (digits_are n v is).1
 step_within (Extension n v) b is = in_extension_within n v b (extension_are n v is).1
-step_within (SizeLf v) b is = expected_within 10 b (behind_size v) (behind_within v (size_lf_are v is))
+step_within (SizeLf v) b is =
+    expected_within 10 b (behind_size v) (behind_within v (size_lf_are v is))
 step_within (Data n) b is = in_data_within n (data_are n is).1
 step_within DataCr b is = expected_within 13 b DataLf data_lf_within
 step_within DataLf b is = expected_within 10 b (Digits 0 0) start_within

@@ -1,5 +1,5 @@
--- A body in the chunked transfer coding (RFC 9112, section 7.1), with the limits of this caster: as a
--- tree, the text that a tree prints, and the data that it holds.
+-- A body in the chunked transfer coding (RFC 9112, section 7.1), with the limits of this caster: as
+-- a tree, the text that a tree prints, and the data that it holds.
 use Rattle.std.specs.Prelude.{◌≡◌, ◌≢◌, ℕ, ◌-◌, ◌<◌, ◌≤◌, ⊤, List, [], ◌∷◌, ◌++◌, length, take, All}
 use Rattle.std.specs.List.{flat_map}
 use Rattle.std.specs.Str.Parse.{IsNumeral, digits_value}

@@ -20,7 +20,8 @@ in_digits count value byte =
 unfoldable pub in_extension : ℕ → ℕ → ℕ → Phase
 in_extension count value byte =
     if byte == 13 then SizeLf value
-    else (if not (byte == 10) && nat_le (count + 3) 256 then Extension (count + 1) value else Broken)
+    else (if not (byte == 10) && nat_le (count + 3) 256 then Extension (count + 1) value
+    else Broken)
 
 -- behind a size line: the bytes of a chunk, or the trailers
 unfoldable pub behind_size : ℕ → Phase

@@ -9,7 +9,9 @@ use Rattle.chunk_body.proofs.chunks.chunk.Goals as goal
 pub unreachable-requires : goal.unreachable-requires
 unreachable-requires c =
     let bytes = c.bytes-bytes.result.now in
-    let few : length bytes ≤ 1029 = omega (arith, ap length c.bytes-bytes.ensures.value, c.bytes-bytes.ensures.most) in
+    let few : length bytes ≤ 1029 =
+    omega (arith, ap length c.bytes-bytes.ensures.value, c.bytes-bytes.ensures.most)
+    in
     let fits : vec_len c.reserve.new.self + length (chunk_of bytes) ≤ vec_capacity c.reserve.new.self =
     omega (arith, c.in_ok-reserve.ensures.ok, chunk_fits bytes few)
     in

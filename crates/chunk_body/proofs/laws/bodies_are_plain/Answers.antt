@@ -10,7 +10,9 @@ pub returns-clause-plain : goal.returns-clause-plain
 returns-clause-plain c = plain_whole
 
 pub returns-clause-one_plain : goal.returns-clause-one_plain
-returns-clause-one_plain c = λ text x y first second. plain_only text x first ∙ sym (plain_only text y second)
+returns-clause-one_plain c =
+    λ text x y first second. plain_only text x first ∙ sym (plain_only text y second)
 
 pub returns-clause-nothing_behind : goal.returns-clause-nothing_behind
-returns-clause-nothing_behind c = λ text content byte more body live. dead_behind text byte more content body live
+returns-clause-nothing_behind c =
+    λ text content byte more body live. dead_behind text byte more content body live

@@ -8,7 +8,8 @@ use Rattle.chunk_body.proofs.ReadingLemmas.{Answers, read_more, answered, plain_
 use Rattle.chunk_body.proofs.dechunk.Dechunk.push.Goals as goal
 
 -- what the answer to one more byte says
-answer_says : (r : Reading) (byte : ℕ) (t : List ℕ) (a : Step) → a ≡ answer r byte → r ≡ read t → Answers (t ++ byte ∷ []) a
+answer_says : (r : Reading) (byte : ℕ) (t : List ℕ) (a : Step) → a ≡ answer r byte → r ≡ read t
+    → Answers (t ++ byte ∷ []) a
 answer_says r byte t a is same =
     subst (λ (s : Step). Answers (t ++ byte ∷ []) s)
     (sym (is ∙ ap (λ (q : Reading). answer q byte) same))
@@ -20,7 +21,9 @@ returns-clause-taken c =
 
 pub returns-clause-read : goal.returns-clause-read
 returns-clause-read c text stands =
-    c.take.ensures.reading ∙ ap (λ (r : Reading). after r c.args.byte) stands ∙ read_more text c.args.byte
+    c.take.ensures.reading
+    ∙ ap (λ (r : Reading). after r c.args.byte) stands
+    ∙ read_more text c.args.byte
 
 pub returns-clause-goes_on : goal.returns-clause-goes_on
 returns-clause-goes_on c text stands =
