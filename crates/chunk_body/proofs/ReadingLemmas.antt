@@ -10,7 +10,7 @@ use Rattle.chunk_body.specs.declared.dechunk.Step.{Step}
 use Rattle.chunk_body.specs.declared.dechunk.Step.TheVariants.{More, Byte, Done, Bad}
 use Rattle.chunk_body.specs.Text.{HasEnded, IsOpen, IsBadAt, IsPlain}
 use Rattle.chunk_body.specs.Machine.{step, is_ended, is_broken, is_data, Reading, nothing_read, after, read}
-use Rattle.chunk_body.specs.Answer.{answer, given_by, goes_on}
+use Rattle.chunk_body.specs.Answer.{answer, given_by, goes_on, given_from, plain_of}
 use Rattle.chunk_body.proofs.Machines.{start, run, given, plain, run-append, plain-append}
 use Rattle.chunk_body.proofs.StepLemmas.{step_broken}
 use Rattle.chunk_body.proofs.TextLemmas.{body_goes, live_fine, live_or_broken, run_ended, ended_at, ended_on, open_at, bad_at, bad_on, bad_dead, bad_not_ended, bad_once}
@@ -358,3 +358,32 @@ one_of_three t = elim (known t) [
   | behind_body phase ended ↦ inr (inl ended)
   | behind_fault phase bad ↦ inr (inr ((read t).taken, bad))
 ]
+
+-- ---- the data that all answers give
+
+-- from a reading on, it is what the machine gives
+given_machine : (s t : List ℕ) (r : Reading) → Knows s r → given_from r t ≡ plain (run start s) t
+given_machine s [] r stands = refl
+given_machine s (b ∷ t) r stands =
+    let one = after_byte s r b stands in
+    ap₂ (λ (xs ys : List ℕ). xs ++ ys) one.gives (
+    given_machine (s ++ b ∷ []) t (after r b) one.knows
+    ∙ ap (λ (q : Phase). plain q t) (run_more s b)
+    )
+
+-- it is the plain data
+pub plain_read : (t : List ℕ) → IsPlain t (plain_of t)
+unfolding plain_of
+plain_read t =
+    let same = given_machine [] t nothing_read
+    (in_body (open_at [] (λ e. absurd cc) (λ e. absurd cc)) refl refl)
+    in
+    subst (λ (x : List ℕ). IsPlain t x) (sym same) (plain_is t)
+
+-- one more byte
+pub gives_more : (t : List ℕ) (b : ℕ) → plain_of (t ++ b ∷ []) ≡ plain_of t ++ given_by (answer (read t) b)
+gives_more t b =
+    plain_only (t ++ b ∷ []) (plain_of (t ++ b ∷ [])) (plain_read (t ++ b ∷ []))
+    ∙ sym (
+    plain_only (t ++ b ∷ []) (plain_of t ++ given_by (answer (read t) b)) (plain_more t (plain_of t) b (plain_read t))
+    )

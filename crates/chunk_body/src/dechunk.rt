@@ -42,7 +42,7 @@ impl Model for Dechunk {
 
 impl Dechunk {
     ghost use Rattle.chunk_body.specs.Machine.{Reading, read, after};
-    ghost use Rattle.chunk_body.specs.Answer.{answer, given_by, goes_on};
+    ghost use Rattle.chunk_body.specs.Answer.{answer, given_by, goes_on, plain_of};
     ghost use Rattle.chunk_body.specs.Text.{BodyText, IsOpen, HasEnded, IsBadAt, IsPlain};
     ghost use Rattle.chunk_body.specs.declared.dechunk.Step.TheVariants as steps;
 
@@ -51,7 +51,6 @@ impl Dechunk {
     pub fn new() -> Dechunk
         ensures read { result ≡ read [] }
         ensures taken { result.taken ≡ 0 }
-        ensures plain { IsPlain [] [] }
     {
         Dechunk {
             phase: Phase::Digits { count: 0, value: 0 },
@@ -75,6 +74,8 @@ impl Dechunk {
             → (result ≡ steps.Bad place) ↔ IsBadAt (text ++ byte ∷ []) place }
         ensures plain { (text content : List ℕ) → self.old ≡ read text → IsPlain text content
             → IsPlain (text ++ byte ∷ []) (content ++ given_by result) }
+        ensures gives { (text : List ℕ) → self.old ≡ read text
+            → plain_of (text ++ byte ∷ []) ≡ plain_of text ++ given_by result }
     {
         self.take(byte)
     }

@@ -6,10 +6,12 @@ ghost use Rattle.rtcm_frame.specs.Transport.{is_frame};
 ghost use Rattle.chunk_body.specs.declared.phase.Phase.TheVariants as phases;
 ghost use Rattle.chunk_body.specs.Text.{BodyText, IsLive, IsOpen, HasEnded, IsBadAt, IsPlain};
 ghost use Rattle.chunk_body.specs.Machine.{read};
+ghost use Rattle.chunk_body.specs.Answer.{plain_of};
 ghost use Rattle.chunk_body.specs.Written.{chunk_of};
 
 /// A text holds one data, which is its plain data, and nothing behind a body is live.
 pub fn bodies_are_plain()
+    ensures nothing { IsPlain [] [] }
     ensures one_data { (text x y : List ℕ) → BodyText text x → BodyText text y → x ≡ y }
     ensures plain { (text content : List ℕ) → BodyText text content → IsPlain text content }
     ensures one_plain { (text x y : List ℕ) → IsPlain text x → IsPlain text y → x ≡ y }
@@ -38,13 +40,15 @@ pub fn texts_are_one_of_three()
         → IsBadAt text place → IsBadAt (text ++ more) place }
 {}
 
-/// What is read of any text says by the grammar where the text stands.
+/// What is read of any text says by the grammar where the text stands, and the data that it gave is
+/// the plain data of the text.
 pub fn reading_follows_grammar()
     ensures ended { (text : List ℕ) → ((read text).phase ≡ phases.Ended) ↔ HasEnded text }
     ensures bad { (text : List ℕ) (place : ℕ)
         → ((read text).phase ≡ phases.Broken × (read text).taken ≡ place) ↔ IsBadAt text place }
     ensures counted { (text : List ℕ) → IsOpen text → (read text).taken ≡ length text }
     ensures at_most { (text : List ℕ) → (read text).taken ≤ length text }
+    ensures plain { (text : List ℕ) → IsPlain text (plain_of text) }
 {}
 
 /// Frames that are written as chunks are joined to an open text, whose plain data are the frames

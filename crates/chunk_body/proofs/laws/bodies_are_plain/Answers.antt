@@ -1,7 +1,10 @@
 use Rattle.std.proofs.Common.{◌∙◌, sym}
 use Rattle.chunk_body.proofs.TextLemmas.{dead_behind}
-use Rattle.chunk_body.proofs.PlainLemmas.{plain_only, plain_whole, one_data}
+use Rattle.chunk_body.proofs.PlainLemmas.{plain_is, plain_only, plain_whole, one_data}
 use Rattle.chunk_body.proofs.laws.bodies_are_plain.Goals as goal
+
+pub returns-clause-nothing : goal.returns-clause-nothing
+returns-clause-nothing c = plain_is _
 
 pub returns-clause-one_data : goal.returns-clause-one_data
 returns-clause-one_data c = one_data

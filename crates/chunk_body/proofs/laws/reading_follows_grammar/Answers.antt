@@ -1,4 +1,4 @@
-use Rattle.chunk_body.proofs.ReadingLemmas.{known, ended_reading, bad_reading, open_taken, taken_most}
+use Rattle.chunk_body.proofs.ReadingLemmas.{known, ended_reading, bad_reading, open_taken, taken_most, plain_read}
 use Rattle.chunk_body.proofs.laws.reading_follows_grammar.Goals as goal
 
 pub returns-clause-ended : goal.returns-clause-ended
@@ -12,3 +12,6 @@ returns-clause-counted c = λ text is. open_taken text _ (known text) is
 
 pub returns-clause-at_most : goal.returns-clause-at_most
 returns-clause-at_most c = taken_most
+
+pub returns-clause-plain : goal.returns-clause-plain
+returns-clause-plain c = plain_read

@@ -2,9 +2,9 @@
 use Rattle.std.proofs.Common.{◌≡◌, ℕ, List, [], ◌∷◌, ◌++◌, ap, ◌∙◌, sym, subst, arith}
 use Rattle.chunk_body.specs.Machine.{Reading, read, after}
 use Rattle.chunk_body.specs.declared.dechunk.Step.{Step}
-use Rattle.chunk_body.specs.Answer.{answer, given_by}
+use Rattle.chunk_body.specs.Answer.{answer, given_by, plain_of}
 use Rattle.chunk_body.specs.Text.{IsPlain}
-use Rattle.chunk_body.proofs.ReadingLemmas.{Answers, read_more, answered, plain_more, taken_more, exactly_open, exactly_done, exactly_bad}
+use Rattle.chunk_body.proofs.ReadingLemmas.{Answers, read_more, answered, plain_more, gives_more, taken_more, exactly_open, exactly_done, exactly_bad}
 use Rattle.chunk_body.proofs.dechunk.Dechunk.push.Goals as goal
 
 -- what the answer to one more byte says
@@ -47,3 +47,11 @@ returns-clause-plain c text content stands is =
     in
     subst (λ (a : Step). IsPlain (text ++ c.args.byte ∷ []) (content ++ given_by a)) (sym same)
     (plain_more text content c.args.byte is)
+
+pub returns-clause-gives : goal.returns-clause-gives
+returns-clause-gives c text stands =
+    let same : c.take.result ≡ answer (read text) c.args.byte =
+    c.take.ensures.answer ∙ ap (λ (r : Reading). answer r c.args.byte) stands
+    in
+    gives_more text c.args.byte
+    ∙ ap (λ (a : Step). plain_of text ++ given_by a) (sym same)
