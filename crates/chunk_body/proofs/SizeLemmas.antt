@@ -6,8 +6,3 @@ use Rattle.std.proofs.Math.Nat.{pow-le-pow_right}
 pub six_digits : (count value : ℕ) → count ≤ 6 → value < 16 ^ count → value < 16 ^ 6
 six_digits count value few below =
     omega (arith, pow-le-pow_right {n = 16} (omega arith) {i = count} {j = 6} few)
-
--- fewer than six leave room for one more digit
-pub one_more_digit : (count value : ℕ) → count < 6 → value < 16 ^ count → value < 16 ^ 5
-one_more_digit count value few below =
-    omega (arith, pow-le-pow_right {n = 16} (omega arith) {i = count} {j = 5} (omega arith))
