@@ -1,10 +1,10 @@
 -- Worked rows, which the definitions compute.
-use Rattle.std.proofs.Common.{◌≡◌, ℕ, false, List, [], ◌∷◌, ◌++◌, refl, arith}
-use Rattle.std.specs.Prelude.{codes}
+use Rattle.std.proofs.Common.{◌≡◌, ℕ, false, List, [], ◌∷◌, ◌++◌, length, refl, arith}
+use Rattle.std.specs.Prelude.{codes, All}
 use Rattle.std.specs.Fmt.{digits}
-use Rattle.std.proofs.lemmas.List.Elements.{All-nil}
+use Rattle.std.proofs.lemmas.List.Elements.{All-nil, All-cons}
 use Rattle.chunk_body.specs.declared.phase.Phase.TheVariants.{Digits, Data, Ended, Broken}
-use Rattle.chunk_body.specs.Body.{SizeLine, size_of, IsChunk, IsTrailer, Body, print_body, data_of, data_within}
+use Rattle.chunk_body.specs.Body.{IsLineByte, SizeLine, print_size, size_of, IsSizeLine, Chunk, IsChunk, IsTrailer, print_trailers, Body, IsBody, print_body, data_of, data_within}
 use Rattle.chunk_body.specs.Text.{BodyText}
 use Rattle.chunk_body.specs.Machine.{read, after, step, expected, in_digits, in_extension, behind_size, in_data, in_trailers}
 use Rattle.chunk_body.specs.Written.{chunk_of}
@@ -75,6 +75,85 @@ shortest = (
   where
     line : SizeLine
     line = record { digits = codes "0"; extension = [] }
+
+-- the tree is a body
+line_bytes : (a b c : ℕ) → IsLineByte a → IsLineByte b → IsLineByte c
+    → All IsLineByte (a ∷ b ∷ c ∷ [])
+line_bytes a b c first second third =
+    All-cons IsLineByte a (b ∷ c ∷ []) first
+    (All-cons IsLineByte b (c ∷ []) second (All-cons IsLineByte c [] third (All-nil IsLineByte)))
+
+tree_is_body : IsBody tree
+tree_is_body = record {
+  chunks = All-cons IsChunk first (second ∷ []) is_first
+      (All-cons IsChunk second [] is_second (All-nil IsChunk));
+  last = record {
+    numeral = (omega arith, (omega arith, (omega arith, (omega arith, tt))));
+    digits = omega arith;
+    extension = tt;
+    bytes = omega arith;
+  };
+  zero = refl;
+  trailers = All-cons IsTrailer (codes "X: y") [] is_trailer (All-nil IsTrailer);
+  room = omega arith;
+}
+  where
+    first : Chunk
+    first = record {
+      size = record { digits = codes "0A"; extension = codes ";q=1" };
+      bytes = codes "0123\r\n6789";
+    }
+
+    second : Chunk
+    second = record { size = record { digits = codes "8"; extension = [] }; bytes = frame_a }
+
+    is_first : IsChunk first
+    is_first = record {
+      size = record {
+        numeral = (omega arith, (omega arith, (omega arith, tt)));
+        digits = omega arith;
+        extension = (refl, line_bytes 113 61 49 (omega arith) (omega arith) (omega arith));
+        bytes = omega arith;
+      };
+      bytes = refl;
+      some = omega arith;
+    }
+
+    is_second : IsChunk second
+    is_second = record {
+      size = record {
+        numeral = (omega arith, (omega arith, tt));
+        digits = omega arith;
+        extension = tt;
+        bytes = omega arith;
+      };
+      bytes = refl;
+      some = omega arith;
+    }
+
+    is_trailer : IsTrailer (codes "X: y")
+    is_trailer = record {
+      bytes = All-cons IsLineByte 88 (58 ∷ 32 ∷ 121 ∷ []) (omega arith)
+          (line_bytes 58 32 121 (omega arith) (omega arith) (omega arith));
+      some = omega arith;
+    }
+
+-- the limits of the grammar: seven digits are no size, a line of 257 bytes is no size line, a chunk
+-- has as many bytes as its size says, and an empty line is no trailer line
+seven : (extension : List ℕ) → IsSizeLine record { digits = codes "0000008"; extension = extension } → ⊥
+seven extension is = omega (arith, is.digits)
+
+long_line : (line : SizeLine) → length (print_size line) ≡ 257 → IsSizeLine line → ⊥
+long_line line long is = omega (arith, is.bytes)
+
+short_chunk : IsChunk record { size = record { digits = codes "2"; extension = [] }; bytes = codes "A" } → ⊥
+short_chunk is = omega (arith, is.bytes)
+
+empty_trailer : IsTrailer [] → ⊥
+empty_trailer is = omega (arith, is.some)
+
+long_trailers : (body : Body) → length (print_trailers body.trailers) ≡ 1025 → IsBody body → ⊥
+long_trailers body long is = omega (arith, is.room)
 
 -- ---- readings
 

@@ -9,7 +9,7 @@ use Rattle.chunk_body.specs.declared.phase.Phase.TheVariants.{Digits, Extension,
 unfoldable pub expected : ℕ → ℕ → Phase → Phase
 expected wanted byte next = if byte == wanted then next else Broken
 
--- a digit, while there are at most 6; behind one or more `;` (59), or CR
+-- a digit, where fewer than 6 have come; behind one digit or more `;` (59), or CR
 unfoldable pub in_digits : ℕ → ℕ → ℕ → Phase
 in_digits count value byte =
     if is_digit byte 16 && nat_lt count 6 then Digits (count + 1) (value * 16 + digit_value byte)
