@@ -1,0 +1,12 @@
+pub mod SizeLemmas
+pub mod Machines
+pub mod StepLemmas
+pub mod PrintLemmas
+pub mod Rests
+pub mod WithinLemmas
+pub mod RestLemmas
+pub mod TextLemmas
+pub mod PlainLemmas
+pub mod ReadingLemmas
+pub mod ChunkLemmas
+pub mod Rows

@@ -1,0 +1,27 @@
+-- At most six digits write a number of 24 bits, so there is room for one more.
+use Rattle.std.proofs.Common.{arith}
+use Rattle.std.proofs.lemmas.Bool.Decides.{nat_tests}
+use Rattle.chunk_body.specs.Machine.{is_within}
+use Rattle.chunk_body.proofs.SizeLemmas.{six_digits}
+use Rattle.chunk_body.proofs.phase.next_in_digits.Goals as goal
+
+pub overflow_mul-result : goal.overflow_mul-result
+overflow_mul-result c =
+    omega (arith, six_digits c.args.count c.args.value c.requires.count c.requires.value)
+
+pub overflow_add-result-in-Some : goal.overflow_add-result-in-Some
+overflow_add-result-in-Some c =
+    let small = six_digits c.args.count c.args.value c.requires.count c.requires.value in
+    omega (arith, small, c.in-Some.ensures.value)
+
+pub returns-in-59-clause-within : goal.returns-in-59-clause-within
+unfolding is_within
+returns-in-59-clause-within c =
+    let small = six_digits c.args.count c.args.value c.requires.count c.requires.value in
+    grind (arith, nat_tests, small)
+
+pub returns-in-13-clause-within : goal.returns-in-13-clause-within
+unfolding is_within
+returns-in-13-clause-within c =
+    let small = six_digits c.args.count c.args.value c.requires.count c.requires.value in
+    grind (arith, nat_tests, small)

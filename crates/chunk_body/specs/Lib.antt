@@ -1,0 +1,5 @@
+pub mod Body
+pub mod Text
+pub mod Machine
+pub mod Answer
+pub mod Written
