@@ -9,6 +9,6 @@ use Rattle.caster_replay.proofs.run.Run.close_all.Given as goal
 abbrev pub invariant-loop-place : goal.invariant-loop-place
 invariant-loop-place l = record {
   size : length l.sessions.items ≡ length l.initial.sessions.items;
-  closed : (w : World) → IsWell (bare l.initial.ring.capacity) w → Stands l.initial.ring.capacity w l.initial.sessions.items l.initial.ring
-      → ClosedSoFar l.initial.ring.capacity w l.place l.sessions.items l.ring;
+  closed : (w : World) → IsWell (bare l.initial.desk.ring.capacity) w → Stands l.initial.desk.ring.capacity w l.initial.sessions.items l.initial.desk
+      → ClosedSoFar l.initial.desk.ring.capacity w l.place l.sessions.items l.desk;
 }
