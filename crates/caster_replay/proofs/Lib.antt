@@ -3,6 +3,7 @@ pub mod BodyLemmas
 pub mod ListLemmas
 pub mod EntriesLemmas
 pub mod DeskLemmas
+pub mod TurnLemmas
 pub mod SourceLemmas
 pub mod HeardLemmas
 pub mod ConnectionLemmas

@@ -102,13 +102,11 @@ impl RingDesk {
             cursor: segment.cursor,
             budget,
         };
-        match self.turn(me, call)? {
-            RingAnswer::Read(report) => {
-                segment.follow(report)?;
-                body.append(self.outbox.frames())
-            }
-            _ => unreachable!(),
-        }
+        let Ok(RingAnswer::Read(report)) = self.desk.turn(me, call, &mut self.outbox) else {
+            return Err(AllocError);
+        };
+        segment.follow(report)?;
+        body.append(self.outbox.frames())
     }
 
     /// How many frames were published.
