@@ -1,2 +1,3 @@
 pub mod SoundLemmas
 pub mod CourseLemmas
+pub mod ToldLemmas

@@ -1,3 +1,5 @@
 pub mod Segments
 pub mod Sound
 pub mod Course
+pub mod Told
+pub mod Refusals

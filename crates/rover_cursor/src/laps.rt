@@ -7,7 +7,7 @@ use std::marker::Model;
 /// The laps of a segment, in the order in which they happened. Contracts see the list of them.
 #[derive(Debug, Drop)]
 pub struct Laps {
-    items: Vec<Lap>,
+    pub(crate) items: Vec<Lap>,
 }
 
 impl Model for Laps {

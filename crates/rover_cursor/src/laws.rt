@@ -3,13 +3,15 @@
 ghost use Rattle.std.specs.Prelude.{◌≡◌, ℕ, ◌+◌, ◌<◌, ◌≤◌, Bool, List, [], ◌++◌, length, IsTrue};
 ghost use Rattle.std.specs.List.{filter, count_by, All, AllPairs};
 ghost use Rattle.mount_ring.specs.Reads.{read_report, read_frames};
-ghost use Rattle.mount_ring.specs.History.{Shape, State, permits_at, joined, is_readable};
+ghost use Rattle.turn_log.specs.History.{History, GoesOn};
+ghost use Rattle.mount_ring.specs.History.{Shape, State, permits_at, joined, is_readable, fits, state_of};
 ghost use Rattle.rover_cursor.specs.Segments.{begun, read_on};
 ghost use Rattle.rover_cursor.specs.Sound.{between, kept, IsSound};
 ghost use Rattle.rover_cursor.specs.Course.{Round, course_of};
+ghost use Rattle.rover_cursor.specs.Told.{IsSegment, Resumes};
 
 use crate::segment::Segment;
-use mount_ring::{Cursor, Lap};
+use mount_ring::{Cursor, Lap, RingCall};
 
 /// A segment is sound when it begins where a rover joined, and stays so over each read from its own
 /// cursor and while more is published; and its cursor may always be read.
@@ -104,4 +106,19 @@ pub fn rover_is_sent_what_it_is_owed()
         ≡ count_by (permits_at shape number)
         (between (length state.published) (course_of shape state mount number rounds).segment.to
         (course_of shape state mount number rounds).published) }
+{}
+
+/// The segment that a history tells of a caller stays the one it tells, and stays sound, whatever
+/// others call, and whatever its caller calls but Join and Read. Its next read may be made at any
+/// time.
+pub fn segment_resumes()
+    ensures stays { (shape : Shape) (me : ℕ) (h now : History RingCall) (segment : Segment)
+        → IsSegment shape me h segment → Resumes me h now → IsSegment shape me now segment }
+    ensures others { (me : ℕ) (h now : History RingCall) → GoesOn me h now → Resumes me h now }
+    ensures fits { (shape : Shape) (me : ℕ) (h : History RingCall) (segment : Segment) (budget : ℕ)
+        → IsSegment shape me h segment
+        → IsTrue (fits shape (state_of h) me (RingCall.Read segment.cursor budget)) }
+    ensures one { (shape : Shape) (me : ℕ) (h : History RingCall) (segment other : Segment)
+        → IsSegment shape me h segment → IsSegment shape me h other
+        → segment.mount ≡ other.mount → segment ≡ other }
 {}
