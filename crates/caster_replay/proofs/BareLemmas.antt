@@ -1,16 +1,15 @@
 -- The steps of a whole recorded run.
-use Rattle.std.proofs.Common.{◌≡◌, ℕ, ◌+◌, ◌^◌, ◌<◌, ◌≤◌, List, [], ◌∷◌, ◌++◌, length, map, take, get_or, refl, ap, subst, ◌∙◌, sym, arith}
-use Rattle.std.specs.Prelude.{fold, IsSome}
+use Rattle.std.proofs.Common.{◌≡◌, ℕ, ◌+◌, ◌^◌, ◌<◌, ◌≤◌, List, [], ◌∷◌, ◌++◌, length, map, take, get_or, ap, subst, ◌∙◌, sym}
+use Rattle.std.specs.Prelude.{IsSome}
 use Rattle.std.specs.List.{All, sum_by}
 use Rattle.std.proofs.lemmas.List.{take_more, take_all}
 use Rattle.std.proofs.lemmas.List.Sums.{fold-append}
 use Rattle.caster_replay.specs.Recorded.{DeskValue, state_at}
-use Rattle.mount_ring.specs.History.{State}
 use Rattle.session_script.specs.declared.Event.{Event}
 use Rattle.session_script.specs.Script.{input_length}
 use Rattle.caster_replay.specs.declared.session.Session.{Session}
 use Rattle.caster_replay.specs.World.{Connection, World, bare, after_event, after_events, closes, world}
-use Rattle.caster_replay.specs.Report.{report, world_text}
+use Rattle.caster_replay.specs.Report.{report}
 use Rattle.caster_replay.specs.Live.{Stands}
 use Rattle.caster_replay.specs.Well.{IsWell}
 use Rattle.caster_replay.specs.Room.{HasTextRoom}

@@ -1,14 +1,14 @@
 -- Closing all connections in order.
-use Rattle.std.proofs.Common.{◌≡◌, ◌≢◌, ℕ, zero, suc, ◌+◌, ◌<◌, ◌≤◌, Bool, true, false, cond, List, [], ◌∷◌, ◌++◌, length, map, take, get_or, set, refl, ap, subst, ◌∙◌, sym, arith, inl, inr, Option, None, Some}
-use Rattle.std.specs.Prelude.{fold, IsSome, is_some}
+use Rattle.std.proofs.Common.{◌≡◌, ℕ, ◌+◌, ◌<◌, Bool, true, false, cond, List, [], ◌∷◌, length, map, take, get_or, set, refl, ap, subst, ◌∙◌, sym, arith, inl, inr, Option, None, Some}
+use Rattle.std.specs.Prelude.{IsSome}
 use Rattle.std.specs.List.{All}
-use Rattle.std.proofs.lemmas.List.{take_more, take_all, length-map, length-set, get_or-map, get_or-set_same, get_or-set_other, get_or_default}
+use Rattle.std.proofs.lemmas.List.{take_more, take_all, length-map, get_or-map, get_or-set_same, get_or-set_other}
 use Rattle.std.proofs.lemmas.List.Sums.{fold-append}
 use Rattle.std.proofs.lemmas.Bool.{cases_eq}
 use Rattle.mount_ring.specs.declared.RingCall.{RingCall}
 use Rattle.mount_ring.specs.declared.RingAnswer.{RingAnswer}
 use Rattle.caster_replay.specs.Recorded.{DeskValue}
-use Rattle.mount_ring.specs.History.{Shape, state_of, own_answers}
+use Rattle.mount_ring.specs.History.{Shape, state_of}
 use Rattle.rover_cursor.specs.declared.Segment.{Segment}
 use Rattle.rover_cursor.specs.Segments.{newest_segments}
 use Rattle.caster_replay.specs.declared.ending.Role.{Role}
@@ -17,8 +17,7 @@ use Rattle.caster_replay.specs.declared.ending.Last.{Last}
 use Rattle.caster_replay.specs.declared.ending.Last.TheVariants as lasts
 use Rattle.caster_replay.specs.declared.ending.Ending.{Ending}
 use Rattle.caster_replay.specs.declared.session.Session.{Session}
-use Rattle.caster_replay.specs.declared.session.Work.{Work}
-use Rattle.caster_replay.specs.World.{Setting, Connection, World, Happening, ends, bare, changed, is_concerned, given_claim, refusal, is_known, answers_of, happens, closes}
+use Rattle.caster_replay.specs.World.{Setting, Connection, World, ends, bare, changed, is_concerned, given_claim, refusal, is_known, answers_of, happens, closes}
 use Rattle.caster_replay.specs.Steps.{MayCall, closed, ending_closed, desk_after}
 use Rattle.caster_replay.specs.Live.{source_work, rover_work, work_by, ending_by, session_of, Stands}
 use Rattle.caster_replay.specs.Well.{IsWell, IsWellConnection, IsReceived}

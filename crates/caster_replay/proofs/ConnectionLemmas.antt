@@ -1,12 +1,12 @@
 -- What happens to a connection, whatever it is, makes of it what the run's definition says; and what others do
 -- leaves it as it was.
-use Rattle.std.proofs.Common.{◌≡◌, ℕ, ◌+◌, Bool, true, false, cond, List, [], ◌∷◌, ◌++◌, length, refl, ap, subst, ◌∙◌, sym, Option, None, Some}
+use Rattle.std.proofs.Common.{◌≡◌, ℕ, Bool, true, false, cond, List, [], ◌∷◌, ◌++◌, refl, ap, subst, ◌∙◌, sym, Option, None, Some}
 use Rattle.std.specs.Prelude.{◌&&◌, is_none}
 use Rattle.std.specs.List.{concat}
 use Rattle.std.proofs.lemmas.List.{append-nil}
 use Rattle.mount_ring.specs.declared.RingCall.{RingCall}
 use Rattle.mount_ring.specs.declared.RingAnswer.{RingAnswer}
-use Rattle.mount_ring.specs.History.{Shape, State, state_of, own_answers, permits_at, has_none_of}
+use Rattle.mount_ring.specs.History.{Shape, state_of, own_answers, permits_at, has_none_of}
 use Rattle.mount_ring.proofs.HistoryLemmas.{own_answers-others, published-append, published_by}
 use Rattle.rover_cursor.specs.declared.Segment.{Segment}
 use Rattle.rover_cursor.specs.Segments.{newest_segments}
@@ -24,7 +24,7 @@ use Rattle.caster_replay.specs.Receipt.{ended_last}
 use Rattle.caster_replay.specs.Recorded.{desk_of}
 use Rattle.caster_replay.specs.Steps.{session_after, calls_made}
 use Rattle.caster_replay.specs.Live.{work_by, ending_by, rover_work, session_by, session_of}
-use Rattle.caster_replay.specs.Well.{IsReceived, IsWellConnection, IsWellSegment}
+use Rattle.caster_replay.specs.Well.{IsReceived, IsWellConnection}
 use Rattle.caster_replay.proofs.HeardLemmas.{connection, session, source_heard, rover_heard, ended_heard}
 
 -- ---- a connection that ended

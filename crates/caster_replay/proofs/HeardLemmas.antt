@@ -1,5 +1,5 @@
 -- Each call on a connection makes of it what the run's definition says.
-use Rattle.std.proofs.Common.{◌≡◌, ℕ, ◌+◌, Bool, true, false, cond, List, [], ◌∷◌, ◌++◌, length, drop, refl, ap, ◌∙◌, sym, append_assoc, Option, None, Some}
+use Rattle.std.proofs.Common.{◌≡◌, ℕ, Bool, List, [], ◌∷◌, ◌++◌, length, drop, refl, ap, ◌∙◌, sym, Option, None, Some}
 use Rattle.std.specs.List.{concat}
 use Rattle.std.proofs.lemmas.List.{append-nil}
 use Rattle.std.proofs.Math.Seq.{drop-append_seam}
@@ -12,7 +12,7 @@ use Rattle.mount_ring.specs.declared.RingCall.{RingCall}
 use Rattle.mount_ring.specs.declared.RingCall.TheVariants as calls
 use Rattle.mount_ring.specs.declared.RingAnswer.{RingAnswer}
 use Rattle.mount_ring.specs.Reads.{read_report, read_frames}
-use Rattle.mount_ring.specs.History.{Shape, State, after, state_of, answer, own_answers, permits_at}
+use Rattle.mount_ring.specs.History.{Shape, State, state_of, answer, own_answers, permits_at}
 use Rattle.mount_ring.proofs.HistoryLemmas.{state_of-append}
 use Rattle.rover_cursor.specs.declared.Segment.{Segment}
 use Rattle.rover_cursor.specs.Segments.{newest_segments, after_answer, read_on}
@@ -25,13 +25,13 @@ use Rattle.caster_replay.specs.declared.ending.Last.TheVariants as lasts
 use Rattle.caster_replay.specs.declared.ending.Ending.{Ending}
 use Rattle.caster_replay.specs.declared.session.Session.{Session}
 use Rattle.caster_replay.specs.declared.session.Work.{Work}
-use Rattle.caster_replay.specs.declared.session.Work.TheVariants.{Refused, Source, Rover}
-use Rattle.caster_replay.specs.World.{Setting, Connection, Happening, arrives, takes_turn, ends, bare, entries_of, publishes, completed, source_calls, rover_calls, given_claim, refusal, is_known, answers_of, changed}
+use Rattle.caster_replay.specs.declared.session.Work.TheVariants.{Source, Rover}
+use Rattle.caster_replay.specs.World.{Setting, Connection, Happening, arrives, takes_turn, ends, bare, entries_of, publishes, completed, source_calls, rover_calls, given_claim, refusal, is_known, changed}
 use Rattle.caster_replay.specs.Receipt.{ended_last}
 use Rattle.caster_replay.specs.Recorded.{DeskValue, desk_of}
 use Rattle.caster_replay.specs.Steps.{after_cut, with_bytes, session_after, calls_made, ended_source, ended_rover}
 use Rattle.caster_replay.specs.Live.{cutter_at, source_work, rover_work, ending_by, session_of}
-use Rattle.caster_replay.proofs.EntriesLemmas.{own_answers-call, state_of-publishes, given_claim-more, refusal-more}
+use Rattle.caster_replay.proofs.EntriesLemmas.{own_answers-call, given_claim-more, refusal-more}
 
 abbrev pub connection : ℕ → Role → List ℕ → List ℕ → Option Last → Connection
 connection number role mount text closed = record { number = number; role = role; mount = mount; text = text; closed = closed }

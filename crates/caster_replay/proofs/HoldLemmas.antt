@@ -1,23 +1,21 @@
 -- A source that goes on under its claim holds the mountpoint, whatever it does itself and whatever others do.
 use Rattle.std.proofs.Common.{◌≡◌, ◌≢◌, ℕ, ◌+◌, Bool, true, false, cond, List, [], ◌∷◌, ◌++◌, refl, ap, subst, ◌∙◌, sym, Option, None, Some}
 use Rattle.std.specs.Prelude.{◌==◌, ◌&&◌, is_none, IsTrue}
-use Rattle.std.specs.Str.{bytes_eq}
 use Rattle.std.proofs.lemmas.List.{append-nil}
 use Rattle.std.proofs.lemmas.Bool.{eq-eqb}
 use Rattle.mount_ring.specs.declared.RingCall.{RingCall}
 use Rattle.mount_ring.specs.declared.RingCall.TheVariants as calls
 use Rattle.mount_ring.specs.declared.RingAnswer.{RingAnswer}
 use Rattle.mount_ring.specs.declared.Holder.{Holder}
-use Rattle.mount_ring.specs.History.{Shape, State, start, state_of, after_claim, answer, claim_answer, own_answers, has_none_of, is_holder}
+use Rattle.mount_ring.specs.History.{Shape, State, start, state_of, after_claim, claim_answer, own_answers, has_none_of, is_holder}
 use Rattle.mount_ring.specs.StillFits.{one_more, still_fits_one}
-use Rattle.mount_ring.proofs.HistoryLemmas.{state_of-append, own_answers-others, answers_from-none, one_holder}
+use Rattle.mount_ring.proofs.HistoryLemmas.{own_answers-others, answers_from-none, one_holder}
 use Rattle.rover_cursor.specs.declared.Segment.{Segment}
 use Rattle.rover_cursor.specs.Segments.{newest_segments}
 use Rattle.caster_replay.specs.declared.ending.Role.{Role}
 use Rattle.caster_replay.specs.declared.ending.Role.TheVariants as roles
 use Rattle.caster_replay.specs.declared.ending.Last.{Last}
-use Rattle.caster_replay.specs.declared.ending.Ending.{Ending}
-use Rattle.caster_replay.specs.World.{Setting, Connection, Happening, arrives, takes_turn, ends, entries_of, entries_owed, owed, publishes, completed, source_calls, rover_calls, opening_calls, given_claim, refusal, is_known, answers_of, goes_on, changed, opened}
+use Rattle.caster_replay.specs.World.{Setting, Connection, Happening, arrives, takes_turn, ends, entries_of, entries_owed, owed, publishes, completed, source_calls, rover_calls, opening_calls, given_claim, refusal, is_known, answers_of, changed, opened}
 use Rattle.caster_replay.specs.Well.{HoldsBy, HoldsClaim}
 use Rattle.caster_replay.proofs.EntriesLemmas.{own_answers-call, state_of-publishes, given_claim-more}
 use Rattle.caster_replay.proofs.ConnectionLemmas.{entries_heard, connection_heard}

@@ -3,7 +3,6 @@ pub mod BodyLemmas
 pub mod ListLemmas
 pub mod EntriesLemmas
 pub mod DeskLemmas
-pub mod TurnLemmas
 pub mod SourceLemmas
 pub mod HeardLemmas
 pub mod ConnectionLemmas

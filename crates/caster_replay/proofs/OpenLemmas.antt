@@ -1,12 +1,12 @@
 -- What the run keeps stands for the run after a connection opens.
-use Rattle.std.proofs.Common.{◌≡◌, ℕ, zero, suc, ◌+◌, ◌<◌, ◌≤◌, Bool, true, false, cond, List, [], ◌∷◌, ◌++◌, length, map, take, drop, get_or, refl, ap, subst, ◌∙◌, sym, arith, inl, inr, Option, None, Some}
+use Rattle.std.proofs.Common.{◌≡◌, ℕ, suc, ◌+◌, ◌<◌, ◌≤◌, Bool, true, false, cond, List, [], ◌∷◌, ◌++◌, length, map, take, drop, get_or, refl, ap, subst, ◌∙◌, sym, arith, Option, None, Some}
 use Rattle.std.specs.Prelude.{◌==◌, ◌||◌, nat_lt, insert, codes, IsTrue}
-use Rattle.std.specs.List.{All, list_any, prefix_len, concat, count_by}
+use Rattle.std.specs.List.{list_any, prefix_len, concat}
 use Rattle.std.specs.Str.{bytes_eq}
 use Rattle.std.proofs.lemmas.List.{append-nil, map-append, take-map, drop-map}
 use Rattle.std.proofs.lemmas.List.Folds.{list_any_none}
-use Rattle.std.proofs.lemmas.Bool.{ne_eqb, eqb-false, cases_Bool, cases_lt, ltb-true, ltb-false}
-use Rattle.rtcm_frame.specs.Cut.{cut, Parts}
+use Rattle.std.proofs.lemmas.Bool.{ne_eqb, eqb-false, ltb-true, ltb-false}
+use Rattle.rtcm_frame.specs.Cut.{Parts}
 use Rattle.rtcm_frame.specs.Pending.{Pending}
 use Rattle.rtcm_frame.proofs.CutLemmas.{cut_waiting}
 use Rattle.mount_ring.specs.declared.RingCall.{RingCall}

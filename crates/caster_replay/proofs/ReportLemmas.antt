@@ -1,13 +1,13 @@
 -- The text by what the run keeps is the report of the run.
-use Rattle.std.proofs.Common.{◌≡◌, ℕ, zero, suc, ◌+◌, ◌-◌, ◌^◌, ◌<◌, ◌≤◌, min, Bool, true, false, cond, List, [], ◌∷◌, ◌++◌, length, map, reverse, get_or, refl, ap, subst, ◌∙◌, sym, arith, Option, None, Some}
-use Rattle.std.specs.Prelude.{codes, unwrap_or, is_none, is_some, ◌&&◌, IsSome}
+use Rattle.std.proofs.Common.{◌≡◌, ℕ, suc, ◌+◌, ◌-◌, ◌^◌, ◌<◌, ◌≤◌, min, Bool, true, false, cond, List, [], ◌∷◌, ◌++◌, length, map, reverse, get_or, refl, ap, subst, ◌∙◌, sym, arith, Option, None, Some}
+use Rattle.std.specs.Prelude.{codes, unwrap_or, is_none, ◌&&◌, IsSome}
 use Rattle.std.specs.List.{All, concat, flat_map, sum_by, count_by}
 use Rattle.std.proofs.lemmas.List.{append-nil, length-map, get_or-map}
 use Rattle.std.proofs.lemmas.List.Sums.{sum_by-cons}
 use Rattle.mount_ring.specs.declared.RingCall.{RingCall}
 use Rattle.mount_ring.specs.declared.RingAnswer.{RingAnswer}
-use Rattle.caster_replay.specs.Recorded.{DeskValue, desk_of, state_at}
-use Rattle.mount_ring.specs.History.{Shape, State, state_of, own_answers, permits_at}
+use Rattle.caster_replay.specs.Recorded.{DeskValue, state_at}
+use Rattle.mount_ring.specs.History.{Shape, state_of, permits_at}
 use Rattle.rover_cursor.specs.declared.Segment.{Segment}
 use Rattle.rover_cursor.specs.Segments.{newest_segments}
 use Rattle.rover_cursor.specs.Sound.{kept}
@@ -21,7 +21,7 @@ use Rattle.caster_replay.specs.declared.ending.Ending.TheVariants.{NoMount}
 use Rattle.caster_replay.specs.declared.session.Session.{Session}
 use Rattle.caster_replay.specs.declared.session.Work.{Work}
 use Rattle.caster_replay.specs.World.{Setting, Connection, World, bare, given_claim, refusal, is_known, answers_of}
-use Rattle.caster_replay.specs.Receipt.{ended_last, ending_of, junk_by, junk_of, segments_of, bytes_of, sent_in, overrun_in, greatest}
+use Rattle.caster_replay.specs.Receipt.{ended_last, ending_of, junk_by, junk_of, segments_of, sent_in, overrun_in}
 use Rattle.caster_replay.specs.Report.{connection_lines, closing_lines, is_rover, is_session, lines_of, world_text}
 use Rattle.caster_replay.specs.Live.{source_work, rover_work, work_by, ending_by, session_of, Stands}
 use Rattle.caster_replay.specs.Text.{work_junk, work_segments, work_bytes, work_sent, work_overrun, is_rover_work, has_segment, session_lines, sums_text, run_text}

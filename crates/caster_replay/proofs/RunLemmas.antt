@@ -1,17 +1,17 @@
 -- What the calls of a run need, and what they leave.
-use Rattle.std.proofs.Common.{◌≡◌, ℕ, zero, suc, ◌+◌, ◌^◌, ◌<◌, ◌≤◌, Bool, true, false, List, [], ◌∷◌, ◌++◌, length, map, get_or, set, refl, ap, subst, ◌∙◌, sym, arith, Option, None, Some}
-use Rattle.std.specs.Prelude.{Result, Ok, Err, OnOk, insert, codes, IsTrue, ◌↔◌, ◌==◌, ◌||◌}
+use Rattle.std.proofs.Common.{◌≡◌, ℕ, zero, suc, ◌+◌, ◌^◌, ◌<◌, Bool, true, false, List, [], ◌∷◌, ◌++◌, length, get_or, set, refl, ap, subst, ◌∙◌, sym, arith, Option, None, Some}
+use Rattle.std.specs.Prelude.{insert, codes, IsTrue, ◌↔◌, ◌==◌, ◌||◌}
 use Rattle.std.specs.List.{prefix_len, list_any}
 use Rattle.std.specs.Str.{bytes_eq}
 use Rattle.std.proofs.lemmas.List.{length-map, get_or-map}
 use Rattle.std.proofs.lemmas.Bool.{eq-eqb}
-use Rattle.rtcm_frame.specs.Cut.{cut, Parts, IsWaiting, with_frame, with_junk, begins_with_frame, is_unfinished}
+use Rattle.rtcm_frame.specs.Cut.{cut, Parts, IsWaiting, begins_with_frame, is_unfinished}
 use Rattle.rtcm_frame.specs.Transport.{is_frame}
 use Rattle.rtcm_frame.proofs.CutLemmas.{cut_induction, cut_waiting, cut-frame, cut_junk, cut_counted}
 use Rattle.mount_ring.specs.declared.RingCall.{RingCall}
 use Rattle.mount_ring.specs.declared.RingAnswer.{RingAnswer}
 use Rattle.caster_replay.specs.Recorded.{DeskValue, desk_of, state_at, after_calls}
-use Rattle.caster_replay.specs.Told.{IsSegment}
+use Rattle.rover_cursor.specs.Told.{IsSegment}
 use Rattle.mount_ring.specs.History.{state_of, own_answers, permits_at}
 use Rattle.rover_cursor.specs.declared.Segment.{Segment}
 use Rattle.rover_cursor.specs.Segments.{newest_segments}

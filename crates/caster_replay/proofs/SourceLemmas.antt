@@ -1,17 +1,14 @@
 -- A source's cutter over its bytes.
 use Rattle.std.proofs.Common.{◌≡◌, ℕ, ◌+◌, ◌^◌, ◌<◌, ◌≤◌, List, [], ◌∷◌, ◌++◌, length, take, get_or, refl, ap, ◌∙◌, sym, arith, append_assoc, length-append}
-use Rattle.std.specs.List.{sum_by}
 use Rattle.std.proofs.lemmas.List.{append-nil, take_more, length-take-le}
 use Rattle.std.proofs.lemmas.List.Sums.{sum_by-append}
 use Rattle.rtcm_frame.specs.Cut.{cut, Parts, IsWaiting, followed_by, only_rest}
 use Rattle.rtcm_frame.specs.Pending.{Pending, Took}
 use Rattle.rtcm_frame.proofs.CutLemmas.{cut-append, cut_waiting, cut_counted}
 use Rattle.rtcm_frame.proofs.PendingLemmas.{took_none}
-use Rattle.mount_ring.specs.declared.RingCall.{RingCall}
 use Rattle.mount_ring.specs.declared.RingCall.TheVariants.{Publish}
 use Rattle.caster_replay.specs.Recorded.{DeskValue, after_calls, with_published}
 use Rattle.caster_replay.specs.Steps.{after_cut, with_bytes}
-use Rattle.caster_replay.specs.World.{publishes}
 use Rattle.caster_replay.proofs.DeskLemmas.{published_then}
 
 abbrev pending : List ℕ → ℕ → Pending

@@ -1,27 +1,19 @@
 -- No connection has more bytes than all that came in.
-use Rattle.std.proofs.Common.{◌≡◌, ℕ, zero, suc, ◌+◌, ◌^◌, ◌<◌, ◌≤◌, Bool, true, false, cond, List, [], ◌∷◌, ◌++◌, length, map, take, drop, get_or, refl, ap, subst, ◌∙◌, sym, arith, Option, None, Some}
-use Rattle.std.specs.Prelude.{nat_lt, fold, ◌==◌, ◌&&◌}
-use Rattle.std.specs.List.{All, flat_map, sum_by}
+use Rattle.std.proofs.Common.{◌≡◌, ℕ, ◌+◌, ◌^◌, ◌<◌, ◌≤◌, Bool, true, false, cond, List, [], ◌∷◌, ◌++◌, length, map, take, drop, get_or, ap, ◌∙◌, sym, arith}
+use Rattle.std.specs.Prelude.{nat_lt, fold}
+use Rattle.std.specs.List.{All, sum_by}
 use Rattle.std.specs.Str.{bytes_eq}
-use Rattle.std.proofs.lemmas.List.{append-nil, take_more, length-take-le}
-use Rattle.std.proofs.lemmas.List.Sums.{sum_by-cons, sum_by-append, sum_by-take-drop, fold-append}
+use Rattle.std.proofs.lemmas.List.{take_more}
+use Rattle.std.proofs.lemmas.List.Sums.{sum_by-cons, sum_by-append, sum_by-take-drop}
 use Rattle.std.proofs.lemmas.List.Elements.{All-cons, All-head, All-tail}
 use Rattle.std.proofs.Common.{length-append}
-use Rattle.mount_ring.specs.declared.RingCall.{RingCall}
-use Rattle.mount_ring.specs.declared.RingCall.TheVariants as calls
-use Rattle.mount_ring.specs.declared.RingAnswer.{RingAnswer}
-use Rattle.mount_ring.specs.declared.Holder.{Holder}
-use Rattle.mount_ring.specs.History.{State, after, after_call, after_claim, state_of}
-use Rattle.mount_ring.proofs.HistoryLemmas.{state_of-append}
-use Rattle.rover_cursor.specs.declared.Segment.{Segment}
-use Rattle.rover_cursor.specs.Segments.{newest_segments}
 use Rattle.session_script.specs.declared.Event.{Event}
 use Rattle.session_script.specs.declared.Event.TheVariants as events
 use Rattle.session_script.specs.Script.{input_length}
 use Rattle.caster_replay.specs.declared.ending.Role.{Role}
 use Rattle.caster_replay.specs.declared.ending.Role.TheVariants as roles
 use Rattle.caster_replay.specs.declared.ending.Last.TheVariants as lasts
-use Rattle.caster_replay.specs.World.{Setting, Connection, World, Happening, arrives, takes_turn, ends, nothing_yet, entries_of, entries_owed, owed, publishes, completed, source_calls, rover_calls, opening_calls, given_claim, answers_of, is_concerned, goes_on, changed, happens, is_opened, opened, opens, placed, after_event, after_events}
+use Rattle.caster_replay.specs.World.{Setting, Connection, World, Happening, arrives, takes_turn, ends, nothing_yet, entries_of, opening_calls, is_concerned, changed, happens, is_opened, opened, opens, placed, after_event, after_events}
 use Rattle.caster_replay.specs.Room.{HasTextRoom}
 
 -- ---- bytes

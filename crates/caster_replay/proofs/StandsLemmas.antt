@@ -1,21 +1,21 @@
 -- What the run keeps stands for the run after each event.
-use Rattle.std.proofs.Common.{◌≡◌, ◌≢◌, ℕ, zero, suc, ◌+◌, ◌<◌, ◌≤◌, Bool, true, false, cond, List, [], ◌∷◌, ◌++◌, length, map, take, drop, get_or, set, refl, ap, subst, ◌∙◌, sym, arith, inl, inr, Option, None, Some}
-use Rattle.std.specs.Prelude.{◌==◌, ◌&&◌, ◌||◌, nat_lt, insert, IsTrue}
-use Rattle.std.specs.List.{All, AllPairs, flat_map, list_any, take_while}
-use Rattle.std.proofs.lemmas.List.{append-nil, length-map, get_or-map, get_or_default}
-use Rattle.std.proofs.lemmas.Bool.{eqb-true, eqb-false, eq-eqb, ne_eqb, cases_Bool, cases_lt}
+use Rattle.std.proofs.Common.{◌≡◌, ℕ, zero, suc, ◌<◌, Bool, true, false, cond, List, [], ◌∷◌, ◌++◌, length, get_or, set, refl, ap, subst, ◌∙◌, sym, arith, inl, inr}
+use Rattle.std.specs.Prelude.{◌==◌, ◌&&◌, ◌||◌}
+use Rattle.std.specs.List.{AllPairs, flat_map, list_any}
+use Rattle.std.proofs.lemmas.List.{append-nil, get_or-map, get_or_default}
+use Rattle.std.proofs.lemmas.Bool.{eq-eqb, ne_eqb, cases_lt}
 use Rattle.mount_ring.specs.declared.RingCall.{RingCall}
 use Rattle.caster_replay.specs.Recorded.{DeskValue, desk_of}
 use Rattle.caster_replay.proofs.DeskLemmas.{after_calls_is}
-use Rattle.mount_ring.specs.History.{state_of, has_none_of}
+use Rattle.mount_ring.specs.History.{has_none_of}
 use Rattle.caster_replay.specs.declared.session.Session.{Session}
-use Rattle.caster_replay.specs.World.{Setting, Connection, World, Happening, bare, entries_of, entries_owed, owed, is_concerned, goes_on, changed, happens, is_opened, placed, answers_of}
+use Rattle.caster_replay.specs.World.{Setting, Connection, World, Happening, bare, entries_owed, owed, is_concerned, goes_on, changed, happens, is_opened, answers_of}
 use Rattle.caster_replay.specs.Steps.{session_after, calls_made, desk_after}
 use Rattle.caster_replay.specs.Live.{session_of, Stands}
-use Rattle.caster_replay.specs.Well.{IsWell, IsWellConnection}
-use Rattle.caster_replay.proofs.ListLemmas.{FailsElsewhere, FailsEverywhere, map_none, flat_map_none, map_one, flat_map_one, map_same, set_mapped}
+use Rattle.caster_replay.specs.Well.{IsWell}
+use Rattle.caster_replay.proofs.ListLemmas.{FailsElsewhere, FailsEverywhere, map_none, flat_map_none, map_one, flat_map_one, set_mapped}
 use Rattle.caster_replay.proofs.EntriesLemmas.{entries_none}
-use Rattle.caster_replay.proofs.ConnectionLemmas.{IsHeard, entries_heard, connection_heard, heard, session_stays}
+use Rattle.caster_replay.proofs.ConnectionLemmas.{entries_heard, connection_heard, heard, session_stays}
 
 abbrev pub InOrder : List Connection → Type 0
 InOrder connections = AllPairs (λ (c d : Connection). c.number < d.number) connections

@@ -1,14 +1,14 @@
 -- Every run is well: its connections stand in order, the history has their calls alone, every published frame is
 -- one, and a rover's segment is sound.
-use Rattle.std.proofs.Common.{◌≡◌, ◌≢◌, ℕ, zero, suc, ◌+◌, ◌<◌, ◌≤◌, Bool, true, false, cond, List, [], ◌∷◌, ◌++◌, length, map, drop, get_or, set, refl, ap, subst, ◌∙◌, sym, arith, inl, inr, Option, None, Some}
-use Rattle.std.specs.Prelude.{◌==◌, ◌||◌, nat_lt, fold, codes, is_none, IsTrue}
-use Rattle.std.specs.List.{All, AllPairs, list_any, count_by}
+use Rattle.std.proofs.Common.{◌≡◌, ◌≢◌, ℕ, zero, suc, ◌<◌, ◌≤◌, Bool, true, false, cond, List, [], ◌∷◌, ◌++◌, length, map, get_or, set, refl, ap, subst, ◌∙◌, sym, arith, inl, inr, Option, None, Some}
+use Rattle.std.specs.Prelude.{◌==◌, ◌||◌, nat_lt, fold, is_none, IsTrue}
+use Rattle.std.specs.List.{All}
 use Rattle.std.specs.Str.{bytes_eq}
 use Rattle.std.proofs.lemmas.List.{append-nil, length-set, get_or-set_same, get_or-set_other, get_or_default}
 use Rattle.std.proofs.lemmas.List.Sums.{fold-append}
 use Rattle.std.proofs.lemmas.List.Elements.{All-append, All-drop, All-cons, All-head, All-tail}
 use Rattle.std.proofs.lemmas.List.Kept.{AllPairs-cons}
-use Rattle.std.proofs.lemmas.Bool.{eqb-true, eqb-false, eq-eqb, ne_eqb, cases_Bool, cases_eq, ltb-true, ltb-false}
+use Rattle.std.proofs.lemmas.Bool.{eqb-true, eqb-false, eq-eqb, cases_eq, ltb-true, ltb-false}
 use Rattle.rtcm_frame.specs.Cut.{cut}
 use Rattle.rtcm_frame.specs.Transport.{is_frame}
 use Rattle.rtcm_frame.proofs.CutLemmas.{all-frames}
@@ -21,8 +21,7 @@ use Rattle.mount_ring.specs.Reads.{read_report}
 use Rattle.mount_ring.specs.History.{Shape, State, start, after, state_of, answer, claim_answer, joined, answers_from, own_answers, with_own, has_none_of, permits_at}
 use Rattle.mount_ring.proofs.HistoryLemmas.{state_of-append, own_answers-append, own_answers-others, published-append, published_by, has_none_of-append, answers_from-none}
 use Rattle.rover_cursor.specs.declared.Segment.{Segment}
-use Rattle.rover_cursor.specs.Segments.{newest_segments, after_answer, read_on, begun}
-use Rattle.rover_cursor.specs.Sound.{IsSound}
+use Rattle.rover_cursor.specs.Segments.{newest_segments, after_answer, read_on}
 use Rattle.rover_cursor.proofs.SoundLemmas.{IsSound-append, IsSound-read, IsSound-begun}
 use Rattle.session_script.specs.declared.Event.{Event}
 use Rattle.session_script.specs.declared.Event.TheVariants as events

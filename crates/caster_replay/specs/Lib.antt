@@ -2,7 +2,6 @@ pub mod World
 pub mod Receipt
 pub mod Report
 pub mod Recorded
-pub mod Told
 pub mod Steps
 pub mod Live
 pub mod Well

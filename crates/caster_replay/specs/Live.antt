@@ -1,6 +1,6 @@
 -- What the run keeps of its connections, as it follows from their bytes and from the history so
 -- far.
-use Rattle.std.specs.Prelude.{◌≡◌, ℕ, ◌+◌, List, [], ◌∷◌, map, Option, None, Some}
+use Rattle.std.specs.Prelude.{◌≡◌, ℕ, List, [], ◌∷◌, map, Option, None, Some}
 use Rattle.std.specs.List.{concat}
 use Rattle.rtcm_frame.specs.Cut.{cut}
 use Rattle.rtcm_frame.specs.Pending.{Pending}

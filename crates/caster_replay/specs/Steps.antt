@@ -9,9 +9,8 @@ use Rattle.mount_ring.specs.declared.RingCall.TheVariants as calls
 use Rattle.mount_ring.specs.declared.RingAnswer.{RingAnswer}
 use Rattle.mount_ring.specs.declared.RingAnswer.TheVariants as answers
 use Rattle.mount_ring.specs.History.{answer, joined}
-use Rattle.rover_cursor.specs.declared.Segment.{Segment}
 use Rattle.rover_cursor.specs.Segments.{begun, read_on}
-use Rattle.caster_replay.specs.Told.{IsSegment, report_in, frames_in}
+use Rattle.rover_cursor.specs.Told.{IsSegment, report_in, frames_in}
 use Rattle.caster_replay.specs.declared.ending.Role.{Role}
 use Rattle.caster_replay.specs.declared.ending.Role.TheVariants as roles
 use Rattle.caster_replay.specs.declared.ending.Last.{Last}

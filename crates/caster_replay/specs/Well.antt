@@ -1,7 +1,7 @@
 -- What holds of every run: the connections stand in order, the history has calls of theirs alone,
 -- every published frame is one, a source that goes on under its claim holds the mountpoint, and a
 -- rover has one segment, which is sound over what was published.
-use Rattle.std.specs.Prelude.{◌≡◌, ℕ, ◌<◌, Bool, false, List, [], ◌∷◌, Option, None, Some, IsTrue}
+use Rattle.std.specs.Prelude.{◌≡◌, ℕ, ◌<◌, false, List, [], ◌∷◌, Option, None, Some, IsTrue}
 use Rattle.std.specs.List.{All, AllPairs}
 use Rattle.rtcm_frame.specs.Transport.{is_frame}
 use Rattle.mount_ring.specs.declared.RingCall.{RingCall}

@@ -2,7 +2,7 @@ ghost use Rattle.std.specs.Prelude.{◌≡◌, ◌^◌, ◌<◌, ◌≤◌, [], 
 ghost use Rattle.std.specs.List.{concat};
 ghost use Rattle.mount_ring.specs.History.{fits, answer, joined};
 ghost use Rattle.rover_cursor.specs.Segments.{begun, read_on};
-ghost use Rattle.caster_replay.specs.Told.{IsSegment, report_in, frames_in};
+ghost use Rattle.rover_cursor.specs.Told.{IsSegment, report_in, frames_in};
 ghost use Rattle.caster_replay.specs.Recorded.{desk_of, shape_at, state_at, after_calls};
 
 use crate::body::Body;
@@ -75,14 +75,14 @@ impl RingDesk {
             segment ≡ begun 0 (joined (shape_at self.old) (state_at self.old) 0)) }
         ensures err { OnErr result (self.new ≡ self.old) }
     {
-        match self.turn(me, RingCall::Join(0))? {
-            RingAnswer::Joined(cursor) => Ok(Segment::begin(alloc, 0, cursor)),
-            _ => unreachable!(),
-        }
+        let Ok(segment) = Segment::join(alloc, &mut self.desk, me, 0, 0) else {
+            return Err(AllocError);
+        };
+        Ok(segment)
     }
 
-    /// The caller `me` reads on from where its segment stands, with this budget, and the frames
-    /// are added to what it was sent.
+    /// The caller `me` reads on from where its segment stands, with this budget, and the frames are
+    /// added to what it was sent. Where there is no memory for the frames, they were read.
     pub fn read(
         &mut self,
         me: u32,
@@ -98,14 +98,9 @@ impl RingDesk {
         ensures body { OnOk result (body.new ≡ body.old ++ concat
             (frames_in (shape_at self.old) self.old.history segment.old.cursor budget)) }
     {
-        let call = RingCall::Read {
-            cursor: segment.cursor,
-            budget,
-        };
-        let Ok(RingAnswer::Read(report)) = self.desk.turn(me, call, &mut self.outbox) else {
+        let Ok(_) = segment.read(&mut self.desk, me, budget, &mut self.outbox) else {
             return Err(AllocError);
         };
-        segment.follow(report)?;
         body.append(self.outbox.frames())
     }
 

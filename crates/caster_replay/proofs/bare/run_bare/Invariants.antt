@@ -1,5 +1,5 @@
 -- what the run keeps stands for the run after the events so far
-use Rattle.std.proofs.Common.{◌≡◌, take}
+use Rattle.std.proofs.Common.{take}
 use Rattle.caster_replay.specs.World.{bare, after_events}
 use Rattle.caster_replay.specs.Live.{Stands}
 use Rattle.caster_replay.proofs.bare.run_bare.Given as goal

@@ -1,4 +1,3 @@
-use Rattle.std.proofs.Common.{◌≡◌, sym, ap, ◌∙◌}
 use Rattle.caster_replay.specs.World.{arrives}
 use Rattle.caster_replay.proofs.RunLemmas.{stands_still, stands_after, room_at, may_call_at, found_at, missing_at, placed_at}
 use Rattle.caster_replay.proofs.run.feed.Goals as goal

@@ -1,4 +1,4 @@
-use Rattle.std.proofs.Common.{◌≡◌, sym, ap, subst, ◌∙◌}
+use Rattle.std.proofs.Common.{sym, ap, ◌∙◌}
 use Rattle.std.specs.Str.{bytes_eq}
 use Rattle.caster_replay.proofs.RunLemmas.{found_at, missing_at, placed_at, stands_opened_already, stands_opened_now, one_filter}
 use Rattle.caster_replay.proofs.run.open.Goals as goal

@@ -1,4 +1,4 @@
-use Rattle.std.proofs.Common.{◌≡◌, ◌+◌, ◌≤◌, ◌++◌, ◌∷◌, [], ℕ, refl, ap, sym, ◌∙◌, arith, take, get_or, length, length-append}
+use Rattle.std.proofs.Common.{◌++◌, refl, ap, ◌∙◌, take, get_or}
 use Rattle.rtcm_frame.specs.Pending.{Pending}
 use Rattle.rtcm_frame.specs.Cut.{cut}
 use Rattle.caster_replay.specs.Steps.{after_cut}

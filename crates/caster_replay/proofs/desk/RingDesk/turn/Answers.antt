@@ -1,4 +1,4 @@
-use Rattle.std.proofs.Common.{◌≡◌, subst, sym, ap, ◌∙◌}
+use Rattle.std.proofs.Common.{subst, sym, ap, ◌∙◌}
 use Rattle.std.specs.Prelude.{IsTrue}
 use Rattle.mount_ring.specs.History.{fits, answer}
 use Rattle.caster_replay.specs.Recorded.{DeskValue, shape_at, state_at}

@@ -1,4 +1,4 @@
-use Rattle.std.proofs.Common.{◌≡◌, ℕ, ◌<◌, ◌∙◌, arith, length}
+use Rattle.std.proofs.Common.{◌∙◌, arith}
 use Rattle.std.proofs.lemmas.List.{length-set}
 use Rattle.caster_replay.proofs.CloseLemmas.{closed_more, closing_may_call}
 use Rattle.caster_replay.proofs.run.Run.close_all.Goals as goal
