@@ -19,6 +19,7 @@ use Rattle.caster_replay.specs.declared.session.Work.{Work}
 use Rattle.caster_replay.specs.declared.session.Work.TheVariants.{Refused, Source, Rover}
 use Rattle.caster_replay.specs.World.{Setting, Connection, World, bare, given_claim, refusal, is_known, answers_of}
 use Rattle.caster_replay.specs.Receipt.{ended_last}
+use Rattle.caster_replay.specs.Well.{IsWell}
 use Rattle.caster_replay.specs.Recorded.{DeskValue, desk_of}
 
 -- a cutter to which these bytes were pushed, and from which every frame was taken
@@ -65,3 +66,8 @@ pub record Stands (capacity : ℕ) (w : World) (sessions : List Session) (desk :
     : Type 0 where
   pub sessions_are : sessions ≡ map (session_of (bare capacity) w.history) w.connections
   pub desk_is : desk ≡ desk_of capacity w.history
+
+-- the run so far at this desk: it is well, and what the run keeps stands for it
+abbrev pub IsRun : World → List Session → DeskValue → Type 0
+IsRun w sessions desk =
+    IsWell (bare desk.ring.capacity) w × Stands desk.ring.capacity w sessions desk

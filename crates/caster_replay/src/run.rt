@@ -6,8 +6,7 @@ ghost use Rattle.session_script.specs.Script.{input_length};
 ghost use Rattle.caster_replay.specs.World.{World, Connection, bare, nothing_yet, happens, opening_calls, opens, closes, arrives, takes_turn, ends, after_event};
 ghost use Rattle.caster_replay.specs.Recorded.{after_calls};
 ghost use Rattle.caster_replay.specs.Steps.{place_of_number, session_opened};
-ghost use Rattle.caster_replay.specs.Live.{Stands};
-ghost use Rattle.caster_replay.specs.Well.{IsWell};
+ghost use Rattle.caster_replay.specs.Live.{Stands, IsRun};
 ghost use Rattle.caster_replay.specs.Room.{HasTextRoom};
 
 use crate::desk::RingDesk;
@@ -63,11 +62,9 @@ fn feed(
     number: u32,
     bytes: &[u8],
 ) -> Result<(), AllocError>
-    requires stands { (w : World) × IsWell (bare desk.old.ring.capacity) w
-        × Stands desk.old.ring.capacity w sessions.old.items desk.old
+    requires run { (w : World) × IsRun w sessions.old.items desk.old
         × HasTextRoom w (length bytes.now) }
-    ensures ok { (w : World) → IsWell (bare desk.old.ring.capacity) w
-        → Stands desk.old.ring.capacity w sessions.old.items desk.old
+    ensures ok { (w : World) → IsRun w sessions.old.items desk.old
         → OnOk result (Stands desk.old.ring.capacity
         (happens (bare desk.old.ring.capacity) w number (arrives bytes.now))
         sessions.new.items desk.new) }
@@ -88,10 +85,8 @@ fn turn(
     number: u32,
     budget: u32,
 ) -> Result<(), AllocError>
-    requires stands { (w : World) × IsWell (bare desk.old.ring.capacity) w
-        × Stands desk.old.ring.capacity w sessions.old.items desk.old }
-    ensures ok { (w : World) → IsWell (bare desk.old.ring.capacity) w
-        → Stands desk.old.ring.capacity w sessions.old.items desk.old
+    requires run { (w : World) × IsRun w sessions.old.items desk.old }
+    ensures ok { (w : World) → IsRun w sessions.old.items desk.old
         → OnOk result (Stands desk.old.ring.capacity
         (happens (bare desk.old.ring.capacity) w number (takes_turn budget))
         sessions.new.items desk.new) }
@@ -112,10 +107,8 @@ fn close(
     number: u32,
     last: Last,
 ) -> Result<(), AllocError>
-    requires stands { (w : World) × IsWell (bare desk.old.ring.capacity) w
-        × Stands desk.old.ring.capacity w sessions.old.items desk.old }
-    ensures ok { (w : World) → IsWell (bare desk.old.ring.capacity) w
-        → Stands desk.old.ring.capacity w sessions.old.items desk.old
+    requires run { (w : World) × IsRun w sessions.old.items desk.old }
+    ensures ok { (w : World) → IsRun w sessions.old.items desk.old
         → OnOk result (Stands desk.old.ring.capacity
         (happens (bare desk.old.ring.capacity) w number (ends last))
         sessions.new.items desk.new) }
@@ -161,10 +154,8 @@ fn open(
     role: Role,
     mount: &MountName,
 ) -> Result<(), AllocError>
-    requires stands { (w : World) × IsWell (bare desk.old.ring.capacity) w
-        × Stands desk.old.ring.capacity w sessions.old.items desk.old }
-    ensures ok { (w : World) → IsWell (bare desk.old.ring.capacity) w
-        → Stands desk.old.ring.capacity w sessions.old.items desk.old
+    requires run { (w : World) × IsRun w sessions.old.items desk.old }
+    ensures ok { (w : World) → IsRun w sessions.old.items desk.old
         → OnOk result (Stands desk.old.ring.capacity
         (opens (bare desk.old.ring.capacity) w number role mount.now) sessions.new.items desk.new) }
 {
@@ -181,11 +172,9 @@ fn open(
 impl Run {
     /// Plays one event. Where there is no memory for it the run is of no further use.
     pub fn apply(&mut self, alloc: Global, event: &Event) -> Result<(), AllocError>
-        requires stands { (w : World) × IsWell (bare self.old.desk.ring.capacity) w
-            × Stands self.old.desk.ring.capacity w self.old.sessions.items self.old.desk
+        requires run { (w : World) × IsRun w self.old.sessions.items self.old.desk
             × HasTextRoom w (input_length event.now) }
-        ensures ok { (w : World) → IsWell (bare self.old.desk.ring.capacity) w
-            → Stands self.old.desk.ring.capacity w self.old.sessions.items self.old.desk
+        ensures ok { (w : World) → IsRun w self.old.sessions.items self.old.desk
             → OnOk result (Stands self.old.desk.ring.capacity
             (after_event (bare self.old.desk.ring.capacity) w event.now)
             self.new.sessions.items self.new.desk) }
@@ -214,10 +203,8 @@ impl Run {
     /// Closes each connection that is open, as its end, in increasing order of number. Where there
     /// is no memory for it the run is of no further use.
     pub fn close_all(&mut self) -> Result<(), AllocError>
-        requires stands { (w : World) × IsWell (bare self.old.desk.ring.capacity) w
-            × Stands self.old.desk.ring.capacity w self.old.sessions.items self.old.desk }
-        ensures ok { (w : World) → IsWell (bare self.old.desk.ring.capacity) w
-            → Stands self.old.desk.ring.capacity w self.old.sessions.items self.old.desk
+        requires run { (w : World) × IsRun w self.old.sessions.items self.old.desk }
+        ensures ok { (w : World) → IsRun w self.old.sessions.items self.old.desk
             → OnOk result (Stands self.old.desk.ring.capacity
             (closes (bare self.old.desk.ring.capacity) w
             (map (λ (c : Connection). c.number) w.connections))

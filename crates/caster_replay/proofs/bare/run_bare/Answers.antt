@@ -9,7 +9,7 @@ use Rattle.caster_replay.proofs.bare.run_bare.Goals as goal
 
 pub apply-requires : goal.apply-requires
 apply-requires c = record {
-  stands = may_apply c.args.capacity c.args.events.now c.loop-event.event-index c.event-item.result c.loop-event.run.sessions.items c.loop-event.run.desk
+  run = may_apply c.args.capacity c.args.events.now c.loop-event.event-index c.event-item.result c.loop-event.run.sessions.items c.loop-event.run.desk
       c.loop-event.invariant c.loop-event-test.true c.event-item.is c.requires.size;
 }
 
@@ -38,5 +38,5 @@ returns-clause-ok c =
 
 pub close_all-requires : goal.close_all-requires
 close_all-requires c = record {
-  stands = may_close c.args.capacity c.args.events.now c.loop-event.event-index c.loop-event.run.sessions.items c.loop-event.run.desk c.loop-event.invariant;
+  run = may_close c.args.capacity c.args.events.now c.loop-event.event-index c.loop-event.run.sessions.items c.loop-event.run.desk c.loop-event.invariant;
 }
