@@ -29,13 +29,13 @@ one_rover : report (bare 4) (Source 1 mount_a ∷ Rover 2 mount_a ∷ In 1 (fram
 unfolding cut cut_after is_frame crc24q_of bits_of after_bit connection_lines closing_lines digits encode_with
 one_rover = refl
 
--- five frames come into a desk of two before the rover reads: three are overrun
+-- five frames come into a ring of two before the rover reads: three are overrun
 lapped : report (bare 2) (Source 1 mount_a ∷ Rover 2 mount_a ∷ In 1 (frame_a ++ frame_b ++ frame_a ++ frame_b ++ frame_z) ∷ Turn 2 16 ∷ [])
     ≡ codes "connection 1 source-end 1\njunk 0\nbytes -\nconnection 2 rover-end\njunk 0\nsegment A 0 5 2 3\nlap 0 3 5 3\nbytes d30002435006a27ed3000047ea4b\nmount A 5 1\ntotal 1 2 3\n"
 unfolding cut cut_after is_frame crc24q_of bits_of after_bit connection_lines closing_lines digits encode_with
 lapped = refl
 
--- a desk of one frame, read after each
+-- a ring of one frame, read after each
 smallest_ring : report (bare 1) (Source 1 mount_a ∷ Rover 2 mount_a ∷ In 1 frame_a ∷ Turn 2 16 ∷ In 1 frame_b ∷ Turn 2 16 ∷ [])
     ≡ codes "connection 1 source-end 1\njunk 0\nbytes -\nconnection 2 rover-end\njunk 0\nsegment A 0 2 2 0\nbytes d300023ed0a4e000d30002435006a27e\nmount A 2 1\ntotal 1 2 0\n"
 unfolding cut cut_after is_frame crc24q_of bits_of after_bit connection_lines closing_lines digits encode_with

@@ -60,8 +60,8 @@ abbrev pub session_of : Setting → List (ℕ × RingCall) → Connection → Se
 session_of setting history c =
     session_by setting (answers_of setting history c) (state_of history).published c
 
--- what the run keeps is what follows from its connections and the history, and the desk's history is
--- the run's
+-- what the run keeps is what follows from its connections and the history, and that history is all
+-- that was called at the desk
 pub record Stands (capacity : ℕ) (w : World) (sessions : List Session) (desk : DeskValue)
     : Type 0 where
   pub sessions_are : sessions ≡ map (session_of (bare capacity) w.history) w.connections

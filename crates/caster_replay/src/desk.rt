@@ -52,7 +52,7 @@ impl RingDesk {
     }
 
     /// One turn of the caller `me`: its call comes behind all calls so far, and is answered there.
-    /// After a refusal nothing was called.
+    /// A refusal of whatever cause is told as want of memory; nothing was called then.
     pub fn turn(&mut self, me: u32, call: RingCall) -> Result<RingAnswer, AllocError>
         requires { IsTrue (fits (shape_at self.old) (state_at self.old) me call) }
         ensures heard { OnOk result (self.new ≡ after_calls me (call ∷ []) self.old) }
@@ -82,7 +82,8 @@ impl RingDesk {
     }
 
     /// The caller `me` reads on from where its segment stands, with this budget, and the frames are
-    /// added to what it was sent. Where there is no memory for the frames, they were read.
+    /// added to what it was sent. Where there is no memory to add them the read was made
+    /// nevertheless, and the run is of no further use.
     pub fn read(
         &mut self,
         me: u32,
@@ -94,7 +95,8 @@ impl RingDesk {
         ensures heard { OnOk result
             (self.new ≡ after_calls me (RingCall.Read segment.old.cursor budget ∷ []) self.old) }
         ensures segment { OnOk result (segment.new ≡ read_on
-            (report_in (shape_at self.old) self.old.history segment.old.cursor budget) segment.old) }
+            (report_in (shape_at self.old) self.old.history segment.old.cursor budget)
+            segment.old) }
         ensures body { OnOk result (body.new ≡ body.old ++ concat
             (frames_in (shape_at self.old) self.old.history segment.old.cursor budget)) }
     {
