@@ -1,3 +1,4 @@
 pub mod SoundLemmas
 pub mod CourseLemmas
 pub mod ToldLemmas
+pub mod RoundLemmas

@@ -1,9 +1,9 @@
 -- What one more entry makes of the segment that a history tells.
-use Rattle.std.proofs.Common.{◌≡◌, ℕ, ◌+◌, ◌<◌, ◌≤◌, Bool, true, false, IsTrue, List, [], ◌∷◌, ◌++◌, length, refl, ap, ◌∙◌, sym, subst, arith, eqb, eq-eqb, Option, None, Some, Fits, w64}
-use Rattle.std.specs.Prelude.{◌==◌, ◌&&◌, cond, fold, option_to_list}
+use Rattle.std.proofs.Common.{◌≡◌, ℕ, ◌+◌, ◌<◌, ◌≤◌, Bool, true, false, IsTrue, List, [], ◌∷◌, ◌++◌, length, refl, ap, ◌∙◌, sym, subst, arith, eq-eqb, Option, None, Some}
+use Rattle.std.specs.Prelude.{◌==◌, cond, fold, option_to_list}
 use Rattle.mount_ring.specs.declared.Lap.{Lap}
 use Rattle.std.specs.List.{list_all}
-use Rattle.std.proofs.lemmas.Bool.{and_parts, lt-ltb}
+use Rattle.std.proofs.lemmas.Bool.{and_parts}
 use Rattle.std.proofs.lemmas.List.Sums.{fold-append}
 use Rattle.std.proofs.lemmas.List.{length-map}
 use Rattle.turn_log.specs.History.{History, own, GoesOn}
@@ -13,7 +13,6 @@ use Rattle.turn_log.proofs.HeardLaws.{heard_turn}
 use Rattle.mount_ring.specs.declared.Cursor.{Cursor}
 use Rattle.mount_ring.specs.declared.RingCall.{RingCall}
 use Rattle.mount_ring.specs.declared.RingCall.TheVariants.{Claim, Release, Publish, Join, Read}
-use Rattle.mount_ring.specs.declared.RingAnswer.{RingAnswer}
 use Rattle.mount_ring.specs.declared.RingAnswer.TheVariants.{Joined}
 use Rattle.mount_ring.specs.declared.RingAnswer.TheVariants as answers
 use Rattle.mount_ring.specs.declared.ReadReport.{ReadReport}
@@ -23,7 +22,7 @@ use Rattle.mount_ring.specs.Shapes.{shape_of}
 use Rattle.type_filter.specs.Permitted.{permits}
 use Rattle.mount_ring.specs.Reads.{read_report, read_frames}
 use Rattle.mount_ring.specs.Places.{published_by}
-use Rattle.mount_ring.specs.History.{Shape, State, after, after_call, state_of, permits_at, joined, answer, claim_answer, own_answers, answers_from, with_own, fits, filled}
+use Rattle.mount_ring.specs.History.{Shape, State, after, state_of, permits_at, joined, answer, claim_answer, own_answers, answers_from, with_own, fits, filled}
 use Rattle.mount_ring.proofs.HistoryLemmas.{state_of-append, own_answers-append, published-append}
 use Rattle.rover_cursor.specs.declared.segment.Segment.{Segment}
 use Rattle.rover_cursor.specs.Segments.{begun, read_on, after_answer, newest_segments, lap_overrun}
@@ -128,15 +127,15 @@ quiet_answers : (shape : Shape) (mount me : ℕ) (segments : List Segment) (stat
 quiet_answers shape mount me segments state [] quiet = refl
 quiet_answers shape mount me segments state (entry ∷ more) quiet =
     by_caller (entry.0 == me) quiet (quiet_answers shape mount me segments (after state entry) more) where
-  by_caller : (mine : Bool) → list_all is_quiet (cond mine (entry.1 ∷ own me more) (own me more)) ≡ true →
-      (list_all is_quiet (own me more) ≡ true → fold (after_answer mount) segments (answers_from shape me (after state entry) more) ≡ segments) →
-      fold (after_answer mount) segments (with_own mine (answer shape state entry.1) (answers_from shape me (after state entry) more)) ≡ segments
-  by_caller false quiet rest = rest quiet
-  by_caller true quiet rest =
-      let parts : (is_quiet entry.1 ≡ true) × (list_all is_quiet (own me more) ≡ true) = and_parts _ _ quiet in
-      ap (λ (s : List Segment). fold (after_answer mount) s (answers_from shape me (after state entry) more))
-      (quiet_answer shape mount segments state entry.1 parts.0)
-      ∙ rest parts.1
+      by_caller : (mine : Bool) → list_all is_quiet (cond mine (entry.1 ∷ own me more) (own me more)) ≡ true →
+          (list_all is_quiet (own me more) ≡ true → fold (after_answer mount) segments (answers_from shape me (after state entry) more) ≡ segments) →
+          fold (after_answer mount) segments (with_own mine (answer shape state entry.1) (answers_from shape me (after state entry) more)) ≡ segments
+      by_caller false quiet rest = rest quiet
+      by_caller true quiet rest =
+          let parts : (is_quiet entry.1 ≡ true) × (list_all is_quiet (own me more) ≡ true) = and_parts _ _ quiet in
+          ap (λ (s : List Segment). fold (after_answer mount) s (answers_from shape me (after state entry) more))
+          (quiet_answer shape mount segments state entry.1 parts.0)
+          ∙ rest parts.1
 
 stays_here : (shape : Shape) (me : ℕ) (h more : History RingCall) (segment : Segment) → IsSegment shape me h segment →
     list_all is_quiet (own me more) ≡ true → IsSegment shape me (h ++ more) segment

@@ -88,9 +88,11 @@ impl Segment {
         ensures heard { OnOk result
             (Heard (T.alone place.old) (⟦<Ring as Played>⟧.answer (T.shape place.old))
             (T.seen place.old) (T.seen place.new) me
-            ((RingCall.Read self.old.cursor budget,
-            RingAnswer.Read (report_in (shape_of (T.shape place.old)) (T.seen place.new)
-            self.old.cursor budget)) ∷ [])) }
+            ((
+              RingCall.Read self.old.cursor budget,
+              RingAnswer.Read (report_in (shape_of (T.shape place.old)) (T.seen place.new)
+                  self.old.cursor budget),
+            ) ∷ [])) }
         ensures followed { OnOk result (self.new ≡ read_on
             (report_in (shape_of (T.shape place.old)) (T.seen place.new) self.old.cursor budget)
             self.old) }
@@ -125,10 +127,10 @@ impl Segment {
         requires { (self.old.sent + report.taken) + (self.old.overrun + lap_overrun report.lapped)
             ≤ report.cursor.next }
         ensures { self.new ≡ record self.old {
-            to = report.cursor.next;
-            sent = self.old.sent + report.taken;
-            overrun = self.old.overrun + lap_overrun report.lapped;
-            cursor = report.cursor;
+          to = report.cursor.next;
+          sent = self.old.sent + report.taken;
+          overrun = self.old.overrun + lap_overrun report.lapped;
+          cursor = report.cursor;
         } }
     {
         if let Some(lap) = report.lapped {

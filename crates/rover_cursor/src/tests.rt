@@ -1,5 +1,5 @@
 //! A rover at a desk, by the public calls.
-ghost use Rattle.std.specs.Prelude.{◌≡◌, ℕ, ◌≤◌, IsTrue, OnOk};
+ghost use Rattle.std.specs.Prelude.{◌≡◌, ℕ, ◌≤◌, IsTrue, [], ◌∷◌, OnOk, IfOk};
 ghost use Rattle.turn_log.specs.History.{GoesOn};
 ghost use Rattle.mount_ring.specs.History as history;
 
@@ -23,9 +23,116 @@ const FRAME_B: [u8; 8] = [0xD3, 0x00, 0x02, 0x43, 0x50, 0x06, 0xA2, 0x7E];
 /// A desk of a new ring with one filter.
 fn desk_of(alloc: Global, capacity: u32, filter: Filter) -> Result<Desk<Ring>, Fail>
     requires { (1 ≤ capacity) × (capacity ≤ 4096) }
+    ensures empty { IfOk result (λ desk. ⟦<Desk<Ring> as Turns<Ring>>⟧.seen desk ≡ []) }
+    ensures filters { IfOk result (λ desk.
+        (⟦<Desk<Ring> as Turns<Ring>>⟧.shape desk).filters ≡ filter ∷ []) }
 {
     let mut list = Vec::new(alloc);
     list.push(filter)?;
     let filters = Filters::new(list);
     Ok(Desk::new(alloc, Ring::new(alloc, capacity, &filters)?))
+}
+
+/// Caller 1 publishes these frames under claim 1.
+fn publish_all(desk: &mut Desk<Ring>, frames: &[Frame], out: &mut Outbox) -> Result<(), TurnFault>
+    requires held { IsTrue (history.is_holder
+        (history.state_of (⟦<Desk<Ring> as Turns<Ring>>⟧.seen desk.old)).holder 1 1) }
+    ensures shape { ⟦<Desk<Ring> as Turns<Ring>>⟧.shape desk.new
+        ≡ ⟦<Desk<Ring> as Turns<Ring>>⟧.shape desk.old }
+    ensures goes { OnOk result (GoesOn 2 (⟦<Desk<Ring> as Turns<Ring>>⟧.seen desk.old)
+        (⟦<Desk<Ring> as Turns<Ring>>⟧.seen desk.new)) }
+    ensures held { OnOk result (IsTrue (history.is_holder
+        (history.state_of (⟦<Desk<Ring> as Turns<Ring>>⟧.seen desk.new)).holder 1 1)) }
+{
+    for frame in frames {
+        desk.turn(1, RingCall::Publish(1, *frame), out)?;
+    }
+    Ok(())
+}
+
+/// Caller 2 joins a ring of this capacity; caller 1 publishes some frames, and caller 2 reads; and
+/// once more. What caller 2 then has of the mountpoint, which it numbers 7, and the frames that it
+/// took last.
+fn read_twice(
+    alloc: Global,
+    capacity: u32,
+    filter: Filter,
+    first: &[Frame],
+    second: &[Frame],
+) -> Result<(Segment, Outbox), Fail>
+    requires { (1 ≤ capacity) × (capacity ≤ 4096) }
+{
+    let mut desk = desk_of(alloc, capacity, filter)?;
+    let mut out = Outbox::new();
+    let RingAnswer::Given(_) = desk.turn(1, RingCall::Claim, &mut out)? else {
+        unreachable!();
+    };
+    let mut segment = Segment::join(alloc, &mut desk, 2, 7, 0)?;
+    publish_all(&mut desk, first, &mut out)?;
+    segment.read(&mut desk, 2, 16, &mut out)?;
+    publish_all(&mut desk, second, &mut out)?;
+    segment.read(&mut desk, 2, 16, &mut out)?;
+    Ok((segment, out))
+}
+
+#[test]
+fn a_lapped_rover_counts_its_overrun(rt: HostRuntime) -> Result<(), Fail> {
+    let a = Frame::of(&FRAME_A).ok_or("no frame")?;
+    let b = Frame::of(&FRAME_B).ok_or("no frame")?;
+    let z = Frame::of(&FRAME_Z).ok_or("no frame")?;
+    let (segment, out) = read_twice(rt.alloc(), 2, Filter::all(), &[a], &[b, a, b, z])?;
+    assert_eq!(rt; out.frames().len(), 2);
+    assert_eq!(rt; out.frames()[0].bytes(), FRAME_B.as_slice());
+    assert_eq!(rt; out.frames()[1].bytes(), FRAME_Z.as_slice());
+    assert_eq!(rt; (segment.mount, segment.from, segment.to), (7, 0, 5));
+    assert_eq!(rt; (segment.sent, segment.overrun), (3, 2));
+    let lap = Lap {
+        from: 1,
+        to: 3,
+        published: 5,
+        overrun: 2,
+    };
+    assert_eq!(rt; segment.laps.as_slice(), [lap].as_slice());
+    let cursor = Cursor {
+        next: 5,
+        passed: 5,
+        filter: 0,
+    };
+    assert_eq!(rt; segment.cursor, cursor);
+    Ok(())
+}
+
+#[test]
+fn the_overrun_counts_permitted_frames_alone(rt: HostRuntime) -> Result<(), Fail> {
+    let a = Frame::of(&FRAME_A).ok_or("no frame")?;
+    let b = Frame::of(&FRAME_B).ok_or("no frame")?;
+    let only = Filter::list(rt.alloc(), &[1005])?;
+    let (segment, out) = read_twice(rt.alloc(), 2, only, &[], &[a, b, b, b])?;
+    assert_eq!(rt; out.frames().len(), 0);
+    assert_eq!(rt; (segment.sent, segment.overrun), (0, 1));
+    let lap = Lap {
+        from: 0,
+        to: 2,
+        published: 4,
+        overrun: 1,
+    };
+    assert_eq!(rt; segment.laps.as_slice(), [lap].as_slice());
+    let cursor = Cursor {
+        next: 4,
+        passed: 1,
+        filter: 0,
+    };
+    assert_eq!(rt; segment.cursor, cursor);
+    Ok(())
+}
+
+#[test]
+fn a_rover_that_keeps_up_has_no_lap(rt: HostRuntime) -> Result<(), Fail> {
+    let a = Frame::of(&FRAME_A).ok_or("no frame")?;
+    let b = Frame::of(&FRAME_B).ok_or("no frame")?;
+    let (segment, _) = read_twice(rt.alloc(), 1, Filter::all(), &[a], &[b])?;
+    assert_eq!(rt; (segment.from, segment.to), (0, 2));
+    assert_eq!(rt; (segment.sent, segment.overrun), (2, 0));
+    assert!(rt; segment.laps.as_slice().is_empty());
+    Ok(())
 }

@@ -1,4 +1,4 @@
-use Rattle.std.proofs.Common.{◌≡◌, ◌++◌, ◌∙◌, sym, ap, refl}
+use Rattle.std.proofs.Common.{◌++◌, ◌∙◌, sym, ap, refl}
 use Rattle.mount_ring.specs.declared.RingCall.TheVariants.{Join}
 use Rattle.mount_ring.specs.declared.RingAnswer.TheVariants.{Joined}
 use Rattle.rover_cursor.specs.declared.segment.Segment.{Segment}

@@ -7,7 +7,7 @@ use Rattle.mount_ring.specs.declared.RingAnswer.TheVariants as answers
 use Rattle.mount_ring.specs.Shapes.{shape_of}
 use Rattle.rover_cursor.specs.declared.segment.Segment.{Segment}
 use Rattle.rover_cursor.specs.Segments.{read_on}
-use Rattle.rover_cursor.specs.Told.{IsSegment, report_in, frames_in}
+use Rattle.rover_cursor.specs.Told.{IsSegment, report_in}
 use Rattle.rover_cursor.proofs.ToldLemmas.{after_read, heard_as, next_fits, noted, sums_after, taken_by}
 use Rattle.rover_cursor.proofs.segment.Segment.read.Goals as goal
 

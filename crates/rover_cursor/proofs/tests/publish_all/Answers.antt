@@ -1,0 +1,12 @@
+use Rattle.std.proofs.Common.{◌∙◌}
+use Rattle.mount_ring.proofs.RoundLemmas.{held_published}
+use Rattle.rover_cursor.proofs.RoundLemmas.{published_goes}
+use Rattle.rover_cursor.proofs.tests.publish_all.Goals as goal
+
+pub loop-frame-preserved : goal.loop-frame-preserved
+loop-frame-preserved c = (
+  c.turn.ensures.shape ∙ c.loop-frame.invariant.0,
+  published_goes c.args.desk.now.journal.items c.loop-frame.desk.journal.items c.turn.new.self.journal.items _ c.loop-frame.invariant.1
+      c.in_ok-turn.ensures.ok.0,
+  held_published c.loop-frame.desk.journal.items c.turn.new.self.journal.items _ c.in_ok-turn.ensures.ok.0 c.loop-frame.invariant.2,
+)
