@@ -1,7 +1,7 @@
 -- What happens to a connection, whatever it is, makes of it what the run's definition says; and what others do
 -- leaves it as it was.
 use Rattle.std.proofs.Common.{◌≡◌, ℕ, Bool, true, false, cond, List, [], ◌∷◌, ◌++◌, refl, ap, subst, ◌∙◌, sym, Option, None, Some}
-use Rattle.std.specs.Prelude.{◌&&◌, is_none}
+use Rattle.std.specs.Prelude.{is_none}
 use Rattle.std.specs.List.{concat}
 use Rattle.std.proofs.lemmas.List.{append-nil}
 use Rattle.mount_ring.specs.declared.RingCall.{RingCall}
@@ -71,13 +71,6 @@ going_heard capacity history what c calls heard owes goes =
           ∙ ap (λ (b : Bool). session_of setting (history ++ cond b E []) (cond b (changed what c) c)) (sym goes),
       ap (entries_of c.number) (heard.1 ∙ sym owes) ∙ ap (λ (b : Bool). cond b E []) (sym goes),
     )
-
-stopped_by : (closed : Option Last) (refused : Option Ending) (last : Last) → closed ≡ Some last → (is_none closed && is_none refused) ≡ false
-stopped_by closed refused last is = ap (λ (o : Option Last). is_none o && is_none refused) is
-
-refused_by : (closed : Option Last) (refused : Option Ending) (ending : Ending) → refused ≡ Some ending → (is_none closed && is_none refused) ≡ false
-refused_by None refused ending is = ap (λ (o : Option Ending). is_none o) is
-refused_by (Some last) refused ending is = refl
 
 -- by what ended the connection, if anything did
 heard_closed : (capacity : ℕ) (history : List (ℕ × RingCall)) (what : Happening) (number : ℕ) (role : Role) (mount text : List ℕ) (last : Last)
