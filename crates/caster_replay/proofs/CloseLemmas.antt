@@ -1,14 +1,14 @@
 -- Closing all connections in order.
-use Rattle.std.proofs.Common.{◌≡◌, ◌≢◌, ℕ, zero, suc, ◌+◌, ◌<◌, ◌≤◌, Bool, true, false, cond, List, [], ◌∷◌, ◌++◌, length, map, take, get_or, set, refl, ap, subst, ◌∙◌, sym, arith, inl, inr, Option, None, Some}
-use Rattle.std.specs.Prelude.{fold, IsSome, is_some}
+use Rattle.std.proofs.Common.{◌≡◌, ℕ, ◌+◌, ◌<◌, Bool, true, false, cond, List, [], ◌∷◌, length, map, take, get_or, set, refl, ap, subst, ◌∙◌, sym, arith, inl, inr, Option, None, Some}
+use Rattle.std.specs.Prelude.{IsSome}
 use Rattle.std.specs.List.{All}
-use Rattle.std.proofs.lemmas.List.{take_more, take_all, length-map, length-set, get_or-map, get_or-set_same, get_or-set_other, get_or_default}
+use Rattle.std.proofs.lemmas.List.{take_more, take_all, length-map, get_or-map, get_or-set_same, get_or-set_other}
 use Rattle.std.proofs.lemmas.List.Sums.{fold-append}
 use Rattle.std.proofs.lemmas.Bool.{cases_eq}
 use Rattle.mount_ring.specs.declared.RingCall.{RingCall}
 use Rattle.mount_ring.specs.declared.RingAnswer.{RingAnswer}
-use Rattle.mount_ring.specs.Holding.{PlainValue}
-use Rattle.mount_ring.specs.History.{Shape, state_of, own_answers}
+use Rattle.caster_replay.specs.Recorded.{DeskValue}
+use Rattle.mount_ring.specs.History.{Shape, state_of}
 use Rattle.rover_cursor.specs.declared.Segment.{Segment}
 use Rattle.rover_cursor.specs.Segments.{newest_segments}
 use Rattle.caster_replay.specs.declared.ending.Role.{Role}
@@ -17,12 +17,11 @@ use Rattle.caster_replay.specs.declared.ending.Last.{Last}
 use Rattle.caster_replay.specs.declared.ending.Last.TheVariants as lasts
 use Rattle.caster_replay.specs.declared.ending.Ending.{Ending}
 use Rattle.caster_replay.specs.declared.session.Session.{Session}
-use Rattle.caster_replay.specs.declared.session.Work.{Work}
-use Rattle.caster_replay.specs.World.{Setting, Connection, World, Happening, ends, bare, changed, is_concerned, given_claim, refusal, is_known, answers_of, happens, closes}
-use Rattle.caster_replay.specs.Steps.{closed, ending_closed, ring_closed}
-use Rattle.caster_replay.specs.Live.{source_work, rover_work, work_by, ending_by, session_of, ring_of, Stands}
+use Rattle.caster_replay.specs.World.{Setting, Connection, World, ends, bare, changed, is_concerned, given_claim, refusal, is_known, answers_of, happens, closes}
+use Rattle.caster_replay.specs.Steps.{MayCall, closed, ending_closed, desk_after}
+use Rattle.caster_replay.specs.Live.{source_work, rover_work, work_by, ending_by, session_of, Stands}
 use Rattle.caster_replay.specs.Well.{IsWell, IsWellConnection, IsReceived}
-use Rattle.caster_replay.proofs.RunLemmas.{nobody, stands_after}
+use Rattle.caster_replay.proofs.RunLemmas.{nobody, stands_after, may_call_at}
 use Rattle.caster_replay.proofs.WellLemmas.{IsWell-closes}
 
 -- ---- a connection that was closed has ended
@@ -73,27 +72,35 @@ numbers_closes setting w (number ∷ numbers) =
     numbers_closes setting (happens setting w number (ends lasts.End)) numbers ∙ numbers_changed (is_concerned setting w.history number) lasts.End w.connections
 
 -- the run so far stands, and the first connections have ended
-pub record ClosedSoFar (capacity : ℕ) (w : World) (i : ℕ) (sessions : List Session) (ring : PlainValue) : Type 0 where
-  pub stands : Stands capacity (closes (bare capacity) w (take i (numbers_of w))) sessions ring
+pub record ClosedSoFar (capacity : ℕ) (w : World) (i : ℕ) (sessions : List Session) (desk : DeskValue) : Type 0 where
+  pub stands : Stands capacity (closes (bare capacity) w (take i (numbers_of w))) sessions desk
   pub ended : (j : ℕ) (d : Session) → j < i → IsSome (get_or sessions j d).ending
 
-pub closed_none : (capacity : ℕ) (w : World) (sessions : List Session) (ring : PlainValue) → Stands capacity w sessions ring → ClosedSoFar capacity w 0 sessions ring
-closed_none capacity w sessions ring stands = record { stands = stands; ended = λ j d below. absurd (omega (arith, below)) }
+pub closed_none : (capacity : ℕ) (w : World) (sessions : List Session) (desk : DeskValue) → Stands capacity w sessions desk → ClosedSoFar capacity w 0 sessions desk
+closed_none capacity w sessions desk stands = record { stands = stands; ended = λ j d below. absurd (omega (arith, below)) }
 
-count_kept : (capacity : ℕ) (w : World) (numbers : List ℕ) (sessions : List Session) (ring : PlainValue) → Stands capacity (closes (bare capacity) w numbers) sessions ring → length sessions ≡ length (numbers_of w)
-count_kept capacity w numbers sessions ring stands =
+count_kept : (capacity : ℕ) (w : World) (numbers : List ℕ) (sessions : List Session) (desk : DeskValue) → Stands capacity (closes (bare capacity) w numbers) sessions desk → length sessions ≡ length (numbers_of w)
+count_kept capacity w numbers sessions desk stands =
     let v : World = closes (bare capacity) w numbers in
     ap length stands.sessions_are ∙ length-map v.connections (session_of (bare capacity) v.history)
     ∙ sym (length-map v.connections (λ (c : Connection). c.number)) ∙ ap length (numbers_closes (bare capacity) w numbers)
 
-pub closed_more : (capacity : ℕ) (w : World) (i : ℕ) (sessions : List Session) (ring : PlainValue) (x next : Session) (ring_next : PlainValue) →
-    IsWell (bare capacity) w → ClosedSoFar capacity w i sessions ring → i < length sessions → x ≡ get_or sessions i x →
-    next ≡ closed lasts.End x → ring_next ≡ ring_closed x ring → ClosedSoFar capacity w (i + 1) (set sessions i next) ring_next
-closed_more capacity w i sessions ring x next ring_next well so_far below is next_is ring_is =
+-- the next one may call
+pub closing_may_call : (capacity : ℕ) (w : World) (i : ℕ) (sessions : List Session) (desk : DeskValue) (x : Session) →
+    IsWell (bare capacity) w → ClosedSoFar capacity w i sessions desk → i < length sessions → x ≡ get_or sessions i x → MayCall desk x
+closing_may_call capacity w i sessions desk x well so_far below is =
+    let setting : Setting = bare capacity in
+    let front : List ℕ = take i (numbers_of w) in
+    may_call_at capacity (closes setting w front) sessions desk i x (IsWell-closes setting w front well) so_far.stands below is
+
+pub closed_more : (capacity : ℕ) (w : World) (i : ℕ) (sessions : List Session) (desk : DeskValue) (x next : Session) (desk_next : DeskValue) →
+    IsWell (bare capacity) w → ClosedSoFar capacity w i sessions desk → i < length sessions → x ≡ get_or sessions i x →
+    next ≡ closed lasts.End x → desk_next ≡ desk_after (ends lasts.End) x desk → ClosedSoFar capacity w (i + 1) (set sessions i next) desk_next
+closed_more capacity w i sessions desk x next desk_next well so_far below is next_is desk_is =
     let setting : Setting = bare capacity in
     let front : List ℕ = take i (numbers_of w) in
     let v : World = closes setting w front in
-    let count : length sessions ≡ length (numbers_of w) = count_kept capacity w front sessions ring so_far.stands in
+    let count : length sessions ≡ length (numbers_of w) = count_kept capacity w front sessions desk so_far.stands in
     let within : i < length (numbers_of w) = omega (arith, below, count) in
     let number : ℕ = get_or (numbers_of w) i 0 in
     let v_well : IsWell setting v = IsWell-closes setting w front well in
@@ -108,10 +115,10 @@ closed_more capacity w i sessions ring x next ring_next well so_far below is nex
     let one_more : closes setting w (take (i + 1) (numbers_of w)) ≡ happens setting v number (ends lasts.End) =
     ap (closes setting w) (take_more (numbers_of w) i 0 within)
     ∙ fold-append (λ u n. happens setting u n (ends lasts.End)) w front (number ∷ []) in
-    let now : Stands capacity (happens setting v number (ends lasts.End)) (set sessions i next) ring_next =
-    stands_after capacity v sessions ring number (ends lasts.End) i x next ring_next v_well so_far.stands below is named next_is ring_is in
+    let now : Stands capacity (happens setting v number (ends lasts.End)) (set sessions i next) desk_next =
+    stands_after capacity v sessions desk number (ends lasts.End) i x next desk_next v_well so_far.stands below is named next_is desk_is in
     record {
-      stands = subst (λ (u : World). Stands capacity u (set sessions i next) ring_next) (sym one_more) now;
+      stands = subst (λ (u : World). Stands capacity u (set sessions i next) desk_next) (sym one_more) now;
       ended = λ j d j_below.
           elim (cases_eq j i) as (λ _. IsSome (get_or (set sessions i next) j d).ending) [
             | inl here ↦
@@ -125,10 +132,10 @@ closed_more capacity w i sessions ring x next ring_next well so_far below is nex
     }
 
 -- at the end all are closed
-pub closed_all : (capacity : ℕ) (w : World) (sessions : List Session) (ring : PlainValue) → ClosedSoFar capacity w (length sessions) sessions ring →
-    Stands capacity (closes (bare capacity) w (numbers_of w)) sessions ring × All (λ (s : Session). IsSome s.ending) sessions
-closed_all capacity w sessions ring so_far =
-    let count : length sessions ≡ length (numbers_of w) = count_kept capacity w (take (length sessions) (numbers_of w)) sessions ring so_far.stands in (
-      subst (λ (l : List ℕ). Stands capacity (closes (bare capacity) w l) sessions ring) (take_all (length sessions) (numbers_of w) (omega (arith, count))) so_far.stands,
+pub closed_all : (capacity : ℕ) (w : World) (sessions : List Session) (desk : DeskValue) → ClosedSoFar capacity w (length sessions) sessions desk →
+    Stands capacity (closes (bare capacity) w (numbers_of w)) sessions desk × All (λ (s : Session). IsSome s.ending) sessions
+closed_all capacity w sessions desk so_far =
+    let count : length sessions ≡ length (numbers_of w) = count_kept capacity w (take (length sessions) (numbers_of w)) sessions desk so_far.stands in (
+      subst (λ (l : List ℕ). Stands capacity (closes (bare capacity) w l) sessions desk) (take_all (length sessions) (numbers_of w) (omega (arith, count))) so_far.stands,
       λ j d below. so_far.ended j d below,
     )

@@ -1,17 +1,16 @@
 -- What happens to a connection, whatever it is, makes of it what the run's definition says; and what others do
 -- leaves it as it was.
-use Rattle.std.proofs.Common.{◌≡◌, ℕ, ◌+◌, Bool, true, false, cond, List, [], ◌∷◌, ◌++◌, length, refl, ap, subst, ◌∙◌, sym, Option, None, Some}
-use Rattle.std.specs.Prelude.{◌&&◌, is_none}
+use Rattle.std.proofs.Common.{◌≡◌, ℕ, Bool, true, false, cond, List, [], ◌∷◌, ◌++◌, refl, ap, subst, ◌∙◌, sym, Option, None, Some}
+use Rattle.std.specs.Prelude.{is_none}
 use Rattle.std.specs.List.{concat}
 use Rattle.std.proofs.lemmas.List.{append-nil}
 use Rattle.mount_ring.specs.declared.RingCall.{RingCall}
 use Rattle.mount_ring.specs.declared.RingAnswer.{RingAnswer}
-use Rattle.mount_ring.specs.Holding.{PlainValue}
-use Rattle.mount_ring.specs.History.{Shape, State, state_of, own_answers, permits_at, has_none_of}
+use Rattle.mount_ring.specs.History.{Shape, state_of, own_answers, permits_at, has_none_of}
 use Rattle.mount_ring.proofs.HistoryLemmas.{own_answers-others, published-append, published_by}
 use Rattle.rover_cursor.specs.declared.Segment.{Segment}
 use Rattle.rover_cursor.specs.Segments.{newest_segments}
-use Rattle.rover_cursor.specs.Sound.{kept}
+use Rattle.rover_cursor.specs.Sound.{kept, IsSound}
 use Rattle.rover_cursor.proofs.SoundLemmas.{kept-append}
 use Rattle.caster_replay.specs.declared.ending.Role.{Role}
 use Rattle.caster_replay.specs.declared.ending.Role.TheVariants as roles
@@ -22,9 +21,10 @@ use Rattle.caster_replay.specs.declared.session.Work.{Work}
 use Rattle.caster_replay.specs.declared.session.Work.TheVariants.{Rover}
 use Rattle.caster_replay.specs.World.{Setting, Connection, Happening, bare, entries_of, entries_owed, owed, source_calls, rover_calls, given_claim, refusal, is_known, answers_of, goes_on, changed}
 use Rattle.caster_replay.specs.Receipt.{ended_last}
-use Rattle.caster_replay.specs.Steps.{session_after, ring_after}
-use Rattle.caster_replay.specs.Live.{work_by, ending_by, rover_work, session_by, session_of, ring_of}
-use Rattle.caster_replay.specs.Well.{IsReceived, IsWellConnection, IsWellSegment}
+use Rattle.caster_replay.specs.Recorded.{desk_of}
+use Rattle.caster_replay.specs.Steps.{session_after, calls_made}
+use Rattle.caster_replay.specs.Live.{work_by, ending_by, rover_work, session_by, session_of}
+use Rattle.caster_replay.specs.Well.{IsReceived, IsWellConnection}
 use Rattle.caster_replay.proofs.HeardLemmas.{connection, session, source_heard, rover_heard, ended_heard}
 
 -- ---- a connection that ended
@@ -36,35 +36,31 @@ entries_heard setting history what c = cond (goes_on setting history c) (entries
 abbrev pub connection_heard : Setting → List (ℕ × RingCall) → Happening → Connection → Connection
 connection_heard setting history what c = cond (goes_on setting history c) (changed what c) c
 
--- the call on the connection does what the definition says
+-- the call on the connection does what the definition says, and calls what it says
 abbrev pub IsHeard : ℕ → List (ℕ × RingCall) → Happening → Connection → Type 0
 IsHeard capacity history what c =
-    (session_after what (ring_of capacity history) (session_of (bare capacity) history c)
+    (session_after what (desk_of capacity history) (session_of (bare capacity) history c)
     ≡ session_of (bare capacity) (history ++ entries_heard (bare capacity) history what c) (connection_heard (bare capacity) history what c))
-    × (ring_after what (session_of (bare capacity) history c) (ring_of capacity history)
-    ≡ ring_of capacity (history ++ entries_heard (bare capacity) history what c))
+    × (entries_of c.number (calls_made what (session_of (bare capacity) history c)) ≡ entries_heard (bare capacity) history what c)
 
 idle_heard : (capacity : ℕ) (history : List (ℕ × RingCall)) (what : Happening) (c : Connection) (work : Work) (ending : Ending) →
     session_of (bare capacity) history c ≡ session c.number work (Some ending) → goes_on (bare capacity) history c ≡ false →
     IsHeard capacity history what c
 idle_heard capacity history what c work ending is stopped =
     let setting : Setting = bare capacity in
-    let ended = ended_heard what (ring_of capacity history) c.number work ending in
+    let ended = ended_heard what (desk_of capacity history) c.number work ending in
     let E : List (ℕ × RingCall) = entries_owed setting history what c in (
-      ap (session_after what (ring_of capacity history)) is ∙ ended.0 ∙ sym is
+      ap (session_after what (desk_of capacity history)) is ∙ ended ∙ sym is
           ∙ ap (λ (h : List (ℕ × RingCall)). session_of setting h c) (sym (append-nil history))
           ∙ ap (λ (b : Bool). session_of setting (history ++ cond b E []) (cond b (changed what c) c)) (sym stopped),
-      ap (λ (s : Session). ring_after what s (ring_of capacity history)) is ∙ ended.1
-          ∙ ap (ring_of capacity) (sym (append-nil history))
-          ∙ ap (λ (b : Bool). ring_of capacity (history ++ cond b E [])) (sym stopped),
+      ap (λ (s : Session). entries_of c.number (calls_made what s)) is ∙ ap (λ (b : Bool). cond b E []) (sym stopped),
     )
 
 -- a connection that goes on, with the calls that it owes
 going_heard : (capacity : ℕ) (history : List (ℕ × RingCall)) (what : Happening) (c : Connection) (calls : List RingCall) →
-    (session_after what (ring_of capacity history) (session_of (bare capacity) history c)
+    (session_after what (desk_of capacity history) (session_of (bare capacity) history c)
     ≡ session_of (bare capacity) (history ++ entries_of c.number calls) (changed what c))
-    × (ring_after what (session_of (bare capacity) history c) (ring_of capacity history)
-    ≡ ring_of capacity (history ++ entries_of c.number calls)) →
+    × (calls_made what (session_of (bare capacity) history c) ≡ calls) →
     owed c.role (answers_of (bare capacity) history c) c.text what ≡ calls → goes_on (bare capacity) history c ≡ true →
     IsHeard capacity history what c
 going_heard capacity history what c calls heard owes goes =
@@ -73,17 +69,8 @@ going_heard capacity history what c calls heard owes goes =
       heard.0
           ∙ ap (λ (l : List RingCall). session_of setting (history ++ entries_of c.number l) (changed what c)) (sym owes)
           ∙ ap (λ (b : Bool). session_of setting (history ++ cond b E []) (cond b (changed what c) c)) (sym goes),
-      heard.1
-          ∙ ap (λ (l : List RingCall). ring_of capacity (history ++ entries_of c.number l)) (sym owes)
-          ∙ ap (λ (b : Bool). ring_of capacity (history ++ cond b E [])) (sym goes),
+      ap (entries_of c.number) (heard.1 ∙ sym owes) ∙ ap (λ (b : Bool). cond b E []) (sym goes),
     )
-
-stopped_by : (closed : Option Last) (refused : Option Ending) (last : Last) → closed ≡ Some last → (is_none closed && is_none refused) ≡ false
-stopped_by closed refused last is = ap (λ (o : Option Last). is_none o && is_none refused) is
-
-refused_by : (closed : Option Last) (refused : Option Ending) (ending : Ending) → refused ≡ Some ending → (is_none closed && is_none refused) ≡ false
-refused_by None refused ending is = ap (λ (o : Option Ending). is_none o) is
-refused_by (Some last) refused ending is = refl
 
 -- by what ended the connection, if anything did
 heard_closed : (capacity : ℕ) (history : List (ℕ × RingCall)) (what : Happening) (number : ℕ) (role : Role) (mount text : List ℕ) (last : Last)
@@ -130,7 +117,8 @@ heard_open capacity history what number roles.Rover mount text [] None claim (se
     let none : [] ≡ segment ∷ [] = sym (ap (newest_segments 0) answers_are) ∙ segments_are in absurd cc
 heard_open capacity history what number roles.Rover mount text (first ∷ later) None claim (segment ∷ []) answers_are refused_is claim_is segments_are received =
     going_heard capacity history what (connection number roles.Rover mount text None) (rover_calls (segment ∷ []) what)
-    (rover_heard capacity history number mount text first later segment what answers_are segments_are received.sound received.filter refused_is)
+    (rover_heard capacity history number mount text first later segment what answers_are segments_are
+    (subst (λ (g : ℕ). IsSound (permits_at (bare capacity).shape g) capacity (state_of history).published segment) (sym received.filter) received.sound) refused_is)
     (ap (λ (l : List Segment). rover_calls l what) segments_are)
     (ap (λ (o : Option Ending). is_none o) refused_is)
 

@@ -1,15 +1,13 @@
 -- What a connection's own entries, and those of others, change of a history.
-use Rattle.std.proofs.Common.{◌≡◌, ℕ, ◌+◌, Bool, true, false, cond, List, [], ◌∷◌, ◌++◌, length, drop, map, refl, ap, ◌∙◌, sym, append_assoc, Option, None, Some}
-use Rattle.std.specs.Prelude.{◌==◌, fold}
+use Rattle.std.proofs.Common.{◌≡◌, ℕ, Bool, true, false, cond, List, [], ◌∷◌, ◌++◌, refl, ap, ◌∙◌, sym, append_assoc}
+use Rattle.std.specs.Prelude.{fold}
 use Rattle.std.proofs.lemmas.List.{append-nil}
 use Rattle.std.proofs.lemmas.Bool.{eq-eqb, ne_eqb}
 use Rattle.mount_ring.specs.declared.RingCall.{RingCall}
-use Rattle.mount_ring.specs.declared.RingCall.TheVariants.{Claim, Release, Publish, Join, Read}
 use Rattle.mount_ring.specs.declared.RingAnswer.{RingAnswer}
 use Rattle.mount_ring.specs.declared.RingAnswer.TheVariants.{Given, Taken, Released, At, Joined, Read as Reported}
 use Rattle.mount_ring.specs.History.{Shape, State, after, state_of, answer, answers_from, own_answers, with_own, has_none_of}
 use Rattle.mount_ring.proofs.HistoryLemmas.{own_answers-append, state_of-append}
-use Rattle.caster_replay.specs.declared.ending.Ending.{Ending}
 use Rattle.caster_replay.specs.World.{entries_of, publishes, given_claim, taken_by, refusal}
 
 -- one caller's entries hold none of another's

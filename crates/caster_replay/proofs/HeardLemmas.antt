@@ -1,5 +1,5 @@
 -- Each call on a connection makes of it what the run's definition says.
-use Rattle.std.proofs.Common.{◌≡◌, ℕ, ◌+◌, Bool, true, false, cond, List, [], ◌∷◌, ◌++◌, length, drop, refl, ap, ◌∙◌, sym, append_assoc, Option, None, Some}
+use Rattle.std.proofs.Common.{◌≡◌, ℕ, Bool, List, [], ◌∷◌, ◌++◌, length, drop, refl, ap, ◌∙◌, sym, Option, None, Some}
 use Rattle.std.specs.List.{concat}
 use Rattle.std.proofs.lemmas.List.{append-nil}
 use Rattle.std.proofs.Math.Seq.{drop-append_seam}
@@ -11,9 +11,8 @@ use Rattle.rtcm_frame.proofs.CutLemmas.{cut-append}
 use Rattle.mount_ring.specs.declared.RingCall.{RingCall}
 use Rattle.mount_ring.specs.declared.RingCall.TheVariants as calls
 use Rattle.mount_ring.specs.declared.RingAnswer.{RingAnswer}
-use Rattle.mount_ring.specs.Holding.{PlainValue}
-use Rattle.mount_ring.specs.Reads.{every_frame, read_report, read_frames}
-use Rattle.mount_ring.specs.History.{Shape, State, after, state_of, answer, own_answers, permits_at}
+use Rattle.mount_ring.specs.Reads.{read_report, read_frames}
+use Rattle.mount_ring.specs.History.{Shape, State, state_of, answer, own_answers, permits_at}
 use Rattle.mount_ring.proofs.HistoryLemmas.{state_of-append}
 use Rattle.rover_cursor.specs.declared.Segment.{Segment}
 use Rattle.rover_cursor.specs.Segments.{newest_segments, after_answer, read_on}
@@ -26,12 +25,13 @@ use Rattle.caster_replay.specs.declared.ending.Last.TheVariants as lasts
 use Rattle.caster_replay.specs.declared.ending.Ending.{Ending}
 use Rattle.caster_replay.specs.declared.session.Session.{Session}
 use Rattle.caster_replay.specs.declared.session.Work.{Work}
-use Rattle.caster_replay.specs.declared.session.Work.TheVariants.{Refused, Source, Rover}
-use Rattle.caster_replay.specs.World.{Setting, Connection, Happening, arrives, takes_turn, ends, bare, entries_of, publishes, completed, source_calls, rover_calls, given_claim, refusal, is_known, answers_of, changed}
+use Rattle.caster_replay.specs.declared.session.Work.TheVariants.{Source, Rover}
+use Rattle.caster_replay.specs.World.{Setting, Connection, Happening, arrives, takes_turn, ends, bare, entries_of, publishes, completed, source_calls, rover_calls, given_claim, refusal, is_known, changed}
 use Rattle.caster_replay.specs.Receipt.{ended_last}
-use Rattle.caster_replay.specs.Steps.{after_cut, with_bytes, with_published, session_after, ring_after, ended_source, ended_rover}
-use Rattle.caster_replay.specs.Live.{cutter_at, source_work, rover_work, ending_by, session_of, ring_of}
-use Rattle.caster_replay.proofs.EntriesLemmas.{own_answers-call, state_of-publishes, given_claim-more, refusal-more}
+use Rattle.caster_replay.specs.Recorded.{DeskValue, desk_of}
+use Rattle.caster_replay.specs.Steps.{after_cut, with_bytes, session_after, calls_made, ended_source, ended_rover}
+use Rattle.caster_replay.specs.Live.{cutter_at, source_work, rover_work, ending_by, session_of}
+use Rattle.caster_replay.proofs.EntriesLemmas.{own_answers-call, given_claim-more, refusal-more}
 
 abbrev pub connection : ℕ → Role → List ℕ → List ℕ → Option Last → Connection
 connection number role mount text closed = record { number = number; role = role; mount = mount; text = text; closed = closed }
@@ -62,9 +62,6 @@ completed_is text more =
     ap (λ (p : Parts). drop (length (cut text).frames) p.frames) (cut-append text more)
     ∙ drop-append_seam (cut text).frames (cut ((cut text).rest ++ more)).frames
 
-abbrev pub ring : ℕ → State → PlainValue
-ring capacity state = record { capacity = capacity; state = state }
-
 ended_last-source : (claim : ℕ) (last : Last) → ended_source claim last ≡ ended_last roles.Source (Some claim) last
 ended_last-source claim lasts.End = refl
 ended_last-source claim lasts.ReadFault = refl
@@ -76,8 +73,8 @@ pub source_heard : (capacity : ℕ) (history : List (ℕ × RingCall)) (number :
     own_answers setting.shape number history ≡ first ∷ later →
     given_claim (own_answers setting.shape number history) ≡ Some claim →
     refusal (is_known setting c) (own_answers setting.shape number history) ≡ None →
-    (session_after what (ring_of capacity history) (session_of setting history c) ≡ session_of setting now (changed what c))
-    × (ring_after what (session_of setting history c) (ring_of capacity history) ≡ ring_of capacity now)
+    (session_after what (desk_of capacity history) (session_of setting history c) ≡ session_of setting now (changed what c))
+    × (calls_made what (session_of setting history c) ≡ source_calls (Some claim) text what)
 source_heard capacity history number mount text claim first later (arrives more) is given goes =
     let setting : Setting = bare capacity in
     let now : List (ℕ × RingCall) = history ++ entries_of number (publishes claim (completed text more)) in
@@ -85,21 +82,19 @@ source_heard capacity history number mount text claim first later (arrives more)
     let after_ = session_of-source setting now number mount (text ++ more) None claim
     (given_claim-more setting.shape number history (entries_of number (publishes claim (completed text more))) first later is ∙ given)
     (refusal-more (is_known setting (connection number roles.Source mount text None)) setting.shape number history (entries_of number (publishes claim (completed text more))) first later is ∙ goes) in (
-      ap (session_after (arrives more) (ring_of capacity history)) before
+      ap (session_after (arrives more) (desk_of capacity history)) before
           ∙ ap (λ (p : Pending). session number (Source claim p) None) (cutter_at-more text more)
           ∙ sym after_,
-      ap (λ (s : Session). ring_after (arrives more) s (ring_of capacity history)) before
-          ∙ ap (λ (fs : List (List ℕ)). with_published (ring_of capacity history) fs) (sym (completed_is text more))
-          ∙ ap (ring capacity) (sym (state_of-publishes history number claim (completed text more))),
+      ap (calls_made (arrives more)) before ∙ ap (publishes claim) (sym (completed_is text more)),
     )
 source_heard capacity history number mount text claim first later (takes_turn budget) is given goes =
     let setting : Setting = bare capacity in
     let c : Connection = connection number roles.Source mount text None in
     let before = session_of-source setting history number mount text None claim given goes in (
-      ap (session_after (takes_turn budget) (ring_of capacity history)) before
+      ap (session_after (takes_turn budget) (desk_of capacity history)) before
           ∙ sym before
           ∙ ap (λ (h : List (ℕ × RingCall)). session_of setting h c) (sym (append-nil history)),
-      ap (ring_of capacity) (sym (append-nil history)),
+      ap (calls_made (takes_turn budget)) before,
     )
 source_heard capacity history number mount text claim first later (ends last) is given goes =
     let setting : Setting = bare capacity in
@@ -108,11 +103,10 @@ source_heard capacity history number mount text claim first later (ends last) is
     let after_ = session_of-source setting now number mount text (Some last) claim
     (given_claim-more setting.shape number history ((number, calls.Release claim) ∷ []) first later is ∙ given)
     (refusal-more (is_known setting (connection number roles.Source mount text None)) setting.shape number history ((number, calls.Release claim) ∷ []) first later is ∙ goes) in (
-      ap (session_after (ends last) (ring_of capacity history)) before
+      ap (session_after (ends last) (desk_of capacity history)) before
           ∙ ap (λ (e : Ending). session number (Source claim (cutter_at text)) (Some e)) (ended_last-source claim last)
           ∙ sym after_,
-      ap (λ (s : Session). ring_after (ends last) s (ring_of capacity history)) before
-          ∙ ap (ring capacity) (sym (state_of-append history ((number, calls.Release claim) ∷ []))),
+      ap (calls_made (ends last)) before,
     )
 
 -- ---- rovers
@@ -144,17 +138,16 @@ ended_last-rover claim lasts.ReadFault = refl
 
 -- a rover's work after a turn
 turned_work : (capacity : ℕ) (published : List (List ℕ)) (number budget : ℕ) (segment : Segment) (permits : List ℕ → Bool) →
-    permits ≡ every_frame → IsSound every_frame capacity published segment →
-    session number (Rover (read_on (read_report every_frame capacity published segment.cursor budget) segment)
-    (concat (kept permits published segment) ++ concat (read_frames every_frame capacity published segment.cursor budget))) None
+    IsSound permits capacity published segment →
+    session number (Rover (read_on (read_report permits capacity published segment.cursor budget) segment)
+    (concat (kept permits published segment) ++ concat (read_frames permits capacity published segment.cursor budget))) None
     ≡ session number (Rover (read_on (read_report permits capacity published segment.cursor budget) segment)
     (concat (kept permits published (read_on (read_report permits capacity published segment.cursor budget) segment)))) None
-turned_work capacity published number budget segment permits is sound =
-    let next : (List ℕ → Bool) → Segment = λ p. read_on (read_report p capacity published segment.cursor budget) segment in
-    ap (λ (p : List ℕ → Bool). session number (Rover (next every_frame) (concat (kept p published segment) ++ concat (read_frames every_frame capacity published segment.cursor budget))) None) is
-    ∙ ap (λ (l : List ℕ). session number (Rover (next every_frame) l) None) (sym (concat-append (kept every_frame published segment) (read_frames every_frame capacity published segment.cursor budget)))
-    ∙ ap (λ (l : List (List ℕ)). session number (Rover (next every_frame) (concat l)) None) (sym (kept-read every_frame capacity published segment budget sound))
-    ∙ ap (λ (p : List ℕ → Bool). session number (Rover (next p) (concat (kept p published (next p)))) None) (sym is)
+turned_work capacity published number budget segment permits sound =
+    let next : Segment = read_on (read_report permits capacity published segment.cursor budget) segment in
+    ap (λ (l : List ℕ). session number (Rover next l) None)
+    (sym (concat-append (kept permits published segment) (read_frames permits capacity published segment.cursor budget))
+    ∙ ap concat (sym (kept-read permits capacity published segment budget sound)))
 
 pub rover_heard : (capacity : ℕ) (history : List (ℕ × RingCall)) (number : ℕ) (mount text : List ℕ) (first : RingAnswer) (later : List RingAnswer) (segment : Segment) (what : Happening) →
     let setting : Setting = bare capacity in
@@ -162,25 +155,24 @@ pub rover_heard : (capacity : ℕ) (history : List (ℕ × RingCall)) (number : 
     let now : List (ℕ × RingCall) = history ++ entries_of number (rover_calls (segment ∷ []) what) in
     own_answers setting.shape number history ≡ first ∷ later →
     newest_segments 0 (own_answers setting.shape number history) ≡ segment ∷ [] →
-    IsSound every_frame capacity (state_of history).published segment → segment.cursor.filter ≡ 0 →
+    IsSound (permits_at setting.shape segment.cursor.filter) capacity (state_of history).published segment →
     refusal (is_known setting c) (own_answers setting.shape number history) ≡ None →
-    (session_after what (ring_of capacity history) (session_of setting history c) ≡ session_of setting now (changed what c))
-    × (ring_after what (session_of setting history c) (ring_of capacity history) ≡ ring_of capacity now)
-rover_heard capacity history number mount text first later segment (arrives more) is segments sound filter goes =
+    (session_after what (desk_of capacity history) (session_of setting history c) ≡ session_of setting now (changed what c))
+    × (calls_made what (session_of setting history c) ≡ rover_calls (segment ∷ []) what)
+rover_heard capacity history number mount text first later segment (arrives more) is segments sound goes =
     let setting : Setting = bare capacity in
     let before = session_of-rover setting history number mount text None segment segments goes in
     let after_ = session_of-rover setting history number mount (text ++ more) None segment segments goes in (
-      ap (session_after (arrives more) (ring_of capacity history)) before
+      ap (session_after (arrives more) (desk_of capacity history)) before
           ∙ sym after_
           ∙ ap (λ (h : List (ℕ × RingCall)). session_of setting h (connection number roles.Rover mount (text ++ more) None)) (sym (append-nil history)),
-      ap (λ (s : Session). ring_after (arrives more) s (ring_of capacity history)) before ∙ ap (ring_of capacity) (sym (append-nil history)),
+      ap (calls_made (arrives more)) before,
     )
-rover_heard capacity history number mount text first later segment (takes_turn budget) is segments sound filter goes =
+rover_heard capacity history number mount text first later segment (takes_turn budget) is segments sound goes =
     let setting : Setting = bare capacity in
     let call : RingCall = calls.Read segment.cursor budget in
     let now : List (ℕ × RingCall) = history ++ (number, call) ∷ [] in
     let permits : List ℕ → Bool = permits_at setting.shape segment.cursor.filter in
-    let all : permits ≡ every_frame = ap (permits_at setting.shape) filter in
     let published : List (List ℕ) = (state_of history).published in
     let next : Segment = read_on (read_report permits capacity published segment.cursor budget) segment in
     let same : state_of now ≡ state_of history = state_of-append history ((number, call) ∷ []) in
@@ -189,28 +181,27 @@ rover_heard capacity history number mount text first later segment (takes_turn b
     let before = session_of-rover setting history number mount text None segment segments goes in
     let after_ = session_of-rover setting now number mount text None next segments_now
     (refusal-more (is_known setting (connection number roles.Rover mount text None)) setting.shape number history ((number, call) ∷ []) first later is ∙ goes) in (
-      ap (session_after (takes_turn budget) (ring_of capacity history)) before
-          ∙ turned_work capacity published number budget segment permits all sound
+      ap (session_after (takes_turn budget) (desk_of capacity history)) before
+          ∙ turned_work capacity published number budget segment permits sound
           ∙ ap (λ (s : State). session number (Rover next (concat (kept permits s.published next))) None) (sym same)
           ∙ sym after_,
-      ap (ring capacity) (sym same),
+      ap (calls_made (takes_turn budget)) before,
     )
-rover_heard capacity history number mount text first later segment (ends last) is segments sound filter goes =
+rover_heard capacity history number mount text first later segment (ends last) is segments sound goes =
     let setting : Setting = bare capacity in
     let before = session_of-rover setting history number mount text None segment segments goes in
     let after_ = session_of-rover setting history number mount text (Some last) segment segments goes in (
-      ap (session_after (ends last) (ring_of capacity history)) before
+      ap (session_after (ends last) (desk_of capacity history)) before
           ∙ ap (λ (e : Ending). session number (Rover segment (concat (kept (permits_at setting.shape segment.cursor.filter) (state_of history).published segment))) (Some e)) (ended_last-rover (given_claim (own_answers setting.shape number history)) last)
           ∙ sym after_
           ∙ ap (λ (h : List (ℕ × RingCall)). session_of setting h (connection number roles.Rover mount text (Some last))) (sym (append-nil history)),
-      ap (λ (s : Session). ring_after (ends last) s (ring_of capacity history)) before ∙ ap (ring_of capacity) (sym (append-nil history)),
+      ap (calls_made (ends last)) before,
     )
 
 -- ---- connections that have ended
 
-pub ended_heard : (what : Happening) (ring : PlainValue) (number : ℕ) (work : Work) (ending : Ending) →
-    (session_after what ring (session number work (Some ending)) ≡ session number work (Some ending))
-    × (ring_after what (session number work (Some ending)) ring ≡ ring)
-ended_heard (arrives more) ring number work ending = (refl, refl)
-ended_heard (takes_turn budget) ring number work ending = (refl, refl)
-ended_heard (ends last) ring number work ending = (refl, refl)
+pub ended_heard : (what : Happening) (desk : DeskValue) (number : ℕ) (work : Work) (ending : Ending) →
+    session_after what desk (session number work (Some ending)) ≡ session number work (Some ending)
+ended_heard (arrives more) desk number work ending = refl
+ended_heard (takes_turn budget) desk number work ending = refl
+ended_heard (ends last) desk number work ending = refl

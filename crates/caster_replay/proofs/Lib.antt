@@ -1,14 +1,15 @@
 mod WorkedRuns
 pub mod BodyLemmas
-pub mod TurnLemmas
-pub mod SourceLemmas
 pub mod ListLemmas
 pub mod EntriesLemmas
+pub mod DeskLemmas
+pub mod SourceLemmas
 pub mod HeardLemmas
 pub mod ConnectionLemmas
 pub mod StandsLemmas
 pub mod OpenLemmas
 pub mod RunLemmas
+pub mod HoldLemmas
 pub mod WellLemmas
 pub mod TextLemmas
 pub mod ReportLemmas

@@ -1,12 +1,12 @@
 -- What the run keeps stands for the run after a connection opens.
-use Rattle.std.proofs.Common.{◌≡◌, ℕ, zero, suc, ◌+◌, ◌<◌, ◌≤◌, Bool, true, false, cond, List, [], ◌∷◌, ◌++◌, length, map, take, drop, get_or, refl, ap, subst, ◌∙◌, sym, arith, inl, inr, Option, None, Some}
+use Rattle.std.proofs.Common.{◌≡◌, ℕ, suc, ◌+◌, ◌<◌, ◌≤◌, Bool, true, false, cond, List, [], ◌∷◌, ◌++◌, length, map, take, drop, get_or, refl, ap, subst, ◌∙◌, sym, arith, Option, None, Some}
 use Rattle.std.specs.Prelude.{◌==◌, ◌||◌, nat_lt, insert, codes, IsTrue}
-use Rattle.std.specs.List.{All, list_any, prefix_len, concat, count_by}
+use Rattle.std.specs.List.{list_any, prefix_len, concat}
 use Rattle.std.specs.Str.{bytes_eq}
 use Rattle.std.proofs.lemmas.List.{append-nil, map-append, take-map, drop-map}
 use Rattle.std.proofs.lemmas.List.Folds.{list_any_none}
-use Rattle.std.proofs.lemmas.Bool.{ne_eqb, eqb-false, cases_Bool, cases_lt, ltb-true, ltb-false}
-use Rattle.rtcm_frame.specs.Cut.{cut, Parts}
+use Rattle.std.proofs.lemmas.Bool.{ne_eqb, eqb-false, ltb-true, ltb-false}
+use Rattle.rtcm_frame.specs.Cut.{Parts}
 use Rattle.rtcm_frame.specs.Pending.{Pending}
 use Rattle.rtcm_frame.proofs.CutLemmas.{cut_waiting}
 use Rattle.mount_ring.specs.declared.RingCall.{RingCall}
@@ -14,11 +14,10 @@ use Rattle.mount_ring.specs.declared.RingCall.TheVariants as calls
 use Rattle.mount_ring.specs.declared.RingAnswer.{RingAnswer}
 use Rattle.mount_ring.specs.declared.Cursor.{Cursor}
 use Rattle.mount_ring.specs.declared.Holder.{Holder}
-use Rattle.mount_ring.specs.Holding.{PlainValue}
-use Rattle.mount_ring.specs.Reads.{every_frame}
-use Rattle.mount_ring.specs.History.{State, state_of, answer, own_answers, claim_answer, joined, has_none_of, start}
+use Rattle.caster_replay.specs.Recorded.{DeskValue, desk_of, after_calls}
+use Rattle.caster_replay.proofs.DeskLemmas.{after_calls_is}
+use Rattle.mount_ring.specs.History.{State, state_of, permits_at, answer, own_answers, claim_answer, joined, has_none_of, start}
 use Rattle.mount_ring.proofs.HistoryLemmas.{state_of-append, answers_from-none}
-use Rattle.mount_ring.proofs.PlainLemmas.{count_by-every}
 use Rattle.rover_cursor.specs.Segments.{begun}
 use Rattle.rover_cursor.proofs.SoundLemmas.{kept-begun}
 use Rattle.caster_replay.specs.declared.ending.Role.{Role}
@@ -26,13 +25,13 @@ use Rattle.caster_replay.specs.declared.ending.Role.TheVariants as roles
 use Rattle.caster_replay.specs.declared.session.Session.{Session}
 use Rattle.caster_replay.specs.declared.session.Work.TheVariants.{Rover, Source}
 use Rattle.caster_replay.specs.World.{Setting, Connection, World, bare, refusal, given_claim, entries_of, opening_calls, opened, opens, is_opened, placed}
-use Rattle.caster_replay.specs.Steps.{session_opened, ring_opened, opened_source, place_of_number}
-use Rattle.caster_replay.specs.Live.{work_by, ending_by, session_by, session_of, ring_of, cutter_at, Stands}
+use Rattle.caster_replay.specs.Steps.{session_opened, opened_source, place_of_number}
+use Rattle.caster_replay.specs.Live.{work_by, ending_by, session_by, session_of, cutter_at, Stands}
 use Rattle.caster_replay.specs.Well.{IsWell}
 use Rattle.caster_replay.proofs.ListLemmas.{map_same}
 use Rattle.caster_replay.proofs.EntriesLemmas.{own_answers-call, entries_none}
 use Rattle.caster_replay.proofs.ConnectionLemmas.{session_stays}
-use Rattle.caster_replay.proofs.HeardLemmas.{session, ring}
+use Rattle.caster_replay.proofs.HeardLemmas.{session}
 use Rattle.caster_replay.proofs.StandsLemmas.{InOrder, any_false, run}
 
 -- ---- places among connections
@@ -129,56 +128,45 @@ source_newly : (capacity number : ℕ) (state : State) (holder : Option Holder) 
 source_newly capacity number state None published = ap (λ (p : Pending). session number (Source (state.claims + 1) p) None) (sym empty_cutter)
 source_newly capacity number state (Some holder) published = refl
 
-rover_newly : (capacity number : ℕ) (state : State) →
-    session_opened roles.Rover true number (ring capacity state)
-    ≡ newly capacity roles.Rover true number (answer (bare capacity).shape state (calls.Join 0) ∷ []) state.published
-rover_newly capacity number state =
-    let cursor : ℕ → Cursor = λ n. record { next = length state.published; passed = n; filter = 0 } in
-    ap (λ (n : ℕ). session number (Rover (begun 0 (cursor n)) []) None) (sym (count_by-every state.published))
-    ∙ ap (λ (l : List (List ℕ)). session number (Rover (begun 0 (cursor (count_by every_frame state.published))) (concat l)) None)
-    (sym (kept-begun every_frame state.published 0 (cursor (count_by every_frame state.published))))
+rover_newly : (capacity : ℕ) (history : List (ℕ × RingCall)) (number : ℕ) →
+    session_opened roles.Rover true number (desk_of capacity history)
+    ≡ newly capacity roles.Rover true number (answer (bare capacity).shape (state_of history) (calls.Join 0) ∷ []) (state_of history).published
+rover_newly capacity history number =
+    let state : State = state_of history in
+    let cursor : Cursor = joined (bare capacity).shape state 0 in
+    ap (λ (l : List (List ℕ)). session number (Rover (begun 0 cursor) (concat l)) None)
+    (sym (kept-begun (permits_at (bare capacity).shape 0) state.published 0 cursor))
 
 -- a connection opens
 pub session_of-opened : (capacity : ℕ) (history : List (ℕ × RingCall)) (number : ℕ) (role : Role) (mount : List ℕ) (known : Bool) →
     IsTrue (has_none_of number history) → bytes_eq mount (codes "A") ≡ known →
-    (session_opened role known number (ring_of capacity history)
-    ≡ session_of (bare capacity) (history ++ entries_of number (opening_calls role known)) (opened number role mount))
-    × (ring_opened role known number (ring_of capacity history) ≡ ring_of capacity (history ++ entries_of number (opening_calls role known)))
+    session_opened role known number (desk_of capacity history)
+    ≡ session_of (bare capacity) (history ++ entries_of number (opening_calls role known)) (opened number role mount)
 session_of-opened capacity history number roles.Source mount false none is =
-    let same = append-nil history in (
-      sym (session_of-newly capacity history number roles.Source mount false [] is (no_answers capacity history number none))
-          ∙ ap (λ (h : List (ℕ × RingCall)). session_of (bare capacity) h (opened number roles.Source mount)) (sym same),
-      ap (ring_of capacity) (sym same),
-    )
+    sym (session_of-newly capacity history number roles.Source mount false [] is (no_answers capacity history number none))
+    ∙ ap (λ (h : List (ℕ × RingCall)). session_of (bare capacity) h (opened number roles.Source mount)) (sym (append-nil history))
 session_of-opened capacity history number roles.Rover mount false none is =
-    let same = append-nil history in (
-      sym (session_of-newly capacity history number roles.Rover mount false [] is (no_answers capacity history number none))
-          ∙ ap (λ (h : List (ℕ × RingCall)). session_of (bare capacity) h (opened number roles.Rover mount)) (sym same),
-      ap (ring_of capacity) (sym same),
-    )
+    sym (session_of-newly capacity history number roles.Rover mount false [] is (no_answers capacity history number none))
+    ∙ ap (λ (h : List (ℕ × RingCall)). session_of (bare capacity) h (opened number roles.Rover mount)) (sym (append-nil history))
 session_of-opened capacity history number roles.Source mount true none is =
-    let now : List (ℕ × RingCall) = history ++ (number, calls.Claim) ∷ [] in (
-      source_newly capacity number (state_of history) (state_of history).holder (state_of now).published
-          ∙ sym (session_of-newly capacity now number roles.Source mount true _ is (first_answer capacity history number calls.Claim none)),
-      ap (ring capacity) (sym (state_of-append history ((number, calls.Claim) ∷ []))),
-    )
+    let now : List (ℕ × RingCall) = history ++ (number, calls.Claim) ∷ [] in
+    source_newly capacity number (state_of history) (state_of history).holder (state_of now).published
+    ∙ sym (session_of-newly capacity now number roles.Source mount true _ is (first_answer capacity history number calls.Claim none))
 session_of-opened capacity history number roles.Rover mount true none is =
     let now : List (ℕ × RingCall) = history ++ (number, calls.Join 0) ∷ [] in
-    let same : state_of now ≡ state_of history = state_of-append history ((number, calls.Join 0) ∷ []) in (
-      rover_newly capacity number (state_of history)
-          ∙ ap (λ (s : State). newly capacity roles.Rover true number (answer (bare capacity).shape (state_of history) (calls.Join 0) ∷ []) s.published) (sym same)
-          ∙ sym (session_of-newly capacity now number roles.Rover mount true _ is (first_answer capacity history number (calls.Join 0) none)),
-      ap (ring capacity) (sym same),
-    )
+    let same : state_of now ≡ state_of history = state_of-append history ((number, calls.Join 0) ∷ []) in
+    rover_newly capacity history number
+    ∙ ap (λ (s : State). newly capacity roles.Rover true number (answer (bare capacity).shape (state_of history) (calls.Join 0) ∷ []) s.published) (sym same)
+    ∙ sym (session_of-newly capacity now number roles.Rover mount true _ is (first_answer capacity history number (calls.Join 0) none))
 
 -- ---- the run
 
-pub stands_opened : (capacity : ℕ) (w : World) (sessions : List Session) (ring : PlainValue) (number : ℕ) (role : Role) (mount : List ℕ) (known : Bool) →
-    IsWell (bare capacity) w → Stands capacity w sessions ring → is_opened number w.connections ≡ false → bytes_eq mount (codes "A") ≡ known →
+pub stands_opened : (capacity : ℕ) (w : World) (sessions : List Session) (desk : DeskValue) (number : ℕ) (role : Role) (mount : List ℕ) (known : Bool) →
+    IsWell (bare capacity) w → Stands capacity w sessions desk → is_opened number w.connections ≡ false → bytes_eq mount (codes "A") ≡ known →
     Stands capacity (opens (bare capacity) w number role mount)
-    (insert sessions (place_of_number number sessions) (session_opened role known number ring))
-    (ring_opened role known number ring)
-stands_opened capacity w sessions ring number role mount known well stands new is =
+    (insert sessions (place_of_number number sessions) (session_opened role known number desk))
+    (after_calls number (opening_calls role known) desk)
+stands_opened capacity w sessions desk number role mount known well stands new is =
     let setting : Setting = bare capacity in
     let h : List (ℕ × RingCall) = w.history in
     let cs : List Connection = w.connections in
@@ -194,25 +182,25 @@ stands_opened capacity w sessions ring number role mount known well stands new i
     λ j d below. session_stays setting h (entries_of number (opening_calls role known)) (get_or cs j d) (well.segments j d below)
     (entries_none (get_or cs j d).number number (opening_calls role known)
     (λ eq. eqb-false (get_or cs j d).number number (any_false (λ (x : Connection). x.number == number) cs new j d below) (sym eq))) in
-    let step : session_opened role known number ring ≡ session_of setting now c =
-    ap (session_opened role known number) stands.ring_is ∙ opened_now.0 in
-    subst (λ (v : World). Stands capacity v (insert sessions (place_of_number number sessions) (session_opened role known number ring)) (ring_opened role known number ring))
+    let step : session_opened role known number desk ≡ session_of setting now c =
+    ap (session_opened role known number) stands.desk_is ∙ opened_now in
+    subst (λ (v : World). Stands capacity v (insert sessions (place_of_number number sessions) (session_opened role known number desk)) (after_calls number (opening_calls role known) desk))
     (sym world_is)
     (record {
       sessions_are =
-          ap (λ (l : List Session). insert l (place_of_number number l) (session_opened role known number ring)) stands.sessions_are
-          ∙ ap (λ (n : ℕ). insert (map (session_of setting h) cs) n (session_opened role known number ring)) (place_mapped setting h number cs)
-          ∙ ap (λ (l : List Session). insert l place (session_opened role known number ring)) (map_same (session_of setting h) (session_of setting now) cs others)
+          ap (λ (l : List Session). insert l (place_of_number number l) (session_opened role known number desk)) stands.sessions_are
+          ∙ ap (λ (n : ℕ). insert (map (session_of setting h) cs) n (session_opened role known number desk)) (place_mapped setting h number cs)
+          ∙ ap (λ (l : List Session). insert l place (session_opened role known number desk)) (map_same (session_of setting h) (session_of setting now) cs others)
           ∙ ap (insert (map (session_of setting now) cs) place) step
           ∙ sym (map_insert (session_of setting now) cs place c);
-      ring_is = ap (ring_opened role known number) stands.ring_is ∙ opened_now.1;
+      desk_is = ap (after_calls number (opening_calls role known)) stands.desk_is ∙ after_calls_is number (opening_calls role known) (desk_of capacity h);
     })
 
 -- a number that was opened before
-pub stands_opened_before : (capacity : ℕ) (w : World) (sessions : List Session) (ring : PlainValue) (number : ℕ) (role : Role) (mount : List ℕ) →
-    Stands capacity w sessions ring → is_opened number w.connections ≡ true →
-    Stands capacity (opens (bare capacity) w number role mount) sessions ring
-stands_opened_before capacity w sessions ring number role mount stands old =
-    subst (λ (v : World). Stands capacity v sessions ring)
+pub stands_opened_before : (capacity : ℕ) (w : World) (sessions : List Session) (desk : DeskValue) (number : ℕ) (role : Role) (mount : List ℕ) →
+    Stands capacity w sessions desk → is_opened number w.connections ≡ true →
+    Stands capacity (opens (bare capacity) w number role mount) sessions desk
+stands_opened_before capacity w sessions desk number role mount stands old =
+    subst (λ (v : World). Stands capacity v sessions desk)
     (sym (ap (λ (b : Bool). cond b w (run (placed (opened number role mount) w.connections) (w.history ++ entries_of number (opening_calls role (bytes_eq mount (codes "A")))))) old))
     stands

@@ -1,16 +1,13 @@
 -- Every connection of a run keeps what the report promises of it.
-use Rattle.std.proofs.Common.{◌≡◌, ℕ, zero, suc, ◌+◌, ◌-◌, ◌<◌, ◌≤◌, Bool, true, false, cond, List, [], ◌∷◌, ◌++◌, length, reverse, take, drop, get_or, refl, ap, subst, ◌∙◌, sym, arith, Option, None, Some}
+use Rattle.std.proofs.Common.{ℕ, ◌-◌, Bool, true, false, cond, List, [], ◌∷◌, reverse, drop, get_or, subst, sym, arith, Option, None, Some}
 use Rattle.std.specs.Prelude.{IsTrue}
-use Rattle.std.specs.List.{All, filter, flat_map, concat, count_by}
-use Rattle.std.proofs.lemmas.List.{append-nil}
+use Rattle.std.specs.List.{All, filter}
 use Rattle.std.proofs.lemmas.List.Elements.{All-append, All-drop, All-take, All-cons, All-head, All-tail}
 use Rattle.rtcm_frame.specs.Transport.{is_frame}
-use Rattle.rtcm_frame.specs.Cut.{cut, Parts}
 use Rattle.rtcm_frame.proofs.CutLemmas.{cut-frames-joined}
 use Rattle.mount_ring.specs.declared.RingCall.{RingCall}
-use Rattle.mount_ring.specs.declared.RingAnswer.{RingAnswer}
 use Rattle.mount_ring.specs.declared.Lap.{Lap}
-use Rattle.mount_ring.specs.History.{Shape, state_of, permits_at}
+use Rattle.mount_ring.specs.History.{state_of, permits_at}
 use Rattle.rover_cursor.specs.declared.Segment.{Segment}
 use Rattle.rover_cursor.specs.Segments.{newest_segments}
 use Rattle.rover_cursor.specs.Sound.{IsSound, between, outside, kept}
@@ -20,9 +17,9 @@ use Rattle.caster_replay.specs.declared.ending.Role.{Role}
 use Rattle.caster_replay.specs.declared.ending.Role.TheVariants as roles
 use Rattle.caster_replay.specs.declared.ending.Ending.{Ending}
 use Rattle.caster_replay.specs.World.{Setting, Connection, World, given_claim, refusal, is_known, answers_of, world}
-use Rattle.caster_replay.specs.Receipt.{segments_of, sent_frames, bytes_of}
-use Rattle.caster_replay.specs.Well.{IsWell, IsWellConnection, IsWellSegment, IsReceived}
-use Rattle.caster_replay.specs.Promises.{IsSoundIn, CountsAll, Decodes, Keeps, KeepsAll}
+use Rattle.caster_replay.specs.Receipt.{segments_of, sent_frames}
+use Rattle.caster_replay.specs.Well.{IsWell, IsWellConnection, IsReceived}
+use Rattle.caster_replay.specs.Promises.{IsSoundIn, Keeps, KeepsAll}
 use Rattle.caster_replay.proofs.WellLemmas.{IsWell-world}
 
 abbrev AreFrames : List (List ℕ) → Type 0

@@ -1,13 +1,13 @@
 -- The text by what the run keeps is the report of the run.
-use Rattle.std.proofs.Common.{◌≡◌, ℕ, zero, suc, ◌+◌, ◌-◌, ◌^◌, ◌<◌, ◌≤◌, min, Bool, true, false, cond, List, [], ◌∷◌, ◌++◌, length, map, reverse, get_or, refl, ap, subst, ◌∙◌, sym, arith, Option, None, Some}
-use Rattle.std.specs.Prelude.{codes, unwrap_or, is_none, is_some, ◌&&◌, IsSome}
+use Rattle.std.proofs.Common.{◌≡◌, ℕ, suc, ◌+◌, ◌-◌, ◌^◌, ◌<◌, ◌≤◌, min, Bool, true, false, cond, List, [], ◌∷◌, ◌++◌, length, map, reverse, get_or, refl, ap, subst, ◌∙◌, sym, arith, Option, None, Some}
+use Rattle.std.specs.Prelude.{codes, unwrap_or, is_none, ◌&&◌, IsSome}
 use Rattle.std.specs.List.{All, concat, flat_map, sum_by, count_by}
 use Rattle.std.proofs.lemmas.List.{append-nil, length-map, get_or-map}
 use Rattle.std.proofs.lemmas.List.Sums.{sum_by-cons}
 use Rattle.mount_ring.specs.declared.RingCall.{RingCall}
 use Rattle.mount_ring.specs.declared.RingAnswer.{RingAnswer}
-use Rattle.mount_ring.specs.Holding.{PlainValue}
-use Rattle.mount_ring.specs.History.{Shape, State, state_of, own_answers, permits_at}
+use Rattle.caster_replay.specs.Recorded.{DeskValue, state_at}
+use Rattle.mount_ring.specs.History.{Shape, state_of, permits_at}
 use Rattle.rover_cursor.specs.declared.Segment.{Segment}
 use Rattle.rover_cursor.specs.Segments.{newest_segments}
 use Rattle.rover_cursor.specs.Sound.{kept}
@@ -21,9 +21,9 @@ use Rattle.caster_replay.specs.declared.ending.Ending.TheVariants.{NoMount}
 use Rattle.caster_replay.specs.declared.session.Session.{Session}
 use Rattle.caster_replay.specs.declared.session.Work.{Work}
 use Rattle.caster_replay.specs.World.{Setting, Connection, World, bare, given_claim, refusal, is_known, answers_of}
-use Rattle.caster_replay.specs.Receipt.{ended_last, ending_of, junk_by, junk_of, segments_of, bytes_of, sent_in, overrun_in, greatest}
+use Rattle.caster_replay.specs.Receipt.{ended_last, ending_of, junk_by, junk_of, segments_of, sent_in, overrun_in}
 use Rattle.caster_replay.specs.Report.{connection_lines, closing_lines, is_rover, is_session, lines_of, world_text}
-use Rattle.caster_replay.specs.Live.{source_work, rover_work, work_by, ending_by, session_of, ring_of, Stands}
+use Rattle.caster_replay.specs.Live.{source_work, rover_work, work_by, ending_by, session_of, Stands}
 use Rattle.caster_replay.specs.Text.{work_junk, work_segments, work_bytes, work_sent, work_overrun, is_rover_work, has_segment, session_lines, sums_text, run_text}
 use Rattle.caster_replay.specs.Well.{IsWell, IsWellConnection, IsWellSegment, IsReceived}
 
@@ -166,16 +166,16 @@ sum_mapped f g keep (c ∷ cs) same =
     sum_by-cons f (keep c) (map keep cs) ∙ omega (arith, rest, here) ∙ sym (sum_by-cons g c cs)
 
 -- the text is the report of the run
-pub run_text_is : (capacity : ℕ) (w : World) (sessions : List Session) (ring : PlainValue) → IsWell (bare capacity) w → Stands capacity w sessions ring →
-    All (λ (s : Session). IsSome s.ending) sessions → length ring.state.published < 2 ^ 64 → run_text sessions ring.state ≡ world_text (bare capacity) w
-run_text_is capacity w sessions ring well stands ended few =
+pub run_text_is : (capacity : ℕ) (w : World) (sessions : List Session) (desk : DeskValue) → IsWell (bare capacity) w → Stands capacity w sessions desk →
+    All (λ (s : Session). IsSome s.ending) sessions → length (state_at desk).published < 2 ^ 64 → run_text sessions (state_at desk) ≡ world_text (bare capacity) w
+run_text_is capacity w sessions desk well stands ended few =
     let setting : Setting = bare capacity in
     let h : List (ℕ × RingCall) = w.history in
     let cs : List Connection = w.connections in
     let P : List (List ℕ) = (state_of h).published in
     let A : List ℕ = codes "A" in
     let keep : Connection → Session = session_of setting h in
-    let short : length P < 2 ^ 64 = subst (λ (r : PlainValue). length r.state.published < 2 ^ 64) stands.ring_is few in
+    let short : length P < 2 ^ 64 = subst (λ (r : DeskValue). length (state_at r).published < 2 ^ 64) stands.desk_is few in
     let count : length sessions ≡ length cs = ap length stands.sessions_are ∙ length-map cs keep in
     let over : (j : ℕ) (d : Connection) → j < length cs → IsSome (keep (get_or cs j d)).ending =
     λ j d below.
@@ -196,8 +196,8 @@ run_text_is capacity w sessions ring well stands ended few =
     let overrun : sum_by (λ (s : Session). work_overrun s.work) (map keep cs) ≡ sum_by (λ (c : Connection). overrun_in (segments_of setting h c)) cs =
     sum_mapped (λ (s : Session). work_overrun s.work) (λ (c : Connection). overrun_in (segments_of setting h c)) keep cs (λ j d below. (said j d below).overrun) in
     let closing : ℕ → ℕ → ℕ → List ℕ = λ a b c. closing_lines A (length P) (state_of h).claims a b c in
-    ap (λ (l : List Session). run_text l ring.state) stands.sessions_are
-    ∙ ap (λ (r : PlainValue). run_text (map keep cs) r.state) stands.ring_is
+    ap (λ (l : List Session). run_text l (state_at desk)) stands.sessions_are
+    ∙ ap (λ (r : DeskValue). run_text (map keep cs) (state_at r)) stands.desk_is
     ∙ ap (λ l. l ++ sums_text (map keep cs) (state_of h)) lines
     ∙ ap (λ (n : ℕ). flat_map (lines_of setting h) cs ++ closing n (sum_by (λ (s : Session). work_sent s.work) (map keep cs)) (sum_by (λ (s : Session). work_overrun s.work) (map keep cs))) rovers
     ∙ ap (λ (n : ℕ). flat_map (lines_of setting h) cs ++ closing (count_by (is_session setting h) cs) n (sum_by (λ (s : Session). work_overrun s.work) (map keep cs))) sent

@@ -1,33 +1,27 @@
 -- A source's cutter over its bytes.
 use Rattle.std.proofs.Common.{◌≡◌, ℕ, ◌+◌, ◌^◌, ◌<◌, ◌≤◌, List, [], ◌∷◌, ◌++◌, length, take, get_or, refl, ap, ◌∙◌, sym, arith, append_assoc, length-append}
-use Rattle.std.specs.List.{sum_by}
 use Rattle.std.proofs.lemmas.List.{append-nil, take_more, length-take-le}
 use Rattle.std.proofs.lemmas.List.Sums.{sum_by-append}
 use Rattle.rtcm_frame.specs.Cut.{cut, Parts, IsWaiting, followed_by, only_rest}
 use Rattle.rtcm_frame.specs.Pending.{Pending, Took}
 use Rattle.rtcm_frame.proofs.CutLemmas.{cut-append, cut_waiting, cut_counted}
 use Rattle.rtcm_frame.proofs.PendingLemmas.{took_none}
-use Rattle.mount_ring.specs.Holding.{PlainValue}
-use Rattle.caster_replay.specs.Steps.{after_cut, with_bytes, with_published}
+use Rattle.mount_ring.specs.declared.RingCall.TheVariants.{Publish}
+use Rattle.caster_replay.specs.Recorded.{DeskValue, after_calls, with_published}
+use Rattle.caster_replay.specs.Steps.{after_cut, with_bytes}
+use Rattle.caster_replay.proofs.DeskLemmas.{published_then}
 
 abbrev pending : List ℕ → ℕ → Pending
 pending bytes junk = record { bytes = bytes; junk = junk }
 
-abbrev published : PlainValue → List (List ℕ) → PlainValue
-published ring frames = record ring { state = record ring.state { published = frames } }
-
 -- from one state to the next these frames were given and published
-pub record PublishedSoFar (old now : Pending) (ring_old ring_now : PlainValue) : Type 0 where
+pub record PublishedSoFar (me claim : ℕ) (old now : Pending) (desk_old desk_now : DeskValue) : Type 0 where
   pub frames : List (List ℕ)
   pub took : Took old now frames
-  pub ring : ring_now ≡ with_published ring_old frames
+  pub desk : desk_now ≡ with_published me claim frames desk_old
 
-pub published_none : (cutter : Pending) (ring : PlainValue) → PublishedSoFar cutter cutter ring ring
-published_none cutter ring = record {
-  frames = [];
-  took = took_none cutter;
-  ring = ap (published ring) (sym (append-nil ring.state.published));
-}
+pub published_none : (me claim : ℕ) (cutter : Pending) (desk : DeskValue) → PublishedSoFar me claim cutter cutter desk desk
+published_none me claim cutter desk = record { frames = []; took = took_none cutter; desk = refl }
 
 -- given first these frames and then those
 took_then : (a b c : Pending) (xs ys : List (List ℕ)) → Took a b xs → Took b c ys → Took a c (xs ++ ys)
@@ -39,15 +33,14 @@ took_then a b c xs ys first second = record {
 }
 
 -- one more frame is given and published
-pub published_more : (old now next : Pending) (ring_old ring_now ring_next : PlainValue) (frame : List ℕ) →
-    PublishedSoFar old now ring_old ring_now → Took now next (frame ∷ []) →
-    ring_next ≡ published ring_now (ring_now.state.published ++ frame ∷ []) →
-    PublishedSoFar old next ring_old ring_next
-published_more old now next ring_old ring_now ring_next frame so_far took ring = record {
+pub published_more : (me claim : ℕ) (old now next : Pending) (desk_old desk_now desk_next : DeskValue) (frame : List ℕ) →
+    PublishedSoFar me claim old now desk_old desk_now → Took now next (frame ∷ []) →
+    desk_next ≡ after_calls me (Publish claim frame ∷ []) desk_now →
+    PublishedSoFar me claim old next desk_old desk_next
+published_more me claim old now next desk_old desk_now desk_next frame so_far took desk = record {
   frames = so_far.frames ++ frame ∷ [];
   took = took_then old now next so_far.frames (frame ∷ []) so_far.took took;
-  ring = ring ∙ ap (λ (r : PlainValue). published r (r.state.published ++ frame ∷ [])) so_far.ring
-      ∙ ap (published ring_old) (append_assoc ring_old.state.published so_far.frames (frame ∷ []));
+  desk = desk ∙ ap (with_published me claim (frame ∷ [])) so_far.desk ∙ published_then me claim so_far.frames (frame ∷ []) desk_old;
 }
 
 -- one frame fewer is left to give
@@ -64,16 +57,16 @@ took_settles old now frames took waits =
     let all : (cut old.bytes).frames ≡ frames = took.in_order ∙ ap (λ (p : Parts). frames ++ p.frames) only ∙ append-nil frames in
     (ap (λ (l : List ℕ). pending l now.junk) (sym rest) ∙ ap (λ (n : ℕ). pending (cut old.bytes).rest n) (sym junk), sym all)
 
-pub settled_cutter : (old now next : Pending) (ring_old ring_now : PlainValue) → PublishedSoFar old now ring_old ring_now →
+pub settled_cutter : (me claim : ℕ) (old now next : Pending) (desk_old desk_now : DeskValue) → PublishedSoFar me claim old now desk_old desk_now →
     Took now next [] → IsWaiting next.bytes → next ≡ after_cut old
-settled_cutter old now next ring_old ring_now so_far took waits =
+settled_cutter me claim old now next desk_old desk_now so_far took waits =
     (took_settles old next (so_far.frames ++ []) (took_then old now next so_far.frames [] so_far.took took) waits).0
 
-pub settled_ring : (old now next : Pending) (ring_old ring_now : PlainValue) → PublishedSoFar old now ring_old ring_now →
-    Took now next [] → IsWaiting next.bytes → ring_now ≡ with_published ring_old (cut old.bytes).frames
-settled_ring old now next ring_old ring_now so_far took waits =
+pub settled_desk : (me claim : ℕ) (old now next : Pending) (desk_old desk_now : DeskValue) → PublishedSoFar me claim old now desk_old desk_now →
+    Took now next [] → IsWaiting next.bytes → desk_now ≡ with_published me claim (cut old.bytes).frames desk_old
+settled_desk me claim old now next desk_old desk_now so_far took waits =
     let all : so_far.frames ++ [] ≡ (cut old.bytes).frames = (took_settles old next (so_far.frames ++ []) (took_then old now next so_far.frames [] so_far.took took) waits).1 in
-    so_far.ring ∙ ap (with_published ring_old) (sym (append-nil so_far.frames) ∙ all)
+    so_far.desk ∙ ap (λ (fs : List (List ℕ)). with_published me claim fs desk_old) (sym (append-nil so_far.frames) ∙ all)
 
 -- ---- all bytes of a part
 
@@ -91,10 +84,10 @@ pub no_frames : (cutter : Pending) → IsWaiting cutter.bytes → (cut (cutter.b
 no_frames cutter waits =
     ap (λ (l : List ℕ). (cut l).frames) (append-nil cutter.bytes) ∙ ap (λ (p : Parts). p.frames) (cut_waiting cutter.bytes waits)
 
-pub no_more_published : (cutter : Pending) (ring : PlainValue) → IsWaiting cutter.bytes →
-    ring ≡ with_published ring (cut (cutter.bytes ++ [])).frames
-no_more_published cutter ring waits =
-    ap (published ring) (sym (append-nil ring.state.published)) ∙ ap (with_published ring) (sym (no_frames cutter waits))
+pub no_more_published : (me claim : ℕ) (cutter : Pending) (desk : DeskValue) → IsWaiting cutter.bytes →
+    desk ≡ with_published me claim (cut (cutter.bytes ++ [])).frames desk
+no_more_published me claim cutter desk waits =
+    ap (λ (fs : List (List ℕ)). with_published me claim fs desk) (sym (no_frames cutter waits))
 
 -- one more byte
 bytes_more : (before bytes : List ℕ) (i byte : ℕ) → i < length bytes → byte ≡ get_or bytes i 0 → before ++ take (i + 1) bytes ≡ (before ++ take i bytes) ++ byte ∷ []
@@ -117,20 +110,20 @@ settled_more start now bytes i byte within is so_far =
     ∙ ap (λ (n : ℕ). pending next.rest n) (omega arith)
     ∙ ap (λ (p : Parts). pending p.rest (start.junk + p.junk)) (sym (cut_more start.bytes bytes i byte within is))
 
-pub published_ring_more : (start now : Pending) (ring_start ring_now : PlainValue) (bytes : List ℕ) (i byte : ℕ) → i < length bytes → byte ≡ get_or bytes i 0 →
+pub published_by_more : (me claim : ℕ) (start now : Pending) (desk_start desk_now : DeskValue) (bytes : List ℕ) (i byte : ℕ) → i < length bytes → byte ≡ get_or bytes i 0 →
     now ≡ after_cut (with_bytes start (take i bytes)) →
-    ring_now ≡ with_published ring_start (cut (start.bytes ++ take i bytes)).frames →
-    with_published ring_now (cut (now.bytes ++ byte ∷ [])).frames ≡ with_published ring_start (cut (start.bytes ++ take (i + 1) bytes)).frames
-published_ring_more start now ring_start ring_now bytes i byte within is so_far ring =
+    desk_now ≡ with_published me claim (cut (start.bytes ++ take i bytes)).frames desk_start →
+    with_published me claim (cut (now.bytes ++ byte ∷ [])).frames desk_now ≡ with_published me claim (cut (start.bytes ++ take (i + 1) bytes)).frames desk_start
+published_by_more me claim start now desk_start desk_now bytes i byte within is so_far desk =
     let before : Parts = cut (start.bytes ++ take i bytes) in
-    let frames : (cut (now.bytes ++ byte ∷ [])).frames ≡ (cut (before.rest ++ byte ∷ [])).frames =
+    let given : List (List ℕ) = (cut (now.bytes ++ byte ∷ [])).frames in
+    let frames : given ≡ (cut (before.rest ++ byte ∷ [])).frames =
     ap (λ (p : Pending). (cut (p.bytes ++ byte ∷ [])).frames) so_far in
     let all : before.frames ++ (cut (before.rest ++ byte ∷ [])).frames ≡ (cut (start.bytes ++ take (i + 1) bytes)).frames =
     ap (λ (p : Parts). p.frames) (sym (cut_more start.bytes bytes i byte within is)) in
-    ap (λ (r : PlainValue). with_published r (cut (now.bytes ++ byte ∷ [])).frames) ring
-    ∙ ap (λ (fs : List (List ℕ)). published ring_start ((ring_start.state.published ++ before.frames) ++ fs)) frames
-    ∙ ap (published ring_start) (append_assoc ring_start.state.published before.frames (cut (before.rest ++ byte ∷ [])).frames)
-    ∙ ap (with_published ring_start) all
+    ap (with_published me claim given) desk
+    ∙ published_then me claim before.frames given desk_start
+    ∙ ap (λ (fs : List (List ℕ)). with_published me claim fs desk_start) (ap (λ (fs : List (List ℕ)). before.frames ++ fs) frames ∙ all)
 
 -- what waits and the junk are no more than the bytes so far
 pub settled_few : (start now : Pending) (bytes : List ℕ) (i : ℕ) → i ≤ length bytes →

@@ -1,20 +1,21 @@
 -- What the run keeps stands for the run after each event.
-use Rattle.std.proofs.Common.{◌≡◌, ◌≢◌, ℕ, zero, suc, ◌+◌, ◌<◌, ◌≤◌, Bool, true, false, cond, List, [], ◌∷◌, ◌++◌, length, map, take, drop, get_or, set, refl, ap, subst, ◌∙◌, sym, arith, inl, inr, Option, None, Some}
-use Rattle.std.specs.Prelude.{◌==◌, ◌&&◌, ◌||◌, nat_lt, insert, IsTrue}
-use Rattle.std.specs.List.{All, AllPairs, flat_map, list_any, take_while}
-use Rattle.std.proofs.lemmas.List.{append-nil, length-map, get_or-map, get_or_default}
-use Rattle.std.proofs.lemmas.Bool.{eqb-true, eqb-false, eq-eqb, ne_eqb, cases_Bool, cases_lt}
+use Rattle.std.proofs.Common.{◌≡◌, ℕ, zero, suc, ◌<◌, Bool, true, false, cond, List, [], ◌∷◌, ◌++◌, length, get_or, set, refl, ap, subst, ◌∙◌, sym, arith, inl, inr}
+use Rattle.std.specs.Prelude.{◌==◌, ◌&&◌, ◌||◌}
+use Rattle.std.specs.List.{AllPairs, flat_map, list_any}
+use Rattle.std.proofs.lemmas.List.{append-nil, get_or-map, get_or_default}
+use Rattle.std.proofs.lemmas.Bool.{eq-eqb, ne_eqb, cases_lt}
 use Rattle.mount_ring.specs.declared.RingCall.{RingCall}
-use Rattle.mount_ring.specs.Holding.{PlainValue}
-use Rattle.mount_ring.specs.History.{state_of, has_none_of}
+use Rattle.caster_replay.specs.Recorded.{DeskValue, desk_of}
+use Rattle.caster_replay.proofs.DeskLemmas.{after_calls_is}
+use Rattle.mount_ring.specs.History.{has_none_of}
 use Rattle.caster_replay.specs.declared.session.Session.{Session}
-use Rattle.caster_replay.specs.World.{Setting, Connection, World, Happening, bare, entries_of, entries_owed, owed, is_concerned, goes_on, changed, happens, is_opened, placed, answers_of}
-use Rattle.caster_replay.specs.Steps.{session_after, ring_after}
-use Rattle.caster_replay.specs.Live.{session_of, ring_of, Stands}
-use Rattle.caster_replay.specs.Well.{IsWell, IsWellConnection}
-use Rattle.caster_replay.proofs.ListLemmas.{FailsElsewhere, FailsEverywhere, map_none, flat_map_none, map_one, flat_map_one, map_same, set_mapped}
+use Rattle.caster_replay.specs.World.{Setting, Connection, World, Happening, bare, entries_owed, owed, is_concerned, goes_on, changed, happens, is_opened, answers_of}
+use Rattle.caster_replay.specs.Steps.{session_after, calls_made, desk_after}
+use Rattle.caster_replay.specs.Live.{session_of, Stands}
+use Rattle.caster_replay.specs.Well.{IsWell}
+use Rattle.caster_replay.proofs.ListLemmas.{FailsElsewhere, FailsEverywhere, map_none, flat_map_none, map_one, flat_map_one, set_mapped}
 use Rattle.caster_replay.proofs.EntriesLemmas.{entries_none}
-use Rattle.caster_replay.proofs.ConnectionLemmas.{IsHeard, entries_heard, connection_heard, heard, session_stays}
+use Rattle.caster_replay.proofs.ConnectionLemmas.{entries_heard, connection_heard, heard, session_stays}
 
 abbrev pub InOrder : List Connection → Type 0
 InOrder connections = AllPairs (λ (c d : Connection). c.number < d.number) connections
@@ -98,12 +99,12 @@ heard_none setting history what c other apart =
     ]
 
 -- the call on a connection at its place
-pub stands_heard : (capacity : ℕ) (w : World) (sessions : List Session) (ring : PlainValue) (number : ℕ) (what : Happening) (at : ℕ) (d : Connection) (e : Session) →
-    IsWell (bare capacity) w → Stands capacity w sessions ring → at < length w.connections → (get_or w.connections at d).number ≡ number →
+pub stands_heard : (capacity : ℕ) (w : World) (sessions : List Session) (desk : DeskValue) (number : ℕ) (what : Happening) (at : ℕ) (d : Connection) (e : Session) →
+    IsWell (bare capacity) w → Stands capacity w sessions desk → at < length w.connections → (get_or w.connections at d).number ≡ number →
     Stands capacity (happens (bare capacity) w number what)
-    (set sessions at (session_after what ring (get_or sessions at e)))
-    (ring_after what (get_or sessions at e) ring)
-stands_heard capacity w sessions ring number what at d e well stands within here =
+    (set sessions at (session_after what desk (get_or sessions at e)))
+    (desk_after what (get_or sessions at e) desk)
+stands_heard capacity w sessions desk number what at d e well stands within here =
     let setting : Setting = bare capacity in
     let h : List (ℕ × RingCall) = w.history in
     let c : Connection = get_or w.connections at d in
@@ -111,9 +112,9 @@ stands_heard capacity w sessions ring number what at d e well stands within here
     let heard_now = heard capacity h what c (well.segments at d within) in
     let session_is : get_or sessions at e ≡ session_of setting h c =
     ap (λ (l : List Session). get_or l at e) stands.sessions_are ∙ get_or-map (session_of setting h) w.connections at d e within in
-    let step : session_after what ring (get_or sessions at e) ≡ session_of setting now (connection_heard setting h what c) =
-    ap (λ (s : Session). session_after what ring s) session_is
-    ∙ ap (λ (r : PlainValue). session_after what r (session_of setting h c)) stands.ring_is
+    let step : session_after what desk (get_or sessions at e) ≡ session_of setting now (connection_heard setting h what c) =
+    ap (λ (s : Session). session_after what desk s) session_is
+    ∙ ap (λ (r : DeskValue). session_after what r (session_of setting h c)) stands.desk_is
     ∙ heard_now.0 in
     let others : (j : ℕ) (f : Connection) → j < length w.connections → (j ≡ at → ⊥) →
     session_of setting now (get_or w.connections j f) ≡ session_of setting h (get_or w.connections j f) =
@@ -122,21 +123,22 @@ stands_heard capacity w sessions ring number what at d e well stands within here
     session_stays setting h (entries_heard setting h what c) (get_or w.connections j f) (well.segments j f below)
     (heard_none setting h what c (get_or w.connections j f).number
     (λ eq. numbers_apart w.connections at j f well.ordered within below other (sym eq ∙ sym same))) in
-    subst (λ (v : World). Stands capacity v (set sessions at (session_after what ring (get_or sessions at e))) (ring_after what (get_or sessions at e) ring))
+    subst (λ (v : World). Stands capacity v (set sessions at (session_after what desk (get_or sessions at e))) (desk_after what (get_or sessions at e) desk))
     (sym (happens_here setting w number what at d well.ordered within here))
     (record {
       sessions_are =
-          ap (λ (l : List Session). set l at (session_after what ring (get_or sessions at e))) stands.sessions_are
+          ap (λ (l : List Session). set l at (session_after what desk (get_or sessions at e))) stands.sessions_are
           ∙ set_mapped (session_of setting h) (session_of setting now) w.connections at (connection_heard setting h what c)
-          (session_after what ring (get_or sessions at e)) (sym step) others;
-      ring_is =
-          ap (λ (s : Session). ring_after what s ring) session_is
-          ∙ ap (λ (r : PlainValue). ring_after what (session_of setting h c) r) stands.ring_is
-          ∙ heard_now.1;
+          (session_after what desk (get_or sessions at e)) (sym step) others;
+      desk_is =
+          ap (λ (s : Session). desk_after what s desk) session_is
+          ∙ ap (λ (r : DeskValue). desk_after what (session_of setting h c) r) stands.desk_is
+          ∙ after_calls_is c.number (calls_made what (session_of setting h c)) (desk_of capacity h)
+          ∙ ap (λ (l : List (ℕ × RingCall)). desk_of capacity (h ++ l)) heard_now.1;
     })
 
-pub stands_unheard : (capacity : ℕ) (w : World) (sessions : List Session) (ring : PlainValue) (number : ℕ) (what : Happening) →
-    Stands capacity w sessions ring → is_opened number w.connections ≡ false →
-    Stands capacity (happens (bare capacity) w number what) sessions ring
-stands_unheard capacity w sessions ring number what stands none =
-    subst (λ (v : World). Stands capacity v sessions ring) (sym (happens_nowhere (bare capacity) w number what none)) stands
+pub stands_unheard : (capacity : ℕ) (w : World) (sessions : List Session) (desk : DeskValue) (number : ℕ) (what : Happening) →
+    Stands capacity w sessions desk → is_opened number w.connections ≡ false →
+    Stands capacity (happens (bare capacity) w number what) sessions desk
+stands_unheard capacity w sessions desk number what stands none =
+    subst (λ (v : World). Stands capacity v sessions desk) (sym (happens_nowhere (bare capacity) w number what none)) stands

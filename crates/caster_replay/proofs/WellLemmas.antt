@@ -1,14 +1,14 @@
 -- Every run is well: its connections stand in order, the history has their calls alone, every published frame is
 -- one, and a rover's segment is sound.
-use Rattle.std.proofs.Common.{◌≡◌, ◌≢◌, ℕ, zero, suc, ◌+◌, ◌<◌, ◌≤◌, Bool, true, false, cond, List, [], ◌∷◌, ◌++◌, length, map, drop, get_or, set, refl, ap, subst, ◌∙◌, sym, arith, inl, inr, Option, None, Some}
-use Rattle.std.specs.Prelude.{◌==◌, ◌||◌, nat_lt, fold, codes, is_none, IsTrue}
-use Rattle.std.specs.List.{All, AllPairs, list_any, count_by}
+use Rattle.std.proofs.Common.{◌≡◌, ◌≢◌, ℕ, zero, suc, ◌<◌, ◌≤◌, Bool, true, false, cond, List, [], ◌∷◌, ◌++◌, length, map, get_or, set, refl, ap, subst, ◌∙◌, sym, arith, inl, inr, Option, None, Some}
+use Rattle.std.specs.Prelude.{◌==◌, ◌||◌, nat_lt, fold, is_none, IsTrue}
+use Rattle.std.specs.List.{All}
 use Rattle.std.specs.Str.{bytes_eq}
 use Rattle.std.proofs.lemmas.List.{append-nil, length-set, get_or-set_same, get_or-set_other, get_or_default}
 use Rattle.std.proofs.lemmas.List.Sums.{fold-append}
 use Rattle.std.proofs.lemmas.List.Elements.{All-append, All-drop, All-cons, All-head, All-tail}
 use Rattle.std.proofs.lemmas.List.Kept.{AllPairs-cons}
-use Rattle.std.proofs.lemmas.Bool.{eqb-true, eqb-false, eq-eqb, ne_eqb, cases_Bool, cases_eq, ltb-true, ltb-false}
+use Rattle.std.proofs.lemmas.Bool.{eqb-true, eqb-false, eq-eqb, cases_eq, ltb-true, ltb-false}
 use Rattle.rtcm_frame.specs.Cut.{cut}
 use Rattle.rtcm_frame.specs.Transport.{is_frame}
 use Rattle.rtcm_frame.proofs.CutLemmas.{all-frames}
@@ -21,8 +21,7 @@ use Rattle.mount_ring.specs.Reads.{read_report}
 use Rattle.mount_ring.specs.History.{Shape, State, start, after, state_of, answer, claim_answer, joined, answers_from, own_answers, with_own, has_none_of, permits_at}
 use Rattle.mount_ring.proofs.HistoryLemmas.{state_of-append, own_answers-append, own_answers-others, published-append, published_by, has_none_of-append, answers_from-none}
 use Rattle.rover_cursor.specs.declared.Segment.{Segment}
-use Rattle.rover_cursor.specs.Segments.{newest_segments, after_answer, read_on, begun}
-use Rattle.rover_cursor.specs.Sound.{IsSound}
+use Rattle.rover_cursor.specs.Segments.{newest_segments, after_answer, read_on}
 use Rattle.rover_cursor.proofs.SoundLemmas.{IsSound-append, IsSound-read, IsSound-begun}
 use Rattle.session_script.specs.declared.Event.{Event}
 use Rattle.session_script.specs.declared.Event.TheVariants as events
@@ -32,7 +31,8 @@ use Rattle.caster_replay.specs.declared.ending.Last.{Last}
 use Rattle.caster_replay.specs.declared.ending.Last.TheVariants as lasts
 use Rattle.caster_replay.specs.declared.ending.Ending.{Ending}
 use Rattle.caster_replay.specs.World.{Setting, Connection, World, Happening, arrives, takes_turn, ends, nothing_yet, entries_of, entries_owed, owed, publishes, completed, source_calls, rover_calls, opening_calls, given_claim, refusal, is_known, answers_of, goes_on, changed, happens, is_opened, opened, opens, placed, after_event, after_events, closes, world}
-use Rattle.caster_replay.specs.Well.{IsWell, IsWellConnection, IsWellSegment, IsReceived}
+use Rattle.caster_replay.specs.Well.{IsWell, IsWellConnection, IsWellSegment, IsReceived, HoldsClaim}
+use Rattle.caster_replay.proofs.HoldLemmas.{holds_heard, holds_beside, holds_before, opened_holds}
 use Rattle.caster_replay.proofs.EntriesLemmas.{entries_none, own_answers-call, given_claim-more, refusal-more}
 use Rattle.caster_replay.proofs.ConnectionLemmas.{entries_heard, connection_heard}
 use Rattle.caster_replay.proofs.HeardLemmas.{connection, newest_segments-more}
@@ -369,6 +369,21 @@ well_here setting w number what at well within named =
                 (λ eq. numbers_apart cs at j d well.ordered within j_in other
                 (sym eq ∙ ap (λ (x : Connection). x.number) (get_or_default cs at nobody d within)))))
           ];
+      holders = λ j d below.
+          let j_in : j < length cs = omega (arith, below, length-set cs at next) in
+          elim (cases_eq j at) as (λ _. HoldsClaim setting (h ++ es) (get_or (set cs at next) j d)) [
+            | inl here ↦
+                subst (λ (x : Connection). HoldsClaim setting (h ++ es) x)
+                (sym (ap (λ (n : ℕ). get_or (set cs at next) n d) here ∙ get_or-set_same cs at next d within))
+                (holds_heard setting h what c (well.holders at nobody within))
+            | inr other ↦
+                let apart : c.number ≢ (get_or cs j d).number =
+                λ eq. numbers_apart cs at j d well.ordered within j_in other
+                (sym eq ∙ ap (λ (x : Connection). x.number) (get_or_default cs at nobody d within)) in
+                subst (λ (x : Connection). HoldsClaim setting (h ++ es) x) (sym (get_or-set_other cs at j next d other))
+                (holds_beside setting h what c (get_or cs j d) apart (well.holders at nobody within) (well.holders j d j_in)
+                (heard_none setting h what c (get_or cs j d).number apart))
+          ];
     }
 
 well_happens_by : (setting : Setting) (w : World) (number : ℕ) (what : Happening) (test : Bool) → is_opened number w.connections ≡ test → IsWell setting w →
@@ -513,6 +528,13 @@ well_opens_by setting w number role mount false new well =
           (λ j d below. well_stays setting h es (get_or cs j d) (well.segments j d below)
           (entries_none (get_or cs j d).number number (opening_calls role (bytes_eq mount setting.mount))
           (λ eq. eqb-false (get_or cs j d).number number (any_false (λ (x : Connection). x.number == number) cs new j d below) (sym eq))));
+      holders = All-placed (HoldsClaim setting (h ++ es)) c cs
+          (opened_holds setting h number role mount (bytes_eq mount setting.mount) (well.callers number new))
+          (λ j d below.
+          let apart : number ≢ (get_or cs j d).number =
+          λ eq. eqb-false (get_or cs j d).number number (any_false (λ (x : Connection). x.number == number) cs new j d below) (sym eq) in
+          holds_before setting h number role (bytes_eq mount setting.mount) (get_or cs j d) apart (well.holders j d below)
+          (entries_none (get_or cs j d).number number (opening_calls role (bytes_eq mount setting.mount)) apart));
     }
   where
     first_false : (a b : Bool) → (a || b) ≡ false → a ≡ false
@@ -534,6 +556,7 @@ IsWell-nothing setting = record {
   callers = λ number new. refl;
   frames = no_frames_fail;
   segments = λ j d below. absurd (omega (arith, below));
+  holders = λ j d below. absurd (omega (arith, below));
 }
 
 pub IsWell-event : (setting : Setting) (w : World) (event : Event) → IsWell setting w → IsWell setting (after_event setting w event)

@@ -1,6 +1,7 @@
 pub mod World
 pub mod Receipt
 pub mod Report
+pub mod Recorded
 pub mod Steps
 pub mod Live
 pub mod Well

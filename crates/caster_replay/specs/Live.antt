@@ -1,12 +1,11 @@
 -- What the run keeps of its connections, as it follows from their bytes and from the history so
 -- far.
-use Rattle.std.specs.Prelude.{◌≡◌, ℕ, ◌+◌, List, [], ◌∷◌, map, Option, None, Some}
+use Rattle.std.specs.Prelude.{◌≡◌, ℕ, List, [], ◌∷◌, map, Option, None, Some}
 use Rattle.std.specs.List.{concat}
 use Rattle.rtcm_frame.specs.Cut.{cut}
 use Rattle.rtcm_frame.specs.Pending.{Pending}
 use Rattle.mount_ring.specs.declared.RingCall.{RingCall}
 use Rattle.mount_ring.specs.declared.RingAnswer.{RingAnswer}
-use Rattle.mount_ring.specs.Holding.{PlainValue}
 use Rattle.mount_ring.specs.History.{Shape, state_of, permits_at}
 use Rattle.rover_cursor.specs.declared.Segment.{Segment}
 use Rattle.rover_cursor.specs.Segments.{newest_segments}
@@ -20,6 +19,8 @@ use Rattle.caster_replay.specs.declared.session.Work.{Work}
 use Rattle.caster_replay.specs.declared.session.Work.TheVariants.{Refused, Source, Rover}
 use Rattle.caster_replay.specs.World.{Setting, Connection, World, bare, given_claim, refusal, is_known, answers_of}
 use Rattle.caster_replay.specs.Receipt.{ended_last}
+use Rattle.caster_replay.specs.Well.{IsWell}
+use Rattle.caster_replay.specs.Recorded.{DeskValue, desk_of}
 
 -- a cutter to which these bytes were pushed, and from which every frame was taken
 abbrev pub cutter_at : List ℕ → Pending
@@ -59,12 +60,14 @@ abbrev pub session_of : Setting → List (ℕ × RingCall) → Connection → Se
 session_of setting history c =
     session_by setting (answers_of setting history c) (state_of history).published c
 
--- the plain ring of this capacity after a history
-abbrev pub ring_of : ℕ → List (ℕ × RingCall) → PlainValue
-ring_of capacity history = record { capacity = capacity; state = state_of history }
-
--- what the run keeps is what follows from its connections and the history
-pub record Stands (capacity : ℕ) (w : World) (sessions : List Session) (ring : PlainValue)
+-- what the run keeps is what follows from its connections and the history, and that history is all
+-- that was called at the desk
+pub record Stands (capacity : ℕ) (w : World) (sessions : List Session) (desk : DeskValue)
     : Type 0 where
   pub sessions_are : sessions ≡ map (session_of (bare capacity) w.history) w.connections
-  pub ring_is : ring ≡ ring_of capacity w.history
+  pub desk_is : desk ≡ desk_of capacity w.history
+
+-- the run so far at this desk: it is well, and what the run keeps stands for it
+abbrev pub IsRun : World → List Session → DeskValue → Type 0
+IsRun w sessions desk =
+    IsWell (bare desk.ring.capacity) w × Stands desk.ring.capacity w sessions desk

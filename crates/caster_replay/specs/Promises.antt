@@ -1,14 +1,13 @@
 -- What the report of every list of events promises of its segments and bodies.
 use Rattle.std.specs.Prelude.{◌≡◌, ℕ, ◌+◌, Bool, List, []}
 use Rattle.std.specs.List.{All, count_by}
-use Rattle.rtcm_frame.specs.Transport.{is_frame}
-use Rattle.rtcm_frame.specs.Cut.{cut, Parts}
+use Rattle.rtcm_frame.specs.Cut.{cut}
 use Rattle.mount_ring.specs.declared.RingCall.{RingCall}
 use Rattle.mount_ring.specs.History.{state_of, permits_at}
 use Rattle.rover_cursor.specs.declared.Segment.{Segment}
 use Rattle.rover_cursor.specs.Sound.{IsSound, between}
 use Rattle.session_script.specs.declared.Event.{Event}
-use Rattle.caster_replay.specs.World.{Setting, Connection, World, world}
+use Rattle.caster_replay.specs.World.{Setting, Connection, world}
 use Rattle.caster_replay.specs.Receipt.{segments_of, sent_frames, bytes_of}
 
 -- all frames that a history published

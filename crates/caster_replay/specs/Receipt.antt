@@ -1,10 +1,9 @@
 -- What a connection's run comes to: how it ended, what was junk, its segments, and the bytes that
 -- it was sent.
-use Rattle.std.specs.Prelude.{ℕ, ◌-◌, ◌^◌, min, Bool, true, false, cond, List, [], ◌∷◌, length, reverse, Option, None, Some, unwrap_or}
+use Rattle.std.specs.Prelude.{ℕ, ◌-◌, ◌^◌, min, List, reverse, Option, None, Some, unwrap_or}
 use Rattle.std.specs.List.{flat_map, concat, sum_by}
 use Rattle.rtcm_frame.specs.Cut.{cut}
 use Rattle.mount_ring.specs.declared.RingCall.{RingCall}
-use Rattle.mount_ring.specs.declared.RingAnswer.{RingAnswer}
 use Rattle.mount_ring.specs.History.{state_of, permits_at}
 use Rattle.rover_cursor.specs.declared.Segment.{Segment}
 use Rattle.rover_cursor.specs.Segments.{newest_segments}
@@ -14,7 +13,7 @@ use Rattle.caster_replay.specs.declared.ending.Role.TheVariants.{Source, Rover}
 use Rattle.caster_replay.specs.declared.ending.Last.{Last}
 use Rattle.caster_replay.specs.declared.ending.Last.TheVariants as lasts
 use Rattle.caster_replay.specs.declared.ending.Ending.{Ending}
-use Rattle.caster_replay.specs.declared.ending.Ending.TheVariants.{SourceEnd, RoverEnd, NoMount, ReadFault}
+use Rattle.caster_replay.specs.declared.ending.Ending.TheVariants.{SourceEnd, RoverEnd, ReadFault}
 use Rattle.caster_replay.specs.World.{Setting, Connection, given_claim, refusal, is_known, answers_of}
 
 -- how a connection that was closed from outside ended

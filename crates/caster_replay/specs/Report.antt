@@ -1,11 +1,11 @@
 -- The text of a run's report. Every line ends with LF, and its words stand one space apart.
-use Rattle.std.specs.Prelude.{ℕ, Bool, true, false, cond, ◌&&◌, is_none, List, [], ◌∷◌, ◌++◌, length, codes}
+use Rattle.std.specs.Prelude.{ℕ, Bool, true, false, ◌&&◌, is_none, List, [], ◌∷◌, ◌++◌, length, codes}
 use Rattle.std.specs.List.{flat_map, sum_by, count_by, join_with_byte}
 use Rattle.std.specs.Fmt.{decimal}
 use Rattle.hex.specs.Hex.{encode_lower}
 use Rattle.mount_ring.specs.declared.RingCall.{RingCall}
 use Rattle.mount_ring.specs.declared.Lap.{Lap}
-use Rattle.mount_ring.specs.History.{State, state_of}
+use Rattle.mount_ring.specs.History.{state_of}
 use Rattle.rover_cursor.specs.declared.Segment.{Segment}
 use Rattle.session_script.specs.declared.Event.{Event}
 use Rattle.caster_replay.specs.declared.ending.Role.{Role}

@@ -1,23 +1,24 @@
--- What each call on a connection makes of what the run keeps of it, and of the ring.
-use Rattle.std.specs.Prelude.{ℕ, ◌+◌, ◌^◌, ◌<◌, nat_lt, Bool, true, false, List, [], ◌++◌, length, Option, None, Some}
+-- What each call on a connection makes of what the run keeps of it, and which calls it makes at the
+-- desk.
+use Rattle.std.specs.Prelude.{ℕ, ◌+◌, ◌^◌, ◌<◌, nat_lt, Bool, true, false, List, [], ◌∷◌, ◌++◌, length, Option, None, Some}
 use Rattle.std.specs.List.{concat, prefix_len}
 use Rattle.rtcm_frame.specs.Cut.{cut, IsWaiting}
 use Rattle.rtcm_frame.specs.Pending.{Pending}
+use Rattle.mount_ring.specs.declared.RingCall.{RingCall}
+use Rattle.mount_ring.specs.declared.RingCall.TheVariants as calls
 use Rattle.mount_ring.specs.declared.RingAnswer.{RingAnswer}
 use Rattle.mount_ring.specs.declared.RingAnswer.TheVariants as answers
-use Rattle.mount_ring.specs.Holding.{PlainValue}
-use Rattle.mount_ring.specs.History.{State, claim_answer, after_claim}
-use Rattle.mount_ring.specs.Reads.{every_frame, read_report, read_frames}
-use Rattle.rover_cursor.specs.declared.Segment.{Segment}
+use Rattle.mount_ring.specs.History.{answer, joined}
 use Rattle.rover_cursor.specs.Segments.{begun, read_on}
-use Rattle.rover_cursor.specs.Sound.{IsSound}
+use Rattle.rover_cursor.specs.Told.{IsSegment, report_in, frames_in}
 use Rattle.caster_replay.specs.declared.ending.Role.{Role}
 use Rattle.caster_replay.specs.declared.ending.Role.TheVariants as roles
 use Rattle.caster_replay.specs.declared.ending.Last.{Last}
 use Rattle.caster_replay.specs.declared.ending.Last.TheVariants as lasts
 use Rattle.caster_replay.specs.declared.ending.Ending.{Ending}
 use Rattle.caster_replay.specs.declared.ending.Ending.TheVariants.{SourceEnd, RoverEnd, Taken, NoMount, ReadFault}
-use Rattle.caster_replay.specs.World.{Happening, arrives, takes_turn, ends}
+use Rattle.caster_replay.specs.World.{Happening, arrives, takes_turn, ends, publishes}
+use Rattle.caster_replay.specs.Recorded.{DeskValue, shape_at, state_at, after_calls, IsHolding}
 use Rattle.caster_replay.specs.declared.session.Session.{Session}
 use Rattle.caster_replay.specs.declared.session.Work.{Work}
 use Rattle.caster_replay.specs.declared.session.Work.TheVariants.{Refused, Source, Rover}
@@ -38,39 +39,39 @@ opened_source number (answers.At place) = refused number NoMount
 opened_source number (answers.Joined cursor) = refused number NoMount
 opened_source number (answers.Read report) = refused number NoMount
 
--- the ring after a claim
-abbrev pub after_claiming : ℕ → PlainValue → PlainValue
-after_claiming number ring = record ring { state = after_claim ring.state number ring.state.holder }
-
--- a rover that joined this ring
-abbrev pub opened_rover : ℕ → PlainValue → Session
-opened_rover number ring = record {
+-- a rover that joined at this desk
+abbrev pub opened_rover : ℕ → DeskValue → Session
+opened_rover number desk = record {
   number = number;
-  work = Rover (begun 0 (record {
-    next = length ring.state.published;
-    passed = length ring.state.published;
-    filter = 0;
-  })) [];
+  work = Rover (begun 0 (joined (shape_at desk) (state_at desk) 0)) [];
   ending = None;
 }
 
--- ---- bytes
+-- what the run keeps of a connection that opens, by what it is and whether it asks for the run's
+-- mountpoint
+abbrev pub session_opened : Role → Bool → ℕ → DeskValue → Session
+session_opened role false number desk = refused number NoMount
+session_opened roles.Source true number desk =
+    opened_source number (answer (shape_at desk) (state_at desk) calls.Claim)
+session_opened roles.Rover true number desk = opened_rover number desk
 
--- a cutter when each frame was taken from it that its bytes hold
-abbrev pub after_cut : Pending → Pending
-after_cut pending = record {
-  bytes = (cut pending.bytes).rest;
-  junk = pending.junk + (cut pending.bytes).junk;
-}
+-- the place of a number among connections: how many stand before it
+abbrev pub place_of_number : ℕ → List Session → ℕ
+place_of_number number sessions = prefix_len (λ (s : Session). nat_lt s.number number) sessions
 
--- a cutter with more bytes
-abbrev pub with_bytes : Pending → List ℕ → Pending
-with_bytes pending more = record { bytes = pending.bytes ++ more; junk = pending.junk }
+-- ---- what a connection stands on
 
--- a ring on which more frames were published
-abbrev pub with_published : PlainValue → List (List ℕ) → PlainValue
-with_published ring frames =
-    record ring { state = record ring.state { published = ring.state.published ++ frames } }
+-- A connection that goes on may call: a source holds the mountpoint under its claim, and a rover's
+-- segment is the one that the history tells of it.
+abbrev pub WorkMayCall : DeskValue → ℕ → Option Ending → Work → Type 0
+WorkMayCall desk number (Some ending) work = Unit {0}
+WorkMayCall desk number None Refused = Unit {0}
+WorkMayCall desk number None (Source claim cutter) = IsHolding desk number claim
+WorkMayCall desk number None (Rover segment body) =
+    IsSegment (shape_at desk) number desk.history segment
+
+abbrev pub MayCall : DeskValue → Session → Type 0
+MayCall desk session = WorkMayCall desk session.number session.ending session.work
 
 -- the cutter waits, and its counts have room for these bytes
 abbrev pub CutterHasRoom : List ℕ → Pending → Type 0
@@ -86,6 +87,19 @@ WorkHasRoom bytes (Some ending) work = Unit {0}
 abbrev pub HasRoom : List ℕ → Session → Type 0
 HasRoom bytes session = WorkHasRoom bytes session.ending session.work
 
+-- ---- bytes
+
+-- a cutter when each frame was taken from it that its bytes hold
+abbrev pub after_cut : Pending → Pending
+after_cut pending = record {
+  bytes = (cut pending.bytes).rest;
+  junk = pending.junk + (cut pending.bytes).junk;
+}
+
+-- a cutter with more bytes
+abbrev pub with_bytes : Pending → List ℕ → Pending
+with_bytes pending more = record { bytes = pending.bytes ++ more; junk = pending.junk }
+
 abbrev pub work_fed : List ℕ → Option Ending → Work → Work
 work_fed bytes None Refused = Refused
 work_fed bytes None (Source claim cutter) = Source claim (after_cut (with_bytes cutter bytes))
@@ -96,46 +110,20 @@ work_fed bytes (Some ending) work = work
 abbrev pub fed : List ℕ → Session → Session
 fed bytes session = record session { work = work_fed bytes session.ending session.work }
 
-abbrev pub ring_work_fed : List ℕ → Option Ending → Work → PlainValue → PlainValue
-ring_work_fed bytes None Refused ring = ring
-ring_work_fed bytes None (Source claim cutter) ring =
-    with_published ring (cut (cutter.bytes ++ bytes)).frames
-ring_work_fed bytes None (Rover segment body) ring = ring
-ring_work_fed bytes (Some ending) work ring = ring
-
--- the ring after a connection's bytes
-abbrev pub ring_fed : List ℕ → Session → PlainValue → PlainValue
-ring_fed bytes session ring = ring_work_fed bytes session.ending session.work ring
-
 -- ---- turns
 
-abbrev pub WorkIsReady : PlainValue → Option Ending → Work → Type 0
-WorkIsReady ring None Refused = Unit {0}
-WorkIsReady ring None (Source claim cutter) = Unit {0}
-WorkIsReady ring None (Rover segment body) =
-    IsSound every_frame ring.capacity ring.state.published segment
-WorkIsReady ring (Some ending) work = Unit {0}
-
--- a rover's segment is sound at this ring
-abbrev pub IsReady : PlainValue → Session → Type 0
-IsReady ring session = WorkIsReady ring session.ending session.work
-
-abbrev pub work_turned : PlainValue → ℕ → Option Ending → Work → Work
-work_turned ring budget None Refused = Refused
-work_turned ring budget None (Source claim cutter) = Source claim cutter
-work_turned ring budget None (Rover segment body) =
-    Rover
-    (read_on
-    (read_report every_frame ring.capacity ring.state.published segment.cursor budget)
-    segment)
-    (body ++ concat
-    (read_frames every_frame ring.capacity ring.state.published segment.cursor budget))
-work_turned ring budget (Some ending) work = work
+abbrev pub work_turned : DeskValue → ℕ → Option Ending → Work → Work
+work_turned desk budget None Refused = Refused
+work_turned desk budget None (Source claim cutter) = Source claim cutter
+work_turned desk budget None (Rover segment body) =
+    Rover (read_on (report_in (shape_at desk) desk.history segment.cursor budget) segment)
+    (body ++ concat (frames_in (shape_at desk) desk.history segment.cursor budget))
+work_turned desk budget (Some ending) work = work
 
 -- a connection after a turn
-abbrev pub turned : PlainValue → ℕ → Session → Session
-turned ring budget session =
-    record session { work = work_turned ring budget session.ending session.work }
+abbrev pub turned : DeskValue → ℕ → Session → Session
+turned desk budget session =
+    record session { work = work_turned desk budget session.ending session.work }
 
 -- ---- closing
 
@@ -159,47 +147,30 @@ ending_closed last (Some ending) work = Some ending
 abbrev pub closed : Last → Session → Session
 closed last session = record session { ending = ending_closed last session.ending session.work }
 
-abbrev pub ring_work_closed : Option Ending → Work → PlainValue → PlainValue
-ring_work_closed None Refused ring = ring
-ring_work_closed None (Source claim cutter) ring =
-    record ring { state = record ring.state { holder = None } }
-ring_work_closed None (Rover segment body) ring = ring
-ring_work_closed (Some ending) work ring = ring
-
--- the ring after a connection was closed
-abbrev pub ring_closed : Session → PlainValue → PlainValue
-ring_closed session ring = ring_work_closed session.ending session.work ring
-
 -- ---- whatever happens
 
 -- a connection after what happened
-abbrev pub session_after : Happening → PlainValue → Session → Session
-session_after (arrives more) ring session = fed more session
-session_after (takes_turn budget) ring session = turned ring budget session
-session_after (ends last) ring session = closed last session
+abbrev pub session_after : Happening → DeskValue → Session → Session
+session_after (arrives more) desk session = fed more session
+session_after (takes_turn budget) desk session = turned desk budget session
+session_after (ends last) desk session = closed last session
 
--- the ring after what happened
-abbrev pub ring_after : Happening → Session → PlainValue → PlainValue
-ring_after (arrives more) session ring = ring_fed more session ring
-ring_after (takes_turn budget) session ring = ring
-ring_after (ends last) session ring = ring_closed session ring
+-- the calls that a connection makes for what happens, if it goes on: a source publishes each frame
+-- that its bytes complete and gives its claim back at last, and a rover reads at its turns
+abbrev pub work_calls : Option Ending → Work → Happening → List RingCall
+work_calls (Some ending) work what = []
+work_calls None Refused what = []
+work_calls None (Source claim cutter) (arrives more) =
+    publishes claim (cut (cutter.bytes ++ more)).frames
+work_calls None (Source claim cutter) (takes_turn budget) = []
+work_calls None (Source claim cutter) (ends last) = calls.Release claim ∷ []
+work_calls None (Rover segment body) (arrives more) = []
+work_calls None (Rover segment body) (takes_turn budget) = calls.Read segment.cursor budget ∷ []
+work_calls None (Rover segment body) (ends last) = []
 
--- ---- a connection opens
+abbrev pub calls_made : Happening → Session → List RingCall
+calls_made what session = work_calls session.ending session.work what
 
--- what the run keeps of a connection that opens, by what it is and whether it asks for the run's
--- mountpoint
-abbrev pub session_opened : Role → Bool → ℕ → PlainValue → Session
-session_opened role false number ring = refused number NoMount
-session_opened roles.Source true number ring =
-    opened_source number (claim_answer ring.state ring.state.holder)
-session_opened roles.Rover true number ring = opened_rover number ring
-
--- the ring afterwards
-abbrev pub ring_opened : Role → Bool → ℕ → PlainValue → PlainValue
-ring_opened role false number ring = ring
-ring_opened roles.Source true number ring = after_claiming number ring
-ring_opened roles.Rover true number ring = ring
-
--- the place of a number among connections: how many stand before it
-abbrev pub place_of_number : ℕ → List Session → ℕ
-place_of_number number sessions = prefix_len (λ (s : Session). nat_lt s.number number) sessions
+-- the desk after what happened
+abbrev pub desk_after : Happening → Session → DeskValue → DeskValue
+desk_after what session desk = after_calls session.number (calls_made what session) desk

@@ -1,10 +1,9 @@
 -- The report's text by what the run keeps of its connections.
-use Rattle.std.specs.Prelude.{ℕ, Bool, true, false, List, [], ◌∷◌, ◌++◌, length, codes, Option, None, Some, unwrap_or}
+use Rattle.std.specs.Prelude.{ℕ, Bool, true, false, List, [], ◌∷◌, ◌++◌, length, codes, unwrap_or}
 use Rattle.std.specs.List.{flat_map, sum_by, count_by}
 use Rattle.std.specs.Fmt.{decimal}
 use Rattle.mount_ring.specs.History.{State}
 use Rattle.rover_cursor.specs.declared.Segment.{Segment}
-use Rattle.caster_replay.specs.declared.ending.Ending.{Ending}
 use Rattle.caster_replay.specs.declared.ending.Ending.TheVariants.{NoMount}
 use Rattle.caster_replay.specs.declared.session.Session.{Session}
 use Rattle.caster_replay.specs.declared.session.Work.{Work}

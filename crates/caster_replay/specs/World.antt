@@ -1,7 +1,7 @@
 -- The run that a list of events gives: what each connection sent, and the one history of the
 -- mountpoint. Which calls a connection owes is read off its whole bytes and off the answers that
 -- it had so far.
-use Rattle.std.specs.Prelude.{ℕ, ◌==◌, ◌&&◌, not, nat_lt, Bool, true, false, cond, List, [], ◌∷◌, ◌++◌, length, drop, map, fold, codes, Option, None, Some, is_none}
+use Rattle.std.specs.Prelude.{ℕ, ◌==◌, ◌&&◌, nat_lt, Bool, true, false, cond, List, [], ◌∷◌, ◌++◌, length, drop, map, fold, codes, Option, None, Some, is_none}
 use Rattle.std.specs.List.{flat_map, list_any}
 use Rattle.std.specs.Str.{bytes_eq}
 use Rattle.rtcm_frame.specs.Cut.{cut}

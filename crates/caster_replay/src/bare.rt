@@ -24,12 +24,12 @@ pub fn run_bare(
     ensures ok { OnOk result (out.new.items ≡ out.old.items ++ report (bare capacity) events.now) }
     ensures err { OnErr result (out.new.items ≡ out.old.items) }
 {
-    let mut run = Run::new(alloc, capacity);
+    let mut run = Run::new(alloc, capacity)?;
     for event in events {
         run.apply(alloc, event)?;
     }
-    run.close_all();
-    let text = report_text(alloc, &run.sessions, &run.ring)?;
+    run.close_all()?;
+    let text = report_text(alloc, &run.sessions, &run.desk)?;
     out.extend_from_slice(&text)?;
     Ok(())
 }

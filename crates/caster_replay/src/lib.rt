@@ -3,9 +3,9 @@
 
 mod bare;
 mod body;
+mod desk;
 mod ending;
 pub mod laws;
-mod rover;
 mod run;
 mod session;
 mod source;

@@ -1,12 +1,14 @@
-ghost use Rattle.std.specs.Prelude.{◌≡◌, ◌+◌, ◌^◌, ◌<◌, OnOk};
-ghost use Rattle.mount_ring.specs.History.{claim_answer, after_claim};
-ghost use Rattle.caster_replay.specs.Steps.{ended_source, ended_rover, opened_source, opened_rover, refused, after_claiming, HasRoom, fed, ring_fed, IsReady, turned, closed, ring_closed};
+ghost use Rattle.std.specs.Prelude.{◌≡◌, ◌<◌, [], ◌∷◌, length, OnOk, IfOk};
+ghost use Rattle.mount_ring.specs.History.{answer};
+ghost use Rattle.caster_replay.specs.World.{arrives, takes_turn, ends};
+ghost use Rattle.caster_replay.specs.Recorded.{shape_at, state_at, after_calls};
+ghost use Rattle.caster_replay.specs.Steps.{ended_source, ended_rover, opened_source, opened_rover, refused, HasRoom, MayCall, fed, turned, closed, desk_after};
 
 use crate::body::Body;
+use crate::desk::RingDesk;
 use crate::ending::{Ending, Last};
-use crate::rover::take_turn;
 use crate::source::publish_bytes;
-use mount_ring::{Outbox, Plain, RingAnswer};
+use mount_ring::{RingAnswer, RingCall};
 use rover_cursor::Segment;
 use rtcm_frame::Cutter;
 use std::alloc::{AllocError, Global};
@@ -31,41 +33,42 @@ pub struct Session {
 }
 
 /// A source opens: it claims the mountpoint.
-pub fn open_source(number: u32, ring: &mut Plain) -> Session
-    requires { ring.old.state.claims + 1 < 2 ^ 64 }
-    ensures session { result
-        ≡ opened_source number (claim_answer ring.old.state ring.old.state.holder) }
-    ensures ring { ring.new ≡ after_claiming number ring.old }
+pub fn open_source(number: u32, desk: &mut RingDesk) -> Result<Session, AllocError>
+    ensures session { IfOk result (λ session. session
+        ≡ opened_source number (answer (shape_at desk.old) (state_at desk.old) RingCall.Claim)) }
+    ensures desk { OnOk result (desk.new ≡ after_calls number (RingCall.Claim ∷ []) desk.old) }
 {
-    match ring.claim(number) {
-        RingAnswer::Given(claim) => Session {
+    match desk.turn(number, RingCall::Claim)? {
+        RingAnswer::Given(claim) => Ok(Session {
             number,
             work: Work::Source {
                 claim,
                 cutter: Cutter::new(),
             },
             ending: None,
-        },
-        RingAnswer::Taken { caller, claim } => open_refused(
+        }),
+        RingAnswer::Taken { caller, claim } => Ok(open_refused(
             number,
             Ending::Taken { caller, claim },
-        ),
+        )),
         _ => unreachable!(),
     }
 }
 
 /// A rover opens: it joins the mountpoint.
-pub fn open_rover(alloc: Global, number: u32, ring: &Plain) -> Session
-    ensures { result ≡ opened_rover number ring.now }
+pub fn open_rover(alloc: Global, number: u32, desk: &mut RingDesk) -> Result<Session, AllocError>
+    requires { 0 < length desk.old.ring.filters }
+    ensures session { IfOk result (λ session. session ≡ opened_rover number desk.old) }
+    ensures desk { OnOk result (desk.new ≡ after_calls number (RingCall.Join 0 ∷ []) desk.old) }
 {
-    Session {
+    Ok(Session {
         number,
         work: Work::Rover {
-            segment: Segment::begin(alloc, 0, ring.join()),
+            segment: desk.join(alloc, number)?,
             body: Body::new(alloc),
         },
         ending: None,
-    }
+    })
 }
 
 /// A connection opens that is refused at once.
@@ -81,52 +84,59 @@ pub fn open_refused(number: u32, ending: Ending) -> Session
 
 impl Session {
     /// Bytes arrive: a source publishes the frames that they complete.
-    pub fn feed(&mut self, ring: &mut Plain, bytes: &[u8]) -> Result<(), AllocError>
-        requires { HasRoom bytes.now self.old }
+    pub fn feed(&mut self, desk: &mut RingDesk, bytes: &[u8]) -> Result<(), AllocError>
+        requires room { HasRoom bytes.now self.old }
+        requires may_call { MayCall desk.old self.old }
         ensures session { OnOk result (self.new ≡ fed bytes.now self.old) }
-        ensures ring { OnOk result (ring.new ≡ ring_fed bytes.now self.old ring.old) }
+        ensures desk { OnOk result (desk.new ≡ desk_after (arrives bytes.now) self.old desk.old) }
     {
         if self.ending.is_some() {
             return Ok(());
         }
         match &mut self.work {
-            Work::Source { cutter, .. } => publish_bytes(cutter, ring, bytes),
+            Work::Source { claim, cutter } => {
+                publish_bytes(cutter, desk, self.number, *claim, bytes)
+            }
             Work::Rover { .. } => Ok(()),
             Work::Refused => Ok(()),
         }
     }
 
     /// Takes a turn: a rover reads from its segment.
-    pub fn turn(&mut self, ring: &Plain, budget: u32, outbox: &mut Outbox) -> Result<(), AllocError>
-        requires { IsReady ring.now self.old }
-        ensures { OnOk result (self.new ≡ turned ring.now budget self.old) }
+    pub fn turn(&mut self, desk: &mut RingDesk, budget: u32) -> Result<(), AllocError>
+        requires { MayCall desk.old self.old }
+        ensures session { OnOk result (self.new ≡ turned desk.old budget self.old) }
+        ensures desk { OnOk result (desk.new ≡ desk_after (takes_turn budget) self.old desk.old) }
     {
         if self.ending.is_some() {
             return Ok(());
         }
         match &mut self.work {
-            Work::Rover { segment, body } => take_turn(segment, body, budget, ring, outbox),
+            Work::Rover { segment, body } => desk.read(self.number, budget, segment, body),
             Work::Source { .. } => Ok(()),
             Work::Refused => Ok(()),
         }
     }
 
     /// Is closed from outside: a source gives its claim back.
-    pub fn close(&mut self, ring: &mut Plain, last: Last)
-        ensures session { self.new ≡ closed last self.old }
-        ensures ring { ring.new ≡ ring_closed self.old ring.old }
+    pub fn close(&mut self, desk: &mut RingDesk, last: Last) -> Result<(), AllocError>
+        requires { MayCall desk.old self.old }
+        ensures session { OnOk result (self.new ≡ closed last self.old) }
+        ensures desk { OnOk result (desk.new ≡ desk_after (ends last) self.old desk.old) }
     {
         if self.ending.is_some() {
-            return;
+            return Ok(());
         }
         match &self.work {
             Work::Source { claim, .. } => {
-                ring.release();
-                self.ending = Some(source_ending(*claim, last));
+                let claim = *claim;
+                desk.turn(self.number, RingCall::Release(claim))?;
+                self.ending = Some(source_ending(claim, last));
             }
             Work::Rover { .. } => self.ending = Some(rover_ending(last)),
             Work::Refused => {}
         }
+        Ok(())
     }
 }
 

@@ -2,13 +2,15 @@ ghost use Rattle.std.specs.Prelude.{◌≡◌, ℕ, ◌+◌, ◌^◌, ◌<◌, �
 ghost use Rattle.std.specs.List.{All, flat_map, sum_by, count_by};
 ghost use Rattle.std.specs.Fmt.{decimal};
 ghost use Rattle.caster_replay.specs.declared.session.Session.{Session};
+ghost use Rattle.caster_replay.specs.Recorded.{state_at};
 ghost use Rattle.caster_replay.specs.Report.{line, ending_words, lap_line, segment_lines, hex_or_dash};
 ghost use Rattle.caster_replay.specs.Text.{spaced, kept_lines, session_lines, has_segment, work_sent, work_overrun, sums_text, run_text};
 
+use crate::desk::RingDesk;
 use crate::ending::Ending;
 use crate::session::{Session, Work};
 use cast_text::push_decimal;
-use mount_ring::{Lap, Plain};
+use mount_ring::Lap;
 use rover_cursor::Segment;
 use std::alloc::{AllocError, Global};
 
@@ -191,30 +193,34 @@ fn overrun_in(session: &Session) -> u128
 }
 
 /// The report's text, when every connection has ended.
-pub fn report_text(alloc: Global, sessions: &[Session], ring: &Plain) -> Result<Vec<u8>, AllocError>
+pub fn report_text(
+    alloc: Global,
+    sessions: &[Session],
+    desk: &RingDesk,
+) -> Result<Vec<u8>, AllocError>
     requires { All (λ (s : Session). IsSome s.ending) sessions.now }
-    ensures text { IfOk result (λ text. text.items ≡ run_text sessions.now ring.now.state) }
-    ensures few { OnOk result (length ring.now.state.published < 2 ^ 64) }
+    ensures text { IfOk result (λ text. text.items ≡ run_text sessions.now (state_at desk.now)) }
+    ensures few { OnOk result (length (state_at desk.now).published < 2 ^ 64) }
 {
     let mut text = Vec::new(alloc);
     for session in sessions {
         push_session(alloc, &mut text, session)?;
     }
-    push_closing(&mut text, sessions, ring)?;
+    push_closing(&mut text, sessions, desk)?;
     Ok(text)
 }
 
 #[tactic(auto, unfolding(crate::specs::Report::closing_lines))]
 /// Appends the mountpoint's line, and the total of all rovers.
-fn push_closing(out: &mut Vec<u8>, sessions: &[Session], ring: &Plain) -> Result<(), AllocError>
+fn push_closing(out: &mut Vec<u8>, sessions: &[Session], desk: &RingDesk) -> Result<(), AllocError>
     ensures sums { OnOk result (out.new.items
-        ≡ out.old.items ++ sums_text sessions.now ring.now.state) }
-    ensures few { OnOk result (length ring.now.state.published < 2 ^ 64) }
+        ≡ out.old.items ++ sums_text sessions.now (state_at desk.now)) }
+    ensures few { OnOk result (length (state_at desk.now).published < 2 ^ 64) }
 {
     push_line(
         out,
         b"mount A",
-        &[u128::from(ring.published()), u128::from(ring.claims())],
+        &[u128::from(desk.published()), u128::from(desk.claims())],
     )?;
     push_line(
         out,

@@ -1,4 +1,4 @@
-use Rattle.std.proofs.Common.{◌≡◌, ◌++◌, ◌∷◌, [], ap, ◌∙◌}
+use Rattle.std.proofs.Common.{◌++◌, ◌∷◌, [], ap, ◌∙◌}
 use Rattle.caster_replay.proofs.TextLemmas.{line_appended}
 use Rattle.caster_replay.proofs.text.push_line.Goals as goal
 
