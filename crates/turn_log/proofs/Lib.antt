@@ -1,3 +1,6 @@
 pub mod HistoryLaws
 pub mod TurnLaws
 pub mod HeardLaws
+pub mod LockLists
+pub mod LockHistories
+pub mod LockSteps

@@ -2,3 +2,5 @@ pub mod History
 pub mod Turn
 pub mod Heard
 pub mod Faults
+pub mod LockRule
+pub mod LockSteps

@@ -4,6 +4,7 @@
 
 mod journal;
 mod laws;
+mod lock;
 mod object;
 mod place;
 #[cfg(test)]
