@@ -4,3 +4,4 @@ pub mod HeardLaws
 pub mod LockLists
 pub mod LockHistories
 pub mod LockSteps
+pub mod LockSeats

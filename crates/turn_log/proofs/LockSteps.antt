@@ -575,3 +575,60 @@ module _ {V C Z : Type 0} (passes : ℕ) (stands : V → History C → Type 0) (
             },
             tells,
           )
+
+  -- settle: the serving word is loaded after a seat was taken in
+
+  pub settles_allowed : (slots id : ℕ) (me : Seated C V) → me.0.stage ≡ Idle
+      → Allows Rule slots id me 0 (λ n. n) (settles shape fits me)
+  settles_allowed slots id me idle = by_words slots id 0 me (λ n. n) (settles shape fits me) step
+    where
+      step : (s : State (Held V C) (Known C V)) (k : Rule s) → get_elem? s.views id ≡ some me.0
+          → (w : Known C V) × (a : Act (Held V C)) × Valid s.homes me.1 a
+          × Rule (record { words = k.serving ∷ k.ticket ∷ []; homes = homes_after s.homes me.1 a; views = slice_set s.views id w })
+          × settles shape fits me k.serving (w, carried_after me.1 a)
+      step s k here =
+          let was = k.each id me.0 here in
+          let found = longer me.0.seen me.0.told k.whole was.sees was.hears in
+          let more : History C = found.0 in
+          let now : History C = me.0.seen ++ more in
+          let w : Known C V = record me.0 { numbers = voices me.0; seen = now; brought = []; told = [] } in
+          let voiced : voices w ≡ voices me.0 = append-nil (voices me.0) in
+          let voiced_length : length (voices w) ≡ length (voices me.0) = ap length voiced in
+          let silent : (n : ℕ) → 0 < times n me.0.numbers → own n more ≡ [] =
+          λ n speaks. none_more n me.0.seen more k.whole found.2 (was.own_seen n speaks) in
+          let told : (n : ℕ) → 0 < times n me.0.brought → GoesOn n me.0.told now × (own n k.whole ≡ own n now) =
+          λ n speaks. between n me.0.told now k.whole found.1 found.2 (was.own_told n speaks) in
+          let not_served : (x : ℕ) → me.0.stage ≡ AtTurn x → ⊥ = λ x is.
+          let e : Idle ≡ AtTurn x = sym idle ∙ is in absurd (cc e) in (
+            w,
+            keeps,
+            tt,
+            quiet_step s k id me.0 w here not_served not_served (λ n has. has)
+                (counts_set passes k.ticket k.ticket s.views id me.0 w here k.counts
+                (let sums = sum_set (λ (view : Known C V). is_cleared view.stage) s.views id me.0 w here in
+                omega (arith, sums, k.counts.room)) (omega (arith, voiced_length))
+                (λ n. let e : times n (voices w) ≡ times n (voices me.0) = ap (times n) voiced in omega (arith, e)))
+                (record {
+                  about = was.about;
+                  worn = was.worn;
+                  sees = found.2;
+                  hears = (k.whole, refl);
+                  below = λ n speaks. was.below n (let e : times n (voices w) ≡ times n (voices me.0) = ap (times n) voiced in omega (arith, e, speaks));
+                  own_seen = λ n speaks. dite (dec_le 1 (times n me.0.numbers))
+                      (λ seen. (between n me.0.seen now k.whole (more, refl) found.2 (was.own_seen n (omega (arith, seen)))).1)
+                      (λ other. (told n (omega (arith, other, speaks, times-append n me.0.numbers me.0.brought))).1);
+                  own_told = λ n speaks. absurd (omega (arith, speaks));
+                  stage = subst (λ (stage : Stage). StageOk k.serving k.ticket k.whole now (voices me.0) stage) (sym idle) tt;
+                }),
+            (
+              more,
+              refl,
+              refl,
+              found.1,
+              silent,
+              (λ n speaks. (told n speaks).0),
+              (λ v e. subst (λ (y : Z). IsLegal (fits y) now) (sym (was.about v e))
+                (legal_front (fits z) now found.2.0
+                (subst (λ (h : History C). IsLegal (fits z) h) found.2.1 k.legal))),
+            ),
+          )
