@@ -4,3 +4,4 @@ pub mod Heard
 pub mod Faults
 pub mod LockRule
 pub mod LockSteps
+pub mod LockNames
