@@ -5,3 +5,4 @@ pub mod LockLists
 pub mod LockHistories
 pub mod LockSteps
 pub mod LockSeats
+pub mod LockTurns

@@ -487,8 +487,10 @@ module _ {V C Z : Type 0} (passes : ℕ) (stands : V → History C → Type 0) (
     pub lent : me.1 ≡ (0, held) ∷ []
     pub last : held.last ≡ Some (by, call)
     pub stands_now : stands held.value (me.0.seen ++ (by, call) ∷ [])
-    pub shaped : shape held.value ≡ z
-    pub fitting : IsTrue (fits z me.0.seen by call)
+    pub value : V
+    pub about : me.0.about ≡ Some value
+    pub shaped : shape held.value ≡ shape value
+    pub fitting : IsTrue (fits (shape value) me.0.seen by call)
     pub speaks : 0 < times by me.0.numbers
     pub none_brought : me.0.brought ≡ []
 
@@ -517,6 +519,7 @@ module _ {V C Z : Type 0} (passes : ℕ) (stands : V → History C → Type 0) (
           let grown : me.0.seen ++ e ≡ k.whole ++ e = ap (λ (h : History C). h ++ e) turn.3 in
           let mine : HasTicket me.0.stage k.serving =
           subst (λ (stage : Stage). HasTicket stage k.serving) (sym ready.turn) turn.0 in
+          let shape_is : shape ready.value ≡ z = was.about ready.value ready.about in
           let voiced = times-append by me.0.numbers me.0.brought in
           let small : k.serving + 1 < 2 ^ 64 = omega (arith, k.counts.room, k.few, k.behind) in
           let not_cleared : is_cleared me.0.stage ≡ 0 = ap is_cleared ready.turn in (
@@ -532,7 +535,8 @@ module _ {V C Z : Type 0} (passes : ℕ) (stands : V → History C → Type 0) (
               long = length-append k.whole e ∙ ap (λ (n : ℕ). n + 1) k.long;
               behind = omega (arith, turn.0, turn.1);
               legal = legal_snoc (fits z) k.whole by call k.legal
-                  (subst (λ (h : History C). IsTrue (fits z h by call)) turn.3 ready.fitting);
+                  (subst (λ (h : History C). IsTrue (fits z h by call)) turn.3
+                  (subst (λ (y : Z). IsTrue (fits y me.0.seen by call)) shape_is ready.fitting));
               numbered = All-append (λ (entry : ℕ × C). entry.0 < passes) k.whole e k.numbered
                   (all_one (λ (entry : ℕ × C). entry.0 < passes) (by, call)
                   (was.below by (omega (arith, voiced, ready.speaks))));
@@ -562,7 +566,7 @@ module _ {V C Z : Type 0} (passes : ℕ) (stands : V → History C → Type 0) (
                     held,
                     ap (λ (hs : List (maybe.Option (Held V C))). put_back hs me.1) out.0 ∙ ap (put_back (none ∷ [])) ready.lent,
                     subst (stands held.value) grown ready.stands_now,
-                    ready.shaped,
+                    ready.shaped ∙ shape_is,
                     quiet_set s.views id w
                         (λ j u x else at is.
                           let theirs = subst (λ (stage : Stage). StageOk k.serving k.ticket k.whole u.seen u.numbers stage) is

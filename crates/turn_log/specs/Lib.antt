@@ -5,3 +5,4 @@ pub mod Faults
 pub mod LockRule
 pub mod LockSteps
 pub mod LockNames
+pub mod Lock

@@ -39,6 +39,20 @@ abbrev pub looks : {C V Z : Type 0} → (V → History C → Type 0) → (V → 
 looks stands shape fits me n now =
     (t : ℕ) → me.0.stage ≡ Waiting t → (n ≡ t → Took stands shape fits t me now) × (n ≢ t → now ≡ me)
 
+-- A whole turn: calls of others may have come first, and then came this call, which was answered at that point of the
+-- history. For the rest the seat knows what it knew.
+abbrev pub TookTurn : {V C A R Z : Type 0} → (V → Z) → (Z → History C → ℕ → C → Bool)
+    → (Z → History C → ℕ → C → A) → (Z → History C → ℕ → C → R → R)
+    → Known C V → Known C V → ℕ → C → A → R → R → Type 0
+TookTurn {V} {C} shape fits answer filled old now me call reply before after =
+    (others : History C)
+    × (now ≡ record old { seen = (old.seen ++ others) ++ (me, call) ∷ [] })
+    × (own me others ≡ [])
+    × ((value : V) → old.about ≡ Some value
+    → IsLegal (fits (shape value)) ((old.seen ++ others) ++ (me, call) ∷ [])
+    × (reply ≡ answer (shape value) (old.seen ++ others) me call)
+    × (after ≡ filled (shape value) (old.seen ++ others) me call before))
+
 -- the next is served, and the history has the call that was made of the object
 abbrev pub advances : {C V : Type 0} → Seated C V → ℕ → Seated C V → Type 0
 advances {C} {V} me n now =

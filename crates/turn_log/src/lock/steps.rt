@@ -2,7 +2,8 @@
 ghost use Rattle.std.specs.Prelude.{◌≡◌, ℕ, ◌^◌, ◌<◌, ◌≤◌, [], ◌∷◌, ◌++◌, length, IsTrue, IfOk, IfErr};
 ghost use Rattle.turn_log.specs.declared.lock.rule.Stage.TheVariants.{Idle, Waiting};
 ghost use Rattle.turn_log.specs.History.{History};
-ghost use Rattle.turn_log.specs.LockSteps.{Took};
+ghost use Rattle.turn_log.specs.LockRule.{times};
+ghost use Rattle.turn_log.specs.LockSteps.{Took, TookTurn};
 
 use super::parts::{Token, Turn};
 use super::plays::{Advance, Clear, Draw, Look};
@@ -58,6 +59,37 @@ impl<V: Played> Turn<V> {
             thread::yield_now();
         }
         unreachable!()
+    }
+
+    /// Draws a ticket, waits for it, plays the object and lets the next be served. Where 2^62 or
+    /// more tickets were drawn, it tells how many.
+    pub(super) fn take_turn<R: Wait>(
+        &self,
+        rt: &R,
+        token: &mut Token<V>,
+        me: u32,
+        call: V::Call,
+        room: &mut V::Room,
+    ) -> Result<V::Answer, u64>
+        requires here { token.old.table_id ≡ self.now.table.shared.table_id }
+        requires idle { token.old.me.0.stage ≡ Idle }
+        requires empty { token.old.me.1 ≡ [] }
+        requires none_brought { token.old.me.0.brought ≡ [] }
+        requires speaks { 0 < times me token.old.me.0.numbers }
+        requires about { (value : V) × (token.old.me.0.about ≡ Some value) }
+        requires fits { (value : V) → token.old.me.0.about ≡ Some value
+            → IsTrue (V.fits (V.shape value) token.old.me.0.seen me call) }
+        ensures same { (token.new.table_id ≡ token.old.table_id) × (token.new.me.1 ≡ []) }
+        ensures ok { IfOk result (λ reply. TookTurn V.shape V.fits V.answer V.filled token.old.me.0
+            token.new.me.0 me call reply room.old room.new) }
+        ensures err { IfErr result (λ turns. (2 ^ 62 ≤ turns) × (token.old.me.0.worn ≤ turns)
+            × (token.new.me.0 ≡ record token.old.me.0 { worn = turns }) × (room.new ≡ room.old)) }
+    {
+        let ticket = self.draw(token)?;
+        self.wait(rt, token, ticket);
+        let answer = play_held(token.slot_mut(&self.table.shared, OBJECT), me, call, room);
+        self.table.shared.fetch_add::<Advance<V>>(token, SERVING, 1);
+        Ok(answer)
     }
 }
 

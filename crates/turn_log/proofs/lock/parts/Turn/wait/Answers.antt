@@ -1,5 +1,6 @@
 -- The token looks for its ticket, again and again.
 use Rattle.std.proofs.Common.{rules, ◌≡◌, ◌<◌, sym, ◌∙◌, ap, subst, arith}
+use Rattle.turn_log.specs.LockSteps.{Took}
 use Rattle.turn_log.proofs.LockSteps.{looks_allowed}
 use Rattle.turn_log.proofs.lock.parts.Turn.wait.Goals as goal
 
@@ -12,3 +13,11 @@ load-serving-requires g c =
           _ _ c.args.ticket _ (ap (λ me. me.0.stage) c.loop.invariant.4 ∙ c.requires.waiting)
           (ap (λ me. me.1) c.loop.invariant.4 ∙ c.requires.empty),
     )
+
+-- the ticket is served
+pub returns-then-serving-ticket-clause-took : goal.returns-then-serving-ticket-clause-took
+returns-then-serving-ticket-clause-took g c =
+    let now = c.load-serving.new.seat.me in
+    subst (λ me. Took g.V.Played.stands g.V.Played.shape g.V.Played.fits c.args.ticket me now) c.loop.invariant.4
+    ((c.load-serving.ensures.2 c.args.ticket (ap (λ me. me.0.stage) c.loop.invariant.4 ∙ c.requires.waiting)).0
+    c.if-serving-ticket.true)
