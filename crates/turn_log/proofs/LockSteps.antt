@@ -495,10 +495,10 @@ module _ {V C Z : Type 0} (passes : ℕ) (stands : V → History C → Type 0) (
     pub none_brought : me.0.brought ≡ []
 
   pub advances_allowed : (slots id t by : ℕ) (call : C) (held : Held V C) (me : Seated C V) → Ready me t by call held
-      → Allows Rule slots id me 0 (λ n. (n + 1) % 2 ^ 64) (advances me)
-  advances_allowed slots id t by call held me ready = by_words slots id 0 me (λ n. (n + 1) % 2 ^ 64) (advances me) step
+      → Allows Rule slots id me 0 (λ n. (n + 1) % 2 ^ 64) (λ _. advances me)
+  advances_allowed slots id t by call held me ready = by_words slots id 0 me (λ n. (n + 1) % 2 ^ 64) (λ _. advances me) step
     where
-      tells : advances me 0 (ended me by call, rest me.1)
+      tells : advances me (ended me by call, rest me.1)
       tells lent k c is said =
           let held_is : held ≡ lent = ap (λ (l : List (ℕ × Held V C)). (get_or l 0 (0, held)).1) (sym ready.lent ∙ is) in
           let entry : ◌≡◌ {A = ℕ × C} (by, call) (k, c) = ap (λ (o : Option (ℕ × C)). unwrap_or o (by, call))
@@ -509,7 +509,7 @@ module _ {V C Z : Type 0} (passes : ℕ) (stands : V → History C → Type 0) (
       step : (s : State (Held V C) (Known C V)) (k : Rule s) → get_elem? s.views id ≡ some me.0
           → (w : Known C V) × (a : Act (Held V C)) × Valid s.homes me.1 a
           × Rule (record { words = (k.serving + 1) % 2 ^ 64 ∷ k.ticket ∷ []; homes = homes_after s.homes me.1 a; views = slice_set s.views id w })
-          × advances me k.serving (w, carried_after me.1 a)
+          × advances me (w, carried_after me.1 a)
       step s k here =
           let e : History C = (by, call) ∷ [] in
           let w : Known C V = ended me by call in
@@ -583,13 +583,13 @@ module _ {V C Z : Type 0} (passes : ℕ) (stands : V → History C → Type 0) (
   -- settle: the serving word is loaded after a seat was taken in
 
   pub settles_allowed : (slots id : ℕ) (me : Seated C V) → me.0.stage ≡ Idle
-      → Allows Rule slots id me 0 (λ n. n) (settles shape fits me)
-  settles_allowed slots id me idle = by_words slots id 0 me (λ n. n) (settles shape fits me) step
+      → Allows Rule slots id me 0 (λ n. n) (λ _. settles shape fits me)
+  settles_allowed slots id me idle = by_words slots id 0 me (λ n. n) (λ _. settles shape fits me) step
     where
       step : (s : State (Held V C) (Known C V)) (k : Rule s) → get_elem? s.views id ≡ some me.0
           → (w : Known C V) × (a : Act (Held V C)) × Valid s.homes me.1 a
           × Rule (record { words = k.serving ∷ k.ticket ∷ []; homes = homes_after s.homes me.1 a; views = slice_set s.views id w })
-          × settles shape fits me k.serving (w, carried_after me.1 a)
+          × settles shape fits me (w, carried_after me.1 a)
       step s k here =
           let was = k.each id me.0 here in
           let found = longer me.0.seen me.0.told k.whole was.sees was.hears in

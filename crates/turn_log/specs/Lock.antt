@@ -8,19 +8,20 @@ use Rattle.turn_log.specs.declared.lock.parts.Pass.{Pass}
 use Rattle.turn_log.specs.declared.lock.parts.Note.{Note}
 use Rattle.turn_log.specs.History.{History}
 
-module _ {V C A R S : Type 0} {g : Ghosts V C A R S} where
+module _ {V C A R S : Type 0} where
   -- how many passes the lock was opened with
   abbrev pub turn_passes : Turn V C A R S → ℕ
   turn_passes turn = turn.table.shared.key.passes
 
-  -- what no call changes of the lock's object
-  abbrev pub turn_shape : Turn V C A R S → S
-  turn_shape turn = g.shape turn.table.shared.key.value.value
+  -- the object that the lock was opened with
+  abbrev pub turn_value : Turn V C A R S → V
+  turn_value turn = turn.table.shared.key.value.value
 
   -- which lock it is, as the home of its seats
   abbrev pub turn_home : Turn V C A R S → Gv
   turn_home turn = table_id_coded.code turn.table.shared.table_id
 
+module _ {V C A R S : Type 0} {g : Ghosts V C A R S} where
   -- the caller number of a pass
   abbrev pub pass_number : Pass V C A R S g → ℕ
   pass_number pass = pass.number
@@ -43,7 +44,13 @@ module _ {V C A R S : Type 0} {g : Ghosts V C A R S} where
 
   -- the pass is one of this lock's
   abbrev pub IsPassOf : Pass V C A R S g → Turn V C A R S → Type 0
-  IsPassOf pass turn = (pass_home pass ≡ turn_home turn) × HasShape pass (turn_shape turn)
+  IsPassOf pass turn = (pass_home pass ≡ turn_home turn) × HasShape pass (g.shape (turn_value turn))
+
+  -- the pass is what it was, but for what it has seen
+  abbrev pub SamePass : Pass V C A R S g → Pass V C A R S g → Type 0
+  SamePass old now =
+      (pass_number now ≡ pass_number old) × (pass_worn now ≡ pass_worn old) × (pass_home now ≡ pass_home old)
+      × (now.token.me.0.about ≡ old.token.me.0.about)
 
   -- the history as the note's writer had seen it
   abbrev pub note_seen : Note V C A R S g → History C

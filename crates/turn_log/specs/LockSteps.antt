@@ -54,14 +54,14 @@ TookTurn {V} {C} shape fits answer filled old now me call reply before after =
     × (after ≡ filled (shape value) (old.seen ++ others) me call before))
 
 -- the next is served, and the history has the call that was made of the object
-abbrev pub advances : {C V : Type 0} → Seated C V → ℕ → Seated C V → Type 0
-advances {C} {V} me n now =
+abbrev pub advances : {C V : Type 0} → Seated C V → Seated C V → Type 0
+advances {C} {V} me now =
     (held : Held V C) (k : ℕ) (call : C) → me.1 ≡ (0, held) ∷ [] → held.last ≡ Some (k, call)
     → now ≡ (record me.0 { stage = Idle; seen = me.0.seen ++ (k, call) ∷ [] }, [])
 
 -- The seat has seen its own history and that of the seat that was taken in, and speaks for both.
-abbrev pub settles : {C V Z : Type 0} → (V → Z) → (Z → History C → ℕ → C → Bool) → Seated C V → ℕ → Seated C V → Type 0
-settles {C} {V} shape fits me n now =
+abbrev pub settles : {C V Z : Type 0} → (V → Z) → (Z → History C → ℕ → C → Bool) → Seated C V → Seated C V → Type 0
+settles {C} {V} shape fits me now =
     (more : History C)
     × (now.0 ≡ record me.0 { numbers = voices me.0; seen = me.0.seen ++ more; brought = []; told = [] })
     × (now.1 ≡ me.1) × Begins me.0.told (me.0.seen ++ more)

@@ -1,8 +1,10 @@
 //! One lock for any object: callers draw tickets, and the object is played in their order.
 
+mod notes;
 mod parts;
 mod plays;
 mod rule;
+mod seats;
 mod steps;
 
 pub use parts::{Note, Pass, Seat, Turn};

@@ -46,7 +46,7 @@ pub struct Advance<V> {
 impl<V: Played> Play<Held<V, V::Call>, Known<V::Call, V>> for Advance<V> {
     ghost use Rattle.turn_log.specs.LockSteps.{advances};
 
-    ghost then = { λ _. advances };
+    ghost then = { λ _ me _. advances me };
 }
 
 /// A load of the serving word after a seat was taken in: the longer history is seen.
@@ -57,7 +57,7 @@ pub struct Settle<V> {
 impl<V: Played> Play<Held<V, V::Call>, Known<V::Call, V>> for Settle<V> {
     ghost use Rattle.turn_log.specs.LockSteps.{settles};
 
-    ghost then = { λ _. settles V.shape V.fits };
+    ghost then = { λ _ me _. settles V.shape V.fits me };
 }
 
 /// Cuts off a pass: it gets the first number that is left.
