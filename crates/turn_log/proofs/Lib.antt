@@ -6,3 +6,4 @@ pub mod LockHistories
 pub mod LockSteps
 pub mod LockSeats
 pub mod LockTurns
+pub mod LockPasses

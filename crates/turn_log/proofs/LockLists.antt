@@ -111,3 +111,25 @@ from_once k m (suc n) =
     (λ ne.
       let none : cond (eqb m k) 1 0 ≡ 0 = ap (λ (b : Bool). let r : ℕ = cond b 1 0 in r) (ne_eqb m k ne) in
       omega (arith, first, none, rest))
+
+-- an element of a list with one more at its end is an earlier one, or that one
+pub at_end : {A : Type 0} (l : List A) (a b : A) (j : ℕ) → get_elem? (l ++ a ∷ []) j ≡ some b
+    → (get_elem? l j ≡ some b) ⊎ ((j ≡ length l) × (a ≡ b))
+at_end [] a b zero e = inr (refl, some-injective a b e)
+at_end [] a b (suc j) e = absurd (some-ne-none b (sym e))
+at_end (x ∷ xs) a b zero e = inl e
+at_end (x ∷ xs) a b (suc j) e =
+    ⊎_elim (λ found. inl found) (λ last. inr (ap suc last.0, last.1)) (at_end xs a b j e)
+
+-- the element that stands at the end of a beginning
+pub at_cut : {A : Type 0} (l : List A) (a b : A) (rest : List A) (j : ℕ) → get_elem? ((l ++ a ∷ []) ++ rest) j ≡ some b
+    → length l ≤ j → (length l < j) ⊎ (a ≡ b)
+at_cut [] a b rest zero e le = inr (some-injective a b e)
+at_cut [] a b rest (suc j) e le = inl (omega arith)
+at_cut (x ∷ xs) a b rest zero e le = absurd (omega (arith, le))
+at_cut (x ∷ xs) a b rest (suc j) e le =
+    ⊎_elim (λ later. inl (omega (arith, later))) (λ is. inr is) (at_cut xs a b rest j e (omega (arith, le)))
+
+pub one_more : (n : ℕ) → 0 < n → (m : ℕ) × (n ≡ suc m)
+one_more zero stands = absurd (omega (arith, stands))
+one_more (suc m) stands = (m, refl)

@@ -1,6 +1,8 @@
 //! One lock for any object: callers draw tickets, and the object is played in their order.
 
+mod closing;
 mod notes;
+mod opening;
 mod parts;
 mod plays;
 mod rule;
