@@ -6,3 +6,4 @@ pub mod LockRule
 pub mod LockSteps
 pub mod LockNames
 pub mod Lock
+pub mod LockTests

@@ -8,5 +8,7 @@ mod plays;
 mod rule;
 mod seats;
 mod steps;
+#[cfg(test)]
+mod tests;
 
 pub use parts::{Note, Pass, Seat, Turn};
