@@ -1,5 +1,5 @@
 -- Lists of numbers and sums over lists, for the rule of the lock.
-use Rattle.std.proofs.Common.{◌≡◌, ◌≢◌, ℕ, zero, suc, ◌+◌, ◌<◌, ◌≤◌, ◌⊎◌, inl, inr, ⊎_elim, Bool, true, false, cond, List, [], ◌∷◌, ◌++◌, length, get_or, set, take, drop, refl, sym, ◌∙◌, ap, subst, arith, sum_by, count_by, eqb, eq-eqb, ne_eqb, take-append-drop, length-append}
+use Rattle.std.proofs.Common.{◌≡◌, ◌≢◌, ℕ, zero, suc, ◌+◌, ◌<◌, ◌≤◌, ◌⊎◌, inl, inr, ⊎_elim, Bool, cond, List, [], ◌∷◌, ◌++◌, length, get_or, set, take, drop, refl, sym, ◌∙◌, ap, subst, arith, sum_by, eqb, eq-eqb, ne_eqb, take-append-drop}
 use Rattle.std.proofs.lemmas.List.Sums.{sum_by-cons, sum_by-append, sum_by-set}
 use mathlib.Core.Option.{some, some-injective, some-ne-none}
 use mathlib.Core.Logic.{dite}
@@ -93,9 +93,9 @@ from_within k m (suc n) stands =
     dite (ℕ_discrete m k)
     (λ is. (omega arith, omega arith))
     (λ ne.
-      let none : cond (eqb m k) 1 0 ≡ 0 = ap (λ (b : Bool). let r : ℕ = cond b 1 0 in r) (ne_eqb m k ne) in
-      let more : 0 < times k (from (m + 1) n) = omega (arith, first, none) in
-      let r = from_within k (m + 1) n more in (omega (arith, r.0), omega (arith, r.1)))
+    let none : cond (eqb m k) 1 0 ≡ 0 = ap (λ (b : Bool). let r : ℕ = cond b 1 0 in r) (ne_eqb m k ne) in
+    let more : 0 < times k (from (m + 1) n) = omega (arith, first, none) in
+    let r = from_within k (m + 1) n more in (omega (arith, r.0), omega (arith, r.1)))
 
 pub from_once : (k m n : ℕ) → times k (from m n) ≤ 1
 from_once k m zero = omega arith
@@ -104,13 +104,13 @@ from_once k m (suc n) =
     let rest = from_once k (m + 1) n in
     dite (ℕ_discrete m k)
     (λ is.
-      let one : cond (eqb m k) 1 0 ≡ 1 = ap (λ (b : Bool). let r : ℕ = cond b 1 0 in r) (eq-eqb m k is) in
-      dite (ℕ_discrete (times k (from (m + 1) n)) 0)
-      (λ nowhere. omega (arith, first, one, nowhere))
-      (λ stands. let r = from_within k (m + 1) n (omega (arith, stands)) in absurd (omega (arith, r.0, is))))
+    let one : cond (eqb m k) 1 0 ≡ 1 = ap (λ (b : Bool). let r : ℕ = cond b 1 0 in r) (eq-eqb m k is) in
+    dite (ℕ_discrete (times k (from (m + 1) n)) 0)
+    (λ nowhere. omega (arith, first, one, nowhere))
+    (λ stands. let r = from_within k (m + 1) n (omega (arith, stands)) in absurd (omega (arith, r.0, is))))
     (λ ne.
-      let none : cond (eqb m k) 1 0 ≡ 0 = ap (λ (b : Bool). let r : ℕ = cond b 1 0 in r) (ne_eqb m k ne) in
-      omega (arith, first, none, rest))
+    let none : cond (eqb m k) 1 0 ≡ 0 = ap (λ (b : Bool). let r : ℕ = cond b 1 0 in r) (ne_eqb m k ne) in
+    omega (arith, first, none, rest))
 
 -- an element of a list with one more at its end is an earlier one, or that one
 pub at_end : {A : Type 0} (l : List A) (a b : A) (j : ℕ) → get_elem? (l ++ a ∷ []) j ≡ some b

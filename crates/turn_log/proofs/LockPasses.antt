@@ -1,5 +1,5 @@
 -- All passes of a lock: how they are dealt, and how they are taken in again.
-use Rattle.std.proofs.Common.{◌≡◌, ℕ, suc, ◌+◌, ◌<◌, ◌≤◌, ◌⊎◌, inl, inr, ⊎_elim, Bool, List, [], ◌∷◌, ◌++◌, length, refl, sym, ◌∙◌, ap, subst, arith, Some, append_assoc, length-append}
+use Rattle.std.proofs.Common.{◌≡◌, ℕ, suc, ◌+◌, ◌<◌, ◌≤◌, ⊎_elim, Bool, List, [], ◌∷◌, ◌++◌, length, refl, sym, ◌∙◌, ap, subst, arith, append_assoc, length-append}
 use Rattle.std.proofs.lemmas.List.{append-nil}
 use mathlib.Core.Option.{some}
 use lib.ListN.{get_elem?}
@@ -47,8 +47,7 @@ gathered_one {P} {V} {C} number seen shape fits old now other slot next xs ys le
     let on : (k : ℕ) → 0 < times k now.numbers → GoesOn k now.seen next.0.seen =
     λ k speaks. (more, sees, settled.4 k speaks) in
     let split : xs ≡ (left ++ pass ∷ []) ++ g.rest = g.split ∙ ap (λ (l : List P). l ++ g.rest) cut in
-    let mine : (0 < times (number pass) next.0.numbers) × GoesOn (number pass) (seen pass) next.0.seen =
-    (
+    let mine : (0 < times (number pass) next.0.numbers) × GoesOn (number pass) (seen pass) next.0.seen = (
       omega (arith, times_now (number pass), times_one (number pass)),
       subst (λ (h : History C). GoesOn (number pass) h next.0.seen) saw
           (subst (λ (h : History C). GoesOn (number pass) other.seen h) (sym sees)
@@ -60,16 +59,16 @@ gathered_one {P} {V} {C} number seen shape fits old now other slot next xs ys le
       size = let a = ap length numbers in let b = ap length cut in
           omega (arith, a, b, g.size, length-append now.numbers (number pass ∷ []), length-append left (pass ∷ []));
       own = λ k speaks. let was = g.own k speaks in (
-            omega (arith, was.0, times_now k),
-            goes_both k old.seen now.seen next.0.seen was.1 (on k was.0),
-          );
+        omega (arith, was.0, times_now k),
+        goes_both k old.seen now.seen next.0.seen was.1 (on k was.0),
+      );
       taken = λ i other_pass at le.
           ⊎_elim
           (λ later.
-            let was = g.taken i other_pass at (let b = ap length cut in omega (arith, b, later, length-append left (pass ∷ []))) in (
-              omega (arith, was.0, times_now (number other_pass)),
-              goes_both (number other_pass) (seen other_pass) now.seen next.0.seen was.1 (on (number other_pass) was.0),
-            ))
+          let was = g.taken i other_pass at (let b = ap length cut in omega (arith, b, later, length-append left (pass ∷ []))) in (
+            omega (arith, was.0, times_now (number other_pass)),
+            goes_both (number other_pass) (seen other_pass) now.seen next.0.seen was.1 (on (number other_pass) was.0),
+          ))
           (λ is. subst (λ (p : P). (0 < times (number p) next.0.numbers) × GoesOn (number p) (seen p) next.0.seen) is mine)
           (at_cut left pass other_pass g.rest i (ap (λ (l : List P). get_elem? l i) (sym split) ∙ at) le);
     }

@@ -1,26 +1,26 @@
 -- How seats at the lock come and go: the first one, passes and notes that are cut off and taken in, and the last one.
-use Rattle.std.proofs.Common.{◌≡◌, ◌≢◌, ℕ, zero, suc, ◌+◌, ◌^◌, ◌<◌, ◌≤◌, ◌⊎◌, inl, inr, ⊎_elim, Bool, List, [], ◌∷◌, ◌++◌, length, set, take, drop, map, refl, sym, ◌∙◌, ap, ap₂, subst, arith, sum_by, All, Some, None, length-append, length-take, length-drop, take-append-drop, Option, unwrap_or}
+use Rattle.std.proofs.Common.{◌≡◌, ◌≢◌, ℕ, zero, suc, ◌+◌, ◌^◌, ◌<◌, ◌≤◌, inl, inr, ⊎_elim, Bool, List, [], ◌∷◌, length, set, take, drop, refl, sym, ◌∙◌, ap, subst, arith, sum_by, All, Some, length-append, take-append-drop, Option, unwrap_or}
 use Rattle.std.proofs.lemmas.List.{append-nil}
 use Rattle.std.proofs.lemmas.List.Elements.{All-nil}
 use Rattle.std.proofs.lemmas.List.Sums.{sum_by_push}
 use mathlib.Core.Option.{some, none, some-injective, some-ne-none}
 use mathlib.Core.Option as maybe
 use mathlib.Core.Logic.{dite}
-use native.Mathlib.Decide.{dec_le, ℕ_discrete}
+use native.Mathlib.Decide.{dec_le}
 use lib.ListN.{get_elem?}
 use Rattle.atomic_table.specs.Table.{State, Splits, Joins, opening, Final, Seen}
-use Rattle.atomic_table.proofs.Lists.{at_set, set_here, set_else, at_longer, at_snoc}
+use Rattle.atomic_table.proofs.Lists.{set_else, at_longer, at_snoc}
 use Rattle.turn_log.specs.declared.lock.rule.Stage.{Stage}
-use Rattle.turn_log.specs.declared.lock.rule.Stage.TheVariants.{Idle, Cleared, Waiting, AtTurn}
+use Rattle.turn_log.specs.declared.lock.rule.Stage.TheVariants.{Idle, AtTurn}
 use Rattle.turn_log.specs.declared.lock.rule.Known.{Known}
 use Rattle.turn_log.specs.declared.lock.rule.Held.{Held}
-use Rattle.turn_log.specs.History.{History, IsLegal, own, GoesOn}
-use Rattle.turn_log.specs.LockRule.{Begins, times, voices, HasTicket, is_cleared, StageOk, ViewOk, Counts, Lies, Kept, from, maker}
+use Rattle.turn_log.specs.History.{History, own, GoesOn}
+use Rattle.turn_log.specs.LockRule.{Begins, times, voices, HasTicket, is_cleared, StageOk, ViewOk, Kept, from, maker}
 use Rattle.turn_log.specs.LockSteps.{after_deal, dealt, noted, met, spent}
 use Rattle.turn_log.proofs.HistoryLaws.{legal_none}
-use Rattle.turn_log.proofs.LockLists.{at_length, at_same, each_set, sum_set, in_sum, two_in_sum, times-append, times_cut, times_some, length-from, from_within, from_once}
+use Rattle.turn_log.proofs.LockLists.{at_same, each_set, sum_set, two_in_sum, times-append, times_cut, length-from, from_within, from_once}
 use Rattle.turn_log.proofs.LockHistories.{begins_self, between}
-use Rattle.turn_log.proofs.LockSteps.{Quiet, quiet_set, lies_set, apart_set}
+use Rattle.turn_log.proofs.LockSteps.{lies_set, apart_set}
 
 -- who is idle has no ticket, and is not at its turn
 
@@ -77,47 +77,53 @@ module _ {V C Z : Type 0} (passes : ℕ) (stands : V → History C → Type 0) (
       let first_apart = apart_set s.views id left k.apart
       (λ j u n else at has mine. no_ticket left.stage idle_left n mine) in
       record {
-    serving = k.serving;
-    ticket = k.ticket;
-    whole = k.whole;
-    few = k.few;
-    words = k.words;
-    long = k.long;
-    behind = k.behind;
-    legal = k.legal;
-    numbered = k.numbered;
-    counts = record {
-      room =
-          let f : Known C V → ℕ = λ view. is_cleared view.stage in
-          let e : is_cleared v.stage ≡ 0 = ap is_cleared idle in
-          let l : is_cleared left.stage ≡ 0 = ap is_cleared idle_left in
-          let r : is_cleared right.stage ≡ 0 = ap is_cleared idle_right in
-          omega (arith, e, l, r, k.counts.room, sum_by_push f views right, sum_set f s.views id v left here);
-      parts =
-          let f : Known C V → ℕ = λ view. length (voices view) in
-          omega (arith, parts.size, k.counts.parts, sum_by_push f views right, sum_set f s.views id v left here);
-      once = λ n.
-          let f : Known C V → ℕ = λ view. times n (voices view) in
-          omega (arith, parts.each n, k.counts.once n, sum_by_push f views right, sum_set f s.views id v left here);
-    };
-    each = λ j u at. ⊎_elim (first_each j u) (λ is. subst Ok is (idle_ok shape z passes k.serving k.ticket k.whole right idle_right both.1))
-        (at_snoc views right u j at);
-    apart = λ i j u w n at_i at_j has_i has_j. ⊎_elim
-        (λ one. ⊎_elim
-          (λ two. first_apart i j u w n one two has_i has_j)
-          (λ two. absurd (no_ticket right.stage idle_right n (subst (λ (view : Known C V). HasTicket view.stage n) (sym two) has_j)))
-          (at_snoc views right w j at_j))
-        (λ one. absurd (no_ticket right.stage idle_right n (subst (λ (view : Known C V). HasTicket view.stage n) (sym one) has_i)))
-        (at_snoc views right u i at_i);
-    lies = ⊎_elim
-        (λ home. inl (home.0, home.1, home.2, home.3, (λ j u t at is. ⊎_elim
-          (λ one. home.4 j u t one is)
-          (λ one. not_served right.stage idle_right t (ap (λ (view : Known C V). view.stage) one ∙ is))
-          (at_snoc views right u j at))))
-        (λ out. inr (out.0, (out.1.0, out.1.1, out.1.2, at_longer views (right ∷ []) out.1.0 out.1.1 out.1.3, out.1.4)))
-        (lies_set stands shape z k.whole s.homes s.views id v left here
-        (not_served v.stage idle) (not_served left.stage idle_left) k.lies);
-  }
+        serving = k.serving;
+        ticket = k.ticket;
+        whole = k.whole;
+        few = k.few;
+        words = k.words;
+        long = k.long;
+        behind = k.behind;
+        legal = k.legal;
+        numbered = k.numbered;
+        counts = record {
+          room =
+              let f : Known C V → ℕ = λ view. is_cleared view.stage in
+              let e : is_cleared v.stage ≡ 0 = ap is_cleared idle in
+              let l : is_cleared left.stage ≡ 0 = ap is_cleared idle_left in
+              let r : is_cleared right.stage ≡ 0 = ap is_cleared idle_right in
+              omega (arith, e, l, r, k.counts.room, sum_by_push f views right, sum_set f s.views id v left here);
+          parts =
+              let f : Known C V → ℕ = λ view. length (voices view) in
+              omega (arith, parts.size, k.counts.parts, sum_by_push f views right, sum_set f s.views id v left here);
+          once = λ n.
+              let f : Known C V → ℕ = λ view. times n (voices view) in
+              omega (arith, parts.each n, k.counts.once n, sum_by_push f views right, sum_set f s.views id v left here);
+        };
+        each = λ j u at. ⊎_elim (first_each j u) (λ is. subst Ok is (idle_ok shape z passes k.serving k.ticket k.whole right idle_right both.1))
+            (at_snoc views right u j at);
+        apart = λ i j u w n at_i at_j has_i has_j. ⊎_elim
+            (λ one. ⊎_elim
+            (λ two. first_apart i j u w n one two has_i has_j)
+            (λ two. absurd (no_ticket right.stage idle_right n (subst (λ (view : Known C V). HasTicket view.stage n) (sym two) has_j)))
+            (at_snoc views right w j at_j))
+            (λ one. absurd (no_ticket right.stage idle_right n (subst (λ (view : Known C V). HasTicket view.stage n) (sym one) has_i)))
+            (at_snoc views right u i at_i);
+        lies = ⊎_elim
+            (λ home. inl (
+              home.0,
+              home.1,
+              home.2,
+              home.3,
+              (λ j u t at is. ⊎_elim
+                  (λ one. home.4 j u t one is)
+                  (λ one. not_served right.stage idle_right t (ap (λ (view : Known C V). view.stage) one ∙ is))
+                  (at_snoc views right u j at)),
+            ))
+            (λ out. inr (out.0, (out.1.0, out.1.1, out.1.2, at_longer views (right ∷ []) out.1.0 out.1.1 out.1.3, out.1.4)))
+            (lies_set stands shape z k.whole s.homes s.views id v left here
+            (not_served v.stage idle) (not_served left.stage idle_left) k.lies);
+      }
 
   -- the two views that come of two others speak together for no more than they did
   pub record Sums (v w both rest : Known C V) : Type 0 where
@@ -159,7 +165,7 @@ module _ {V C Z : Type 0} (passes : ℕ) (stands : V → History C → Type 0) (
         };
         each = each_set Ok views other rest
             (λ j u other_j at. each_set Ok s.views id both (λ i x else_i found. k.each i x found)
-              (idle_ok shape z passes k.serving k.ticket k.whole both idle_both two.0) j u at)
+            (idle_ok shape z passes k.serving k.ticket k.whole both idle_both two.0) j u at)
             (idle_ok shape z passes k.serving k.ticket k.whole rest idle_rest two.1);
         apart = apart_set views other rest
             (apart_set s.views id both k.apart (λ j u n else_j at has mine. no_ticket both.stage idle_both n mine))
@@ -187,10 +193,21 @@ module _ {V C Z : Type 0} (passes : ℕ) (stands : V → History C → Type 0) (
   deals id v idle =
       splits_by id v (after_deal v) (dealt v) idle idle idle
       (record {
-        size = omega (arith, length-append (drop 1 v.numbers) v.brought, length-append (take 1 v.numbers) [],
-            length-append v.numbers v.brought, ap length (take-append-drop 1 v.numbers), length-append (take 1 v.numbers) (drop 1 v.numbers));
-        each = λ n. omega (arith, times-append n (drop 1 v.numbers) v.brought, times-append n (take 1 v.numbers) [],
-            times-append n v.numbers v.brought, times_cut n v.numbers);
+        size = omega (
+          arith,
+          length-append (drop 1 v.numbers) v.brought,
+          length-append (take 1 v.numbers) [],
+          length-append v.numbers v.brought,
+          ap length (take-append-drop 1 v.numbers),
+          length-append (take 1 v.numbers) (drop 1 v.numbers),
+        );
+        each = λ n. omega (
+          arith,
+          times-append n (drop 1 v.numbers) v.brought,
+          times-append n (take 1 v.numbers) [],
+          times-append n v.numbers v.brought,
+          times_cut n v.numbers,
+        );
       })
       (λ serving ticket whole was. (
         record {
@@ -198,8 +215,13 @@ module _ {V C Z : Type 0} (passes : ℕ) (stands : V → History C → Type 0) (
           worn = was.worn;
           sees = was.sees;
           hears = was.hears;
-          below = λ n speaks. was.below n (omega (arith, speaks, times-append n (drop 1 v.numbers) v.brought,
-              times-append n v.numbers v.brought, times_cut n v.numbers));
+          below = λ n speaks. was.below n (omega (
+            arith,
+            speaks,
+            times-append n (drop 1 v.numbers) v.brought,
+            times-append n v.numbers v.brought,
+            times_cut n v.numbers,
+          ));
           own_seen = λ n speaks. was.own_seen n (omega (arith, speaks, times_cut n v.numbers));
           own_told = was.own_told;
         },
@@ -208,8 +230,13 @@ module _ {V C Z : Type 0} (passes : ℕ) (stands : V → History C → Type 0) (
           worn = was.worn;
           sees = was.sees;
           hears = (whole, refl);
-          below = λ n speaks. was.below n (omega (arith, speaks, times-append n (take 1 v.numbers) [],
-              times-append n v.numbers v.brought, times_cut n v.numbers));
+          below = λ n speaks. was.below n (omega (
+            arith,
+            speaks,
+            times-append n (take 1 v.numbers) [],
+            times-append n v.numbers v.brought,
+            times_cut n v.numbers,
+          ));
           own_seen = λ n speaks. was.own_seen n (omega (arith, speaks, times_cut n v.numbers));
           own_told = λ n speaks. absurd (omega (arith, speaks));
         },
@@ -306,8 +333,14 @@ module _ {V C Z : Type 0} (passes : ℕ) (stands : V → History C → Type 0) (
               stage = tt;
             });
         apart = λ i j v w n at_i at_j has_i has_j. opened_at held.value i v at_i ∙ sym (opened_at held.value j w at_j);
-        lies = inl (held, refl, stand, shaped, (λ id view t e is.
-          not_served first.stage refl t (ap (λ (v : Known C V). v.stage) (opened held.value id view e) ∙ is)));
+        lies = inl (
+          held,
+          refl,
+          stand,
+          shaped,
+          (λ id view t e is.
+              not_served first.stage refl t (ap (λ (v : Known C V). v.stage) (opened held.value id view e) ∙ is)),
+        );
       }
 
   -- the lock is closed by an idle seat that speaks for all
@@ -333,12 +366,19 @@ module _ {V C Z : Type 0} (passes : ℕ) (stands : V → History C → Type 0) (
         (λ n speaks. (between n v.seen k.whole k.whole was.sees (begins_self k.whole) (was.own_seen n speaks)).0),
       ))
       (λ out.
-        let j : ℕ = out.1.0 in
-        let u : Known C V = out.1.1 in
-        let else : id ≢ j = λ is. not_served v.stage idle out.1.2
-        (ap (λ (view : Known C V). view.stage) (at_same s.views id j v u is here out.1.3) ∙ out.1.4) in
-        let turn = subst (λ (stage : Stage). StageOk k.serving k.ticket k.whole u.seen u.numbers stage) out.1.4
-        (k.each j u out.1.3).stage in
-        absurd (omega (arith, all, turn.2, two_in_sum size s.views id j v u else here out.1.3, k.counts.parts,
-          length-append v.numbers v.brought, length-append u.numbers u.brought)))
+      let j : ℕ = out.1.0 in
+      let u : Known C V = out.1.1 in
+      let else : id ≢ j = λ is. not_served v.stage idle out.1.2
+      (ap (λ (view : Known C V). view.stage) (at_same s.views id j v u is here out.1.3) ∙ out.1.4) in
+      let turn = subst (λ (stage : Stage). StageOk k.serving k.ticket k.whole u.seen u.numbers stage) out.1.4
+      (k.each j u out.1.3).stage in
+      absurd (omega (
+        arith,
+        all,
+        turn.2,
+        two_in_sum size s.views id j v u else here out.1.3,
+        k.counts.parts,
+        length-append v.numbers v.brought,
+        length-append u.numbers u.brought,
+      )))
       k.lies

@@ -1,24 +1,24 @@
 -- Each step of a turn keeps the lock's rule.
-use Rattle.std.proofs.Common.{◌≡◌, ◌≢◌, ℕ, zero, suc, ◌+◌, ◌%◌, ◌^◌, ◌<◌, ◌≤◌, ◌⊎◌, inl, inr, ⊎_elim, Bool, true, IsTrue, List, [], ◌∷◌, ◌++◌, length, set, refl, sym, ◌∙◌, ap, ap₂, subst, arith, sum_by, All, Some, None, append_assoc, length-append, mod-eq_of_lt, slice_index, slice_set, get_or, unwrap_or, Option}
-use Rattle.std.proofs.lemmas.List.{append-nil, append_cancel_left}
+use Rattle.std.proofs.Common.{◌≡◌, ◌≢◌, ℕ, zero, suc, ◌+◌, ◌%◌, ◌^◌, ◌<◌, ◌≤◌, inl, inr, ⊎_elim, Bool, IsTrue, List, [], ◌∷◌, ◌++◌, length, set, refl, sym, ◌∙◌, ap, ap₂, subst, arith, sum_by, All, Some, length-append, mod-eq_of_lt, slice_index, slice_set, get_or, unwrap_or, Option}
+use Rattle.std.proofs.lemmas.List.{append-nil}
 use Rattle.std.proofs.lemmas.List.Elements.{All-append}
 use mathlib.Core.Option.{some, none, some-injective, some-ne-none}
 use mathlib.Core.Option as maybe
 use mathlib.Core.Logic.{dite}
 use native.Mathlib.Decide.{dec_le, ℕ_discrete}
 use lib.ListN.{get_elem?}
-use Rattle.atomic_table.specs.Table.{State, Me, Act, keeps, takes, gives, Valid, Allows, rest, put_back, homes_after, carried_after}
+use Rattle.atomic_table.specs.Table.{State, Act, keeps, takes, gives, Valid, Allows, rest, put_back, homes_after, carried_after}
 use Rattle.atomic_table.proofs.Lists.{at_set, set_here, set_else}
 use Rattle.turn_log.specs.declared.lock.rule.Stage.{Stage}
 use Rattle.turn_log.specs.declared.lock.rule.Stage.TheVariants.{Idle, Cleared, Waiting, AtTurn}
 use Rattle.turn_log.specs.declared.lock.rule.Known.{Known}
 use Rattle.turn_log.specs.declared.lock.rule.Held.{Held}
 use Rattle.turn_log.specs.History.{History, IsLegal, own, GoesOn}
-use Rattle.turn_log.specs.LockRule.{Begins, times, voices, HasTicket, is_cleared, StageOk, ViewOk, Counts, Lies, Kept}
+use Rattle.turn_log.specs.LockRule.{times, voices, HasTicket, is_cleared, StageOk, ViewOk, Counts, Lies, Kept}
 use Rattle.turn_log.specs.LockSteps.{Seated, clears, draws, Took, looks, advances, settles}
-use Rattle.turn_log.proofs.HistoryLaws.{legal_snoc, legal_front, own-append}
-use Rattle.turn_log.proofs.LockLists.{at_length, at_same, each_set, sum_set, in_sum, two_in_sum, sum_le, times-append, times_some}
-use Rattle.turn_log.proofs.LockHistories.{begins_self, begins_both, begins_next, none_more, between, own_next, longer}
+use Rattle.turn_log.proofs.HistoryLaws.{legal_snoc, legal_front}
+use Rattle.turn_log.proofs.LockLists.{at_length, at_same, each_set, sum_set, in_sum, two_in_sum, sum_le, times-append}
+use Rattle.turn_log.proofs.LockHistories.{begins_next, none_more, between, own_next, longer}
 
 -- one view is set
 
@@ -44,13 +44,13 @@ apart_set {C} {V} views id w apart new i j u v n at_i at_j has_i has_j =
     let T : Known C V → Type 0 = λ view. HasTicket view.stage n in
     ⊎_elim
     (λ one. ⊎_elim
-      (λ two. one.0 ∙ sym two.0)
-      (λ two. absurd (new j v n two.0 two.1 has_j (subst T (sym one.1) has_i)))
-      (at_set views id j w v at_j))
+    (λ two. one.0 ∙ sym two.0)
+    (λ two. absurd (new j v n two.0 two.1 has_j (subst T (sym one.1) has_i)))
+    (at_set views id j w v at_j))
     (λ one. ⊎_elim
-      (λ two. absurd (new i u n one.0 one.1 has_i (subst T (sym two.1) has_j)))
-      (λ two. apart i j u v n one.1 two.1 has_i has_j)
-      (at_set views id j w v at_j))
+    (λ two. absurd (new i u n one.0 one.1 has_i (subst T (sym two.1) has_j)))
+    (λ two. apart i j u v n one.1 two.1 has_i has_j)
+    (at_set views id j w v at_j))
     (at_set views id i w u at_i)
 
 -- nobody is at its turn
@@ -70,12 +70,17 @@ pub lies_set : {C V Z : Type 0} (stands : V → History C → Type 0) (shape : V
     → Lies stands shape z whole homes views → Lies stands shape z whole homes (set views id w)
 lies_set {C} {V} stands shape z whole homes views id v w here before after lies =
     ⊎_elim
-    (λ home. inl (home.0, home.1, home.2, home.3,
-      quiet_set views id w (λ j u t else found. home.4 j u t found) after))
+    (λ home. inl (
+      home.0,
+      home.1,
+      home.2,
+      home.3,
+      quiet_set views id w (λ j u t else found. home.4 j u t found) after,
+    ))
     (λ out. let j : ℕ = out.1.0 in let u : Known C V = out.1.1 in
-      let else : j ≢ id = λ is.
-      before out.1.2 (ap (λ (view : Known C V). view.stage) (at_same views id j v u (sym is) here out.1.3) ∙ out.1.4) in
-      inr (out.0, (j, u, out.1.2, set_else views id j w else ∙ out.1.3, out.1.4)))
+    let else : j ≢ id = λ is.
+    before out.1.2 (ap (λ (view : Known C V). view.stage) (at_same views id j v u (sym is) here out.1.3) ∙ out.1.4) in
+    inr (out.0, (j, u, out.1.2, set_else views id j w else ∙ out.1.3, out.1.4)))
     lies
 
 all_one : {A : Type 0} (P : A → Type 0) (x : A) → P x → All P (x ∷ [])
@@ -157,12 +162,12 @@ module _ {V C Z : Type 0} (passes : ℕ) (stands : V → History C → Type 0) (
       ≤ sum_by (λ (view : Known C V). length (voices view)) (set s.views id w) =
       sum_le (λ (view : Known C V). is_cleared view.stage) (λ (view : Known C V). length (voices view)) (set s.views id w)
       (λ i u at. each_set (λ (view : Known C V). is_cleared view.stage ≤ length (voices view)) s.views id w
-        (λ j x else found. cleared_speaks k.serving k.ticket k.whole x (k.each j x found).stage)
-        (let e : is_cleared w.stage ≡ 1 = ap is_cleared cleared in
-        let l = length-append w.numbers w.brought in
-        let n : length w.numbers ≡ length v.numbers = ap length same in
-        omega (arith, e, l, n))
-        i u at) in
+      (λ j x else found. cleared_speaks k.serving k.ticket k.whole x (k.each j x found).stage)
+      (let e : is_cleared w.stage ≡ 1 = ap is_cleared cleared in
+      let l = length-append w.numbers w.brought in
+      let n : length w.numbers ≡ length v.numbers = ap length same in
+      omega (arith, e, l, n))
+      i u at) in
       counts_set passes k.ticket k.ticket s.views id v w here k.counts
       (omega (arith, most, parts, voiced_length, k.counts.parts, few))
       (omega (arith, voiced_length))
@@ -173,14 +178,16 @@ module _ {V C Z : Type 0} (passes : ℕ) (stands : V → History C → Type 0) (
   clears_allowed slots id me idle speaks =
       by_words slots id 1 me (λ n. n) (clears me)
       (λ s k here. dite (dec_le (2 ^ 62) k.ticket)
-        (λ worn. clear_worn s k here worn)
-        (λ few. clear_fresh s k here (omega (arith, few))))
+      (λ worn. clear_worn s k here worn)
+      (λ few. clear_fresh s k here (omega (arith, few))))
     where
       ok : (s : State (Held V C) (Known C V)) (k : Rule s) → get_elem? s.views id ≡ some me.0
           → ViewOk shape z passes k.serving k.ticket k.whole me.0
       ok s k here = k.each id me.0 here
+
       not_served : (t : ℕ) → me.0.stage ≡ AtTurn t → ⊥
       not_served t is = let e : Idle ≡ AtTurn t = sym idle ∙ is in absurd (cc e)
+
       clear_worn : (s : State (Held V C) (Known C V)) (k : Rule s) → get_elem? s.views id ≡ some me.0 → 2 ^ 62 ≤ k.ticket
           → (w : Known C V) × (a : Act (Held V C)) × Valid s.homes me.1 a
           × Rule (record { words = k.serving ∷ k.ticket ∷ []; homes = homes_after s.homes me.1 a; views = slice_set s.views id w })
@@ -207,6 +214,7 @@ module _ {V C Z : Type 0} (passes : ℕ) (stands : V → History C → Type 0) (
                 }),
             ((λ few. absurd (omega (arith, few, worn))), (λ _. refl), refl, was.worn),
           )
+
       clear_fresh : (s : State (Held V C) (Known C V)) (k : Rule s) → get_elem? s.views id ≡ some me.0 → k.ticket < 2 ^ 62
           → (w : Known C V) × (a : Act (Held V C)) × Valid s.homes me.1 a
           × Rule (record { words = k.serving ∷ k.ticket ∷ []; homes = homes_after s.homes me.1 a; views = slice_set s.views id w })
@@ -312,7 +320,7 @@ module _ {V C Z : Type 0} (passes : ℕ) (stands : V → History C → Type 0) (
                   });
               apart = apart_set s.views id w k.apart
                   (λ j u n else at has mine. let d = drawn s k j n u at has in
-                    let is : k.ticket ≡ n = mine in absurd (omega (arith, d.1, is)));
+                  let is : k.ticket ≡ n = mine in absurd (omega (arith, d.1, is)));
               lies = lies_set stands shape z k.whole s.homes s.views id me.0 w here
                   (λ t is. let e : Cleared ≡ AtTurn t = sym cleared ∙ is in absurd (cc e))
                   (λ t is. absurd (cc is)) k.lies;
@@ -330,6 +338,7 @@ module _ {V C Z : Type 0} (passes : ℕ) (stands : V → History C → Type 0) (
     where
       same_ticket : (x : ℕ) → me.0.stage ≡ Waiting x → x ≡ t
       same_ticket x is = let e : Waiting x ≡ Waiting t = sym is ∙ waiting in cc e
+
       missed : (s : State (Held V C) (Known C V)) (k : Rule s) → get_elem? s.views id ≡ some me.0 → k.serving ≢ t
           → (w : Known C V) × (a : Act (Held V C)) × Valid s.homes me.1 a
           × Rule (record { words = k.serving ∷ k.ticket ∷ []; homes = homes_after s.homes me.1 a; views = slice_set s.views id w })
@@ -347,6 +356,7 @@ module _ {V C Z : Type 0} (passes : ℕ) (stands : V → History C → Type 0) (
                 (k.each id me.0 here),
             (λ x is. ((λ hit. absurd (ne (hit ∙ same_ticket x is))), (λ _. refl))),
           )
+
       took : (s : State (Held V C) (Known C V)) (k : Rule s) (here : get_elem? s.views id ≡ some me.0)
           → (held : Held V C) → stands held.value k.whole → shape held.value ≡ z
           → let more : History C = (k.each id me.0 here).sees.0 in
@@ -368,6 +378,7 @@ module _ {V C Z : Type 0} (passes : ℕ) (stands : V → History C → Type 0) (
             omega (arith, long, k.long, k.behind, k.counts.room, k.few),
             (λ n speaks. none_more n me.0.seen more k.whole ([], was.sees.1 ∙ sym (append-nil (me.0.seen ++ more))) (was.own_seen n speaks)),
           )
+
       serve : (s : State (Held V C) (Known C V)) (k : Rule s) → get_elem? s.views id ≡ some me.0 → k.serving ≡ t
           → (held : Held V C) → s.homes ≡ some held ∷ [] → stands held.value k.whole → shape held.value ≡ z
           → (w : Known C V) × (a : Act (Held V C)) × Valid s.homes me.1 a
@@ -418,10 +429,11 @@ module _ {V C Z : Type 0} (passes : ℕ) (stands : V → History C → Type 0) (
             },
             (λ x e. (
               (λ hit. subst (λ (y : ℕ). Took stands shape fits y me (w, (0, held) ∷ me.1)) (sym (same_ticket x e))
-                (took s k here held stand shaped)),
+                  (took s k here held stand shaped)),
               (λ miss. absurd (miss (is ∙ sym (same_ticket x e)))),
             )),
           )
+
       served : (s : State (Held V C) (Known C V)) (k : Rule s) → get_elem? s.views id ≡ some me.0 → k.serving ≡ t
           → (w : Known C V) × (a : Act (Held V C)) × Valid s.homes me.1 a
           × Rule (record { words = k.serving ∷ k.ticket ∷ []; homes = homes_after s.homes me.1 a; views = slice_set s.views id w })
@@ -430,17 +442,17 @@ module _ {V C Z : Type 0} (passes : ℕ) (stands : V → History C → Type 0) (
           ⊎_elim
           (λ home. serve s k here is home.0 home.1 home.2 home.3)
           (λ out.
-            let j : ℕ = out.1.0 in
-            let u : Known C V = out.1.1 in
-            let x : ℕ = out.1.2 in
-            let turn = subst (λ (stage : Stage). StageOk k.serving k.ticket k.whole u.seen u.numbers stage) out.1.4
-            (k.each j u out.1.3).stage in
-            let theirs : HasTicket u.stage t = subst (λ (stage : Stage). HasTicket stage t) (sym out.1.4) (turn.0 ∙ is) in
-            let mine : HasTicket me.0.stage t = subst (λ (stage : Stage). HasTicket stage t) (sym waiting) refl in
-            let one = k.apart j id u me.0 t out.1.3 here theirs mine in
-            let e : AtTurn x ≡ Waiting t = sym out.1.4
-            ∙ ap (λ (view : Known C V). view.stage) (at_same s.views j id u me.0 one out.1.3 here) ∙ waiting in
-            absurd (cc e))
+          let j : ℕ = out.1.0 in
+          let u : Known C V = out.1.1 in
+          let x : ℕ = out.1.2 in
+          let turn = subst (λ (stage : Stage). StageOk k.serving k.ticket k.whole u.seen u.numbers stage) out.1.4
+          (k.each j u out.1.3).stage in
+          let theirs : HasTicket u.stage t = subst (λ (stage : Stage). HasTicket stage t) (sym out.1.4) (turn.0 ∙ is) in
+          let mine : HasTicket me.0.stage t = subst (λ (stage : Stage). HasTicket stage t) (sym waiting) refl in
+          let one = k.apart j id u me.0 t out.1.3 here theirs mine in
+          let e : AtTurn x ≡ Waiting t = sym out.1.4
+          ∙ ap (λ (view : Known C V). view.stage) (at_same s.views j id u me.0 one out.1.3 here) ∙ waiting in
+          absurd (cc e))
           k.lies
 
   -- advance: the serving word goes up by one
@@ -506,6 +518,7 @@ module _ {V C Z : Type 0} (passes : ℕ) (stands : V → History C → Type 0) (
           ap₂ (λ (v : Known C V) (l : List (ℕ × Held V C)). (v, l))
           (ap (λ (d : ℕ × C). ended me d.0 d.1) entry)
           (ap rest ready.lent)
+
       step : (s : State (Held V C) (Known C V)) (k : Rule s) → get_elem? s.views id ≡ some me.0
           → (w : Known C V) × (a : Act (Held V C)) × Valid s.homes me.1 a
           × Rule (record { words = (k.serving + 1) % 2 ^ 64 ∷ k.ticket ∷ []; homes = homes_after s.homes me.1 a; views = slice_set s.views id w })
@@ -545,9 +558,9 @@ module _ {V C Z : Type 0} (passes : ℕ) (stands : V → History C → Type 0) (
                   omega (arith, sums, k.counts.room)) (omega arith) (λ n. omega arith);
               each = each_set (ViewOk shape z passes (k.serving + 1) k.ticket (k.whole ++ e)) s.views id w
                   (λ j u else at. passed k.serving k.ticket by k.whole call u (k.each j u at)
-                    (λ has. else (k.apart j id u me.0 k.serving at here has mine))
-                    (let two = two_in_sum (λ (view : Known C V). times by (voices view)) s.views j id u me.0 else at here in
-                    omega (arith, two, k.counts.once by, voiced, ready.speaks)))
+                  (λ has. else (k.apart j id u me.0 k.serving at here has mine))
+                  (let two = two_in_sum (λ (view : Known C V). times by (voices view)) s.views j id u me.0 else at here in
+                  omega (arith, two, k.counts.once by, voiced, ready.speaks)))
                   (record {
                     about = was.about;
                     worn = was.worn;
@@ -569,10 +582,10 @@ module _ {V C Z : Type 0} (passes : ℕ) (stands : V → History C → Type 0) (
                     ready.shaped ∙ shape_is,
                     quiet_set s.views id w
                         (λ j u x else at is.
-                          let theirs = subst (λ (stage : Stage). StageOk k.serving k.ticket k.whole u.seen u.numbers stage) is
-                          (k.each j u at).stage in
-                          else (k.apart j id u me.0 k.serving at here
-                          (subst (λ (stage : Stage). HasTicket stage k.serving) (sym is) theirs.0) mine))
+                        let theirs = subst (λ (stage : Stage). StageOk k.serving k.ticket k.whole u.seen u.numbers stage) is
+                        (k.each j u at).stage in
+                        else (k.apart j id u me.0 k.serving at here
+                        (subst (λ (stage : Stage). HasTicket stage k.serving) (sym is) theirs.0) mine))
                         (λ x is. absurd (cc is)),
                   ))
                   k.lies;
@@ -632,7 +645,7 @@ module _ {V C Z : Type 0} (passes : ℕ) (stands : V → History C → Type 0) (
               silent,
               (λ n speaks. (told n speaks).0),
               (λ v e. subst (λ (y : Z). IsLegal (fits y) now) (sym (was.about v e))
-                (legal_front (fits z) now found.2.0
-                (subst (λ (h : History C). IsLegal (fits z) h) found.2.1 k.legal))),
+                  (legal_front (fits z) now found.2.0
+                  (subst (λ (h : History C). IsLegal (fits z) h) found.2.1 k.legal))),
             ),
           )

@@ -1,11 +1,11 @@
 -- One whole turn at the lock, from what its steps tell.
-use Rattle.std.proofs.Common.{◌≡◌, ◌≢◌, ℕ, ◌^◌, ◌<◌, Bool, IsTrue, List, [], ◌∷◌, ◌++◌, length, refl, sym, ◌∙◌, ap, subst, arith, Some, Option, get_or}
+use Rattle.std.proofs.Common.{◌≡◌, ◌≢◌, ℕ, ◌^◌, ◌<◌, Bool, IsTrue, List, [], ◌∷◌, ◌++◌, length, sym, ◌∙◌, ap, subst, Some, get_or}
 use Rattle.atomic_table.specs.Table.{rest}
 use Rattle.turn_log.specs.declared.lock.rule.Stage.TheVariants.{Idle, Waiting, AtTurn}
 use Rattle.turn_log.specs.declared.lock.rule.Stage.{Stage}
 use Rattle.turn_log.specs.declared.lock.rule.Known.{Known}
 use Rattle.turn_log.specs.declared.lock.rule.Held.{Held}
-use Rattle.turn_log.specs.History.{History, IsLegal, own}
+use Rattle.turn_log.specs.History.{History}
 use Rattle.turn_log.specs.LockRule.{times}
 use Rattle.turn_log.specs.LockSteps.{Seated, Took, TookTurn}
 use Rattle.turn_log.proofs.HistoryLaws.{fits_on, legal_snoc}
@@ -162,9 +162,9 @@ module _ {V C A R Z : Type 0} (stands : V → History C → Type 0) (shape : V �
           ap (λ (x : Seated C V). x.0) ends ∙ ended_as stands shape fits old now t at me call s.idle,
           at.6 me s.speaks,
           (λ value about.
-            let shaped : shape held.value ≡ shape value = ap (λ (y : Held V C). shape y.value) (sym is) ∙ (at.4 value about).0 in (
-              legal_snoc (fits (shape value)) before me call (at.4 value about).1 (fits_before value about),
-              subst (λ (z : Z). reply ≡ answer z before me call) shaped did.1,
-              subst (λ (z : Z). after ≡ filled z before me call room) shaped did.2,
-            )),
+              let shaped : shape held.value ≡ shape value = ap (λ (y : Held V C). shape y.value) (sym is) ∙ (at.4 value about).0 in (
+                legal_snoc (fits (shape value)) before me call (at.4 value about).1 (fits_before value about),
+                subst (λ (z : Z). reply ≡ answer z before me call) shaped did.1,
+                subst (λ (z : Z). after ≡ filled z before me call room) shaped did.2,
+              )),
         )

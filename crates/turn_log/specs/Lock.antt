@@ -1,5 +1,5 @@
 -- What callers say of a lock, its passes and its notes.
-use Rattle.std.specs.Prelude.{◌≡◌, ℕ, List, Some}
+use Rattle.std.specs.Prelude.{◌≡◌, ℕ, Some}
 use base.Stored.{Gv}
 use Rattle.atomic_table.specs.Seated.{table_id_coded}
 use Rattle.turn_log.specs.declared.object.Played.{Ghosts}
@@ -49,7 +49,8 @@ module _ {V C A R S : Type 0} {g : Ghosts V C A R S} where
   -- the pass is what it was, but for what it has seen
   abbrev pub SamePass : Pass V C A R S g → Pass V C A R S g → Type 0
   SamePass old now =
-      (pass_number now ≡ pass_number old) × (pass_worn now ≡ pass_worn old) × (pass_home now ≡ pass_home old)
+      (pass_number now ≡ pass_number old) × (pass_worn now ≡ pass_worn old)
+      × (pass_home now ≡ pass_home old)
       × (now.token.me.0.about ≡ old.token.me.0.about)
 
   -- the history as the note's writer had seen it

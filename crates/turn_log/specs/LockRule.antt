@@ -1,6 +1,7 @@
 -- The rule of the lock: what is true of its table between any two steps.
--- Word 0 is the ticket that is served, and word 1 the ticket that is drawn next. The one slot has the object.
-use Rattle.std.specs.Prelude.{◌≡◌, ℕ, zero, suc, Bool, ◌+◌, ◌^◌, ◌<◌, ◌≤◌, ◌==◌, ◌⊎◌, List, [], ◌∷◌, ◌++◌, length, sum_by, count_by, All, Some, None}
+-- Word 0 is the ticket that is served, and word 1 the ticket that is drawn next. The one slot has
+-- the object.
+use Rattle.std.specs.Prelude.{◌≡◌, ℕ, zero, suc, Bool, ◌+◌, ◌^◌, ◌<◌, ◌≤◌, ◌==◌, ◌⊎◌, List, [], ◌∷◌, ◌++◌, length, sum_by, count_by, All, Some}
 use mathlib.Core.Option.{some, none}
 use mathlib.Core.Option as maybe
 use lib.ListN.{get_elem?}
@@ -37,8 +38,8 @@ is_cleared Cleared = 1
 is_cleared (Waiting t) = 0
 is_cleared (AtTurn t) = 0
 
--- Who draws or waits speaks for some caller. A ticket that a seat has was drawn and not served; at its turn it is the
--- one that is served, and the seat has seen the whole history.
+-- Who draws or waits speaks for some caller. A ticket that a seat has was drawn and not served; at
+-- its turn it is the one that is served, and the seat has seen the whole history.
 module _ {C : Type 0} (serving ticket : ℕ) (whole seen : History C) (numbers : List ℕ) where
   abbrev pub StageOk : Stage → Type 0
   StageOk Idle = Unit {0}
@@ -47,8 +48,8 @@ module _ {C : Type 0} (serving ticket : ℕ) (whole seen : History C) (numbers :
   StageOk (AtTurn t) = (t ≡ serving) × (t < ticket) × (0 < length numbers) × (seen ≡ whole)
 
 -- What is true of what one seat knows, where the whole history is this one.
-pub record ViewOk {C V Z : Type 0} (shape : V → Z) (z : Z) (passes serving ticket : ℕ) (whole : History C)
-    (view : Known C V) : Type 0 where
+pub record ViewOk {C V Z : Type 0} (shape : V → Z) (z : Z) (passes serving ticket : ℕ)
+    (whole : History C) (view : Known C V) : Type 0 where
   pub about : (v : V) → view.about ≡ Some v → shape v ≡ z
   pub worn : view.worn ≤ ticket
   pub sees : Begins view.seen whole
@@ -65,12 +66,14 @@ pub record Counts {C V : Type 0} (passes ticket : ℕ) (views : List (Known C V)
   pub parts : sum_by (λ view. length (voices view)) views ≤ passes
   pub once : (k : ℕ) → sum_by (λ view. times k (voices view)) views ≤ 1
 
--- Nobody is at its turn, the object is in the slot and stands for the whole history; or somebody is, and has it.
+-- Nobody is at its turn, the object is in the slot and stands for the whole history; or somebody
+-- is, and has it.
 abbrev pub Lies : {C V Z : Type 0} → (V → History C → Type 0) → (V → Z) → Z → History C
     → List (maybe.Option (Held V C)) → List (Known C V) → Type 0
 Lies {C} {V} stands shape z whole homes views =
     ((held : Held V C) × (homes ≡ some held ∷ []) × stands held.value whole × (shape held.value ≡ z)
-    × ((id : ℕ) (view : Known C V) (t : ℕ) → get_elem? views id ≡ some view → view.stage ≡ AtTurn t → ⊥))
+    × ((id : ℕ) (view : Known C V) (t : ℕ)
+    → get_elem? views id ≡ some view → view.stage ≡ AtTurn t → ⊥))
     ⊎ ((homes ≡ none ∷ []) × ((id : ℕ) × (view : Known C V) × (t : ℕ)
     × (get_elem? views id ≡ some view) × (view.stage ≡ AtTurn t)))
 
@@ -90,7 +93,8 @@ pub record Kept {C V Z : Type 0} (passes : ℕ) (stands : V → History C → Ty
   pub each : (id : ℕ) (view : Known C V) → get_elem? s.views id ≡ some view
       → ViewOk shape z passes serving ticket whole view
   -- no two seats have one ticket
-  pub apart : (i j : ℕ) (v w : Known C V) (n : ℕ) → get_elem? s.views i ≡ some v → get_elem? s.views j ≡ some w
+  pub apart : (i j : ℕ) (v w : Known C V) (n : ℕ)
+      → get_elem? s.views i ≡ some v → get_elem? s.views j ≡ some w
       → HasTicket v.stage n → HasTicket w.stage n → i ≡ j
   pub lies : Lies stands shape z whole s.homes s.views
 

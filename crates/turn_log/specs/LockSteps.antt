@@ -1,5 +1,6 @@
--- What each step at the lock's table tells the seat that takes it: the word that it found, and the seat before and after.
-use Rattle.std.specs.Prelude.{◌≡◌, ◌≢◌, ℕ, ◌^◌, ◌<◌, ◌≤◌, Bool, List, [], ◌∷◌, ◌++◌, length, take, drop, Some, None}
+-- What each step at the lock's table tells the seat that takes it, from the word that it found, and
+-- the seat before and after.
+use Rattle.std.specs.Prelude.{◌≡◌, ◌≢◌, ℕ, ◌^◌, ◌<◌, ◌≤◌, Bool, [], ◌∷◌, ◌++◌, length, take, drop, Some, None}
 use Rattle.atomic_table.specs.Table.{Me}
 use Rattle.turn_log.specs.declared.lock.rule.Stage.TheVariants.{Idle, Cleared, Waiting, AtTurn}
 use Rattle.turn_log.specs.declared.lock.rule.Known.{Known}
@@ -14,16 +15,18 @@ Seated C V = Me (Held V C) (Known C V)
 -- the next ticket: below 2 ^ 62 the seat may draw, and else it notes how worn the lock is
 abbrev pub clears : {C V : Type 0} → Seated C V → ℕ → Seated C V → Type 0
 clears me n now =
-    (n < 2 ^ 62 → now.0 ≡ record me.0 { stage = Cleared }) × (2 ^ 62 ≤ n → now.0 ≡ record me.0 { worn = n })
+    (n < 2 ^ 62 → now.0 ≡ record me.0 { stage = Cleared })
+    × (2 ^ 62 ≤ n → now.0 ≡ record me.0 { worn = n })
     × (now.1 ≡ me.1) × (me.0.worn ≤ n)
 
 -- the ticket
 abbrev pub draws : {C V : Type 0} → Seated C V → ℕ → Seated C V → Type 0
 draws me n now = (now.0 ≡ record me.0 { stage = Waiting n }) × (now.1 ≡ me.1)
 
--- The seat is served: it has seen the whole history, which went on without its callers, and the object is lent to it.
-abbrev pub Took : {C V Z : Type 0} → (V → History C → Type 0) → (V → Z) → (Z → History C → ℕ → C → Bool)
-    → ℕ → Seated C V → Seated C V → Type 0
+-- The seat is served: it has seen the whole history, which went on without its callers, and the
+-- object is lent to it.
+abbrev pub Took : {C V Z : Type 0} → (V → History C → Type 0) → (V → Z)
+    → (Z → History C → ℕ → C → Bool) → ℕ → Seated C V → Seated C V → Type 0
 Took {C} {V} stands shape fits t me now =
     (held : Held V C) × (more : History C)
     × (now ≡ (record me.0 { stage = AtTurn t; seen = me.0.seen ++ more }, (0, held) ∷ []))
@@ -34,13 +37,14 @@ Took {C} {V} stands shape fits t me now =
     × ((k : ℕ) → 0 < times k me.0.numbers → own k more ≡ [])
 
 -- the ticket that is served: the seat's own, or it waits on
-abbrev pub looks : {C V Z : Type 0} → (V → History C → Type 0) → (V → Z) → (Z → History C → ℕ → C → Bool)
-    → Seated C V → ℕ → Seated C V → Type 0
+abbrev pub looks : {C V Z : Type 0} → (V → History C → Type 0) → (V → Z)
+    → (Z → History C → ℕ → C → Bool) → Seated C V → ℕ → Seated C V → Type 0
 looks stands shape fits me n now =
-    (t : ℕ) → me.0.stage ≡ Waiting t → (n ≡ t → Took stands shape fits t me now) × (n ≢ t → now ≡ me)
+    (t : ℕ) → me.0.stage ≡ Waiting t
+    → (n ≡ t → Took stands shape fits t me now) × (n ≢ t → now ≡ me)
 
--- A whole turn: calls of others may have come first, and then came this call, which was answered at that point of the
--- history. For the rest the seat knows what it knew.
+-- A whole turn: calls of others may have come first, and then came this call, which was answered at
+-- that point of the history. For the rest the seat knows what it knew.
 abbrev pub TookTurn : {V C A R Z : Type 0} → (V → Z) → (Z → History C → ℕ → C → Bool)
     → (Z → History C → ℕ → C → A) → (Z → History C → ℕ → C → R → R)
     → Known C V → Known C V → ℕ → C → A → R → R → Type 0
@@ -60,10 +64,16 @@ advances {C} {V} me now =
     → now ≡ (record me.0 { stage = Idle; seen = me.0.seen ++ (k, call) ∷ [] }, [])
 
 -- The seat has seen its own history and that of the seat that was taken in, and speaks for both.
-abbrev pub settles : {C V Z : Type 0} → (V → Z) → (Z → History C → ℕ → C → Bool) → Seated C V → Seated C V → Type 0
+abbrev pub settles : {C V Z : Type 0} → (V → Z) → (Z → History C → ℕ → C → Bool)
+    → Seated C V → Seated C V → Type 0
 settles {C} {V} shape fits me now =
     (more : History C)
-    × (now.0 ≡ record me.0 { numbers = voices me.0; seen = me.0.seen ++ more; brought = []; told = [] })
+    × (now.0 ≡ record me.0 {
+      numbers = voices me.0;
+      seen = me.0.seen ++ more;
+      brought = [];
+      told = [];
+    })
     × (now.1 ≡ me.1) × Begins me.0.told (me.0.seen ++ more)
     × ((k : ℕ) → 0 < times k me.0.numbers → own k more ≡ [])
     × ((k : ℕ) → 0 < times k me.0.brought → GoesOn k me.0.told (me.0.seen ++ more))
@@ -85,4 +95,12 @@ abbrev pub met : {C V : Type 0} → Known C V → Known C V → Known C V
 met view other = record view { brought = other.numbers; told = other.seen }
 
 abbrev pub spent : {C V : Type 0} → Known C V
-spent = record { about = None; numbers = []; seen = []; brought = []; told = []; stage = Idle; worn = 0 }
+spent = record {
+  about = None;
+  numbers = [];
+  seen = [];
+  brought = [];
+  told = [];
+  stage = Idle;
+  worn = 0;
+}

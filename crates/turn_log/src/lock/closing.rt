@@ -18,7 +18,8 @@ impl<V: Played> Turn<V> {
     /// The object stands for one history that each pass has seen a beginning of. A pass has seen
     /// all calls under its own number, and there are no calls but of the passes' numbers.
     pub fn close(self, mut passes: Vec<Pass<V>>) -> V
-        requires here { (i : ℕ) (pass : _) → get_elem? passes.items i ≡ some pass → IsPassOf pass self }
+        requires here { (i : ℕ) (pass : _) → get_elem? passes.items i ≡ some pass
+            → IsPassOf pass self }
         requires all { length passes.items ≡ turn_passes self }
         ensures shape { V.shape result ≡ V.shape (turn_value self) }
         ensures whole { (whole : History V.Call) × V.stands result whole
@@ -29,7 +30,10 @@ impl<V: Played> Turn<V> {
         let Some(last) = passes.pop() else {
             unreachable!()
         };
-        let Pass { number: _, mut token } = last;
+        let Pass {
+            number: _,
+            mut token,
+        } = last;
         self.take_in_all(&mut token, &mut passes);
         passes.destroy_empty();
         let Turn { table } = self;
@@ -43,18 +47,24 @@ impl<V: Played> Turn<V> {
     fn take_in_all(&self, token: &mut Token<V>, passes: &mut Vec<Pass<V>>)
         requires here { token.old.table_id ≡ self.now.table.shared.table_id }
         requires rests { (token.old.me.0.stage ≡ Idle) × (token.old.me.0.brought ≡ []) }
-        requires each { (i : ℕ) (pass : _) → get_elem? passes.old.items i ≡ some pass → IsPassOf pass self.now }
+        requires each { (i : ℕ) (pass : _) → get_elem? passes.old.items i ≡ some pass
+            → IsPassOf pass self.now }
         ensures none_left { passes.new.items ≡ [] }
         ensures same { (token.new.table_id ≡ token.old.table_id) × (token.new.me.0.stage ≡ Idle) }
-        ensures numbers { length token.new.me.0.numbers ≡ length token.old.me.0.numbers + length passes.old.items }
+        ensures numbers { length token.new.me.0.numbers
+            ≡ length token.old.me.0.numbers + length passes.old.items }
         ensures own { (k : ℕ) → 0 < times k token.old.me.0.numbers
-            → (0 < times k token.new.me.0.numbers) × GoesOn k token.old.me.0.seen token.new.me.0.seen }
+            → (0 < times k token.new.me.0.numbers)
+            × GoesOn k token.old.me.0.seen token.new.me.0.seen }
         ensures taken { (i : ℕ) (pass : _) → get_elem? passes.old.items i ≡ some pass
             → (0 < times (pass_number pass) token.new.me.0.numbers)
             × GoesOn (pass_number pass) (pass_seen pass) token.new.me.0.seen }
     {
         while let Some(pass) = passes.pop() {
-            let Pass { number: _, token: other } = pass;
+            let Pass {
+                number: _,
+                token: other,
+            } = pass;
             self.take_in(token, other);
         }
     }

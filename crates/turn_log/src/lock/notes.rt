@@ -41,9 +41,11 @@ impl<V: Played> Turn<V> {
     pub(super) fn take_in(&self, token: &mut Token<V>, other: Token<V>)
         requires here { (token.old.table_id ≡ self.now.table.shared.table_id)
             × (other.table_id ≡ self.now.table.shared.table_id) }
-        requires rests { (token.old.me.0.stage ≡ Idle) × (other.me.0.stage ≡ Idle) × (other.me.1 ≡ []) }
+        requires rests { (token.old.me.0.stage ≡ Idle) × (other.me.0.stage ≡ Idle)
+            × (other.me.1 ≡ []) }
         ensures same { token.new.table_id ≡ token.old.table_id }
-        ensures taken { settles V.shape V.fits (met token.old.me.0 other.me.0, token.old.me.1) token.new.me }
+        ensures taken { settles V.shape V.fits (met token.old.me.0 other.me.0, token.old.me.1)
+            token.new.me }
     {
         self.table.shared.join_seat::<Meet<V>>(token, other);
         self.table.shared.load::<Settle<V>>(token, SERVING);

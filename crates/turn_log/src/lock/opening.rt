@@ -18,11 +18,7 @@ impl<V: Played + Drop> Turn<V> {
     /// A lock for an object that no call was made of yet, and its passes, numbered from 0.
     ///
     /// All memory is taken first. Where there is too little, nothing is left behind.
-    pub fn open(
-        alloc: Global,
-        value: V,
-        passes: u32,
-    ) -> Result<(Turn<V>, Vec<Pass<V>>), AllocError>
+    pub fn open(alloc: Global, value: V, passes: u32) -> Result<(Turn<V>, Vec<Pass<V>>), AllocError>
         requires new { V.stands value [] }
         requires some_pass { 0 < passes }
         ensures turn { IfOk result (λ opened. (turn_passes opened.0 ≡ passes)
@@ -70,11 +66,14 @@ impl<V: Played> Turn<V> {
     fn deal(&self, first: &mut Token<V>, number: u32) -> Pass<V>
         requires here { first.old.table_id ≡ self.now.table.shared.table_id }
         requires rests { first.old.me.1 ≡ [] }
-        requires left { (n : ℕ) × (first.old.me.0 ≡ record (maker self.now.table.shared.key.value.value 0) {
-            numbers = from number (suc n) }) }
-        ensures same { (first.new.table_id ≡ first.old.table_id) × (first.new.me ≡ (after_deal first.old.me.0, [])) }
-        ensures pass { (pass_number result ≡ number) × (pass_seen result ≡ []) × (pass_worn result ≡ 0)
-            × IsPassOf result self.now }
+        requires left { (n : ℕ) × (first.old.me.0
+            ≡ record (maker self.now.table.shared.key.value.value 0) {
+              numbers = from number (suc n);
+            }) }
+        ensures same { (first.new.table_id ≡ first.old.table_id)
+            × (first.new.me ≡ (after_deal first.old.me.0, [])) }
+        ensures pass { (pass_number result ≡ number) × (pass_seen result ≡ [])
+            × (pass_worn result ≡ 0) × IsPassOf result self.now }
     {
         Pass {
             number,

@@ -32,7 +32,8 @@ pub struct Pass<V: Played> {
     ghost numbered: { (token.me.0.numbers ≡ number ∷ []) × (length token.me.0.brought ≡ 0) },
     ghost about: { IsTrue (is_some token.me.0.about) },
     // Each call that was seen fitted when it was made.
-    ghost legal: { (v : V) → token.me.0.about ≡ Some v → IsLegal (V.fits (V.shape v)) token.me.0.seen },
+    ghost legal: { (v : V) → token.me.0.about ≡ Some v
+        → IsLegal (V.fits (V.shape v)) token.me.0.seen },
 }
 
 /// What a pass had seen when the note was written. Another pass that meets it has seen it too.

@@ -14,8 +14,10 @@ impl<V: Played> Turn<V> {
     pub fn seat<'a, R: Wait + Sync>(&'a self, rt: &'a R, pass: Pass<V>) -> Seat<'a, V, R>
         requires { IsPassOf pass self.now }
         ensures seen { ⟦<Seat<'a, V, R> as Turns<V>>⟧.seen result ≡ pass_seen pass }
-        ensures shape { ⟦<Seat<'a, V, R> as Turns<V>>⟧.shape result ≡ V.shape (turn_value self.now) }
-        ensures speaks { (k : ℕ) → ⟦<Seat<'a, V, R> as Turns<V>>⟧.speaks result k ≡ (k == pass_number pass) }
+        ensures shape { ⟦<Seat<'a, V, R> as Turns<V>>⟧.shape result
+            ≡ V.shape (turn_value self.now) }
+        ensures speaks { (k : ℕ) → ⟦<Seat<'a, V, R> as Turns<V>>⟧.speaks result k
+            ≡ (k == pass_number pass) }
         ensures worn { ⟦<Seat<'a, V, R> as Turns<V>>⟧.worn result ≡ pass_worn pass }
         ensures home { ⟦<Seat<'a, V, R> as Turns<V>>⟧.home result ≡ turn_home self.now }
     {
@@ -46,8 +48,9 @@ impl<V: Played> Pass<V> {
             × (self.new.token.me.0.about ≡ self.old.token.me.0.about) }
         ensures worn { self.old.token.me.0.worn ≤ self.new.token.me.0.worn }
         ensures ok { IfOk result (λ reply. (value : V) → self.old.token.me.0.about ≡ Some value
-            → Turned false (V.fits (V.shape value)) (V.answer (V.shape value)) (V.filled (V.shape value))
-            self.old.token.me.0.seen self.new.token.me.0.seen me call reply room.old room.new) }
+            → Turned false (V.fits (V.shape value)) (V.answer (V.shape value))
+            (V.filled (V.shape value)) self.old.token.me.0.seen self.new.token.me.0.seen me call
+            reply room.old room.new) }
         ensures err { IfErr result (λ fault. (self.new.token.me.0.seen ≡ self.old.token.me.0.seen)
             × (room.new ≡ room.old) × IsFault false self.new.token.me.0.worn fault) }
     {
@@ -61,13 +64,18 @@ impl<V: Played> Pass<V> {
 impl<'a, V: Played, R: Wait + Sync> Seat<'a, V, R> {
     /// Gives the pass back.
     pub fn leave(self) -> Pass<V>
-        ensures number { (k : ℕ) → ⟦<Seat<'a, V, R> as Turns<V>>⟧.speaks self.entry k ≡ (k == pass_number result) }
+        ensures number { (k : ℕ) → ⟦<Seat<'a, V, R> as Turns<V>>⟧.speaks self.entry k
+            ≡ (k == pass_number result) }
         ensures seen { pass_seen result ≡ ⟦<Seat<'a, V, R> as Turns<V>>⟧.seen self.entry }
         ensures worn { pass_worn result ≡ ⟦<Seat<'a, V, R> as Turns<V>>⟧.worn self.entry }
         ensures home { pass_home result ≡ ⟦<Seat<'a, V, R> as Turns<V>>⟧.home self.entry }
         ensures shape { HasShape result (⟦<Seat<'a, V, R> as Turns<V>>⟧.shape self.entry) }
     {
-        let Seat { turn: _, rt: _, pass } = self;
+        let Seat {
+            turn: _,
+            rt: _,
+            pass,
+        } = self;
         pass
     }
 }
@@ -101,5 +109,6 @@ impl<'a, V: Played, R: Wait + Sync> Turns<V> for Seat<'a, V, R> {
 
     ghost legal = { λ seat. seat.pass.legal
         (unwrap_or seat.pass.token.me.0.about seat.turn.now.table.shared.key.value.value)
-        (some_is seat.pass.token.me.0.about seat.turn.now.table.shared.key.value.value seat.pass.about) };
+        (some_is seat.pass.token.me.0.about seat.turn.now.table.shared.key.value.value
+        seat.pass.about) };
 }

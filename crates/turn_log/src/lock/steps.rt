@@ -42,7 +42,8 @@ impl<V: Played> Turn<V> {
         requires speaks { 0 < length token.old.me.0.numbers }
         ensures same { (token.new.table_id ≡ token.old.table_id) × (token.new.id ≡ token.old.id)
             × (token.new.me.1 ≡ token.old.me.1) }
-        ensures ok { IfOk result (λ ticket. token.new.me.0 ≡ record token.old.me.0 { stage = Waiting ticket }) }
+        ensures ok { IfOk result (λ ticket.
+            token.new.me.0 ≡ record token.old.me.0 { stage = Waiting ticket }) }
         ensures err { IfErr result (λ turns. (2 ^ 62 ≤ turns) × (token.old.me.0.worn ≤ turns)
             × (token.new.me.0 ≡ record token.old.me.0 { worn = turns })) }
     {

@@ -93,7 +93,8 @@ impl Played for Newest {
         before
     }
 
-    ghost still_fits = { λ _ h me by call other fits apart fitting. newest_stays h by call other fits };
+    ghost still_fits = { λ _ h me by call other fits apart fitting.
+        newest_stays h by call other fits };
 }
 
 /// As many turns under one number.
@@ -129,12 +130,12 @@ fn add_both<R: Threads + Wait + Sync>(
 {
     join(
         rt,
-        move || requires { IsPassOf first turn.now × (pass_number first ≡ 0) } {
-            add_many(turn, rt, first, 0, 3, 1000)
-        },
-        move || requires { IsPassOf second turn.now × (pass_number second ≡ 1) } {
-            add_many(turn, rt, second, 1, 5, 1000)
-        },
+        move ||
+            requires { IsPassOf first turn.now × (pass_number first ≡ 0) }
+        { add_many(turn, rt, first, 0, 3, 1000) },
+        move ||
+            requires { IsPassOf second turn.now × (pass_number second ≡ 1) }
+        { add_many(turn, rt, second, 1, 5, 1000) },
     )
 }
 
@@ -178,8 +179,10 @@ fn open_two<V: Played + Drop>(
     value: V,
 ) -> Result<(Turn<V>, Pass<V>, Pass<V>), AllocError>
     requires { V.stands value [] }
-    ensures first { IfOk result (λ opened. IsPassOf opened.1 opened.0 × (pass_number opened.1 ≡ 0)) }
-    ensures second { IfOk result (λ opened. IsPassOf opened.2 opened.0 × (pass_number opened.2 ≡ 1)) }
+    ensures first { IfOk result (λ opened.
+        IsPassOf opened.1 opened.0 × (pass_number opened.1 ≡ 0)) }
+    ensures second { IfOk result (λ opened.
+        IsPassOf opened.2 opened.0 × (pass_number opened.2 ≡ 1)) }
     ensures passes { IfOk result (λ opened. turn_passes opened.0 ≡ 2) }
 {
     let (turn, mut passes) = Turn::open(alloc, value, 2)?;
@@ -209,7 +212,13 @@ fn close_two<V: Played + Drop>(
 
 #[test]
 fn two_threads_add_up_a_thousand_turns_each(rt: HostRuntime) -> Result<(), Fail> {
-    let (turn, first, second) = open_two(rt.alloc(), Sums { first: 0, others: 0 })?;
+    let (turn, first, second) = open_two(
+        rt.alloc(),
+        Sums {
+            first: 0,
+            others: 0,
+        },
+    )?;
     let (first, second) = add_both(&turn, &rt, first, second);
     let sums = close_two(rt.alloc(), turn, first, second)?;
     assert_eq!(rt; sums.first, 3000);

@@ -1,5 +1,5 @@
 -- A turn leaves the seat where it is.
-use Rattle.std.proofs.Common.{◌≡◌, IsTrue, sym, ◌∙◌, ap, subst}
+use Rattle.std.proofs.Common.{IsTrue, sym, ◌∙◌, ap, subst}
 use Rattle.turn_log.proofs.lock.tests.add_many.Goals as goal
 
 pub loop-preserved : goal.loop-preserved

@@ -1,6 +1,6 @@
 -- Who met the note has seen what its writer had seen, a frame among it.
-use Rattle.std.proofs.Common.{◌≡◌, IsTrue, is_some, None, sym, ◌∙◌, ap, subst}
-use Rattle.turn_log.specs.LockTests.{newest, fits_newest, newest_on}
+use Rattle.std.proofs.Common.{IsTrue, None, sym, ◌∙◌, subst}
+use Rattle.turn_log.specs.LockTests.{fits_newest, newest_on}
 use Rattle.turn_log.proofs.lock.tests.tell.Goals as goal
 
 pub turn-requires-clause-fits : goal.turn-requires-clause-fits

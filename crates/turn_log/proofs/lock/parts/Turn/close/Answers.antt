@@ -1,5 +1,5 @@
 -- All passes were taken in, so nobody is at its turn, and the object is in its slot.
-use Rattle.std.proofs.Common.{◌≡◌, ℕ, ◌+◌, ◌<◌, ◌≤◌, ⊎_elim, true, false, List, [], ◌∷◌, ◌++◌, length, refl, sym, ◌∙◌, ap, subst, arith, All, length-append}
+use Rattle.std.proofs.Common.{◌≡◌, ℕ, ◌<◌, ⊎_elim, [], ◌∷◌, length, refl, sym, ◌∙◌, ap, subst, arith, All, length-append}
 use mathlib.Core.Option.{some, some-injective}
 use lib.ListN.{get_elem?}
 use Rattle.std.specs.Slots.{slots_items}
@@ -8,7 +8,7 @@ use Rattle.atomic_table.proofs.Lists.{at_longer, at_last}
 use Rattle.turn_log.specs.declared.lock.rule.Held.{Held}
 use Rattle.turn_log.specs.History.{History, GoesOn}
 use Rattle.turn_log.specs.LockRule.{times}
-use Rattle.turn_log.specs.Lock.{turn_passes, pass_number, pass_seen}
+use Rattle.turn_log.specs.Lock.{pass_number, pass_seen}
 use Rattle.turn_log.proofs.HistoryLaws.{goes_both}
 use Rattle.turn_log.proofs.LockLists.{at_end, times_one}
 use Rattle.turn_log.proofs.LockSeats.{closes}
@@ -81,9 +81,9 @@ returns-clause-whole g c =
       got.1,
       got.3,
       (λ i pass at. ⊎_elim
-        (λ before. let taken = c.take_in_all.ensures.taken i pass before in
+          (λ before. let taken = c.take_in_all.ensures.taken i pass before in
           goes_both (pass_number pass) _ _ _ taken.1 (got.4 (pass_number pass) taken.0))
-        (λ is. subst (λ p. GoesOn (pass_number p) (pass_seen p) got.0) is.1
+          (λ is. subst (λ p. GoesOn (pass_number p) (pass_seen p) got.0) is.1
           (goes_both (pass_number last) _ _ _ own_last.1 (got.4 (pass_number last) own_last.0)))
-        (at_end c.pop.new.self.items last pass i (ap (λ l. get_elem? l i) (sym c.in-Some.ensures.items) ∙ at))),
+          (at_end c.pop.new.self.items last pass i (ap (λ l. get_elem? l i) (sym c.in-Some.ensures.items) ∙ at))),
     )

@@ -1,7 +1,6 @@
 -- The pass gets the first number that is left, and has seen nothing.
-use Rattle.std.proofs.Common.{◌≡◌, ◌<◌, [], ◌∷◌, length, is_some, sym, ◌∙◌, ap, subst, arith}
+use Rattle.std.proofs.Common.{[], length, is_some, sym, ◌∙◌, ap, subst, arith}
 use Rattle.turn_log.specs.History.{IsLegal}
-use Rattle.turn_log.specs.LockRule.{from, maker}
 use Rattle.turn_log.specs.LockSteps.{dealt}
 use Rattle.turn_log.proofs.HistoryLaws.{legal_none}
 use Rattle.turn_log.proofs.LockSeats.{deals}

@@ -1,8 +1,6 @@
 -- One pass after another is dealt.
-use Rattle.std.proofs.Common.{◌≡◌, ℕ, suc, ◌+◌, ◌<◌, ◌≤◌, ⊎_elim, [], ◌∷◌, ◌++◌, length, sym, ◌∙◌, ap, subst, arith, length-append, vec_len, vec_capacity}
-use mathlib.Core.Option.{some}
+use Rattle.std.proofs.Common.{◌≡◌, ⊎_elim, [], ◌∷◌, length, sym, ◌∙◌, ap, subst, arith, length-append}
 use lib.ListN.{get_elem?}
-use Rattle.turn_log.specs.LockRule.{from, maker}
 use Rattle.turn_log.specs.LockSteps.{after_deal}
 use Rattle.turn_log.specs.Lock.{pass_number, pass_seen, pass_worn, IsPassOf}
 use Rattle.turn_log.proofs.LockLists.{at_end}
@@ -34,7 +32,7 @@ loop-number-preserved g c =
       each = λ i pass at. ⊎_elim
           (λ before. was.each i pass before)
           (λ last. subst (λ p. (pass_number p ≡ i) × (pass_seen p ≡ []) × (pass_worn p ≡ 0) × IsPassOf p c.args.self.now) last.1
-            (c.deal.ensures.pass.0 ∙ sym was.long ∙ sym last.0, c.deal.ensures.pass.1, c.deal.ensures.pass.2, c.deal.ensures.pass.3))
+          (c.deal.ensures.pass.0 ∙ sym was.long ∙ sym last.0, c.deal.ensures.pass.1, c.deal.ensures.pass.2, c.deal.ensures.pass.3))
           (at_end c.loop-number.list.items c.deal.result pass i
           (ap (λ l. get_elem? l i) (sym c.push_reserved.ensures.items) ∙ at));
     }

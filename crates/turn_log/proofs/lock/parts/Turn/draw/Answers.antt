@@ -1,5 +1,5 @@
 -- A ticket may be drawn where fewer than 2 ^ 62 were.
-use Rattle.std.proofs.Common.{rules, ◌≡◌, ◌<◌, ◌∙◌, ap, subst, arith}
+use Rattle.std.proofs.Common.{◌∙◌, ap, arith}
 use Rattle.turn_log.proofs.LockSteps.{clears_allowed, draws_allowed}
 use Rattle.turn_log.proofs.lock.parts.Turn.draw.Goals as goal
 

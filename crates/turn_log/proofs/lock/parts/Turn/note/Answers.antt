@@ -1,5 +1,5 @@
 -- A note is cut off from a pass that rests.
-use Rattle.std.proofs.Common.{◌<◌, arith}
+use Rattle.std.proofs.Common.{arith}
 use Rattle.atomic_table.specs.Seated.{table_id_coded}
 use Rattle.turn_log.proofs.LockSeats.{notes}
 use Rattle.turn_log.proofs.lock.parts.Turn.note.Goals as goal

@@ -1,5 +1,5 @@
 -- A new object is in the slot, and no ticket was drawn.
-use Rattle.std.proofs.Common.{◌≡◌, ◌<◌, [], ◌∷◌, ◌++◌, None, sym, ◌∙◌, ap, subst, arith}
+use Rattle.std.proofs.Common.{[], ◌∷◌, ◌++◌, None, sym, ◌∙◌, ap, subst}
 use Rattle.atomic_table.specs.Table.{opening}
 use Rattle.turn_log.specs.declared.lock.rule.Held.{Held}
 use Rattle.turn_log.specs.LockRule.{Kept, maker}

@@ -1,5 +1,5 @@
 -- Another seat is taken in, and then the longer history is seen.
-use Rattle.std.proofs.Common.{◌≡◌, ◌<◌, ◌∙◌, sym, ap, subst, arith}
+use Rattle.std.proofs.Common.{◌∙◌, ap, subst, arith}
 use Rattle.turn_log.specs.LockSteps.{settles}
 use Rattle.turn_log.proofs.LockSteps.{settles_allowed}
 use Rattle.turn_log.proofs.LockSeats.{meets}

@@ -1,5 +1,5 @@
 -- The passes are taken in from the last to the first.
-use Rattle.std.proofs.Common.{◌≡◌, [], ◌∙◌, refl, ap}
+use Rattle.std.proofs.Common.{◌∙◌, refl, ap}
 use Rattle.atomic_table.specs.Seated.{table_id_coded}
 use Rattle.turn_log.proofs.LockPasses.{gathered_none, gathered_one, gathered_at}
 use Rattle.turn_log.proofs.lock.parts.Turn.take_in_all.Goals as goal

@@ -1,5 +1,5 @@
 -- The object is lent for the ticket, played, and given back.
-use Rattle.std.proofs.Common.{rules, ◌≡◌, ℕ, List, [], ◌∷◌, refl, sym, ◌∙◌, ap, arith}
+use Rattle.std.proofs.Common.{◌≡◌, ℕ, List, [], ◌∷◌, ◌∙◌, ap, arith}
 use Rattle.turn_log.specs.declared.lock.rule.Held.{Held}
 use Rattle.atomic_table.specs.Table.{rest}
 use Rattle.turn_log.proofs.LockTurns.{lent, Served, to_play, to_advance, lent_alone, turn_taken}
@@ -59,7 +59,7 @@ returns-clause-same g c =
     let d = (goal.at.returns-clause-same g c).After-slot_mut in (
       c.fetch_add.ensures.0 ∙ c.wait.ensures.same.0 ∙ c.in_ok-ticket.ensures.same.0,
       ap (λ me. me.1) (c.fetch_add.ensures.2 c.play_held-answer.new.held c.args.me c.args.call
-        (alone g d c.play_held-answer.new.held) c.play_held-answer.ensures.last),
+          (alone g d c.play_held-answer.new.held) c.play_held-answer.ensures.last),
     )
 
 pub returns-clause-ok : goal.returns-clause-ok

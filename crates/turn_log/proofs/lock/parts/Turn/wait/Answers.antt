@@ -1,5 +1,5 @@
 -- The token looks for its ticket, again and again.
-use Rattle.std.proofs.Common.{rules, ◌≡◌, ◌<◌, sym, ◌∙◌, ap, subst, arith}
+use Rattle.std.proofs.Common.{◌∙◌, ap, subst, arith}
 use Rattle.turn_log.specs.LockSteps.{Took}
 use Rattle.turn_log.proofs.LockSteps.{looks_allowed}
 use Rattle.turn_log.proofs.lock.parts.Turn.wait.Goals as goal
