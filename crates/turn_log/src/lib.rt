@@ -4,6 +4,7 @@
 
 mod journal;
 mod laws;
+mod lock;
 mod object;
 mod place;
 #[cfg(test)]
@@ -11,5 +12,6 @@ mod tests;
 
 pub use journal::Desk;
 pub use laws::{fact_stays, fits_stays};
+pub use lock::{Note, Pass, Seat, Turn};
 pub use object::Played;
 pub use place::{TurnFault, Turns};

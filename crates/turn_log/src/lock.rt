@@ -1,0 +1,14 @@
+//! One lock for any object: callers draw tickets, and the object is played in their order.
+
+mod closing;
+mod notes;
+mod opening;
+mod parts;
+mod plays;
+mod rule;
+mod seats;
+mod steps;
+#[cfg(test)]
+mod tests;
+
+pub use parts::{Note, Pass, Seat, Turn};

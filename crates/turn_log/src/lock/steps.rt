@@ -1,0 +1,142 @@
+//! The steps of one turn, each at the lock's table.
+ghost use Rattle.std.specs.Prelude.{◌≡◌, ℕ, ◌^◌, ◌<◌, ◌≤◌, [], ◌∷◌, ◌++◌, length, IsTrue, IfOk, IfErr};
+ghost use Rattle.turn_log.specs.declared.lock.rule.Stage.TheVariants.{Idle, Waiting};
+ghost use Rattle.turn_log.specs.History.{History};
+ghost use Rattle.turn_log.specs.LockRule.{times};
+ghost use Rattle.turn_log.specs.LockSteps.{Took, TookTurn};
+
+use super::parts::{Token, Turn};
+use super::plays::{Advance, Clear, Draw, Look};
+use super::rule::Held;
+use crate::object::Played;
+use std::sync::Wait;
+use std::thread;
+use std::time::Duration;
+
+/// The word of the ticket that is served.
+pub const SERVING: usize = 0;
+
+/// The word of the ticket that is drawn next.
+pub const TICKET: usize = 1;
+
+/// The lock's one slot.
+pub const OBJECT: usize = 0;
+
+/// How many tickets before one's own are few enough to yield between looks.
+const NEAR: u64 = 4;
+
+/// More tickets before one's own do not lengthen a sleep.
+const FAR: u64 = 500;
+
+/// How long a thread sleeps for each ticket before its own.
+const MICROSECONDS_A_TURN: u64 = 4;
+
+/// How many tickets may be drawn.
+const MOST: u64 = 1 << 62;
+
+impl<V: Played> Turn<V> {
+    /// Draws a ticket. Where 2^62 or more were drawn, it tells how many.
+    fn draw(&self, token: &mut Token<V>) -> Result<u64, u64>
+        requires here { token.old.table_id ≡ self.now.table.shared.table_id }
+        requires idle { token.old.me.0.stage ≡ Idle }
+        requires speaks { 0 < length token.old.me.0.numbers }
+        ensures same { (token.new.table_id ≡ token.old.table_id) × (token.new.id ≡ token.old.id)
+            × (token.new.me.1 ≡ token.old.me.1) }
+        ensures ok { IfOk result (λ ticket.
+            token.new.me.0 ≡ record token.old.me.0 { stage = Waiting ticket }) }
+        ensures err { IfErr result (λ turns. (2 ^ 62 ≤ turns) × (token.old.me.0.worn ≤ turns)
+            × (token.new.me.0 ≡ record token.old.me.0 { worn = turns })) }
+    {
+        let drawn = self.table.shared.load::<Clear<V>>(token, TICKET);
+        if drawn >= MOST {
+            return Err(drawn);
+        }
+        Ok(self.table.shared.fetch_add::<Draw<V>>(token, TICKET, 1))
+    }
+
+    /// Waits until the ticket is served. Then the object is lent to the token.
+    fn wait<R: Wait>(&self, rt: &R, token: &mut Token<V>, ticket: u64)
+        requires here { token.old.table_id ≡ self.now.table.shared.table_id }
+        requires waiting { token.old.me.0.stage ≡ Waiting ticket }
+        requires empty { token.old.me.1 ≡ [] }
+        ensures same { (token.new.table_id ≡ token.old.table_id) × (token.new.id ≡ token.old.id) }
+        ensures took { Took V.stands V.shape V.fits ticket token.old.me token.new.me }
+    {
+        for _ in rt.forever() {
+            let serving = self.table.shared.load::<Look<V>>(token, SERVING);
+            if serving == ticket {
+                return;
+            }
+            self.rest(rt, ticket.saturating_sub(serving), serving);
+        }
+        unreachable!()
+    }
+
+    /// A pause between two looks, where so many tickets come first.
+    ///
+    /// Near its turn a thread only yields. Further back it sleeps for a time that grows with the
+    /// number of those before it: many threads that yield to one another would leave the one whose
+    /// turn it is waiting for a processor. Nobody wakes a sleeper.
+    fn rest<R: Wait>(&self, rt: &R, ahead: u64, serving: u64) {
+        if ahead <= NEAR {
+            thread::yield_now();
+            return;
+        }
+        let pause = Duration::from_micros(MICROSECONDS_A_TURN * ahead.min(FAR));
+        let low_bits = (serving % (1 << 32)) as u32;
+        self.table.shared.park_timeout(rt, SERVING, low_bits, pause);
+    }
+
+    /// Draws a ticket, waits for it, plays the object and lets the next be served. Where 2^62 or
+    /// more tickets were drawn, it tells how many.
+    pub(super) fn take_turn<R: Wait>(
+        &self,
+        rt: &R,
+        token: &mut Token<V>,
+        me: u32,
+        call: V::Call,
+        room: &mut V::Room,
+    ) -> Result<V::Answer, u64>
+        requires here { token.old.table_id ≡ self.now.table.shared.table_id }
+        requires idle { token.old.me.0.stage ≡ Idle }
+        requires empty { token.old.me.1 ≡ [] }
+        requires none_brought { token.old.me.0.brought ≡ [] }
+        requires speaks { 0 < times me token.old.me.0.numbers }
+        requires about { (value : V) × (token.old.me.0.about ≡ Some value) }
+        requires fits { (value : V) → token.old.me.0.about ≡ Some value
+            → IsTrue (V.fits (V.shape value) token.old.me.0.seen me call) }
+        ensures same { (token.new.table_id ≡ token.old.table_id) × (token.new.me.1 ≡ []) }
+        ensures ok { IfOk result (λ reply. TookTurn V.shape V.fits V.answer V.filled token.old.me.0
+            token.new.me.0 me call reply room.old room.new) }
+        ensures err { IfErr result (λ turns. (2 ^ 62 ≤ turns) × (token.old.me.0.worn ≤ turns)
+            × (token.new.me.0 ≡ record token.old.me.0 { worn = turns }) × (room.new ≡ room.old)) }
+    {
+        let ticket = self.draw(token)?;
+        self.wait(rt, token, ticket);
+        let answer = play_held(token.slot_mut(&self.table.shared, OBJECT), me, call, room);
+        self.table.shared.fetch_add::<Advance<V>>(token, SERVING, 1);
+        Ok(answer)
+    }
+}
+
+/// Plays the object and notes the call.
+fn play_held<V: Played>(
+    held: &mut Held<V, V::Call>,
+    me: u32,
+    call: V::Call,
+    room: &mut V::Room,
+) -> V::Answer
+    requires { (h : History V.Call) × V.stands held.old.value h × (length h < 2 ^ 63)
+        × IsTrue (V.fits (V.shape held.old.value) h me call) }
+    ensures shape { V.shape held.new.value ≡ V.shape held.old.value }
+    ensures last { held.new.last ≡ Some (me, call) }
+    ensures played { (h : History V.Call) → V.stands held.old.value h → length h < 2 ^ 63
+        → IsTrue (V.fits (V.shape held.old.value) h me call)
+        → V.stands held.new.value (h ++ (me, call) ∷ [])
+        × (result ≡ V.answer (V.shape held.old.value) h me call)
+        × (room.new ≡ V.filled (V.shape held.old.value) h me call room.old) }
+{
+    let answer = held.value.play(me, call, room);
+    held.last = Some((me, call));
+    answer
+}
