@@ -1,0 +1,3 @@
+pub mod HeadLemmas
+pub mod TreeLemmas
+pub mod Base64Lemmas

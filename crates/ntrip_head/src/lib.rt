@@ -1,0 +1,15 @@
+//! What a client asks of the caster: heads of NTRIP 1.0 (RTCM 10410.0) and NTRIP 2.0
+//! (RTCM 10410.1), and the head with which an upstream caster answers.
+#![tactic(auto)]
+
+mod buffer;
+mod credentials;
+mod fault;
+mod fields;
+mod http_head;
+mod judge;
+mod request;
+
+pub use buffer::{HeadBuf, HeadStep};
+pub use fault::HeadFault;
+pub use request::{Auth, Request, Version};
