@@ -18,7 +18,7 @@ use std::alloc::Global;
 pub const HEADERS: usize = 32;
 
 /// Whether there is a first byte, and it is not that of a line end.
-fn begins_in_line(bytes: &[u8]) -> bool
+pub fn begins_in_line(bytes: &[u8]) -> bool
     ensures { result ≡ begins_in_line bytes.now }
 {
     match bytes {

@@ -8,8 +8,13 @@ mod fault;
 mod fields;
 mod http_head;
 mod judge;
+mod reading;
 mod request;
+mod source_head;
+mod upstream;
 
 pub use buffer::{HeadBuf, HeadStep};
 pub use fault::HeadFault;
+pub use reading::read_head;
 pub use request::{Auth, Request, Version};
+pub use upstream::{Upstream, read_upstream};
