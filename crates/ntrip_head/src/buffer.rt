@@ -51,7 +51,8 @@ impl Model for HeadBuf {
 impl HeadBuf {
     /// Before the first byte. All the memory that it will need is taken here.
     pub fn new(alloc: Global) -> Result<HeadBuf, AllocError>
-        ensures { IfOk result (λ head. head ≡ []) }
+        ensures empty { IfOk result (λ head. head ≡ []) }
+        ensures open { IfOk result (λ head. IsOpen head) }
     {
         Ok(HeadBuf {
             bytes: Vec::with_capacity(alloc, LIMIT)?,

@@ -1,12 +1,13 @@
 //! Credentials of a request.
 
-ghost use Rattle.std.specs.Prelude.{◌≡◌, ◌≤◌, ◌==◌, length, position, Ok};
+ghost use Rattle.std.specs.Prelude.{◌≡◌, ◌≤◌, length, Ok};
 ghost use Rattle.std.specs.Option.{ForSome, option_map};
 ghost use Rattle.base64.specs.Engines.{standard};
 ghost use Rattle.base64.specs.GeneralPurpose.{decode_of};
 ghost use Rattle.ntrip_head.specs.Credentials.{is_basic, after_spaces, user_and_password, decoded_pair, credentials, auth_of, password_of};
 ghost use Rattle.ntrip_head.specs.Outcome.{Gives};
 
+use crate::cut::place_of;
 use crate::fault::HeadFault;
 use crate::fields::is_same;
 use crate::request::Auth;
@@ -46,19 +47,12 @@ fn after_spaces(text: &[u8]) -> &[u8]
     rest
 }
 
-/// The first place of a colon.
-fn colon_in(pair: &[u8]) -> Option<usize>
-    ensures { result ≡ position (λ b. b == 58) pair.now }
-{
-    pair.iter().position(|byte| *byte == b':')
-}
-
 /// The user before the first colon and the password after it, if there is a colon.
 fn user_and_password(alloc: Global, pair: &[u8]) -> Result<Auth, HeadFault>
     requires { length pair.now ≤ 8192 }
     ensures { Gives result (Ok (user_and_password pair.now)) }
 {
-    match colon_in(pair) {
+    match place_of(b':', pair) {
         None => Ok(Auth::Unread),
         Some(colon) => Ok(Auth::Basic {
             user: text(alloc, &pair[..colon])?,

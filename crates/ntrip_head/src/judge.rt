@@ -69,7 +69,12 @@ fn mount_in(alloc: Global, target: &[u8]) -> Result<MountName, HeadFault>
 }
 
 /// What a `GET` of this target asks for.
-fn get_of(alloc: Global, target: &[u8], bytes: &[u8], headers: &[HeaderSpan]) -> Result<Request, HeadFault>
+fn get_of(
+    alloc: Global,
+    target: &[u8],
+    bytes: &[u8],
+    headers: &[HeaderSpan],
+) -> Result<Request, HeadFault>
     requires headers { All (IsHeaderWithin (length bytes.now)) headers.now }
     requires size { length bytes.now ≤ 8192 }
     ensures { Gives result (get_of target.now (map (header_bytes bytes.now) headers.now)) }
@@ -81,28 +86,49 @@ fn get_of(alloc: Global, target: &[u8], bytes: &[u8], headers: &[HeaderSpan]) ->
     let mount = mount_in(alloc, target)?;
     let auth = auth_in(alloc, bytes, headers)?;
     let gga = gga_in(bytes, headers);
-    Ok(Request::Rover { version, mount, auth, gga })
+    Ok(Request::Rover {
+        version,
+        mount,
+        auth,
+        gga,
+    })
 }
 
 /// What a `POST` of this target asks for.
-fn post_of(alloc: Global, target: &[u8], bytes: &[u8], headers: &[HeaderSpan]) -> Result<Request, HeadFault>
+fn post_of(
+    alloc: Global,
+    target: &[u8],
+    bytes: &[u8],
+    headers: &[HeaderSpan],
+) -> Result<Request, HeadFault>
     requires headers { All (IsHeaderWithin (length bytes.now)) headers.now }
     requires size { length bytes.now ≤ 8192 }
     ensures { Gives result
         (source_at (mount_in target.now) (map (header_bytes bytes.now) headers.now)) }
 {
-    let mount = mount_in(alloc, target)?;
     let coding = value_in(b"Transfer-Encoding", bytes, headers);
+    let mount = mount_in(alloc, target)?;
     if is_other_coding(coding) {
         return Err(HeadFault::Coding);
     }
     let auth = auth_in(alloc, bytes, headers)?;
     let password = password_of(alloc, auth)?;
-    Ok(Request::Source { version: Version::Two, mount, password, chunked: coding.is_some() })
+    Ok(Request::Source {
+        version: Version::Two,
+        mount,
+        password,
+        chunked: coding.is_some(),
+    })
 }
 
 /// What a head with this method and this target asks for.
-pub fn request_of(alloc: Global, method: &[u8], target: &[u8], bytes: &[u8], headers: &[HeaderSpan]) -> Result<Request, HeadFault>
+pub fn request_of(
+    alloc: Global,
+    method: &[u8],
+    target: &[u8],
+    bytes: &[u8],
+    headers: &[HeaderSpan],
+) -> Result<Request, HeadFault>
     requires headers { All (IsHeaderWithin (length bytes.now)) headers.now }
     requires size { length bytes.now ≤ 8192 }
     ensures { Gives result

@@ -4,6 +4,7 @@
 
 mod buffer;
 mod credentials;
+mod cut;
 mod fault;
 mod fields;
 mod http_head;

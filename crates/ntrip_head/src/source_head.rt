@@ -1,12 +1,12 @@
 //! Heads of the sources of NTRIP 1.0.
 
-ghost use Rattle.std.specs.Prelude.{◌≡◌, ◌≤◌, ◌==◌, false, IsTrue, length, drop, position};
+ghost use Rattle.std.specs.Prelude.{◌≡◌, ◌≤◌, false, IsTrue, length, drop};
 ghost use Rattle.std.specs.Str.Lines.{strip_carriage_return};
-ghost use Rattle.ntrip_head.specs.Cut.{cut_by};
 ghost use Rattle.ntrip_head.specs.Outcome.{UnlessMemory, Gives};
 ghost use Rattle.ntrip_head.specs.SourceHead.{is_source, IsHeaderBlock, without_slash, source_of, source_in, SourceAnswer};
 
 use crate::credentials::text;
+use crate::cut::cut_by;
 use crate::fault::HeadFault;
 use crate::http_head::HEADERS;
 use crate::judge::mount_named;
@@ -20,25 +20,6 @@ pub fn is_source(bytes: &[u8]) -> bool
     ensures { result ≡ is_source bytes.now }
 {
     bytes.starts_with(b"SOURCE ")
-}
-
-/// The first place of this byte.
-fn place_of(byte: u8, text: &[u8]) -> Option<usize>
-    ensures { result ≡ position (λ b. b == byte) text.now }
-{
-    text.iter().position(|b| *b == byte)
-}
-
-/// The text before the first of these bytes, and the text after it.
-fn cut_by(byte: u8, text: &[u8]) -> (&[u8], &[u8])
-    ensures before { result.0.now ≡ (cut_by byte text.now).0 }
-    ensures after { result.1.now ≡ (cut_by byte text.now).1 }
-    ensures within { length result.0.now ≤ length text.now }
-{
-    match place_of(byte, text) {
-        None => (text, &[]),
-        Some(place) => (&text[..place], &text[place + 1..]),
-    }
 }
 
 /// The text without one CR at its end.
