@@ -1,6 +1,7 @@
 -- The credentials of a request: its `Authorization` field (RFC 9110, section 11.6.2), where its
 -- scheme is `Basic` (RFC 7617, section 2).
-use Rattle.std.specs.Prelude.{ℕ, ◌+◌, Bool, ◌&&◌, ◌==◌, if◌then◌else◌, codes, List, [], ◌∷◌, take, drop, slice_index, position, Option, Some, None, Result, Ok, Err}
+use Rattle.std.specs.Prelude.{◌≡◌, ◌≢◌, ◌<◌, ℕ, ◌+◌, Bool, true, not, ◌&&◌, ◌==◌, if◌then◌else◌, IsTrue, codes, List, [], ◌∷◌, ◌++◌, replicate, take, drop, slice_index, position, Option, Some, None, Result, Ok, Err}
+use Rattle.std.specs.List.{list_any}
 use Rattle.std.specs.Str.{str_eq_ignore_ascii_case}
 use Rattle.base64.specs.declared.decode.DecodeError.{DecodeError}
 use Rattle.base64.specs.Engines.{standard}
@@ -50,3 +51,19 @@ abbrev pub password_of : Auth → List ℕ
 password_of auths.None = []
 password_of (Basic user password) = password
 password_of Unread = []
+
+-- ---- the same as a form (RFC 7617, section 2)
+
+-- scheme, spaces and text: the scheme is `Basic` but for case, the spaces are one at least, and the
+-- text begins with no space and decodes to the user, a colon (58) and the password; there is no
+-- colon in the user
+pub record IsBasicText (value user password : List ℕ) : Type 0 where
+  pub scheme : List ℕ
+  pub spaces : ℕ
+  pub text : List ℕ
+  pub value_is : value ≡ scheme ++ replicate spaces 32 ++ text
+  pub scheme_is : IsTrue (str_eq_ignore_ascii_case scheme (codes "Basic"))
+  pub some_space : 0 < spaces
+  pub no_space : slice_index text 0 ≢ 32
+  pub pair_is : decode_of standard text ≡ Ok (user ++ 58 ∷ password)
+  pub no_colon : not (list_any (λ b. b == 58) user) ≡ true

@@ -9,6 +9,7 @@ mod fault;
 mod fields;
 mod http_head;
 mod judge;
+pub mod laws;
 mod reading;
 mod request;
 mod source_head;
