@@ -1,5 +1,5 @@
 -- What is decoded is no longer than its text.
-use Rattle.std.proofs.Common.{◌≡◌, ◌≤◌, ◌+◌, ◌∙◌, replicate, ℕ, List, [], ◌∷◌, ◌++◌, length, arith, length-append, ap}
+use Rattle.std.proofs.Common.{◌≡◌, ◌≤◌, ◌+◌, ◌∙◌, replicate, ℕ, List, [], ◌∷◌, length, arith, length-append, ap}
 use Rattle.base64.specs.Rfc4648.{encode_symbols, encode_group, padding_len}
 use Rattle.base64.specs.Engines.{standard}
 use Rattle.base64.specs.GeneralPurpose.{encode_of}

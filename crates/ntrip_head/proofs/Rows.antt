@@ -1,6 +1,6 @@
 -- Worked rows, which the definitions compute.
 use Rattle.std.proofs.Common.{◌≡◌, List, ℕ, [], ◌∷◌, true, false, Some, None, Ok, Err, refl}
-use Rattle.std.specs.Prelude.{codes, pos}
+use Rattle.std.specs.Prelude.{codes}
 use Rattle.base64.specs.Decode.{groups_error, scan_steps, groups_bytes}
 use Rattle.ntrip_head.specs.declared.fault.HeadFault.TheVariants.{Bad, Method, Coding}
 use Rattle.ntrip_head.specs.declared.request.Version.TheVariants.{One, Two}

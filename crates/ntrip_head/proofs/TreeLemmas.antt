@@ -1,12 +1,12 @@
 -- The tree of a whole head against what the parser answers.
-use Rattle.std.proofs.Common.{◌≡◌, ◌≤◌, ◌∙◌, ◌<◌, ℕ, Bool, false, true, eqb, inl, inr, List, [], ◌∷◌, ◌++◌, length, take, drop, map, arith, sym, ap, subst, refl}
+use Rattle.std.proofs.Common.{◌≡◌, ◌≤◌, ◌∙◌, ℕ, false, true, eqb, inl, inr, List, [], ◌∷◌, ◌++◌, length, take, arith, sym, ap, subst, refl}
 use Rattle.std.proofs.Math.ListN.{drop_of_length-le}
 use Rattle.std.proofs.lemmas.Bool.{cases_Bool, eqb-true}
 use Rattle.std.proofs.lemmas.List.{length-map, length-take-le}
 use Rattle.httparse.specs.declared.spans.HeaderSpan.{HeaderSpan}
 use Rattle.httparse.specs.declared.spans.RequestSpans.{RequestSpans}
 use Rattle.httparse.specs.declared.spans.ResponseSpans.{ResponseSpans}
-use Rattle.httparse.specs.Grammar.{LineEnd, crlf, lf, Field, print_end, print_blank, print_version, print_section, is_token_byte, IsToken, RequestHead, ReadsRequest, print_request, ResponseHead, ReadsResponse, print_reason}
+use Rattle.httparse.specs.Grammar.{LineEnd, crlf, lf, Field, print_end, print_blank, print_version, print_section, is_token_byte, IsToken, RequestHead, ReadsRequest, ResponseHead, ReadsResponse, print_reason}
 use Rattle.httparse.specs.Spans.{header_bytes, name_and_value, AreFieldsAt, IsRequestWithin, IsRequestAt, IsRequestOf, IsResponseWithin, IsResponseAt, IsResponseOf}
 use Rattle.httparse.proofs.GrammarLemmas.{print_request-append, print_response-append}
 use Rattle.ntrip_head.specs.Answer.{begins_in_line, IsWholeRequest}

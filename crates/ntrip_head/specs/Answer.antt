@@ -1,6 +1,6 @@
 -- The answer of a head: a request or a fault. It is a judgment on the tree that the grammar of
 -- HTTP/1.1 (RFC 9112, sections 2 to 5) reads in the head, as `httparse` states that grammar.
-use Rattle.std.specs.Prelude.{◌≡◌, ◌≤◌, ◌⊎◌, ℕ, Bool, false, not, MatchBool, ◌&&◌, ◌==◌, List, [], ◌∷◌, length, map, Result, Ok, Err}
+use Rattle.std.specs.Prelude.{◌≡◌, ◌≤◌, ◌⊎◌, ℕ, Bool, false, not, MatchBool, ◌&&◌, ◌==◌, List, [], ◌∷◌, length, map, Result, Err}
 use Rattle.httparse.specs.Grammar.{RequestHead, ReadsRequest}
 use Rattle.httparse.specs.Spans.{name_and_value}
 use Rattle.ntrip_head.specs.declared.fault.HeadFault.{HeadFault}

@@ -1,7 +1,7 @@
 -- Header fields by name (RFC 9110, sections 5.1 and 5.5): names are compared without ASCII case,
 -- and of fields with equal names the first counts. A field is its name and its value without the
 -- blanks at both ends.
-use Rattle.std.specs.Prelude.{ℕ, Bool, false, not, codes, List, Option, Some, None, is_some, find}
+use Rattle.std.specs.Prelude.{ℕ, Bool, false, not, codes, List, Option, Some, None, find}
 use Rattle.std.specs.Option.{option_map}
 use Rattle.std.specs.Str.{str_eq_ignore_ascii_case}
 

@@ -1,7 +1,7 @@
 -- What an HTTP request head asks for, by its method, its target and its header fields: the request,
 -- or the first rule that is broken. `GET` is that of NTRIP 1.0 (RTCM 10410.0) and NTRIP 2.0
 -- (RTCM 10410.1), `POST` that of NTRIP 2.0.
-use Rattle.std.specs.Prelude.{ℕ, Bool, ◌==◌, if◌then◌else◌, codes, List, drop, slice_index, Option, Result, Ok, Err, is_some}
+use Rattle.std.specs.Prelude.{ℕ, ◌==◌, if◌then◌else◌, codes, List, drop, slice_index, Option, Result, Ok, Err, is_some}
 use Rattle.std.specs.Option.{option_and_then}
 use Rattle.std.specs.Str.{bytes_eq}
 use Rattle.cast_text.specs.declared.fault.NameFault.{NameFault}

@@ -1,4 +1,4 @@
-use Rattle.std.proofs.Common.{◌≡◌, ◌∙◌, ◌∷◌, [], ◌++◌, List, ℕ, length, sym, ap, subst}
+use Rattle.std.proofs.Common.{◌∙◌, List, ℕ, length, sym, ap, subst}
 use Rattle.ntrip_head.specs.Head.{ends_with_empty_line, IsOpen}
 use Rattle.ntrip_head.proofs.HeadLemmas.{more_open, done_head, full_long}
 use Rattle.ntrip_head.proofs.buffer.HeadBuf.push.Goals as goal
