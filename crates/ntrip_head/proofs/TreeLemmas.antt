@@ -28,7 +28,7 @@ token_in_line b rest h =
     rw (not_cr, not_lf) refl
 
 -- what begins with a token does not begin with a line end
-begins_token : (token rest : List ℕ) → IsToken token → begins_in_line (token ++ rest) ≡ true
+pub begins_token : (token rest : List ℕ) → IsToken token → begins_in_line (token ++ rest) ≡ true
 begins_token [] rest t = absurd (omega (arith, t.0))
 begins_token (b ∷ bytes) rest t = token_in_line b (bytes ++ rest) (t.1 0 0 (omega arith))
 

@@ -22,7 +22,8 @@ pub fn value_in<'b>(name: &[u8], bytes: &'b [u8], headers: &[HeaderSpan]) -> Opt
         ≡ value_in name.now (map (header_bytes bytes.now) headers.now) }
     ensures within { IfSome result (λ v. length v.now ≤ length bytes.now) }
 {
-    for header in headers {
+    for place in 0..headers.len() {
+        let header = headers[place];
         if is_same(header.name.of(bytes), name) {
             return Some(header.value.of(bytes));
         }

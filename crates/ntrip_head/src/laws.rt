@@ -1,11 +1,6 @@
 //! Laws of heads, each the contract of a function that does nothing.
 
-ghost use Rattle.std.specs.Prelude.{◌≡◌, ◌⊎◌, ◌<◌, ◌↔◌, ℕ, not, IsTrue, nat_eq, codes, List, [], ◌∷◌, ◌++◌, length, replicate, slice_index, Result, Ok};
-ghost use Rattle.std.specs.List.{list_any};
-ghost use Rattle.std.specs.Str.{str_eq_ignore_ascii_case};
-ghost use Rattle.base64.specs.Engines.{standard};
-ghost use Rattle.base64.specs.GeneralPurpose.{decode_of};
-ghost use Rattle.httparse.specs.Grammar.{LineEnd, print_end};
+ghost use Rattle.std.specs.Prelude.{◌≡◌, ◌≤◌, ◌↔◌, ℕ, IsTrue, List, ◌++◌, length, Result, Ok};
 ghost use Rattle.ntrip_head.specs.Head.{ends_with_empty_line, EndsWithEmptyLine, IsHead};
 ghost use Rattle.ntrip_head.specs.Answer.{HeadAnswer};
 ghost use Rattle.ntrip_head.specs.Credentials.{credentials, IsBasicText};
@@ -41,4 +36,13 @@ pub fn heads_have_one_answer()
 pub fn credentials_have_their_form()
     ensures { (value user password : List ℕ)
         → (credentials value ≡ Basic user password) ↔ IsBasicText value user password }
+{}
+
+/// What is read as a request, or as the answer of an upstream caster, is a whole head: the empty
+/// line at its end is its first one, so that `HeadBuf` gives exactly these bytes.
+pub fn what_is_read_is_a_head()
+    ensures request { (bytes : List ℕ) (request : Request) → HeadAnswer bytes (Ok request)
+        → length bytes ≤ 8192 → IsHead bytes }
+    ensures upstream { (bytes : List ℕ) (upstream : Upstream) → UpstreamAnswer bytes (Ok upstream)
+        → length bytes ≤ 8192 → IsHead bytes }
 {}
