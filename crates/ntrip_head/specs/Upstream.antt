@@ -6,7 +6,7 @@ use Rattle.httparse.specs.Spans.{name_and_value}
 use Rattle.ntrip_head.specs.declared.fault.HeadFault.{HeadFault}
 use Rattle.ntrip_head.specs.declared.fault.HeadFault.TheVariants.{Bad, Coding}
 use Rattle.ntrip_head.specs.declared.upstream.Upstream.{Upstream}
-use Rattle.ntrip_head.specs.Fields.{is_word, coding_in, is_other_coding}
+use Rattle.ntrip_head.specs.Fields.{HeadFields, is_word, coding_in, is_other_coding}
 
 -- the bytes are this response head, from the first to the last, with no empty line before it and
 -- at most 32 header lines
@@ -20,7 +20,7 @@ abbrev pub IsNoResponse : List ℕ → Type 0
 IsNoResponse bytes = (h : ResponseHead) → ¬ (IsWholeResponse bytes h)
 
 -- what a status and header fields say: with status 200 a body follows, raw or chunked
-abbrev pub upstream_of : ℕ → List (List ℕ × List ℕ) → Result Upstream HeadFault
+abbrev pub upstream_of : ℕ → HeadFields → Result Upstream HeadFault
 upstream_of status fields =
     if (status == 200) && is_other_coding (coding_in fields) then Err Coding
     else Ok (record { status = status; chunked = is_word (codes "chunked") (coding_in fields) })

@@ -1,10 +1,9 @@
 //! Header fields by name.
 
-ghost use Rattle.std.specs.Prelude.{◌≡◌, ◌≤◌, length, map, All, IfSome};
+ghost use Rattle.std.specs.Prelude.{◌≡◌, ◌≤◌, length, IfSome};
 ghost use Rattle.std.specs.Option.{option_map};
 ghost use Rattle.std.specs.Str.{str_eq_ignore_ascii_case};
-ghost use Rattle.httparse.specs.Spans.{IsHeaderWithin, header_bytes};
-ghost use Rattle.ntrip_head.specs.Fields.{value_in, is_word, is_other_coding};
+ghost use Rattle.ntrip_head.specs.Fields.{fields_at, AreWithin, value_in, is_word, is_other_coding};
 
 use httparse::spans::HeaderSpan;
 
@@ -17,9 +16,9 @@ pub fn is_same(a: &[u8], b: &[u8]) -> bool
 
 /// The value of the first header of this name.
 pub fn value_in<'b>(name: &[u8], bytes: &'b [u8], headers: &[HeaderSpan]) -> Option<&'b [u8]>
-    requires { All (IsHeaderWithin (length bytes.now)) headers.now }
+    requires { AreWithin bytes.now headers.now }
     ensures value { option_map (λ v. v.now) result
-        ≡ value_in name.now (map (header_bytes bytes.now) headers.now) }
+        ≡ value_in name.now (fields_at bytes.now headers.now) }
     ensures within { IfSome result (λ v. length v.now ≤ length bytes.now) }
 {
     for place in 0..headers.len() {

@@ -1,9 +1,9 @@
 //! What an HTTP request head asks for, by its method, its target and its headers.
 
-ghost use Rattle.std.specs.Prelude.{◌≡◌, ◌≤◌, length, map, All, Ok};
-ghost use Rattle.httparse.specs.Spans.{IsHeaderWithin, header_bytes};
+ghost use Rattle.std.specs.Prelude.{◌≡◌, ◌≤◌, length, Ok};
 ghost use Rattle.cast_text.specs.Name.{name_of};
 ghost use Rattle.ntrip_head.specs.Outcome.{Gives};
+ghost use Rattle.ntrip_head.specs.Fields.{fields_at, AreWithin};
 ghost use Rattle.ntrip_head.specs.Judge.{version_in, auth_in, gga_in, or_bad, mount_in, get_of, source_at, request_of};
 
 use crate::credentials::{auth_of, password_of};
@@ -17,8 +17,8 @@ use std::alloc::Global;
 
 /// The version of a `GET`.
 fn version_in(bytes: &[u8], headers: &[HeaderSpan]) -> Version
-    requires { All (IsHeaderWithin (length bytes.now)) headers.now }
-    ensures { result ≡ version_in (map (header_bytes bytes.now) headers.now) }
+    requires { AreWithin bytes.now headers.now }
+    ensures { result ≡ version_in (fields_at bytes.now headers.now) }
 {
     if is_word(b"Ntrip/2.0", value_in(b"Ntrip-Version", bytes, headers)) {
         Version::Two
@@ -29,17 +29,17 @@ fn version_in(bytes: &[u8], headers: &[HeaderSpan]) -> Version
 
 /// The credentials.
 fn auth_in(alloc: Global, bytes: &[u8], headers: &[HeaderSpan]) -> Result<Auth, HeadFault>
-    requires headers { All (IsHeaderWithin (length bytes.now)) headers.now }
+    requires headers { AreWithin bytes.now headers.now }
     requires size { length bytes.now ≤ 8192 }
-    ensures { Gives result (Ok (auth_in (map (header_bytes bytes.now) headers.now))) }
+    ensures { Gives result (Ok (auth_in (fields_at bytes.now headers.now))) }
 {
     auth_of(alloc, value_in(b"Authorization", bytes, headers))
 }
 
 /// The position that the head reports.
 fn gga_in(bytes: &[u8], headers: &[HeaderSpan]) -> Option<Position>
-    requires { All (IsHeaderWithin (length bytes.now)) headers.now }
-    ensures { result ≡ gga_in (map (header_bytes bytes.now) headers.now) }
+    requires { AreWithin bytes.now headers.now }
+    ensures { result ≡ gga_in (fields_at bytes.now headers.now) }
 {
     match value_in(b"Ntrip-GGA", bytes, headers) {
         None => None,
@@ -75,9 +75,9 @@ fn get_of(
     bytes: &[u8],
     headers: &[HeaderSpan],
 ) -> Result<Request, HeadFault>
-    requires headers { All (IsHeaderWithin (length bytes.now)) headers.now }
+    requires headers { AreWithin bytes.now headers.now }
     requires size { length bytes.now ≤ 8192 }
-    ensures { Gives result (get_of target.now (map (header_bytes bytes.now) headers.now)) }
+    ensures { Gives result (get_of target.now (fields_at bytes.now headers.now)) }
 {
     let version = version_in(bytes, headers);
     if target == b"/".as_slice() {
@@ -101,10 +101,10 @@ fn post_of(
     bytes: &[u8],
     headers: &[HeaderSpan],
 ) -> Result<Request, HeadFault>
-    requires headers { All (IsHeaderWithin (length bytes.now)) headers.now }
+    requires headers { AreWithin bytes.now headers.now }
     requires size { length bytes.now ≤ 8192 }
     ensures { Gives result
-        (source_at (mount_in target.now) (map (header_bytes bytes.now) headers.now)) }
+        (source_at (mount_in target.now) (fields_at bytes.now headers.now)) }
 {
     let coding = value_in(b"Transfer-Encoding", bytes, headers);
     let mount = mount_in(alloc, target)?;
@@ -129,10 +129,10 @@ pub fn request_of(
     bytes: &[u8],
     headers: &[HeaderSpan],
 ) -> Result<Request, HeadFault>
-    requires headers { All (IsHeaderWithin (length bytes.now)) headers.now }
+    requires headers { AreWithin bytes.now headers.now }
     requires size { length bytes.now ≤ 8192 }
     ensures { Gives result
-        (request_of method.now target.now (map (header_bytes bytes.now) headers.now)) }
+        (request_of method.now target.now (fields_at bytes.now headers.now)) }
 {
     if method == b"GET".as_slice() {
         get_of(alloc, target, bytes, headers)

@@ -1,8 +1,9 @@
 //! The head with which an upstream caster answers.
 
-ghost use Rattle.std.specs.Prelude.{◌≡◌, length, map, All, IfSome, IfNone};
+ghost use Rattle.std.specs.Prelude.{◌≡◌, length, IfSome, IfNone};
 ghost use Rattle.httparse.specs.Grammar.{ResponseHead};
-ghost use Rattle.httparse.specs.Spans.{IsResponseAt, IsResponseWithin, IsHeaderWithin, header_bytes};
+ghost use Rattle.httparse.specs.Spans.{IsResponseAt, IsResponseWithin};
+ghost use Rattle.ntrip_head.specs.Fields.{fields_at, AreWithin};
 ghost use Rattle.ntrip_head.specs.Upstream.{IsWholeResponse, IsNoResponse, upstream_of, UpstreamAnswer};
 
 use crate::fault::HeadFault;
@@ -42,8 +43,8 @@ fn whole_response(bytes: &[u8], headers: &mut [HeaderSpan]) -> Option<ResponseSp
 
 /// What a status and headers say.
 fn upstream_of(status: u16, bytes: &[u8], headers: &[HeaderSpan]) -> Result<Upstream, HeadFault>
-    requires { All (IsHeaderWithin (length bytes.now)) headers.now }
-    ensures { result ≡ upstream_of status (map (header_bytes bytes.now) headers.now) }
+    requires { AreWithin bytes.now headers.now }
+    ensures { result ≡ upstream_of status (fields_at bytes.now headers.now) }
 {
     let coding = value_in(b"Transfer-Encoding", bytes, headers);
     if status == 200 && is_other_coding(coding) {
