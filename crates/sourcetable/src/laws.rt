@@ -1,0 +1,1 @@
+//! Laws of sourcetables, each the contract of a function that does nothing.

@@ -1,0 +1,1 @@
+//! Tables of casters, by the public calls.

@@ -1,0 +1,54 @@
+//! Writing a table as its text.
+ghost use Rattle.std.specs.Prelude.{◌≡◌, List, ◌++◌, OnOk, OnErr};
+ghost use Rattle.sourcetable.specs.Table.{table_text};
+ghost use Rattle.sourcetable.specs.Record.{line_of};
+
+use crate::record::{Kind, Record, Table};
+use std::alloc::AllocError;
+
+/// The letters with which a kind's lines begin.
+fn letters_of(kind: Kind) -> &'static [u8] {
+    match kind {
+        Kind::Str => b"STR",
+        Kind::Cas => b"CAS",
+        Kind::Net => b"NET",
+    }
+}
+
+/// Appends the line of a record, without a line end. After a refusal a part of it stands there.
+fn push_record(entry: &Record, out: &mut Vec<u8>) -> Result<(), AllocError>
+    ensures ok { OnOk result (out.new.items ≡ out.old.items ++ line_of entry.now) }
+    ensures begins { (more : List ℕ) × (out.new.items ≡ out.old.items ++ more) }
+{
+    out.extend_from_slice(letters_of(entry.kind))?;
+    for field in entry.fields.as_slice() {
+        out.push(b';')?;
+        out.extend_from_slice(field.bytes())?;
+    }
+    Ok(())
+}
+
+/// Appends the text of a table. A refusal leaves `out` as it was.
+pub fn write_table(table: &Table, out: &mut Vec<u8>) -> Result<(), AllocError>
+    ensures ok { OnOk result (out.new.items ≡ out.old.items ++ table_text table.now.records) }
+    ensures err { OnErr result (out.new.items ≡ out.old.items) }
+{
+    let before = out.len();
+    let written = push_table(table, out);
+    if written.is_err() {
+        out.truncate(before);
+    }
+    written
+}
+
+/// Appends the text of a table. After a refusal a part of it stands there.
+fn push_table(table: &Table, out: &mut Vec<u8>) -> Result<(), AllocError>
+    ensures ok { OnOk result (out.new.items ≡ out.old.items ++ table_text table.now.records) }
+    ensures begins { (more : List ℕ) × (out.new.items ≡ out.old.items ++ more) }
+{
+    for record in table.records.as_slice() {
+        push_record(record, out)?;
+        out.extend_from_slice(b"\r\n")?;
+    }
+    out.extend_from_slice(b"ENDSOURCETABLE\r\n")
+}
