@@ -1,5 +1,5 @@
 -- What reading a line or a text may answer.
-use Rattle.std.specs.Prelude.{◌≡◌, ℕ, ◌+◌, ◌-◌, ◌<◌, ◌≤◌, ◌==◌, ◌||◌, Bool, true, false, List, [], ◌∷◌, ◌++◌, length, take, map, get_or, position, Option, None, Some, Result, Ok, Err}
+use Rattle.std.specs.Prelude.{◌≡◌, ℕ, ◌+◌, ◌<◌, ◌≤◌, true, false, List, ◌∷◌, ◌++◌, length, map, position, Option, None, Some, Result, Ok, Err}
 use Rattle.std.specs.List.{All}
 use Rattle.sourcetable.specs.declared.record.Record.{Record}
 use Rattle.sourcetable.specs.declared.record.Table.{Table}
@@ -9,10 +9,10 @@ use Rattle.sourcetable.specs.declared.fault.RecordFault.{RecordFault}
 use Rattle.sourcetable.specs.declared.fault.RecordFault.TheVariants as records
 use Rattle.sourcetable.specs.declared.fault.TableFault.{TableFault}
 use Rattle.sourcetable.specs.declared.fault.TableFault.TheVariants as tables
-use Rattle.sourcetable.specs.Record.{line_of, IsRecord}
+use Rattle.sourcetable.specs.Record.{line_of, is_line_end, IsRecord}
 use Rattle.sourcetable.specs.Table.{fault_of, most_bytes, lines_before_end, has_end}
 
--- the same fault of a record, and of the table that has it in the line of this number
+-- the same fault of a record alone, and of the table that has it in the line of this number
 abbrev pub record_fault : LineFault → RecordFault
 record_fault faults.Kind = records.Kind
 record_fault faults.Fields = records.Fields
@@ -26,7 +26,7 @@ table_fault number faults.Memory = tables.Memory
 -- the line is this record
 pub record IsRecordOf (line : List ℕ) (r : Record) : Type 0 where
   pub is : IsRecord r
-  pub line : line ≡ line_of r
+  pub line_is : line ≡ line_of r
 
 -- what reading a line of a table answers: its record, or why it is none; or memory ran out
 abbrev pub IsLineRead : List ℕ → Result Record LineFault → Type 0
@@ -35,9 +35,9 @@ IsLineRead line (Err faults.Kind) = fault_of line ≡ Some faults.Kind
 IsLineRead line (Err faults.Fields) = fault_of line ≡ Some faults.Fields
 IsLineRead line (Err faults.Memory) = Unit {0}
 
--- the first place of a CR (13) or LF (10)
+-- the first place of a CR or LF
 abbrev pub line_end_in : List ℕ → Option ℕ
-line_end_in line = position (λ b. b == 13 || b == 10) line
+line_end_in line = position is_line_end line
 
 -- what reading a record alone answers: no CR or LF may stand in its line
 abbrev pub IsRecordRead : List ℕ → Result Record RecordFault → Type 0
@@ -50,24 +50,27 @@ IsRecordRead line (Err records.Memory) = Unit {0}
 
 -- of the lines before the end of a table, the one of this number, counted from 1, is the first that
 -- is no record, and this is why
-pub record IsFirstFault (text : List ℕ) (number : ℕ) (fault : LineFault) : Type 0 where
-  pub counted : 0 < number
-  pub within : number ≤ length (lines_before_end text)
-  pub before : All (λ line. fault_of line ≡ None) (take (number - 1) (lines_before_end text))
-  pub fault : fault_of (get_or (lines_before_end text) (number - 1) []) ≡ Some fault
+pub record IsFirstFault (text : List ℕ) (number : ℕ) (why : LineFault) : Type 0 where
+  pub front : List (List ℕ)
+  pub line : List ℕ
+  pub more : List (List ℕ)
+  pub stands : lines_before_end text ≡ front ++ line ∷ more
+  pub counted : number ≡ length front + 1
+  pub sound : All (λ before. fault_of before ≡ None) front
+  pub fault : fault_of line ≡ Some why
 
 -- the text has at most 1 MiB, an end, and before it the lines of exactly these records
 pub record IsTableOf (text : List ℕ) (table : Table) : Type 0 where
   pub within : length text ≤ most_bytes
   pub ended : has_end text ≡ true
-  pub lines : lines_before_end text ≡ map line_of table.records
-  pub records : All IsRecord table.records
+  pub stands : lines_before_end text ≡ map line_of table.records
+  pub are : All IsRecord table.records
 
 -- at most 1 MiB, no line is faulty, and none ends the table
 pub record HasNoEnd (text : List ℕ) : Type 0 where
   pub within : length text ≤ most_bytes
   pub ended : has_end text ≡ false
-  pub records : All (λ line. fault_of line ≡ None) (lines_before_end text)
+  pub sound : All (λ line. fault_of line ≡ None) (lines_before_end text)
 
 -- what reading a text answers
 abbrev pub IsTableRead : List ℕ → Result Table TableFault → Type 0

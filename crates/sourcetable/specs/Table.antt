@@ -1,7 +1,7 @@
 -- A sourcetable as a text (NTRIP 1.0, RTCM 10410.0; NTRIP 2.0, RTCM 10410.1): one record a line,
 -- and then the line `ENDSOURCETABLE`. Lines end with LF or CR LF.
-use Rattle.std.specs.Prelude.{◌≡◌, ℕ, ◌+◌, ◌-◌, ◌<◌, ◌≤◌, ◌==◌, Bool, true, false, not, nat_lt, nat_eq, if◌then◌else◌, codes, List, [], ◌∷◌, ◌++◌, length, take, map, get_or, Option, None, Some}
-use Rattle.std.specs.List.{All, flat_map, count_by, list_any, prefix_len, starts_with}
+use Rattle.std.specs.Prelude.{ℕ, Bool, nat_lt, nat_eq, if◌then◌else◌, codes, List, [], ◌∷◌, ◌++◌, Option, None, Some}
+use Rattle.std.specs.List.{before_first, count_by, flat_map, list_any, starts_with}
 use Rattle.std.specs.Str.{bytes_eq}
 use Rattle.std.specs.Str.Lines.{lines}
 use Rattle.sourcetable.specs.declared.record.Kind.{Kind}
@@ -9,7 +9,7 @@ use Rattle.sourcetable.specs.declared.record.Kind.TheVariants.{Str, Cas, Net}
 use Rattle.sourcetable.specs.declared.record.Record.{Record}
 use Rattle.sourcetable.specs.declared.fault.LineFault.{LineFault}
 use Rattle.sourcetable.specs.declared.fault.LineFault.TheVariants as faults
-use Rattle.sourcetable.specs.Record.{letters, field_count, is_separator, line_of, IsRecord}
+use Rattle.sourcetable.specs.Record.{letters, field_count, is_separator, line_of}
 
 -- ---- one line
 
@@ -45,15 +45,19 @@ most_bytes = 1048576
 abbrev pub is_end : List ℕ → Bool
 is_end line = bytes_eq line (codes "ENDSOURCETABLE")
 
--- the lines before the first one that ends a table
+-- the lines before the first one that ends a table; all lines, where none does
 abbrev pub lines_before_end : List ℕ → List (List ℕ)
-lines_before_end text = take (prefix_len (λ line. not (is_end line)) (lines text)) (lines text)
+lines_before_end text = before_first is_end (lines text)
 
 -- whether there is a line that ends the table
 abbrev pub has_end : List ℕ → Bool
 has_end text = list_any is_end (lines text)
 
--- the text of a table: the line of each record with CR LF, and the end with CR LF
+-- the text of a table: the line of each record, then the end, each with this line end
+abbrev pub text_with : List ℕ → List Record → List ℕ
+text_with line_end records =
+    flat_map (λ r. line_of r ++ line_end) records ++ (codes "ENDSOURCETABLE" ++ line_end)
+
+-- the text of a table as it is written: lines end with CR LF
 abbrev pub table_text : List Record → List ℕ
-table_text records =
-    flat_map (λ r. line_of r ++ 13 ∷ 10 ∷ []) records ++ codes "ENDSOURCETABLE" ++ 13 ∷ 10 ∷ []
+table_text records = text_with (13 ∷ 10 ∷ []) records

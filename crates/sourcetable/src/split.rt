@@ -1,8 +1,8 @@
 //! A line in its fields, and a text in its lines.
 ghost use Rattle.std.specs.Prelude.{◌≡◌, ◌+◌, ◌<◌, ◌≤◌, ◌==◌, [], ◌∷◌, ◌++◌, length, position, IfOk, IfSome, IfNone};
-ghost use Rattle.std.specs.List.{flat_map, count_by};
+ghost use Rattle.std.specs.List.{count_by};
 ghost use Rattle.std.specs.Str.Lines.{lines, strip_carriage_return};
-ghost use Rattle.sourcetable.specs.Record.{is_separator, AreFreeButLast};
+ghost use Rattle.sourcetable.specs.Record.{is_separator, fields_text, HasNone, AreFreeButLast};
 
 use crate::lists::{Field, Fields};
 use std::alloc::{AllocError, Global};
@@ -16,9 +16,9 @@ fn place_of(byte: u8, text: &[u8]) -> Option<usize>
 
 /// The text up to its first `;`, and what comes after it, if there is one.
 fn split_field(text: &[u8]) -> Option<(&[u8], &[u8])>
-    ensures found { IfSome result (λ found. (text.now ≡ found.0.now ++ 59 ∷ found.1.now)
-        × (count_by is_separator found.0.now ≡ 0)) }
-    ensures none { IfNone result (count_by is_separator text.now ≡ 0) }
+    ensures found { IfSome result (λ found. text.now ≡ found.0.now ++ 59 ∷ found.1.now) }
+    ensures free { IfSome result (λ found. HasNone is_separator found.0.now) }
+    ensures none { IfNone result (HasNone is_separator text.now) }
 {
     let place = place_of(b';', text)?;
     Some((&text[..place], &text[place + 1..]))
@@ -32,14 +32,16 @@ pub fn split_fields(
     text: &[u8],
 ) -> Result<Option<Fields>, AllocError>
     requires { 0 < count }
-    ensures fields { IfOk result (λ found. IfSome found (λ fields. (length fields ≡ count)
-        × AreFreeButLast fields × (flat_map (λ field. 59 ∷ field) fields ≡ 59 ∷ text.now))) }
+    ensures count { IfOk result (λ found. IfSome found (λ fields. length fields ≡ count)) }
+    ensures free { IfOk result (λ found. IfSome found (λ fields. AreFreeButLast fields)) }
+    ensures text { IfOk result (λ found.
+        IfSome found (λ fields. fields_text fields ≡ 59 ∷ text.now)) }
     ensures few { IfOk result (λ found.
         IfNone found (count_by is_separator text.now + 1 < count)) }
 {
     let mut fields = Vec::with_capacity(alloc, count)?;
     let mut rest = text;
-    for _ in 1..count {
+    while fields.len() + 1 < count {
         let Some((field, more)) = split_field(rest) else {
             return Ok(None);
         };

@@ -1,13 +1,15 @@
 //! Writing a table as its text.
-ghost use Rattle.std.specs.Prelude.{◌≡◌, List, ◌++◌, OnOk, OnErr};
+ghost use Rattle.std.specs.Prelude.{◌≡◌, ℕ, List, ◌++◌, OnOk, OnErr};
 ghost use Rattle.sourcetable.specs.Table.{table_text};
-ghost use Rattle.sourcetable.specs.Record.{line_of};
+ghost use Rattle.sourcetable.specs.Record.{letters, line_of};
 
 use crate::record::{Kind, Record, Table};
 use std::alloc::AllocError;
 
 /// The letters with which a kind's lines begin.
-fn letters_of(kind: Kind) -> &'static [u8] {
+fn letters_of(kind: Kind) -> &'static [u8]
+    ensures { result.now ≡ letters kind }
+{
     match kind {
         Kind::Str => b"STR",
         Kind::Cas => b"CAS",
