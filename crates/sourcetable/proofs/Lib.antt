@@ -1,3 +1,5 @@
 pub mod SplitLemmas
 pub mod LineLemmas
 pub mod RecordLemmas
+pub mod KindLemmas
+pub mod TableLemmas

@@ -42,7 +42,7 @@ count_none p (x ∷ xs) none =
     let rest : count_by p xs ≡ 0 = count_none p xs parts.1 in
     rw parts.0 (omega arith)
 
-count_behind : (text : List ℕ) → count_by is_separator (59 ∷ text) ≡ 1 + count_by is_separator text
+pub count_behind : (text : List ℕ) → count_by is_separator (59 ∷ text) ≡ 1 + count_by is_separator text
 count_behind text = sum_by-cons (λ x. cond (is_separator x) 1 0) 59 text
 
 count_field : (field rest : List ℕ) → count_by is_separator (59 ∷ (field ++ rest)) ≡ 1 + (count_by is_separator field + count_by is_separator rest)

@@ -7,7 +7,7 @@ ghost use Rattle.sourcetable.specs.Reading.{IsRecordRead, IsLineRead, IsTableRea
 use crate::fault::{LineFault, RecordFault, TableFault};
 use crate::lists::Records;
 use crate::record::{Kind, Record, Table};
-use crate::split::{split_fields, split_line};
+use crate::split::{line_end_place, split_fields, split_line};
 use std::alloc::Global;
 
 /// The most bytes of a text.
@@ -62,7 +62,7 @@ pub fn read_record(alloc: Global, line: &[u8]) -> Result<Record, RecordFault>
     ensures { IsRecordRead line.now result }
 {
     let record = read_line(alloc, line)?;
-    match line.iter().position(|b| *b == b'\r' || *b == b'\n') {
+    match line_end_place(line) {
         None => Ok(record),
         Some(place) => Err(RecordFault::Byte(place)),
     }

@@ -2,7 +2,7 @@
 ghost use Rattle.std.specs.Prelude.{◌≡◌, ◌+◌, ◌<◌, ◌≤◌, ◌==◌, [], ◌∷◌, ◌++◌, length, position, IfOk, IfSome, IfNone};
 ghost use Rattle.std.specs.List.{count_by};
 ghost use Rattle.std.specs.Str.Lines.{lines, strip_carriage_return};
-ghost use Rattle.sourcetable.specs.Record.{is_separator, fields_text, HasNone, AreFreeButLast};
+ghost use Rattle.sourcetable.specs.Record.{is_separator, is_line_end, fields_text, HasNone, AreFreeButLast};
 
 use crate::lists::{Field, Fields};
 use std::alloc::{AllocError, Global};
@@ -12,6 +12,13 @@ fn place_of(byte: u8, text: &[u8]) -> Option<usize>
     ensures { result ≡ position (λ b. b == byte) text.now }
 {
     text.iter().position(|b| *b == byte)
+}
+
+/// The first place of a CR or LF.
+pub fn line_end_place(text: &[u8]) -> Option<usize>
+    ensures { result ≡ position is_line_end text.now }
+{
+    text.iter().position(|b| *b == b'\r' || *b == b'\n')
 }
 
 /// The text up to its first `;`, and what comes after it, if there is one.
