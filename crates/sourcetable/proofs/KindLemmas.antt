@@ -65,7 +65,7 @@ count_letters Str = refl
 count_letters Cas = refl
 count_letters Net = refl
 
-count_line : (kind : Kind) (rest : List ℕ) → count_by is_separator (letters kind ++ rest) ≡ count_by is_separator rest
+pub count_line : (kind : Kind) (rest : List ℕ) → count_by is_separator (letters kind ++ rest) ≡ count_by is_separator rest
 count_line kind rest =
     let parts : count_by is_separator (letters kind ++ rest) ≡ count_by is_separator (letters kind) + count_by is_separator rest = count-append is_separator (letters kind) rest in
     let none : count_by is_separator (letters kind) ≡ 0 = count_letters kind in
@@ -76,7 +76,7 @@ count_line kind rest =
 pub fault_kind : (line : List ℕ) → kind_of line ≡ None → fault_of line ≡ Some faults.Kind
 fault_kind line none = ap (fault_as line) none
 
-fault_few : (line : List ℕ) (kind : Kind) → kind_of line ≡ Some kind → count_by is_separator line < field_count kind → fault_of line ≡ Some faults.Fields
+pub fault_few : (line : List ℕ) (kind : Kind) → kind_of line ≡ Some kind → count_by is_separator line < field_count kind → fault_of line ≡ Some faults.Fields
 fault_few line kind is few = ap (fault_as line) is ∙ rw (lt-ltb _ _ few) refl
 
 fault_none : (line : List ℕ) (kind : Kind) → kind_of line ≡ Some kind → field_count kind ≤ count_by is_separator line → fault_of line ≡ None

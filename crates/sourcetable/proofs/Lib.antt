@@ -3,3 +3,6 @@ pub mod LineLemmas
 pub mod RecordLemmas
 pub mod KindLemmas
 pub mod TableLemmas
+pub mod AnswerLemmas
+pub mod BackLemmas
+pub mod Rows

@@ -3,10 +3,9 @@ use Rattle.std.proofs.Common.{◌≡◌, ℕ, ◌+◌, ◌≤◌, Bool, true, fa
 use Rattle.std.specs.List.{All, before_first, list_any}
 use Rattle.std.specs.Str.Lines.{lines}
 use Rattle.std.proofs.lemmas.Bool.{or_left, or_from}
-use Rattle.std.proofs.lemmas.List.{append-nil, map-append}
+use Rattle.std.proofs.lemmas.List.{append-nil, length-map, map-append}
 use Rattle.std.proofs.lemmas.List.Elements.{All-nil, All-push, All-map, All-weaker, All-same}
 use Rattle.std.proofs.lemmas.List.Sums.{take_while-cons}
-use Rattle.std.proofs.Math.Seq.{length-map}
 use Rattle.sourcetable.specs.declared.record.Record.{Record}
 use Rattle.sourcetable.specs.declared.record.Table.{Table}
 use Rattle.sourcetable.specs.declared.fault.LineFault.{LineFault}
@@ -37,7 +36,7 @@ any_records : (rs : List Record) (ls : List (List ℕ)) → list_any is_end (map
 any_records [] ls = refl
 any_records (r ∷ rs) ls = rw (record_not_end r) (any_records rs ls)
 
-sound_records : (rs : List Record) → All IsRecord rs → All (λ l. fault_of l ≡ None) (map line_of rs)
+pub sound_records : (rs : List Record) → All IsRecord rs → All (λ l. fault_of l ≡ None) (map line_of rs)
 sound_records rs are = All-map (λ l. fault_of l ≡ None) line_of rs (All-weaker IsRecord (λ r. fault_of (line_of r) ≡ None) fault_of_line rs are)
 
 -- ---- reading
@@ -78,7 +77,7 @@ first_fault : (text rest more line : List ℕ) (rs : List Record) (number : ℕ)
     → lines rest ≡ line ∷ lines more → is_end line ≡ false → number ≡ length rs + 1 → fault_of line ≡ Some why → IsFirstFault text number why
 first_fault text rest more line rs number why so_far step goes_on counted fault =
     let all : lines text ≡ map line_of rs ++ line ∷ lines more = so_far.stands ∙ ap (λ (ls : List (List ℕ)). map line_of rs ++ ls) step in
-    let len : length (map line_of rs) ≡ length rs = length-map line_of rs in
+    let len : length (map line_of rs) ≡ length rs = length-map rs line_of in
     record {
       front = map line_of rs;
       line = line;

@@ -53,11 +53,18 @@ lines_before_end text = before_first is_end (lines text)
 abbrev pub has_end : List ℕ → Bool
 has_end text = list_any is_end (lines text)
 
+-- the line end that is written, CR LF
+abbrev pub cr_lf : List ℕ
+cr_lf = 13 ∷ 10 ∷ []
+
 -- the text of a table: the line of each record, then the end, each with this line end
 abbrev pub text_with : List ℕ → List Record → List ℕ
 text_with line_end records =
     flat_map (λ r. line_of r ++ line_end) records ++ (codes "ENDSOURCETABLE" ++ line_end)
 
--- the text of a table as it is written: lines end with CR LF
+-- the text of a table as it is written, and its part before the end
 abbrev pub table_text : List Record → List ℕ
-table_text records = text_with (13 ∷ 10 ∷ []) records
+table_text records = text_with cr_lf records
+
+abbrev pub lines_text : List Record → List ℕ
+lines_text records = flat_map (λ r. line_of r ++ cr_lf) records

@@ -1,6 +1,6 @@
 //! Writing a table as its text.
 ghost use Rattle.std.specs.Prelude.{◌≡◌, ℕ, List, ◌++◌, OnOk, OnErr};
-ghost use Rattle.sourcetable.specs.Table.{table_text};
+ghost use Rattle.sourcetable.specs.Table.{lines_text, table_text};
 ghost use Rattle.sourcetable.specs.Record.{letters, line_of};
 
 use crate::record::{Kind, Record, Table};
@@ -43,14 +43,23 @@ pub fn write_table(table: &Table, out: &mut Vec<u8>) -> Result<(), AllocError>
     written
 }
 
+/// Appends the lines of records, each with CR LF. After a refusal a part of them stands there.
+fn push_records(records: &[Record], out: &mut Vec<u8>) -> Result<(), AllocError>
+    ensures ok { OnOk result (out.new.items ≡ out.old.items ++ lines_text records.now) }
+    ensures begins { (more : List ℕ) × (out.new.items ≡ out.old.items ++ more) }
+{
+    for record in records {
+        push_record(record, out)?;
+        out.extend_from_slice(b"\r\n")?;
+    }
+    Ok(())
+}
+
 /// Appends the text of a table. After a refusal a part of it stands there.
 fn push_table(table: &Table, out: &mut Vec<u8>) -> Result<(), AllocError>
     ensures ok { OnOk result (out.new.items ≡ out.old.items ++ table_text table.now.records) }
     ensures begins { (more : List ℕ) × (out.new.items ≡ out.old.items ++ more) }
 {
-    for record in table.records.as_slice() {
-        push_record(record, out)?;
-        out.extend_from_slice(b"\r\n")?;
-    }
+    push_records(table.records.as_slice(), out)?;
     out.extend_from_slice(b"ENDSOURCETABLE\r\n")
 }
