@@ -1,6 +1,6 @@
 -- A text has one answer, and so has a line: what the relations allow is one value, but for memory.
-use Rattle.std.proofs.Common.{◌≡◌, ◌≢◌, ℕ, ◌+◌, ◌≤◌, ◌<◌, Bool, true, false, cond, ltb, List, [], ◌∷◌, ◌++◌, length, map, Option, Some, None, Result, Ok, Err, refl, sym, ap, ◌∙◌, arith, add_assoc}
-use Rattle.std.specs.List.{All, list_any}
+use Rattle.std.proofs.Common.{◌≡◌, ◌≢◌, ℕ, ◌+◌, ◌≤◌, Bool, true, false, ltb, List, [], ◌∷◌, ◌++◌, length, map, Option, Some, None, Result, Ok, Err, refl, sym, ap, ◌∙◌, arith}
+use Rattle.std.specs.List.{All}
 use Rattle.std.proofs.lemmas.Bool.{le-ltb, lt-ltb}
 use Rattle.std.proofs.lemmas.List.Elements.{All-head, All-tail, All-same}
 use Rattle.sourcetable.specs.declared.record.Record.{Record}
@@ -13,7 +13,7 @@ use Rattle.sourcetable.specs.declared.fault.TableFault.{TableFault}
 use Rattle.sourcetable.specs.declared.fault.TableFault.TheVariants as tables
 use Rattle.sourcetable.specs.Record.{line_of, IsRecord}
 use Rattle.sourcetable.specs.Table.{fault_of, lines_before_end, has_end, most_bytes}
-use Rattle.sourcetable.specs.Reading.{record_fault, table_fault, line_end_in, IsRecordOf, IsRecordRead, IsFirstFault, IsTableOf, HasNoEnd, IsTableRead}
+use Rattle.sourcetable.specs.Reading.{record_fault, table_fault, line_end_in, IsRecordOf, IsRecordRead, IsFirstFault, IsTableOf, IsTableRead}
 use Rattle.sourcetable.proofs.KindLemmas.{fault_of_record, line_same}
 use Rattle.sourcetable.proofs.TableLemmas.{sound_records}
 

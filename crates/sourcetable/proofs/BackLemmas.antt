@@ -1,5 +1,5 @@
 -- A table that was written reads back; and a line without a fault is some record's.
-use Rattle.std.proofs.Common.{◌≡◌, ◌≢◌, ℕ, zero, suc, ◌+◌, ◌-◌, ◌≤◌, ◌<◌, Bool, true, false, eqb, List, [], ◌∷◌, ◌++◌, length, map, take, drop, Option, Some, None, Result, Ok, Err, refl, sym, ap, subst, ◌∙◌, arith, inl, inr, append_assoc}
+use Rattle.std.proofs.Common.{◌≡◌, ◌≢◌, ℕ, zero, suc, ◌+◌, ◌-◌, ◌≤◌, ◌<◌, Bool, eqb, List, [], ◌∷◌, ◌++◌, length, map, take, drop, Option, Some, None, Result, Ok, Err, refl, sym, ap, subst, ◌∙◌, arith, inl, inr, append_assoc}
 use Rattle.std.specs.Prelude.{position, codes}
 use Rattle.std.specs.List.{All, count_by, flat_map, list_any}
 use Rattle.std.specs.Str.Lines.{lines}
@@ -11,7 +11,6 @@ use Rattle.sourcetable.specs.declared.record.Kind.{Kind}
 use Rattle.sourcetable.specs.declared.record.Kind.TheVariants.{Str, Cas, Net}
 use Rattle.sourcetable.specs.declared.record.Record.{Record}
 use Rattle.sourcetable.specs.declared.record.Table.{Table}
-use Rattle.sourcetable.specs.declared.fault.LineFault.TheVariants as faults
 use Rattle.sourcetable.specs.declared.fault.TableFault.{TableFault}
 use Rattle.sourcetable.specs.declared.fault.TableFault.TheVariants as tables
 use Rattle.sourcetable.specs.Record.{letters, field_count, fields_text, line_of, is_separator, is_line_end, HasNone, AreFreeButLast, IsRecord, IsOneLine}
@@ -78,17 +77,17 @@ pub record EndsLine (line_end : List ℕ) : Type 0 where
 
 pub cr_lf_ends : EndsLine cr_lf
 cr_lf_ends = record {
-    ends = λ line rest none.
-        ap lines (sym (append_assoc line (13 ∷ []) (10 ∷ rest)))
-        ∙ lines_front (line ++ 13 ∷ []) rest (none-append is_lf line (13 ∷ []) (lf_none line none) refl)
-        ∙ ap (λ (l : List ℕ). l ∷ lines rest) (strip_one line);
-  }
+  ends = λ line rest none.
+      ap lines (sym (append_assoc line (13 ∷ []) (10 ∷ rest)))
+      ∙ lines_front (line ++ 13 ∷ []) rest (none-append is_lf line (13 ∷ []) (lf_none line none) refl)
+      ∙ ap (λ (l : List ℕ). l ∷ lines rest) (strip_one line);
+}
 
 pub lf_ends : EndsLine (10 ∷ [])
 lf_ends = record {
-    ends = λ line rest none.
-        lines_front line rest (lf_none line none) ∙ ap (λ (l : List ℕ). l ∷ lines rest) (strip_none line (cr_none line none));
-  }
+  ends = λ line rest none.
+      lines_front line rest (lf_none line none) ∙ ap (λ (l : List ℕ). l ∷ lines rest) (strip_none line (cr_none line none));
+}
 
 lines_records : (e : List ℕ) (rs : List Record) (rest : List ℕ) → EndsLine e → All IsOneLine rs
     → lines (flat_map (λ r. line_of r ++ e) rs ++ rest) ≡ map line_of rs ++ lines rest
@@ -101,9 +100,9 @@ lines_records e (r ∷ rs) rest ends all =
 
 written_so_far : (e : List ℕ) (rs : List Record) → EndsLine e → All IsOneLine rs → IsReadSoFar (text_with e rs) (codes "ENDSOURCETABLE" ++ e) rs
 written_so_far e rs ends all = record {
-    stands = lines_records e rs (codes "ENDSOURCETABLE" ++ e) ends all;
-    are = All-weaker IsOneLine IsRecord (λ r h. h.is) rs all;
-  }
+  stands = lines_records e rs (codes "ENDSOURCETABLE" ++ e) ends all;
+  are = All-weaker IsOneLine IsRecord (λ r h. h.is) rs all;
+}
 
 end_line : (e : List ℕ) → EndsLine e → lines (codes "ENDSOURCETABLE" ++ e) ≡ codes "ENDSOURCETABLE" ∷ lines []
 end_line e ends =
@@ -134,11 +133,11 @@ cut_at text None at some =
     let none : count_by is_separator text ≡ 0 = count_none is_separator text (position_none is_separator text at) in
     absurd (omega arith)
 cut_at text (Some place) at some = record {
-    front = take place text;
-    rest = take (length text - (place + 1)) (drop (place + 1) text);
-    none = (position_some is_separator text place at).none;
-    is = parts_at 59 text place at;
-  }
+  front = take place text;
+  rest = take (length text - (place + 1)) (drop (place + 1) text);
+  none = (position_some is_separator text place at).none;
+  is = parts_at 59 text place at;
+}
 
 free_more : (field : List ℕ) (fields : List (List ℕ)) → HasNone is_separator field → AreFreeButLast fields → AreFreeButLast (field ∷ fields)
 free_more field [] none free = tt
@@ -152,11 +151,11 @@ record HasFields (n : ℕ) (text : List ℕ) : Type 0 where
 
 fields_exist : (n : ℕ) (text : List ℕ) → n ≤ count_by is_separator text → HasFields n text
 fields_exist zero text enough = record {
-    fields = text ∷ [];
-    count = omega arith;
-    free = tt;
-    joined = ap (λ (t : List ℕ). 59 ∷ t) (append-nil text);
-  }
+  fields = text ∷ [];
+  count = omega arith;
+  free = tt;
+  joined = ap (λ (t : List ℕ). 59 ∷ t) (append-nil text);
+}
 fields_exist (suc n) text enough =
     let cut : IsCut text = cut_at text (position is_separator text) refl (omega arith) in
     let a : count_by is_separator text ≡ count_by is_separator (cut.front ++ 59 ∷ cut.rest) = ap (count_by is_separator) cut.is in
@@ -183,11 +182,13 @@ record_of_kind line kind is enough =
     let behind : count_by is_separator (59 ∷ drop 4 line) ≡ 1 + count_by is_separator (drop 4 line) = count_behind (drop 4 line) in
     let some : 0 < field_count kind = some_count kind in
     let has : HasFields (field_count kind - 1) (drop 4 line) = fields_exist (field_count kind - 1) (drop 4 line) (omega arith) in
-    let count : length has.fields ≡ (field_count kind - 1) + 1 = has.count in
-    (record { kind = kind; fields = has.fields }, record {
-      is = record { count = omega arith; free = has.free };
-      line_is = kind_split line kind is ∙ ap (λ (t : List ℕ). letters kind ++ t) (sym has.joined);
-    })
+    let count : length has.fields ≡ (field_count kind - 1) + 1 = has.count in (
+      record { kind = kind; fields = has.fields },
+      record {
+        is = record { count = omega arith; free = has.free };
+        line_is = kind_split line kind is ∙ ap (λ (t : List ℕ). letters kind ++ t) (sym has.joined);
+      },
+    )
 
 record_by_kind : (line : List ℕ) (kind : Option Kind) → kind_of line ≡ kind → fault_of line ≡ None → (r : Record) × IsRecordOf line r
 record_by_kind line None is none = absurd (let h = fault_kind line is in cc)

@@ -1,18 +1,16 @@
 -- How a line begins, and whether it is some record's.
-use Rattle.std.proofs.Common.{◌≡◌, ℕ, zero, suc, ◌+◌, ◌-◌, ◌<◌, ◌≤◌, Bool, true, false, cond, eqb, ltb, List, [], ◌∷◌, ◌++◌, length, take, drop, Option, Some, None, refl, sym, ap, subst, ◌∙◌, arith, inl, inr, length-append, append_assoc}
+use Rattle.std.proofs.Common.{◌≡◌, ℕ, ◌+◌, ◌-◌, ◌<◌, ◌≤◌, true, false, List, [], ◌∷◌, ◌++◌, length, take, drop, Some, None, refl, sym, ap, subst, ◌∙◌, arith, inl, inr, length-append}
 use Rattle.std.specs.Prelude.{nat_eq}
-use Rattle.std.specs.List.{All, count_by, list_any, starts_with}
-use Rattle.std.specs.Bool.{Decides}
-use Rattle.std.proofs.lemmas.Bool.{cases_Bool, cases_lt, le-ltb, lt-ltb}
+use Rattle.std.specs.List.{count_by}
+use Rattle.std.proofs.lemmas.Bool.{cases_Bool, le-ltb, lt-ltb}
 use Rattle.std.proofs.lemmas.Bool.Decides.{Decides-eqb}
 use Rattle.std.proofs.lemmas.List.{take_rest}
 use Rattle.std.proofs.lemmas.Slice.Eq.{starts_is}
 use Rattle.sourcetable.specs.declared.record.Kind.{Kind}
 use Rattle.sourcetable.specs.declared.record.Kind.TheVariants.{Str, Cas, Net}
 use Rattle.sourcetable.specs.declared.record.Record.{Record}
-use Rattle.sourcetable.specs.declared.fault.LineFault.{LineFault}
 use Rattle.sourcetable.specs.declared.fault.LineFault.TheVariants as faults
-use Rattle.sourcetable.specs.Record.{letters, field_count, fields_text, line_of, is_separator, HasNone, AreFreeButLast, IsRecord}
+use Rattle.sourcetable.specs.Record.{letters, field_count, fields_text, line_of, is_separator, IsRecord}
 use Rattle.sourcetable.specs.Table.{begins_as, kind_of, fault_as, fault_of, is_end}
 use Rattle.sourcetable.specs.Reading.{IsRecordOf}
 use Rattle.sourcetable.proofs.RecordLemmas.{count-append, count_behind, count_fields_least, fields_same}
@@ -29,12 +27,12 @@ kind_begins line kind h =
     elim (cases_Bool (begins_as Str line)) [
       | inl str ↦ let e : Str ≡ kind = (let g = rw str at h in cc) in subst (λ (k : Kind). begins_as k line ≡ true) e str
       | inr not_str ↦ elim (cases_Bool (begins_as Cas line)) [
-          | inl cas ↦ let e : Cas ≡ kind = (let g = rw (not_str, cas) at h in cc) in subst (λ (k : Kind). begins_as k line ≡ true) e cas
-          | inr not_cas ↦ elim (cases_Bool (begins_as Net line)) [
-              | inl net ↦ let e : Net ≡ kind = (let g = rw (not_str, not_cas, net) at h in cc) in subst (λ (k : Kind). begins_as k line ≡ true) e net
-              | inr not_net ↦ absurd (let g = rw (not_str, not_cas, not_net) at h in cc)
-            ]
+        | inl cas ↦ let e : Cas ≡ kind = (let g = rw (not_str, cas) at h in cc) in subst (λ (k : Kind). begins_as k line ≡ true) e cas
+        | inr not_cas ↦ elim (cases_Bool (begins_as Net line)) [
+          | inl net ↦ let e : Net ≡ kind = (let g = rw (not_str, not_cas, net) at h in cc) in subst (λ (k : Kind). begins_as k line ≡ true) e net
+          | inr not_net ↦ absurd (let g = rw (not_str, not_cas, not_net) at h in cc)
         ]
+      ]
     ]
 
 -- a line of a kind is its letters, `;`, and the rest
@@ -142,7 +140,7 @@ line_same r s ir is e =
     let kinds : Some r.kind ≡ Some s.kind = sym (kind_of_line r ir) ∙ ap kind_of e ∙ kind_of_line s is in
     let kind : r.kind ≡ s.kind = cc in
     let texts : fields_text r.fields ≡ fields_text s.fields
-        = sym (drop_letters r.kind (fields_text r.fields)) ∙ ap (drop 3) e ∙ drop_letters s.kind (fields_text s.fields) in
+    = sym (drop_letters r.kind (fields_text r.fields)) ∙ ap (drop 3) e ∙ drop_letters s.kind (fields_text s.fields) in
     let len : length r.fields ≡ length s.fields = ir.count ∙ ap field_count kind ∙ sym is.count in
     let fields : r.fields ≡ s.fields = fields_same r.fields s.fields len ir.free is.free texts in
     ap (λ (k : Kind). make k r.fields) kind ∙ ap (make s.kind) fields

@@ -1,7 +1,7 @@
 -- Fields of a line: joined, counted, and of one line only.
-use Rattle.std.proofs.Common.{◌≡◌, ℕ, zero, suc, ◌+◌, ◌-◌, ◌<◌, ◌≤◌, Bool, true, false, cond, eqb, ltb, List, [], ◌∷◌, ◌++◌, length, get_or, take, drop, Option, Some, None, refl, sym, ap, subst, ◌∙◌, arith, inl, inr, length-append, append_assoc}
-use Rattle.std.specs.List.{All, count_by, flat_map, list_any}
-use Rattle.std.proofs.lemmas.Bool.{cases_Bool, or_parts}
+use Rattle.std.proofs.Common.{◌≡◌, ℕ, ◌+◌, ◌≤◌, Bool, cond, List, [], ◌∷◌, ◌++◌, length, refl, sym, ap, ◌∙◌, arith, append_assoc}
+use Rattle.std.specs.List.{All, count_by, list_any}
+use Rattle.std.proofs.lemmas.Bool.{or_parts}
 use Rattle.std.proofs.lemmas.List.{append-nil}
 use Rattle.std.proofs.lemmas.List.Elements.{All-head, All-tail}
 use Rattle.std.proofs.lemmas.List.Concat.{flat_map-append}
@@ -70,7 +70,7 @@ count_split fields rest text free none is =
     let b : count_by is_separator rest ≡ 0 = count_none is_separator rest none in
     let both : count_by is_separator (fields_text fields ++ 59 ∷ rest) ≡ 1 + count_by is_separator text = ap (count_by is_separator) is ∙ count_behind text in
     let parts : count_by is_separator (fields_text fields ++ 59 ∷ rest) ≡ count_by is_separator (fields_text fields) + (1 + count_by is_separator rest)
-        = count-append is_separator (fields_text fields) (59 ∷ rest) ∙ ap (λ (n : ℕ). count_by is_separator (fields_text fields) + n) (count_behind rest) in
+    = count-append is_separator (fields_text fields) (59 ∷ rest) ∙ ap (λ (n : ℕ). count_by is_separator (fields_text fields) + n) (count_behind rest) in
     omega arith
 
 -- ---- one list of fields
@@ -88,7 +88,7 @@ fields_same (x ∷ []) (y ∷ d ∷ b) len fa fb e = absurd (omega arith)
 fields_same (x ∷ c ∷ a) (y ∷ []) len fa fb e = absurd (omega arith)
 fields_same (x ∷ c ∷ a) (y ∷ d ∷ b) len fa fb e =
     let parts = split_same is_separator 59 x y (c ++ fields_text a) (d ++ fields_text b) refl fa.0 fb.0
-        (tail_of 59 59 (x ++ 59 ∷ (c ++ fields_text a)) (y ++ 59 ∷ (d ++ fields_text b)) e) in
+    (tail_of 59 59 (x ++ 59 ∷ (c ++ fields_text a)) (y ++ 59 ∷ (d ++ fields_text b)) e) in
     let rest : c ∷ a ≡ d ∷ b = fields_same (c ∷ a) (d ∷ b) (omega arith) fa.1 fb.1 (ap (λ (t : List ℕ). 59 ∷ t) parts.1) in
     let first : x ≡ y = parts.0 in
     cc

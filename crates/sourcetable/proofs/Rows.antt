@@ -1,10 +1,10 @@
 -- Worked lines and texts, as the definitions compute them.
-use Rattle.std.proofs.Common.{◌≡◌, true, false, [], ◌∷◌, length, Some, None, refl}
+use Rattle.std.proofs.Common.{◌≡◌, true, false, [], ◌∷◌, Some, None, refl}
 use Rattle.std.specs.Prelude.{codes}
-use Rattle.sourcetable.specs.declared.record.Kind.TheVariants.{Cas, Net}
+use Rattle.sourcetable.specs.declared.record.Kind.TheVariants.{Net}
 use Rattle.sourcetable.specs.declared.fault.LineFault.TheVariants.{Kind, Fields}
 use Rattle.sourcetable.specs.Record.{line_of}
-use Rattle.sourcetable.specs.Table.{fault_of, has_end, kind_of, lines_before_end, table_text}
+use Rattle.sourcetable.specs.Table.{fault_of, has_end, lines_before_end, table_text}
 use Rattle.sourcetable.specs.Reading.{line_end_in}
 
 -- CAS: the tail may be `misc` alone, or the fallback's host and port and `misc`

@@ -1,12 +1,11 @@
 -- Where the first byte of a kind stands, and the fields around `;`.
-use Rattle.std.proofs.Common.{◌≡◌, ℕ, zero, suc, ◌+◌, ◌-◌, ◌<◌, ◌≤◌, Bool, true, false, not, cond, eqb, List, [], ◌∷◌, ◌++◌, length, get_or, take, drop, Option, Some, None, refl, sym, ap, subst, ◌∙◌, arith, inl, inr, length-append, append_assoc}
+use Rattle.std.proofs.Common.{◌≡◌, ℕ, ◌+◌, ◌-◌, ◌<◌, Bool, true, false, not, eqb, List, [], ◌∷◌, ◌++◌, length, get_or, take, drop, Some, None, refl, ap, subst, inl, inr}
 use Rattle.std.specs.Prelude.{position}
-use Rattle.std.specs.List.{All, before_first, after_first, count_by, list_any, position_or_len}
+use Rattle.std.specs.List.{before_first, list_any, position_or_len}
 use Rattle.std.proofs.lemmas.Bool.{cases_Bool, cases_lt, eqb-true, le-ltb, lt-ltb, or_from, or_parts}
-use Rattle.std.proofs.lemmas.List.{append-nil, take_all, take_rest}
-use Rattle.std.proofs.lemmas.List.Elements.{All-head, All-tail}
-use Rattle.std.proofs.lemmas.List.Sums.{passes_at_first, position_or_len_is, split_at_first, sum_by-append, take_while-cons}
-use Rattle.sourcetable.specs.Record.{is_separator, fields_text, HasNone, AreFreeButLast}
+use Rattle.std.proofs.lemmas.List.{take_all, take_rest}
+use Rattle.std.proofs.lemmas.List.Sums.{passes_at_first, split_at_first, take_while-cons}
+use Rattle.sourcetable.specs.Record.{HasNone}
 
 -- ---- the first byte that passes a test
 
@@ -35,11 +34,11 @@ pub record IsFirstPlace (p : ℕ → Bool) (xs : List ℕ) (place : ℕ) : Type 
 
 first_place : (p : ℕ → Bool) (xs : List ℕ) → position_or_len p xs < length xs → IsFirstPlace p xs (position_or_len p xs)
 first_place p xs lt = record {
-    within = lt;
-    none = none_before_first p xs;
-    passes = passes_at_first p xs 0 lt;
-    parts = split_at_first p xs 0 lt;
-  }
+  within = lt;
+  none = none_before_first p xs;
+  passes = passes_at_first p xs 0 lt;
+  parts = split_at_first p xs 0 lt;
+}
 
 pub position_some : (p : ℕ → Bool) (xs : List ℕ) (place : ℕ) → position p xs ≡ Some place → IsFirstPlace p xs place
 position_some p xs place some =
@@ -79,6 +78,6 @@ split_same p y (c ∷ a) [] x z at na nb e =
     absurd (cc (ap p is))
 split_same p y (c ∷ a) (d ∷ b) x z at na nb e =
     let more = split_same p y a b x z at (or_parts (p c) (list_any p a) na).1 (or_parts (p d) (list_any p b) nb).1
-        (tail_same c d (a ++ y ∷ x) (b ++ y ∷ z) e) in
+    (tail_same c d (a ++ y ∷ x) (b ++ y ∷ z) e) in
     let is : c ≡ d = head_same c d (a ++ y ∷ x) (b ++ y ∷ z) e in
     (cc, more.1)

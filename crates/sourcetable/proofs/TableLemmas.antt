@@ -1,17 +1,16 @@
 -- What reading has found so far, and what it then answers.
-use Rattle.std.proofs.Common.{◌≡◌, ℕ, ◌+◌, ◌≤◌, Bool, true, false, not, List, [], ◌∷◌, ◌++◌, length, map, Option, Some, None, Result, Ok, Err, refl, sym, ap, subst, ◌∙◌, arith, append_assoc}
+use Rattle.std.proofs.Common.{◌≡◌, ℕ, ◌+◌, ◌≤◌, true, false, not, List, [], ◌∷◌, ◌++◌, length, map, Some, None, Err, refl, sym, ap, ◌∙◌, arith, append_assoc}
 use Rattle.std.specs.List.{All, before_first, list_any}
 use Rattle.std.specs.Str.Lines.{lines}
-use Rattle.std.proofs.lemmas.Bool.{or_left, or_from}
+use Rattle.std.proofs.lemmas.Bool.{or_left}
 use Rattle.std.proofs.lemmas.List.{append-nil, length-map, map-append}
 use Rattle.std.proofs.lemmas.List.Elements.{All-nil, All-push, All-map, All-weaker, All-same}
 use Rattle.std.proofs.lemmas.List.Sums.{take_while-cons}
 use Rattle.sourcetable.specs.declared.record.Record.{Record}
-use Rattle.sourcetable.specs.declared.record.Table.{Table}
 use Rattle.sourcetable.specs.declared.fault.LineFault.{LineFault}
 use Rattle.sourcetable.specs.declared.fault.LineFault.TheVariants as faults
 use Rattle.sourcetable.specs.Record.{fields_text, line_of, IsRecord}
-use Rattle.sourcetable.specs.Table.{fault_of, is_end, lines_before_end, has_end, most_bytes}
+use Rattle.sourcetable.specs.Table.{fault_of, is_end, lines_before_end, most_bytes}
 use Rattle.sourcetable.specs.Reading.{table_fault, IsRecordOf, IsLineRead, IsFirstFault, IsTableOf, HasNoEnd, IsTableRead}
 use Rattle.sourcetable.proofs.KindLemmas.{fault_of_line, line_not_end}
 
@@ -52,13 +51,13 @@ read_none text = record { stands = refl; are = All-nil IsRecord }
 pub read_more : (text rest more line : List ℕ) (rs : List Record) (r : Record) → IsReadSoFar text rest rs
     → lines rest ≡ line ∷ lines more → IsRecordOf line r → IsReadSoFar text more (rs ++ r ∷ [])
 read_more text rest more line rs r so_far step of = record {
-    stands =
-        so_far.stands
-        ∙ ap (λ (ls : List (List ℕ)). map line_of rs ++ ls) (step ∙ ap (λ (l : List ℕ). l ∷ lines more) of.line_is)
-        ∙ sym (append_assoc (map line_of rs) (line_of r ∷ []) (lines more))
-        ∙ ap (λ (ls : List (List ℕ)). ls ++ lines more) (sym (map-append line_of rs (r ∷ [])));
-    are = All-push IsRecord rs r so_far.are of.is;
-  }
+  stands =
+      so_far.stands
+      ∙ ap (λ (ls : List (List ℕ)). map line_of rs ++ ls) (step ∙ ap (λ (l : List ℕ). l ∷ lines more) of.line_is)
+      ∙ sym (append_assoc (map line_of rs) (line_of r ∷ []) (lines more))
+      ∙ ap (λ (ls : List (List ℕ)). ls ++ lines more) (sym (map-append line_of rs (r ∷ [])));
+  are = All-push IsRecord rs r so_far.are of.is;
+}
 
 pub read_whole : (text rest more line : List ℕ) (rs : List Record) → IsReadSoFar text rest rs
     → lines rest ≡ line ∷ lines more → is_end line ≡ true → length text ≤ most_bytes → IsTableOf text (record { records = rs })

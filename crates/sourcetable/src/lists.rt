@@ -33,6 +33,13 @@ impl Field {
     {
         &self.bytes
     }
+
+    /// The `Vec` that it was made from.
+    pub fn into_vec(self) -> Vec<u8>
+        ensures { result.items ≡ self }
+    {
+        self.bytes
+    }
 }
 
 /// The fields of a record, in order. Contracts see the list of them, each as its bytes.

@@ -33,11 +33,7 @@ fn split_field(text: &[u8]) -> Option<(&[u8], &[u8])>
 
 /// The text in so many fields, at least one, between `;`: the last one takes the rest. None where
 /// there are too few.
-pub fn split_fields(
-    alloc: Global,
-    count: usize,
-    text: &[u8],
-) -> Result<Option<Fields>, AllocError>
+pub fn split_fields(alloc: Global, count: usize, text: &[u8]) -> Result<Option<Fields>, AllocError>
     requires { 0 < count }
     ensures count { IfOk result (λ found. IfSome found (λ fields. length fields ≡ count)) }
     ensures free { IfOk result (λ found. IfSome found (λ fields. AreFreeButLast fields)) }

@@ -30,7 +30,9 @@ fn push_record(entry: &Record, out: &mut Vec<u8>) -> Result<(), AllocError>
     Ok(())
 }
 
-/// Appends the text of a table. A refusal leaves `out` as it was.
+/// Appends the text of a table: each record's line and then `ENDSOURCETABLE`, each with CR LF. The
+/// fields are written as they stand; `laws::written_is_read_back` says of which tables the text is
+/// read back. A refusal leaves `out` as it was.
 pub fn write_table(table: &Table, out: &mut Vec<u8>) -> Result<(), AllocError>
     ensures ok { OnOk result (out.new.items ≡ out.old.items ++ table_text table.now.records) }
     ensures err { OnErr result (out.new.items ≡ out.old.items) }

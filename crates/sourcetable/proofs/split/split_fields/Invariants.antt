@@ -1,4 +1,4 @@
-use Rattle.std.proofs.Common.{◌≡◌, ℕ, ◌+◌, ◌-◌, ◌<◌, ◌≤◌, List, ◌∷◌, ◌++◌, length, vec_len}
+use Rattle.std.proofs.Common.{◌≡◌, ◌+◌, ◌-◌, ◌≤◌, ◌∷◌, ◌++◌, length, vec_len}
 use Rattle.std.specs.List.{All}
 use Rattle.sourcetable.specs.Record.{is_separator, fields_text, HasNone}
 use Rattle.sourcetable.proofs.split.split_fields.Given as goal
