@@ -1,0 +1,8 @@
+pub mod SplitLemmas
+pub mod LineLemmas
+pub mod RecordLemmas
+pub mod KindLemmas
+pub mod TableLemmas
+pub mod AnswerLemmas
+pub mod BackLemmas
+pub mod Rows

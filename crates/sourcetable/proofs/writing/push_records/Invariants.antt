@@ -1,0 +1,7 @@
+use Rattle.std.proofs.Common.{◌≡◌, ◌++◌, take}
+use Rattle.sourcetable.specs.Table.{lines_text}
+use Rattle.sourcetable.proofs.writing.push_records.Given as goal
+
+-- the lines of the records so far stand there
+abbrev pub invariant-loop-record : goal.invariant-loop-record
+invariant-loop-record l = l.out.items ≡ l.fn.out.items ++ lines_text (take l.record-index l.records)
