@@ -1,0 +1,9 @@
+pub mod AnswerLemmas
+pub mod Base64Lemmas
+pub mod CredentialLemmas
+pub mod EmptyLineLemmas
+pub mod HeadLemmas
+pub mod OnlyLastLemmas
+pub mod Rows
+pub mod TreeLemmas
+pub mod WholeLemmas

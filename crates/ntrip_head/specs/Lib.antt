@@ -1,0 +1,9 @@
+pub mod Answer
+pub mod Credentials
+pub mod Cut
+pub mod Fields
+pub mod Head
+pub mod Judge
+pub mod Outcome
+pub mod SourceHead
+pub mod Upstream

@@ -1,0 +1,87 @@
+//! The bytes of a head, as they come.
+
+ghost use Rattle.std.specs.Prelude.{◌≡◌, List, [], ◌∷◌, ◌++◌, IfOk};
+ghost use Rattle.ntrip_head.specs.Head.{ends_with_empty_line, IsOpen, IsHead, IsLong};
+
+use std::alloc::{AllocError, Global};
+use std::marker::Model;
+
+/// The most bytes of a head.
+const LIMIT: usize = 8192;
+
+/// What one more byte makes of a head.
+#[derive(Clone, Copy, Debug, PartialEq, Eq)]
+pub enum HeadStep {
+    /// The head goes on.
+    More,
+    /// The byte ends the first empty line, and the head with it.
+    Done,
+    /// 8,192 bytes came, and no empty line is among them.
+    Long,
+}
+
+/// Whether the bytes end with an empty line.
+fn ends_with_empty_line(bytes: &[u8]) -> bool
+    ensures { result ≡ ends_with_empty_line bytes.now }
+{
+    bytes.ends_with(b"\n\n")
+        || bytes.ends_with(b"\n\r\n")
+        || bytes == b"\n".as_slice()
+        || bytes == b"\r\n".as_slice()
+}
+
+/// The bytes of a head, taken one by one. A line ends with LF, with or without a CR before it, and
+/// the head ends with its first empty line. Contracts see all bytes that were taken.
+#[derive(Debug, Drop)]
+pub struct HeadBuf {
+    bytes: Vec<u8>,
+}
+
+impl Model for HeadBuf {
+    ghost use Rattle.std.specs.Prelude.{List, ℕ, ◌≤◌};
+    ghost use Rattle.std.specs.Vec.{vec_capacity};
+
+    ghost Value = { List ℕ };
+
+    ghost view = { λ head. head.bytes.items };
+
+    ghost invariant = { λ head. 8192 ≤ vec_capacity head.bytes };
+}
+
+impl HeadBuf {
+    /// Before the first byte. All the memory that it will need is taken here.
+    pub fn new(alloc: Global) -> Result<HeadBuf, AllocError>
+        ensures empty { IfOk result (λ head. head ≡ []) }
+        ensures open { IfOk result (λ head. IsOpen head) }
+    {
+        Ok(HeadBuf {
+            bytes: Vec::with_capacity(alloc, LIMIT)?,
+        })
+    }
+
+    /// Takes the next byte of a head that goes on: no empty line has come, and fewer than 8,192
+    /// bytes.
+    pub fn push(&mut self, byte: u8) -> HeadStep
+        requires { IsOpen self.old }
+        ensures bytes { self.new ≡ self.old ++ byte ∷ [] }
+        ensures more { result ≡ HeadStep.More → IsOpen self.new }
+        ensures done { result ≡ HeadStep.Done → IsHead self.new }
+        ensures long { result ≡ HeadStep.Long → IsLong self.new }
+    {
+        self.bytes.push_reserved(byte);
+        if ends_with_empty_line(&self.bytes) {
+            HeadStep::Done
+        } else if self.bytes.len() == LIMIT {
+            HeadStep::Long
+        } else {
+            HeadStep::More
+        }
+    }
+
+    /// The bytes that were taken.
+    pub fn bytes(&self) -> &[u8]
+        ensures { result.now ≡ self.now }
+    {
+        &self.bytes
+    }
+}
