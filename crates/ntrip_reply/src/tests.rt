@@ -98,9 +98,18 @@ fn refused_heads_have_one_reply_in_both_versions(rt: HostRuntime) -> Result<(), 
     let not_implemented =
         b"HTTP/1.1 501 Not Implemented\r\nServer: NTRIP lapcast/1.0\r\nContent-Length: 0\r\nConnection: close\r\n\r\n".as_slice();
     for version in [Version::One, Version::Two] {
-        assert_eq!(rt; text_of(&rt, version, Reply::BadHead, TABLE)?.as_slice(), bad);
-        assert_eq!(rt; text_of(&rt, version, Reply::Method, TABLE)?.as_slice(), not_implemented);
-        assert_eq!(rt; text_of(&rt, version, Reply::Coding, TABLE)?.as_slice(), not_implemented);
+        assert_eq!(rt;
+            text_of(&rt, version, Reply::BadHead, TABLE)?.as_slice(),
+            bad
+        );
+        assert_eq!(rt;
+            text_of(&rt, version, Reply::Method, TABLE)?.as_slice(),
+            not_implemented
+        );
+        assert_eq!(rt;
+            text_of(&rt, version, Reply::Coding, TABLE)?.as_slice(),
+            not_implemented
+        );
     }
     Ok(())
 }
@@ -124,7 +133,10 @@ fn the_table_comes_with_its_length(rt: HostRuntime) -> Result<(), Fail> {
         (Version::Two, Reply::Table, two_16, NO_MOUNTS),
     ] {
         let want = with_table(&rt, front, table)?;
-        assert_eq!(rt; text_of(&rt, version, r, table)?.as_slice(), want.as_slice());
+        assert_eq!(rt;
+            text_of(&rt, version, r, table)?.as_slice(),
+            want.as_slice()
+        );
     }
     Ok(())
 }

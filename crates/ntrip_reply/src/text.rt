@@ -38,12 +38,7 @@ fn push_reply(
 /// Appends the text of a reply in this version of NTRIP. `table` is the text of the sourcetable,
 /// which stands in some of the replies. A refusal leaves `out` as it was, and none comes where room
 /// for the text was reserved.
-pub fn reply(
-    version: Version,
-    r: &Reply,
-    table: &[u8],
-    out: &mut Vec<u8>,
-) -> Result<(), AllocError>
+pub fn reply(version: Version, r: &Reply, table: &[u8], out: &mut Vec<u8>) -> Result<(), AllocError>
     ensures ok { OnOk result (out.new.items ≡ out.old.items ++ reply_text version r.now table.now) }
     ensures err { OnErr result (out.new.items ≡ out.old.items) }
     ensures room { vec_len out.old + length (reply_text version r.now table.now)

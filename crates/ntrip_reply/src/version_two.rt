@@ -38,12 +38,7 @@ pub(crate) fn push_two(r: Reply, table: &[u8], out: &mut Vec<u8>) -> Result<(), 
         ),
         Reply::SourceOk => push_lines(&[GRANTED, VERSION, SERVER, CLOSE, EMPTY], out),
         Reply::Table => push_message(
-            &[
-                GRANTED,
-                VERSION,
-                SERVER,
-                b"Content-Type: gnss/sourcetable",
-            ],
+            &[GRANTED, VERSION, SERVER, b"Content-Type: gnss/sourcetable"],
             table,
             out,
         ),

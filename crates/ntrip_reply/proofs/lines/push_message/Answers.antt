@@ -13,9 +13,9 @@ returns-in_err-push_lines-2-clause-kept c =
     let name = codes "Content-Length: " in
     let digits = decimal (length c.args.body.now) in
     let so_far : c.push_decimal.new.out.items ≡ old ++ (first ++ (name ++ digits)) =
-        c.in_ok-push_decimal.ensures.ok ∙ ap (λ (l : List ℕ). l ++ digits) (
-        c.in_ok-extend_from_slice.ensures.items ∙ ap (λ (l : List ℕ). l ++ name) c.in_ok-push_lines.ensures.ok)
-        ∙ append_assoc (old ++ first) name digits ∙ append_assoc old first (name ++ digits) in
+    c.in_ok-push_decimal.ensures.ok ∙ ap (λ (l : List ℕ). l ++ digits) (
+    c.in_ok-extend_from_slice.ensures.items ∙ ap (λ (l : List ℕ). l ++ name) c.in_ok-push_lines.ensures.ok)
+    ∙ append_assoc (old ++ first) name digits ∙ append_assoc old first (name ++ digits) in
     on_err c.from_residual-in_err-push_lines-2.result (front_kept old (first ++ (name ++ digits)) c.push_lines-2.new.out.items (vec_len c.args.out.now) (vec_len c.push_decimal.new.out) (omega arith) (omega (arith, ap length so_far, length-append old (first ++ (name ++ digits)))) (c.in_err-push_lines-2.ensures.kept ∙ so_far))
 
 whole : (c : goal.After-extend_from_slice-2) → c.push_lines-2.new.out.items ++ c.args.body.now ≡ c.args.out.now.items ++ message (texts_in c.args.first.now) c.args.body.now
