@@ -3,6 +3,7 @@
 #![tactic(auto)]
 
 mod kind;
+pub mod laws;
 mod lines;
 mod text;
 mod version_one;
