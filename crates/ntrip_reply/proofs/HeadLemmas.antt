@@ -1,9 +1,9 @@
 -- Replies that are heads of HTTP responses, with the tree of each.
-use Rattle.std.proofs.Common.{◌≡◌, ◌≤◌, ◌∙◌, ℕ, Bool, true, ◌&&◌, inl, List, [], ◌∷◌, ◌++◌, length, Some, None, Option, Result, Ok, false, append_assoc, reverse, ◌<◌, ◌^◌, arith, sym, ap, refl}
-use Rattle.std.specs.Prelude.{codes, nat_le, nat_lt, nat_eq}
+use Rattle.std.proofs.Common.{◌≡◌, ◌≤◌, ◌∙◌, ℕ, Bool, true, ◌&&◌, inl, List, [], ◌∷◌, ◌++◌, length, Some, Ok, false, append_assoc, reverse, ◌<◌, ◌^◌, arith, sym, ap, refl}
+use Rattle.std.specs.Prelude.{codes, nat_lt}
 use Rattle.std.specs.List.{list_all, All}
 use Rattle.std.specs.Char.{is_ascii_digit}
-use Rattle.std.proofs.lemmas.Bool.{and_parts, leb-true, ltb-true, eqb-true}
+use Rattle.std.proofs.lemmas.Bool.{and_parts, ltb-true}
 use Rattle.std.proofs.lemmas.List.Sums.{AllPass-from_list_all, list_all-from_AllPass}
 use Rattle.std.proofs.lemmas.Fmt.{decimal_digit, digits_decimal}
 use Rattle.std.specs.Fmt.{decimal}
@@ -12,11 +12,11 @@ use Rattle.std.proofs.lemmas.Str.Parse.{numerals_by_value, tells_all_ascii_digit
 use Rattle.std.proofs.lemmas.Bool.Decides.{nat_tests}
 use Rattle.httparse.proofs.TrimLemmas.{AllPass-reverse, trim_ows_space}
 use Rattle.httparse.proofs.OnLiterals.{httparse_on_literals}
-use Rattle.httparse.specs.Grammar.{LineEnd, crlf, Field, IsField, is_token_byte, is_value_byte, ResponseHead, IsResponseHead, print_response, reason_phrase, is_ows, skip_ows, trim_ows}
+use Rattle.httparse.specs.Grammar.{crlf, Field, IsField, is_token_byte, is_value_byte, ResponseHead, print_response, is_ows, skip_ows, trim_ows}
 use Rattle.ntrip_head.specs.declared.request.Version.{Version}
 use Rattle.ntrip_head.specs.declared.request.Version.TheVariants.{One, Two}
 use Rattle.ntrip_head.specs.declared.upstream.Upstream.{Upstream}
-use Rattle.ntrip_head.specs.Upstream.{IsWholeResponse, UpstreamAnswer, upstream_in}
+use Rattle.ntrip_head.specs.Upstream.{UpstreamAnswer, upstream_in}
 use Rattle.ntrip_reply.specs.declared.kind.Reply.{Reply}
 use Rattle.ntrip_reply.specs.declared.kind.Reply.TheVariants.{RoverOk, SourceOk, Table, BadHead, Method, Coding, RoverNoMount, SourceNoMount, Unauthorized, Denied, Full, SourcePassword, Taken}
 use Rattle.ntrip_reply.specs.Message.{lines, close, message}
@@ -165,15 +165,18 @@ table_is_body table small =
     let d = decimal (length table) in
     let digits : list_all is_ascii_digit d ≡ true = as_list_all d (digits_decimal (numerals_by_value _ tells_all_ascii_digits) (length table) small) in
     let ends : (d ++ codes "\r\n") ++ (codes "Connection: close\r\n" ++ codes "\r\n") ≡ ((d ++ codes "\r\n") ++ codes "Connection: close\r\n") ++ codes "\r\n" =
-        sym (append_assoc (d ++ codes "\r\n") (codes "Connection: close\r\n") (codes "\r\n")) in
+    sym (append_assoc (d ++ codes "\r\n") (codes "Connection: close\r\n") (codes "\r\n")) in
     record {
       head = tree 1 (codes "200") (codes "OK") (fields_with d);
-      reads = (record {
-        minor = omega arith;
-        digits = (refl, AllPass-from_list_all is_ascii_digit (codes "200") refl);
-        reason = AllPass-from_list_all is_value_byte (codes "OK") refl;
-        fields = fields_ok (fields_with d) (fields_with_ok d (digits_are_value d digits));
-      }, ap (λ (l : List ℕ). (codes "HTTP/1.1 200 OK\r\nNtrip-Version: Ntrip/2.0\r\nServer: NTRIP lapcast/1.0\r\nContent-Type: gnss/sourcetable\r\nContent-Length: " ++ l) ++ table) ends);
+      reads = (
+        record {
+          minor = omega arith;
+          digits = (refl, AllPass-from_list_all is_ascii_digit (codes "200") refl);
+          reason = AllPass-from_list_all is_value_byte (codes "OK") refl;
+          fields = fields_ok (fields_with d) (fields_with_ok d (digits_are_value d digits));
+        },
+        ap (λ (l : List ℕ). (codes "HTTP/1.1 200 OK\r\nNtrip-Version: Ntrip/2.0\r\nServer: NTRIP lapcast/1.0\r\nContent-Type: gnss/sourcetable\r\nContent-Length: " ++ l) ++ table) ends,
+      );
       status_is = refl;
       length_is = ap (λ (v : List ℕ). Some v) (trim_digits d digits);
     }

@@ -1,7 +1,9 @@
 -- The text of each reply. The words `ICY 200 OK` and `SOURCETABLE 200 OK` are those of NTRIP 1.0
 -- (RTCM 10410.0); the line `Ntrip-Version: Ntrip/2.0` and the types `gnss/data` and
 -- `gnss/sourcetable` are those of NTRIP 2.0 (RTCM 10410.1). The statuses and their phrases are
--- those of RFC 9110, section 15.
+-- those of RFC 9110, section 15. What else stands here is this caster's own choice: which status
+-- is told when, the empty line after `ICY 200 OK`, the lines that begin with `ERROR`, and the
+-- header lines with their order.
 use Rattle.std.specs.Prelude.{ℕ, codes, List, [], ◌∷◌, ◌++◌}
 use Rattle.ntrip_head.specs.declared.request.Version.{Version}
 use Rattle.ntrip_head.specs.declared.request.Version.TheVariants.{One, Two}
@@ -30,8 +32,8 @@ refused status = message (status ∷ server ∷ []) []
 -- ---- version 1
 
 -- what follows is the stream
-abbrev pub icy : List ℕ
-icy = lines (codes "ICY 200 OK" ∷ [] ∷ [])
+abbrev pub icy_ok : List ℕ
+icy_ok = lines (codes "ICY 200 OK" ∷ [] ∷ [])
 
 -- the sourcetable
 abbrev pub table_of_one : List ℕ → List ℕ
@@ -39,12 +41,12 @@ table_of_one table =
     message (codes "SOURCETABLE 200 OK" ∷ server ∷ codes "Content-Type: text/plain" ∷ []) table
 
 -- a refusal in one line
-abbrev pub error : List ℕ → List ℕ
-error words = lines ((codes "ERROR - " ++ words) ∷ [])
+abbrev pub error_line : List ℕ → List ℕ
+error_line words = lines ((codes "ERROR - " ++ words) ∷ [])
 
 abbrev pub text_of_one : Reply → List ℕ → List ℕ
-text_of_one RoverOk table = icy
-text_of_one SourceOk table = icy
+text_of_one RoverOk table = icy_ok
+text_of_one SourceOk table = icy_ok
 text_of_one Table table = table_of_one table
 text_of_one RoverNoMount table = table_of_one table
 text_of_one BadHead table = refused (codes "HTTP/1.1 400 Bad Request")
@@ -54,21 +56,21 @@ text_of_one Unauthorized table =
     message (codes "HTTP/1.0 401 Unauthorized" ∷ server ∷ challenge ∷ []) []
 text_of_one Denied table = refused (codes "HTTP/1.0 403 Forbidden")
 text_of_one Full table = refused (codes "HTTP/1.0 503 Service Unavailable")
-text_of_one SourcePassword table = error (codes "Bad Password")
-text_of_one SourceNoMount table = error (codes "Mount Point Taken or Invalid")
-text_of_one Taken table = error (codes "Mount Point Taken or Invalid")
+text_of_one SourcePassword table = error_line (codes "Bad Password")
+text_of_one SourceNoMount table = error_line (codes "Mount Point Taken or Invalid")
+text_of_one Taken table = error_line (codes "Mount Point Taken or Invalid")
 
 -- ---- version 2
 
 -- a stream is given, in chunks (RFC 9112, section 7.1)
-abbrev pub stream_of_two : List ℕ
-stream_of_two =
+abbrev pub admitted_rover : List ℕ
+admitted_rover =
     lines (codes "HTTP/1.1 200 OK" ∷ version_two ∷ server ∷ codes "Content-Type: gnss/data"
     ∷ codes "Transfer-Encoding: chunked" ∷ close ∷ [] ∷ [])
 
 -- a stream is taken
-abbrev pub taken_by_two : List ℕ
-taken_by_two = lines (codes "HTTP/1.1 200 OK" ∷ version_two ∷ server ∷ close ∷ [] ∷ [])
+abbrev pub admitted_source : List ℕ
+admitted_source = lines (codes "HTTP/1.1 200 OK" ∷ version_two ∷ server ∷ close ∷ [] ∷ [])
 
 -- the sourcetable
 abbrev pub table_of_two : List ℕ → List ℕ
@@ -77,28 +79,28 @@ table_of_two table =
     ∷ codes "Content-Type: gnss/sourcetable" ∷ []) table
 
 -- a refusal with this status
-abbrev pub refused_by_two : List ℕ → List ℕ
-refused_by_two status = message (status ∷ version_two ∷ server ∷ []) []
+abbrev pub refused_with_version : List ℕ → List ℕ
+refused_with_version status = message (status ∷ version_two ∷ server ∷ []) []
 
 -- credentials are wanted
-abbrev pub unauthorized_by_two : List ℕ
-unauthorized_by_two =
+abbrev pub unauthorized_with_version : List ℕ
+unauthorized_with_version =
     message (codes "HTTP/1.1 401 Unauthorized" ∷ version_two ∷ server ∷ challenge ∷ []) []
 
 abbrev pub text_of_two : Reply → List ℕ → List ℕ
-text_of_two RoverOk table = stream_of_two
-text_of_two SourceOk table = taken_by_two
+text_of_two RoverOk table = admitted_rover
+text_of_two SourceOk table = admitted_source
 text_of_two Table table = table_of_two table
 text_of_two BadHead table = refused (codes "HTTP/1.1 400 Bad Request")
 text_of_two Method table = refused (codes "HTTP/1.1 501 Not Implemented")
 text_of_two Coding table = refused (codes "HTTP/1.1 501 Not Implemented")
-text_of_two RoverNoMount table = refused_by_two (codes "HTTP/1.1 404 Not Found")
-text_of_two SourceNoMount table = refused_by_two (codes "HTTP/1.1 404 Not Found")
-text_of_two Unauthorized table = unauthorized_by_two
-text_of_two SourcePassword table = unauthorized_by_two
-text_of_two Denied table = refused_by_two (codes "HTTP/1.1 403 Forbidden")
-text_of_two Full table = refused_by_two (codes "HTTP/1.1 503 Service Unavailable")
-text_of_two Taken table = refused_by_two (codes "HTTP/1.1 409 Conflict")
+text_of_two RoverNoMount table = refused_with_version (codes "HTTP/1.1 404 Not Found")
+text_of_two SourceNoMount table = refused_with_version (codes "HTTP/1.1 404 Not Found")
+text_of_two Unauthorized table = unauthorized_with_version
+text_of_two SourcePassword table = unauthorized_with_version
+text_of_two Denied table = refused_with_version (codes "HTTP/1.1 403 Forbidden")
+text_of_two Full table = refused_with_version (codes "HTTP/1.1 503 Service Unavailable")
+text_of_two Taken table = refused_with_version (codes "HTTP/1.1 409 Conflict")
 
 -- ---- both
 

@@ -27,6 +27,7 @@ fn with_table(rt: &HostRuntime, front: &[u8], table: &[u8]) -> Result<Vec<u8>, F
 fn replies_of_version_one_are_these_bytes(rt: HostRuntime) -> Result<(), Fail> {
     let icy = b"ICY 200 OK\r\n\r\n".as_slice();
     let taken = b"ERROR - Mount Point Taken or Invalid\r\n".as_slice();
+    assert_eq!(rt; icy.len(), 14);
     for (r, want) in [
         (Reply::RoverOk, icy),
         (Reply::SourceOk, icy),
@@ -116,6 +117,8 @@ fn refused_heads_have_one_reply_in_both_versions(rt: HostRuntime) -> Result<(), 
 
 #[test]
 fn the_table_comes_with_its_length(rt: HostRuntime) -> Result<(), Fail> {
+    assert_eq!(rt; TABLE.len(), 206);
+    assert_eq!(rt; NO_MOUNTS.len(), 16);
     let one_206 =
         b"SOURCETABLE 200 OK\r\nServer: NTRIP lapcast/1.0\r\nContent-Type: text/plain\r\nContent-Length: 206\r\nConnection: close\r\n\r\n".as_slice();
     let one_16 =

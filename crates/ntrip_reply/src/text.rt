@@ -35,9 +35,11 @@ fn push_reply(
     }
 }
 
-/// Appends the text of a reply in this version of NTRIP. `table` is the text of the sourcetable,
-/// which stands in some of the replies. A refusal leaves `out` as it was, and none comes where room
-/// for the text was reserved.
+/// Appends the text of a reply in this version of NTRIP, in bytes as they are sent. `table` is the
+/// text of the sourcetable, which follows the head of `Table`, and in version 1 of `RoverNoMount`.
+///
+/// # Errors
+/// For want of memory, and never where room for the text was reserved. Then `out` is as it was.
 pub fn reply(version: Version, r: &Reply, table: &[u8], out: &mut Vec<u8>) -> Result<(), AllocError>
     ensures ok { OnOk result (out.new.items ≡ out.old.items ++ reply_text version r.now table.now) }
     ensures err { OnErr result (out.new.items ≡ out.old.items) }

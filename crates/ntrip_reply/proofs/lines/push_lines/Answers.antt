@@ -1,4 +1,4 @@
-use Rattle.std.proofs.Common.{ℕ, List, [], ◌≡◌, ◌+◌, ◌≤◌, ◌++◌, length, take, vec_len, Bor, ap, ◌∙◌, arith, rules}
+use Rattle.std.proofs.Common.{[], length, take, vec_len, ap, ◌∙◌, arith}
 use Rattle.std.proofs.lemmas.List.{length-append}
 use Rattle.std.proofs.lemmas.Bool.{false≢true}
 use Rattle.ntrip_reply.specs.Message.{lines, texts_in}

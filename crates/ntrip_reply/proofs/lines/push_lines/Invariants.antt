@@ -1,5 +1,5 @@
 -- the lines so far were appended
-use Rattle.std.proofs.Common.{◌≡◌, ◌+◌, ◌≤◌, ◌++◌, length, take, vec_len}
+use Rattle.std.proofs.Common.{◌≡◌, ◌≤◌, ◌++◌, take}
 use Rattle.std.specs.Vec.{vec_capacity}
 use Rattle.ntrip_reply.specs.Message.{lines, texts_in}
 use Rattle.ntrip_reply.proofs.lines.push_lines.Given as goal

@@ -1,4 +1,4 @@
-use Rattle.std.proofs.Common.{ℕ, List, [], ◌∷◌, ◌≡◌, ◌+◌, ◌≤◌, ◌++◌, length, take, vec_len, ap, sym, ◌∙◌, arith, rules}
+use Rattle.std.proofs.Common.{ℕ, List, ◌≡◌, ◌++◌, length, vec_len, ap, ◌∙◌, arith}
 use Rattle.std.specs.Prelude.{codes}
 use Rattle.std.specs.Fmt.{decimal}
 use Rattle.std.proofs.lemmas.List.{length-append, append_assoc}
