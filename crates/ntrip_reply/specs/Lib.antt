@@ -1,0 +1,4 @@
+pub mod Body
+pub mod Message
+pub mod Status
+pub mod Text
