@@ -11,7 +11,6 @@ use super::rule::Held;
 use crate::object::Played;
 use std::sync::Wait;
 use std::thread;
-use std::time::Duration;
 
 /// The word of the ticket that is served.
 pub const SERVING: usize = 0;
@@ -21,15 +20,6 @@ pub const TICKET: usize = 1;
 
 /// The lock's one slot.
 pub const OBJECT: usize = 0;
-
-/// How many tickets before one's own are few enough to yield between looks.
-const NEAR: u64 = 4;
-
-/// More tickets before one's own do not lengthen a sleep.
-const FAR: u64 = 500;
-
-/// How long a thread sleeps for each ticket before its own.
-const MICROSECONDS_A_TURN: u64 = 4;
 
 /// How many tickets may be drawn.
 const MOST: u64 = 1 << 62;
@@ -54,7 +44,8 @@ impl<V: Played> Turn<V> {
         Ok(self.table.shared.fetch_add::<Draw<V>>(token, TICKET, 1))
     }
 
-    /// Waits until the ticket is served. Then the object is lent to the token.
+    /// Waits until the ticket is served, and yields the processor between two looks. Then the object
+    /// is lent to the token.
     fn wait<R: Wait>(&self, rt: &R, token: &mut Token<V>, ticket: u64)
         requires here { token.old.table_id ≡ self.now.table.shared.table_id }
         requires waiting { token.old.me.0.stage ≡ Waiting ticket }
@@ -67,24 +58,9 @@ impl<V: Played> Turn<V> {
             if serving == ticket {
                 return;
             }
-            self.rest(rt, ticket.saturating_sub(serving), serving);
+            thread::yield_now();
         }
         unreachable!()
-    }
-
-    /// A pause between two looks, where so many tickets come first.
-    ///
-    /// Near its turn a thread only yields. Further back it sleeps for a time that grows with the
-    /// number of those before it: many threads that yield to one another would leave the one whose
-    /// turn it is waiting for a processor. Nobody wakes a sleeper.
-    fn rest<R: Wait>(&self, rt: &R, ahead: u64, serving: u64) {
-        if ahead <= NEAR {
-            thread::yield_now();
-            return;
-        }
-        let pause = Duration::from_micros(MICROSECONDS_A_TURN * ahead.min(FAR));
-        let low_bits = (serving % (1 << 32)) as u32;
-        self.table.shared.park_timeout(rt, SERVING, low_bits, pause);
     }
 
     /// Draws a ticket, waits for it, plays the object and lets the next be served. Where 2^62 or
