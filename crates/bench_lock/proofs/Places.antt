@@ -1,5 +1,5 @@
 -- Which element stands at a place.
-use Rattle.std.proofs.Common.{◌≡◌, ℕ, zero, suc, ◌<◌, List, [], ◌∷◌, ◌++◌, length, get_or, refl, ap, sym, subst, arith}
+use Rattle.std.proofs.Common.{◌≡◌, ℕ, zero, suc, ◌+◌, ◌<◌, length-append, List, [], ◌∷◌, ◌++◌, length, get_or, refl, ap, sym, subst, arith}
 use mathlib.Core.Option.{some}
 use lib.ListN.{get_elem?}
 
@@ -26,3 +26,6 @@ at_either P [] a each last zero b is = let same : a ≡ b = cc in subst P same l
 at_either P [] a each last (suc i) b is = absurd cc
 at_either P (x ∷ l) a each last zero b is = each zero b is
 at_either P (x ∷ l) a each last (suc i) b is = at_either P l a (λ j c at. each (suc j) c at) last i b is
+
+pub one_longer : {A : Type 0} (xs ys : List A) (a : A) → ys ≡ xs ++ a ∷ [] → length ys ≡ length xs + 1
+one_longer xs ys a is = omega (arith, ap length is, length-append xs (a ∷ []))

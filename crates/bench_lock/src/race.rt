@@ -1,5 +1,6 @@
 //! Threads that take turns on one counter.
-ghost use Rattle.std.specs.Prelude.{◌≡◌, ℕ, ◌<◌, ◌^◌, length, IfOk};
+ghost use Rattle.std.specs.Prelude.{◌≡◌, ℕ, ◌<◌, ◌^◌, List, length, IfOk};
+ghost use Rattle.bench_lock.specs.Shares.{AreBounds};
 ghost use mathlib.Core.Option.{some};
 ghost use lib.ListN.{get_elem?};
 ghost use Rattle.turn_log.specs.Lock.{pass_number, IsPassOf};
@@ -51,7 +52,8 @@ fn runners(
     requires few { length passes.items < 2 ^ 32 }
     requires here { (i : ℕ) (pass : _) → get_elem? passes.items i ≡ some pass
         → (pass_number pass ≡ i) × IsPassOf pass turn.now }
-    ensures { IfOk result (λ list. (i : ℕ) (runner : _) → get_elem? list.items i ≡ some runner
+    ensures all { IfOk result (λ list. length list.items ≡ length passes.items) }
+    ensures each { IfOk result (λ list. (i : ℕ) (runner : _) → get_elem? list.items i ≡ some runner
         → IsPassOf runner.pass turn.now) }
 {
     let mut list = Vec::with_capacity(alloc, passes.len())?;
@@ -62,7 +64,8 @@ fn runners(
     Ok(list)
 }
 
-/// Lets so many threads take turns until there were so many.
+/// Lets so many threads take turns until there were so many, and tells how many were taken in all,
+/// and the fewest and the most that one thread took.
 pub fn race<R: Threads + Wait + Sync>(
     rt: &R,
     alloc: Global,
@@ -70,6 +73,8 @@ pub fn race<R: Threads + Wait + Sync>(
     turns: u64,
 ) -> Result<Shares, AllocError>
     requires { 0 < threads }
+    ensures { IfOk result (λ shares. (taken : List ℕ) × (length taken ≡ threads)
+        × AreBounds shares taken) }
 {
     let (turn, passes) = Turn::open(alloc, Counter { turns: 0 }, threads)?;
     let lock = &turn;
@@ -85,7 +90,9 @@ pub fn race<R: Threads + Wait + Sync>(
 }
 
 /// The sum, the least and the greatest.
-fn shares_of(taken: &[u64]) -> Shares {
+fn shares_of(taken: &[u64]) -> Shares
+    ensures { AreBounds result taken.now }
+{
     let mut shares = Shares {
         turns: 0,
         fewest: u64::MAX,

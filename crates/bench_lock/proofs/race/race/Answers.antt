@@ -7,4 +7,4 @@ runners-requires-clause-here g c = λ i pass at.
 
 pub map_vec-requires-after_bounds : goal.map_vec-requires-after_bounds
 map_vec-requires-after_bounds g c κs within = λ i runner below is.
-    (c.in_ok-list.ensures i runner (at_index c.in_ok-list.list.items i runner below is), search)
+    (c.in_ok-list.ensures.each i runner (at_index c.in_ok-list.list.items i runner below is), search)

@@ -1,7 +1,7 @@
 use Rattle.std.proofs.Common.{◌≡◌, ◌∙◌, ap, sym, length, arith, length-append, [], ◌∷◌}
 use lib.ListN.{get_elem?}
 use Rattle.turn_log.specs.Lock.{IsPassOf}
-use Rattle.bench_lock.proofs.Places.{at_either, at_front, at_last}
+use Rattle.bench_lock.proofs.Places.{at_either, at_front, at_last, one_longer}
 use Rattle.bench_lock.proofs.race.runners.Goals as goal
 
 pub invariant_of-push : goal.invariant_of-push
@@ -18,6 +18,12 @@ loop-pass-smaller c = omega (arith, ap length c.in-Some.ensures.items, length-ap
 pub loop-pass-preserved : goal.loop-pass-preserved
 loop-pass-preserved c = record {
   few = omega (arith, c.loop-pass.invariant.few, ap length c.in-Some.ensures.items, length-append c.pop.new.self.items (c.in-Some.pass ∷ []));
+  all = omega (
+    arith,
+    c.loop-pass.invariant.all,
+    one_longer _ _ _ c.in-Some.ensures.items,
+    one_longer _ _ _ c.in_ok-push.ensures.items,
+  );
   here = λ i pass at. c.loop-pass.invariant.here i pass
       (ap (λ l. get_elem? l i) c.in-Some.ensures.items ∙ at_front c.pop.new.self.items c.in-Some.pass pass i at);
   each = λ i runner at. at_either (λ r. IsPassOf r.pass c.args.turn.now) c.loop-pass.list.items _ c.loop-pass.invariant.each

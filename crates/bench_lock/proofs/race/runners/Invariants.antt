@@ -1,4 +1,4 @@
-use Rattle.std.proofs.Common.{◌≡◌, ℕ, ◌<◌, ◌^◌, length}
+use Rattle.std.proofs.Common.{◌≡◌, ℕ, ◌<◌, ◌^◌, ◌+◌, length}
 use mathlib.Core.Option.{some}
 use lib.ListN.{get_elem?}
 use Rattle.turn_log.specs.Lock.{pass_number, IsPassOf}
@@ -8,6 +8,7 @@ use Rattle.bench_lock.proofs.race.runners.Given as goal
 abbrev pub invariant-loop-pass : goal.invariant-loop-pass
 invariant-loop-pass l = record {
   few : length l.passes.items < 2 ^ 32;
+  all : length l.list.items + length l.passes.items ≡ length l.fn.passes.items;
   here : (i : ℕ) (pass : _) → get_elem? l.passes.items i ≡ some pass → (pass_number pass ≡ i) × IsPassOf pass l.turn;
   each : (i : ℕ) (runner : _) → get_elem? l.list.items i ≡ some runner → IsPassOf runner.pass l.turn;
 }
