@@ -22,8 +22,8 @@ pub enum Step {
 /// holds. It takes no memory.
 ///
 /// A size has 1 to 6 hexadecimal digits, its line at most 256 bytes, and the trailers at most 1,024
-/// with the empty line. Contracts see what `read` makes of all bytes pushed so far; what the answers
-/// say of those bytes is said by the grammar alone.
+/// with the empty line. Contracts see what `read` makes of all bytes pushed so far; what the
+/// answers say of those bytes is said by the grammar alone.
 #[derive(Debug, Drop)]
 pub struct Dechunk {
     phase: Phase,
