@@ -1,4 +1,3 @@
-pub mod PlainLemmas
 pub mod HistoryLemmas
 pub mod ReadLemmas
 mod Rows
