@@ -4,11 +4,8 @@ ghost use Rattle.turn_log.specs.Past.{so_far};
 
 use crate::object::Played;
 use crate::past::{Entry, and_then};
-use crate::place::{TurnFault, Turns};
+use crate::place::{MOST, TurnFault, Turns};
 use std::snapshot::Snapshot;
-
-/// How many turns a desk gives.
-const MOST: u64 = 1 << 62;
 
 /// A place of one thread: it keeps the object and counts the calls, and speaks for every caller.
 ///

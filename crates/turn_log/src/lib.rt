@@ -3,7 +3,7 @@
 #![tactic(auto)]
 
 mod desk;
-mod laws;
+pub mod laws;
 mod lock;
 mod object;
 mod past;
@@ -12,7 +12,6 @@ mod place;
 mod tests;
 
 pub use desk::Desk;
-pub use laws::{fact_stays, fits_stays};
 pub use lock::{Note, Pass, Seat, Turn};
 pub use object::Played;
 pub use place::{TurnFault, Turns};
