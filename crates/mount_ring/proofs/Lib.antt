@@ -3,4 +3,5 @@ pub mod ReadLemmas
 mod Rows
 pub mod TakingLemmas
 pub mod RingLemmas
+pub mod OwnLemmas
 pub mod RoundLemmas

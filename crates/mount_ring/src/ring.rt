@@ -11,6 +11,8 @@ use std::alloc::{AllocError, Global};
 use turn_log::Played;
 use type_filter::Filters;
 
+#[cfg(test)]
+mod lock_tests;
 mod playing;
 #[cfg(test)]
 mod tests;
