@@ -1,10 +1,9 @@
 -- A loop that takes the first permitted frames from an index on.
-use Rattle.std.proofs.Common.{◌≡◌, ℕ, zero, suc, ◌+◌, ◌-◌, ◌<◌, ◌≤◌, ◌⊎◌, inl, inr, Bool, true, false, cond, length-append, List, [], ◌∷◌, ◌++◌, length, take, drop, refl, ap, ◌∙◌, sym, arith, append_assoc, append-nil, Some}
+use Rattle.std.proofs.Common.{◌≡◌, ℕ, zero, suc, ◌+◌, ◌-◌, ◌<◌, ◌≤◌, Bool, true, false, cond, length-append, List, [], ◌∷◌, ◌++◌, length, take, drop, ap, ◌∙◌, sym, arith, append_assoc, Some}
 use Rattle.std.specs.Prelude.{slice_get}
 use Rattle.std.specs.List.{filter}
 use Rattle.std.proofs.lemmas.Option.{slice_get_within, get_or_from_slice_get}
-use Rattle.std.proofs.lemmas.List.{drop_all}
-use Rattle.std.proofs.Math.Seq.{drop-cons, take-nil}
+use Rattle.std.proofs.Math.Seq.{drop-cons}
 use Rattle.mount_ring.specs.Reads.{looked}
 
 -- What holds while it takes: with these frames taken and so many left to take, it stands at this index.
@@ -14,16 +13,6 @@ pub record Takes (permits : List ℕ → Bool) (frames : List (List ℕ)) (from 
   pub room : length taken + left ≡ budget
   pub looks : looked permits budget (drop from frames) ≡ (index - from) + looked permits left (drop index frames)
   pub takes : take budget (filter permits (drop from frames)) ≡ taken ++ take left (filter permits (drop index frames))
-
-pub takes_begin : (permits : List ℕ → Bool) (frames : List (List ℕ)) (from budget : ℕ) (taken : List (List ℕ)) → taken ≡ [] →
-    from ≤ length frames → Takes permits frames from budget from budget taken
-takes_begin permits frames from budget taken none within = record {
-  behind = omega arith;
-  within = within;
-  room = omega (arith, ap length none);
-  looks = omega arith;
-  takes = ap (λ (xs : List (List ℕ)). xs ++ take budget (filter permits (drop from frames))) (sym none);
-}
 
 drop_at : (frames : List (List ℕ)) (index : ℕ) (frame : List ℕ) → slice_get frames index ≡ Some frame →
     drop index frames ≡ frame ∷ drop (index + 1) frames
@@ -99,30 +88,3 @@ takes_skipped permits frames from budget index left taken frame h some here refu
           ∙ ap (λ (xs : List (List ℕ)). taken ++ take left (filter permits xs)) at
           ∙ ap (λ (xs : List (List ℕ)). taken ++ xs) (filter_skipped permits left frame (drop (index + 1) frames) refused);
     }
-
-looked-nil : (permits : List ℕ → Bool) (left : ℕ) → looked permits left [] ≡ 0
-looked-nil permits zero = refl
-looked-nil permits (suc left) = refl
-
-looked_ends : (permits : List ℕ → Bool) (left : ℕ) (frames : List (List ℕ)) (index : ℕ) → (left ≡ 0) ⊎ (length frames ≤ index) →
-    looked permits left (drop index frames) ≡ 0
-looked_ends permits left frames index (inl none) = ap (λ (n : ℕ). looked permits n (drop index frames)) none
-looked_ends permits left frames index (inr past) = ap (looked permits left) (drop_all index frames past) ∙ looked-nil permits left
-
-takes_nothing : (permits : List ℕ → Bool) (left : ℕ) (frames : List (List ℕ)) (index : ℕ) → (left ≡ 0) ⊎ (length frames ≤ index) →
-    take left (filter permits (drop index frames)) ≡ []
-takes_nothing permits left frames index (inl none) = ap (λ (n : ℕ). take n (filter permits (drop index frames))) none
-takes_nothing permits left frames index (inr past) = ap (λ (xs : List (List ℕ)). take left (filter permits xs)) (drop_all index frames past) ∙ take-nil left
-
--- how far it looked when it ends
-pub takes_looked : (permits : List ℕ → Bool) (frames : List (List ℕ)) (from budget index left : ℕ) (taken : List (List ℕ)) →
-    Takes permits frames from budget index left taken → (left ≡ 0) ⊎ (length frames ≤ index) →
-    index - from ≡ looked permits budget (drop from frames)
-takes_looked permits frames from budget index left taken h done = omega (arith, h.looks, looked_ends permits left frames index done)
-
--- what it took when it ends
-pub takes_took : (permits : List ℕ → Bool) (frames : List (List ℕ)) (from budget index left : ℕ) (taken : List (List ℕ)) →
-    Takes permits frames from budget index left taken → (left ≡ 0) ⊎ (length frames ≤ index) →
-    taken ≡ take budget (filter permits (drop from frames))
-takes_took permits frames from budget index left taken h done =
-    sym (h.takes ∙ ap (λ (xs : List (List ℕ)). taken ++ xs) (takes_nothing permits left frames index done) ∙ append-nil taken)

@@ -12,7 +12,7 @@ use Rattle.turn_log.specs.Heard.{Heard}
 use Rattle.turn_log.proofs.HeardLaws.{heard_turn}
 use Rattle.mount_ring.specs.declared.Cursor.{Cursor}
 use Rattle.mount_ring.specs.declared.RingCall.{RingCall}
-use Rattle.mount_ring.specs.declared.RingCall.TheVariants.{Claim, Release, Publish, Join, Read}
+use Rattle.mount_ring.specs.declared.RingCall.TheVariants.{Claim, Release, Publish, Join, Look, Read}
 use Rattle.mount_ring.specs.declared.RingAnswer.TheVariants.{Joined}
 use Rattle.mount_ring.specs.declared.RingAnswer.TheVariants as answers
 use Rattle.mount_ring.specs.declared.ReadReport.{ReadReport}
@@ -23,6 +23,7 @@ use Rattle.type_filter.specs.Permitted.{permits}
 use Rattle.mount_ring.specs.Reads.{read_report, read_frames}
 use Rattle.mount_ring.specs.Places.{published_by}
 use Rattle.mount_ring.specs.History.{Shape, State, after, state_of, permits_at, joined, answer, claim_answer, own_answers, answers_from, with_own, fits, filled}
+use Rattle.mount_ring.proofs.OwnLemmas.{known_filter}
 use Rattle.mount_ring.proofs.HistoryLemmas.{state_of-append, own_answers-append, published-append}
 use Rattle.rover_cursor.specs.declared.segment.Segment.{Segment}
 use Rattle.rover_cursor.specs.Segments.{begun, read_on, after_answer, newest_segments, lap_overrun}
@@ -120,6 +121,7 @@ quiet_answer shape mount segments state Claim quiet = claim_is_quiet mount segme
 quiet_answer shape mount segments state (Release claim) quiet = refl
 quiet_answer shape mount segments state (Publish claim frame) quiet = refl
 quiet_answer shape mount segments state (Join filter) quiet = absurd cc
+quiet_answer shape mount segments state Look quiet = refl
 quiet_answer shape mount segments state (Read cursor budget) quiet = absurd cc
 
 quiet_answers : (shape : Shape) (mount me : ℕ) (segments : List Segment) (state : State) (more : History RingCall) →
@@ -177,9 +179,6 @@ sums_fit shape me h segment is =
 -- ---- by turns
 
 -- a filter of the ring is one of those that the definitions take
-pub known_filter : (shape : RingShape) (filter : ℕ) → filter < length shape.filters → filter < length (shape_of shape).filters
-known_filter shape filter known = subst (λ n. filter < n) (sym (length-map shape.filters permits)) known
-
 -- a turn is one call of the caller, with the call and the answer as they were matched
 pub heard_as : {C A R : Type 0} {alone : Bool} {fits : History C → ℕ → C → Bool} {answer : History C → ℕ → C → A}
     {filled : History C → ℕ → C → R → R} {old now : History C} {me : ℕ} {call : C} {reply : A} {before after : R}

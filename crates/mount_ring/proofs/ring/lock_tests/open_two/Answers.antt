@@ -1,6 +1,5 @@
 -- The list of passes has the first and the second, and no more.
-use Rattle.std.proofs.Common.{◌≡◌, ℕ, List, [], ◌∷◌, ◌++◌, length, ◌∙◌, ap, sym, refl, arith, length-append}
-use mathlib.Core.Option.{some}
+use Rattle.std.proofs.Common.{◌≡◌, List, [], ◌∷◌, ◌++◌, length, ◌∙◌, ap, sym, refl, arith, length-append}
 use lib.ListN.{get_elem?}
 use Rattle.mount_ring.proofs.ring.lock_tests.open_two.Goals as goal
 
