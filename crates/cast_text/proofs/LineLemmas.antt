@@ -6,6 +6,7 @@ use Rattle.std.specs.Str.Lines.{strip_carriage_return}
 use Rattle.std.proofs.lemmas.Bool.{cases_Bool, cond_both, lt-leb, ltb-true, MatchBool-at_true, MatchBool-at_false}
 use Rattle.std.proofs.lemmas.List.{length-append, length-take, append-nil, map-append}
 use Rattle.std.proofs.lemmas.List.Elements.{filter-append}
+use Rattle.cast_text.proofs.SplitLemmas.{HasPart, part, has_part}
 use Rattle.cast_text.specs.Lines.{all_but_last, last_part, parts_of, unfinished, whole_lines, LineState, no_line, kept, StandsFor}
 
 -- ---- parts
@@ -15,21 +16,6 @@ abbrev with_last : ℕ → List (List ℕ) → List (List ℕ)
 with_last b [] = (b ∷ []) ∷ []
 with_last b (x ∷ []) = (x ++ b ∷ []) ∷ []
 with_last b (x ∷ y ∷ more) = x ∷ with_last b (y ∷ more)
-
-data HasPart : List (List ℕ) → Type 0 where
-  part : (x : List ℕ) (more : List (List ℕ)) → HasPart (x ∷ more)
-
-onto_has_part : (c : ℕ) (ps : List (List ℕ)) → HasPart (onto_first c ps)
-onto_has_part c [] = part (c ∷ []) []
-onto_has_part c (x ∷ more) = part (c ∷ x) more
-
-has_part : (p : ℕ → Bool) (bs : List ℕ) → HasPart (slice_split p bs)
-has_part p [] = part [] []
-has_part p (c ∷ bs) =
-    elim (cases_Bool (p c)) [
-      | inl splits ↦ rw splits (part [] (slice_split p bs))
-      | inr stays ↦ rw stays (onto_has_part c (slice_split p bs))
-    ]
 
 onto_new_part : (c : ℕ) (ps : List (List ℕ)) → HasPart ps → onto_first c (ps ++ [] ∷ []) ≡ onto_first c ps ++ [] ∷ []
 onto_new_part c [] h = elim h [ ]
