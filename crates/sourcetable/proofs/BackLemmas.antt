@@ -13,11 +13,12 @@ use Rattle.sourcetable.specs.declared.record.Record.{Record}
 use Rattle.sourcetable.specs.declared.record.Table.{Table}
 use Rattle.sourcetable.specs.declared.fault.TableFault.{TableFault}
 use Rattle.sourcetable.specs.declared.fault.TableFault.TheVariants as tables
-use Rattle.sourcetable.specs.Record.{letters, field_count, fields_text, line_of, is_separator, is_line_end, HasNone, AreFreeButLast, IsRecord, IsOneLine}
+use Rattle.sourcetable.specs.Record.{letters, field_count, fields_text, line_of, is_separator, is_line_end, AreFreeButLast, IsRecord, IsOneLine}
+use Rattle.cast_text.specs.Split.{HasNone}
 use Rattle.sourcetable.specs.Table.{kind_of, fault_of, most_bytes, cr_lf, text_with}
 use Rattle.sourcetable.specs.Reading.{line_end_in, IsRecordOf, IsTableOf, IsTableRead}
-use Rattle.sourcetable.proofs.SplitLemmas.{position_none, position_some, parts_at}
-use Rattle.sourcetable.proofs.LineLemmas.{is_lf, lines_front, strip_none, strip_one}
+use Rattle.cast_text.proofs.SplitLemmas.{position_none, position_some, parts_at}
+use Rattle.cast_text.proofs.SplitLemmas.{is_lf, lines_front, strip_none, strip_one}
 use Rattle.sourcetable.proofs.RecordLemmas.{count-append, count_behind, count_none}
 use Rattle.sourcetable.proofs.KindLemmas.{fault_kind, fault_few, kind_split, count_line}
 use Rattle.sourcetable.proofs.TableLemmas.{IsReadSoFar, read_whole}

@@ -1,5 +1,3 @@
-pub mod SplitLemmas
-pub mod LineLemmas
 pub mod RecordLemmas
 pub mod KindLemmas
 pub mod TableLemmas

@@ -6,8 +6,9 @@ use Rattle.std.proofs.lemmas.List.{append-nil}
 use Rattle.std.proofs.lemmas.List.Elements.{All-head, All-tail}
 use Rattle.std.proofs.lemmas.List.Concat.{flat_map-append}
 use Rattle.std.proofs.lemmas.List.Sums.{sum_by-append, sum_by-cons}
-use Rattle.sourcetable.specs.Record.{is_separator, fields_text, HasNone, AreFreeButLast}
-use Rattle.sourcetable.proofs.SplitLemmas.{split_same}
+use Rattle.sourcetable.specs.Record.{is_separator, fields_text, AreFreeButLast}
+use Rattle.cast_text.specs.Split.{HasNone}
+use Rattle.cast_text.proofs.SplitLemmas.{split_same}
 
 -- ---- one more field
 

@@ -7,7 +7,8 @@ ghost use Rattle.sourcetable.specs.Reading.{IsRecordRead, IsLineRead, IsTableRea
 use crate::fault::{LineFault, RecordFault, TableFault};
 use crate::lists::Records;
 use crate::record::{Kind, Record, Table};
-use crate::split::{line_end_place, split_fields, split_line};
+use crate::split::{line_end_place, split_fields};
+use cast_text::split_line;
 use std::alloc::Global;
 
 /// The most bytes of a text.
