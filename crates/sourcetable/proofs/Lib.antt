@@ -1,3 +1,4 @@
+pub mod RoomLemmas
 pub mod RecordLemmas
 pub mod KindLemmas
 pub mod TableLemmas
