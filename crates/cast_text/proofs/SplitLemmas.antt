@@ -3,7 +3,7 @@ use Rattle.std.proofs.Common.{◌≡◌, ℕ, zero, suc, ◌+◌, ◌-◌, ◌<�
 use Rattle.std.specs.Prelude.{position}
 use Rattle.std.specs.List.{before_first, list_all, list_any, onto_first, position_or_len, slice_split}
 use Rattle.std.specs.Str.Lines.{lines, lines_of_parts, strip_carriage_return}
-use Rattle.std.proofs.lemmas.Bool.{and_parts, cases_Bool, cases_lt, eqb-true, le-ltb, lt-ltb, or_from, or_parts}
+use Rattle.std.proofs.lemmas.Bool.{and_parts, cases_Bool, cases_lt, eqb-true, le-ltb, lt-ltb, not-true, or_from, or_parts}
 use Rattle.std.proofs.lemmas.List.{drop_all, get_or_at, length-append, take_all, take_at, take_rest}
 use Rattle.std.proofs.lemmas.List.Sums.{passes_at_first, split_at_first, take_while-cons}
 use Rattle.cast_text.specs.Split.{HasNone}
@@ -121,6 +121,20 @@ lines_of_more : (line : List ℕ) (ps : List (List ℕ)) → HasPart ps
     → lines_of_parts (line ∷ ps) ≡ strip_carriage_return line ∷ lines_of_parts ps
 lines_of_more line [] h = elim h [ ]
 lines_of_more line (x ∷ more) h = refl
+
+-- ---- texts without a byte
+
+pub none-append : (p : ℕ → Bool) (a b : List ℕ) → HasNone p a → HasNone p b → HasNone p (a ++ b)
+none-append p [] b none_a none_b = none_b
+none-append p (x ∷ a) b none_a none_b =
+    let parts = or_parts (p x) (list_any p a) none_a in
+    or_from (p x) (list_any p (a ++ b)) parts.0 (none-append p a b parts.1 none_b)
+
+pub none_if_all_fail : (p : ℕ → Bool) (xs : List ℕ) → list_all (λ x. not (p x)) xs ≡ true → HasNone p xs
+none_if_all_fail p [] all = refl
+none_if_all_fail p (x ∷ xs) all =
+    let parts = and_parts (not (p x)) (list_all (λ y. not (p y)) xs) all in
+    or_from (p x) (list_any p xs) (not-true (p x) parts.0) (none_if_all_fail p xs parts.1)
 
 -- ---- the first line
 

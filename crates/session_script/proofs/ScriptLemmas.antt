@@ -15,7 +15,8 @@ use Rattle.session_script.specs.Numbers.{Numbers, no_numbers}
 use Rattle.session_script.specs.Script.{is_skipped, may_follow, after_event, is_session_after, IsSession, onto_events, events_of_lines, script_of}
 use Rattle.session_script.specs.Reading.{line_read}
 use Rattle.session_script.specs.Writing.{AreParts, Row, row_text, HaveEvents, IsEnding, IsWritten, script_text}
-use Rattle.session_script.proofs.SplitLemmas.{none_of, lines_front, strip_none, strip_one, none_of-append}
+use Rattle.cast_text.specs.Split.{HasNone}
+use Rattle.cast_text.proofs.SplitLemmas.{lines_front, none-append, none_if_all_fail, strip_none, strip_one}
 use Rattle.session_script.proofs.WriteLemmas.{ReadsAs, line_reads}
 use Rattle.session_script.proofs.ReadLemmas.{after_line, events_of_lines-step, script_small}
 
@@ -25,13 +26,13 @@ use Rattle.session_script.proofs.ReadLemmas.{after_line, events_of_lines-step, s
 abbrev row_line : Row → List ℕ
 row_line row = cond row.carriage row.text (strip_carriage_return row.text)
 
-row_front : (text : List ℕ) (carriage : Bool) (rest : List ℕ) → none_of (λ b. eqb b 10) text ≡ true
+row_front : (text : List ℕ) (carriage : Bool) (rest : List ℕ) → HasNone (λ b. eqb b 10) text
     → lines (row_text (record { text = text; carriage = carriage }) ++ rest) ≡ row_line (record { text = text; carriage = carriage }) ∷ lines rest
 row_front text false rest none = ap lines (append_assoc text (10 ∷ []) rest) ∙ lines_front text rest none
 row_front text true rest none =
     let regrouped : (text ++ 13 ∷ 10 ∷ []) ++ rest ≡ (text ++ 13 ∷ []) ++ 10 ∷ rest =
     append_assoc text (13 ∷ 10 ∷ []) rest ∙ sym (append_assoc text (13 ∷ []) (10 ∷ rest)) in
-    ap lines regrouped ∙ lines_front (text ++ 13 ∷ []) rest (none_of-append (λ b. eqb b 10) text (13 ∷ []) none refl)
+    ap lines regrouped ∙ lines_front (text ++ 13 ∷ []) rest (none-append (λ b. eqb b 10) text (13 ∷ []) none refl)
     ∙ ap (λ (line : List ℕ). line ∷ lines rest) (strip_one text)
 
 shorter : (b d : ℕ) (text : List ℕ) → is_skipped (b ∷ d ∷ text) ≡ true → is_skipped (take (length (b ∷ d ∷ text) - 1) (b ∷ d ∷ text)) ≡ true
@@ -58,7 +59,7 @@ skipped_line row skipped =
       | inr alone ↦ rw alone (skipped_strip row.text skipped)
     ]
 
-event_line : (row : Row) → none_of (λ b. eqb b 13) row.text ≡ true → row_line row ≡ row.text
+event_line : (row : Row) → HasNone (λ b. eqb b 13) row.text → row_line row ≡ row.text
 event_line row none =
     elim (cases_Bool row.carriage) [
       | inl carriage ↦ rw carriage refl
@@ -95,7 +96,7 @@ stop_ends kind n numbers ending (inr (more, inr return)) =
     ∙ ap (events_of_lines kind n numbers) (row_front (codes "stop") true more refl) ∙ stop_then kind n numbers (lines more)
 
 -- the rows and what follows them
-rows_front : (row : Row) (rows : List Row) (tail : List ℕ) → none_of (λ b. eqb b 10) row.text ≡ true
+rows_front : (row : Row) (rows : List Row) (tail : List ℕ) → HasNone (λ b. eqb b 10) row.text
     → lines (flat_map row_text (row ∷ rows) ++ tail) ≡ row_line row ∷ lines (flat_map row_text rows ++ tail)
 rows_front row rows tail none =
     ap lines (append_assoc (row_text row) (flat_map row_text rows) tail) ∙ row_front row.text row.carriage (flat_map row_text rows ++ tail) none
@@ -106,7 +107,7 @@ rows_read : (kind : ScriptKind) (n : ℕ) (numbers : Numbers) (rows : List Row) 
     → events_of_lines kind n numbers (lines (flat_map row_text rows ++ tail)) ≡ Ok events
 rows_read kind n numbers [] events tail none session ends = ends n numbers ∙ ap (λ (es : List Event). Ok es) (sym none)
 rows_read kind n numbers (row ∷ rows) events tail (inl (passed, others)) session ends =
-    ap (events_of_lines kind n numbers) (rows_front row rows tail passed.1)
+    ap (events_of_lines kind n numbers) (rows_front row rows tail (none_if_all_fail (λ b. eqb b 10) row.text passed.1))
     ∙ passes_over kind n numbers (row_line row) (lines (flat_map row_text rows ++ tail)) events (skipped_line row passed.0)
     (rows_read kind (n + 1) numbers rows events tail others session ends)
 rows_read kind n numbers (row ∷ rows) events tail (inr (event, others, is, line, more)) session ends =

@@ -18,7 +18,7 @@ use Rattle.session_script.specs.declared.ScriptKind.{ScriptKind}
 use Rattle.session_script.specs.Digits.{is_digit, number_from, is_number, number_of, at_most}
 use Rattle.session_script.specs.Line.{is_connection, is_bare, is_replay, is_input, is_event, mount_of, input_within, input_of, relay_number, short_event, long_event, event_of_parts, event_of_line}
 use Rattle.session_script.specs.Script.{input_length}
-use Rattle.session_script.proofs.PartLemmas.{HasPart, part, has_part}
+use Rattle.cast_text.proofs.SplitLemmas.{HasPart, part, has_part}
 
 -- ---- numbers
 

@@ -1,11 +1,11 @@
 -- A line of an event reads as that event.
 use Rattle.std.proofs.Common.{◌≡◌, ℕ, ◌+◌, ◌^◌, ◌<◌, ◌≤◌, Bool, true, false, not, ◌&&◌, eqb, leb, ltb, List, [], ◌∷◌, ◌++◌, length, get_or, Some, Ok, refl, ap, subst, ◌∙◌, arith, inl, inr, rules}
 use Rattle.std.specs.Prelude.{codes}
-use Rattle.std.specs.List.{list_all, join_with_byte}
+use Rattle.std.specs.List.{list_all, list_any, join_with_byte}
 use Rattle.std.specs.Option.{option_and_then}
 use Rattle.std.specs.Str.{bytes_eq}
 use Rattle.std.specs.Fmt.{decimal}
-use Rattle.std.proofs.lemmas.Bool.{cases_Bool, and_parts, and_from, eqb-true, ne_eqb, leb-true, le-leb, ltb-true, both_ways}
+use Rattle.std.proofs.lemmas.Bool.{cases_Bool, and_parts, eqb-true, or_from, ne_eqb, leb-true, le-leb, ltb-true, both_ways}
 use Rattle.std.proofs.lemmas.Fmt.{decimal_nonempty, first_decimal, digits_decimal, digits_value-decimal}
 use Rattle.std.proofs.lemmas.Str.Parse.{IsNumeralModel, numerals_by_fold}
 use Rattle.std.proofs.lemmas.List.Sums.{list_all-from_AllPass}
@@ -20,28 +20,30 @@ use Rattle.session_script.specs.Digits.{is_digit, number_from, number_of, at_mos
 use Rattle.session_script.specs.Line.{parts_of, is_connection, is_bare, is_replay, is_input, is_event, mount_of, input_of, relay_number, short_event, long_event, event_of_parts, event_of_line}
 use Rattle.session_script.specs.Script.{is_skipped}
 use Rattle.session_script.specs.Writing.{IsLine}
-use Rattle.session_script.proofs.SplitLemmas.{none_of, none_of-append, split_two, split_three}
+use Rattle.cast_text.specs.Split.{HasNone}
+use Rattle.cast_text.proofs.SplitLemmas.{none-append}
+use Rattle.session_script.proofs.SplitLemmas.{split_two, split_three}
 
 -- ---- parts without space, LF and CR
 
 -- a byte that passes is none that does not
-differs : (p : ℕ → Bool) (c b : ℕ) → p c ≡ false → p b ≡ true → not (eqb b c) ≡ true
+differs : (p : ℕ → Bool) (c b : ℕ) → p c ≡ false → p b ≡ true → eqb b c ≡ false
 differs p c b fails holds =
     elim (cases_Bool (eqb b c)) [
       | inl same ↦ absurd (both_ways (p c) fails (subst (λ (x : ℕ). p x ≡ true) (eqb-true b c same) holds))
-      | inr other ↦ rw other refl
+      | inr other ↦ other
     ]
 
-none_from : (p : ℕ → Bool) (c : ℕ) → p c ≡ false → (text : List ℕ) → list_all p text ≡ true → none_of (λ b. eqb b c) text ≡ true
+none_from : (p : ℕ → Bool) (c : ℕ) → p c ≡ false → (text : List ℕ) → list_all p text ≡ true → HasNone (λ b. eqb b c) text
 none_from p c fails [] all = refl
 none_from p c fails (b ∷ text) all =
     let parts = and_parts (p b) (list_all p text) all in
-    and_from (not (eqb b c)) (none_of (λ b. eqb b c) text) (differs p c b fails parts.0) (none_from p c fails text parts.1)
+    or_from (eqb b c) (list_any (λ b. eqb b c) text) (differs p c b fails parts.0) (none_from p c fails text parts.1)
 
 record IsPlain (text : List ℕ) : Type 0 where
-  spaces : none_of (λ b. eqb b 32) text ≡ true
-  feeds : none_of (λ b. eqb b 10) text ≡ true
-  returns : none_of (λ b. eqb b 13) text ≡ true
+  spaces : HasNone (λ b. eqb b 32) text
+  feeds : HasNone (λ b. eqb b 10) text
+  returns : HasNone (λ b. eqb b 13) text
 
 plain_from : (p : ℕ → Bool) → p 32 ≡ false → p 10 ≡ false → p 13 ≡ false → (text : List ℕ) → list_all p text ≡ true → IsPlain text
 plain_from p space feed return text all = record { spaces = none_from p 32 space text all; feeds = none_from p 10 feed text all; returns = none_from p 13 return text all }
@@ -72,8 +74,8 @@ within-decimal limit n pos le small =
 -- the text is the line of the event, and no comment, empty line or `stop`
 pub record ReadsAs (kind : ScriptKind) (text : List ℕ) (event : Event) : Type 0 where
   pub found : event_of_line kind text ≡ Some event
-  pub feeds : none_of (λ b. eqb b 10) text ≡ true
-  pub returns : none_of (λ b. eqb b 13) text ≡ true
+  pub feeds : HasNone (λ b. eqb b 10) text
+  pub returns : HasNone (λ b. eqb b 13) text
   pub not_skipped : is_skipped text ≡ false
   pub not_stop : bytes_eq text (codes "stop") ≡ false
 
@@ -100,8 +102,8 @@ two_reads kind word k event w number reads =
     let plain = plain_connection k number in
     record {
       found = ap (event_of_parts kind) (split_two word (decimal k) w.plain.spaces plain.spaces) ∙ ap (option_and_then (λ n. short_event kind word n)) (connection k number) ∙ reads;
-      feeds = none_of-append (λ b. eqb b 10) word (32 ∷ decimal k) w.plain.feeds plain.feeds;
-      returns = none_of-append (λ b. eqb b 13) word (32 ∷ decimal k) w.plain.returns plain.returns;
+      feeds = none-append (λ b. eqb b 10) word (32 ∷ decimal k) w.plain.feeds plain.feeds;
+      returns = none-append (λ b. eqb b 13) word (32 ∷ decimal k) w.plain.returns plain.returns;
       not_skipped = w.not_skipped (decimal k);
       not_stop = w.not_stop (decimal k);
     }
@@ -114,8 +116,8 @@ three_reads kind word k value event w number v reads =
     record {
       found = ap (event_of_parts kind) (split_three word (decimal k) value w.plain.spaces plain.spaces v.spaces)
           ∙ ap (option_and_then (λ n. long_event kind word n value)) (connection k number) ∙ reads;
-      feeds = none_of-append (λ b. eqb b 10) word (32 ∷ (decimal k ++ 32 ∷ value)) w.plain.feeds (none_of-append (λ b. eqb b 10) (decimal k) (32 ∷ value) plain.feeds v.feeds);
-      returns = none_of-append (λ b. eqb b 13) word (32 ∷ (decimal k ++ 32 ∷ value)) w.plain.returns (none_of-append (λ b. eqb b 13) (decimal k) (32 ∷ value) plain.returns v.returns);
+      feeds = none-append (λ b. eqb b 10) word (32 ∷ (decimal k ++ 32 ∷ value)) w.plain.feeds (none-append (λ b. eqb b 10) (decimal k) (32 ∷ value) plain.feeds v.feeds);
+      returns = none-append (λ b. eqb b 13) word (32 ∷ (decimal k ++ 32 ∷ value)) w.plain.returns (none-append (λ b. eqb b 13) (decimal k) (32 ∷ value) plain.returns v.returns);
       not_skipped = w.not_skipped (decimal k ++ 32 ∷ value);
       not_stop = w.not_stop (decimal k ++ 32 ∷ value);
     }

@@ -17,17 +17,13 @@ use Rattle.sourcetable.specs.Record.{letters, field_count, fields_text, line_of,
 use Rattle.cast_text.specs.Split.{HasNone}
 use Rattle.sourcetable.specs.Table.{kind_of, fault_of, most_bytes, cr_lf, text_with}
 use Rattle.sourcetable.specs.Reading.{line_end_in, IsRecordOf, IsTableOf, IsTableRead}
-use Rattle.cast_text.proofs.SplitLemmas.{position_none, position_some, parts_at}
-use Rattle.cast_text.proofs.SplitLemmas.{is_lf, lines_front, strip_none, strip_one}
+use Rattle.cast_text.proofs.SplitLemmas.{is_lf, lines_front, none-append, parts_at, position_none, position_some, strip_none, strip_one}
 use Rattle.sourcetable.proofs.RecordLemmas.{count-append, count_behind, count_none}
-use Rattle.sourcetable.proofs.KindLemmas.{fault_kind, fault_few, kind_split, count_line}
+use Rattle.sourcetable.proofs.KindLemmas.{fault_kind, fault_few, kind_split, count_line, some_count}
 use Rattle.sourcetable.proofs.TableLemmas.{IsReadSoFar, read_whole}
 use Rattle.sourcetable.proofs.AnswerLemmas.{one_table_answer}
 
 -- ---- a byte that a text has nowhere
-
-none-append : (p : ℕ → Bool) (a b : List ℕ) → HasNone p a → HasNone p b → HasNone p (a ++ b)
-none-append p a b na nb = list_any-append p a b ∙ or_from (list_any p a) (list_any p b) na nb
 
 none_parts : (p : ℕ → Bool) (a b : List ℕ) → HasNone p (a ++ b) → HasNone p a × HasNone p b
 none_parts p a b h = or_parts (list_any p a) (list_any p b) (sym (list_any-append p a b) ∙ h)
@@ -170,11 +166,6 @@ fields_exist (suc n) text enough =
       free = free_more cut.front more.fields cut.none more.free;
       joined = ap (λ (t : List ℕ). 59 ∷ (cut.front ++ t)) more.joined ∙ ap (λ (t : List ℕ). 59 ∷ t) (sym cut.is);
     }
-
-some_count : (kind : Kind) → 0 < field_count kind
-some_count Str = omega arith
-some_count Cas = omega arith
-some_count Net = omega arith
 
 record_of_kind : (line : List ℕ) (kind : Kind) → kind_of line ≡ Some kind → field_count kind ≤ count_by is_separator line → (r : Record) × IsRecordOf line r
 record_of_kind line kind is enough =

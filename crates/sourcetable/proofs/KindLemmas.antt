@@ -49,13 +49,6 @@ length_letters Str = refl
 length_letters Cas = refl
 length_letters Net = refl
 
-pub kind_length : (line : List ℕ) (kind : Kind) → kind_of line ≡ Some kind → 4 ≤ length line
-kind_length line kind h =
-    let is : length line ≡ length (letters kind ++ 59 ∷ drop 4 line) = ap length (kind_split line kind h) in
-    let more : length (letters kind ++ 59 ∷ drop 4 line) ≡ length (letters kind) + length (59 ∷ drop 4 line) = length-append (letters kind) (59 ∷ drop 4 line) in
-    let three : length (letters kind) ≡ 3 = length_letters kind in
-    omega arith
-
 -- ---- how many `;` a line has
 
 count_letters : (kind : Kind) → count_by is_separator (letters kind) ≡ 0
@@ -80,16 +73,6 @@ fault_few line kind is few = ap (fault_as line) is ∙ rw (lt-ltb _ _ few) refl
 fault_none : (line : List ℕ) (kind : Kind) → kind_of line ≡ Some kind → field_count kind ≤ count_by is_separator line → fault_of line ≡ None
 fault_none line kind is enough = ap (fault_as line) is ∙ rw (le-ltb _ _ enough) refl
 
--- too few fields after the fourth byte
-pub fault_fields : (line : List ℕ) (kind : Kind) → kind_of line ≡ Some kind
-    → count_by is_separator (take (length line - 4) (drop 4 line)) + 1 < field_count kind → fault_of line ≡ Some faults.Fields
-fault_fields line kind is few =
-    let all : count_by is_separator line ≡ count_by is_separator (letters kind ++ 59 ∷ drop 4 line) = ap (count_by is_separator) (kind_split line kind is) in
-    let rest : count_by is_separator (letters kind ++ 59 ∷ drop 4 line) ≡ count_by is_separator (59 ∷ drop 4 line) = count_line kind (59 ∷ drop 4 line) in
-    let behind : count_by is_separator (59 ∷ drop 4 line) ≡ 1 + count_by is_separator (drop 4 line) = count_behind (drop 4 line) in
-    let less : count_by is_separator (drop 4 line) + 1 < field_count kind = rw take_rest at few in
-    fault_few line kind is (omega arith)
-
 -- ---- the record of a line
 
 data HasFields : List (List ℕ) → Type 0 where
@@ -99,7 +82,7 @@ some_fields : (fields : List (List ℕ)) → 0 < length fields → HasFields fie
 some_fields [] h = absurd (omega arith)
 some_fields (field ∷ more) h = has field more
 
-some_count : (kind : Kind) → 0 < field_count kind
+pub some_count : (kind : Kind) → 0 < field_count kind
 some_count Str = omega arith
 some_count Cas = omega arith
 some_count Net = omega arith

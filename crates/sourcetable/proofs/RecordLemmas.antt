@@ -16,15 +16,6 @@ pub text_push : (fields : List (List ℕ)) (field : List ℕ) → fields_text (f
 text_push fields field =
     flat_map-append (λ f. 59 ∷ f) fields (field ∷ []) ∙ ap (λ (t : List ℕ). fields_text fields ++ 59 ∷ t) (append-nil field)
 
--- a field is split off what follows those so far
-pub text_more : (fields : List (List ℕ)) (field rest more text : List ℕ) → rest ≡ field ++ 59 ∷ more
-    → fields_text fields ++ 59 ∷ rest ≡ text → fields_text (fields ++ field ∷ []) ++ 59 ∷ more ≡ text
-text_more fields field rest more text parts so_far =
-    ap (λ (t : List ℕ). t ++ 59 ∷ more) (text_push fields field)
-    ∙ append_assoc (fields_text fields) (59 ∷ field) (59 ∷ more)
-    ∙ ap (λ (t : List ℕ). fields_text fields ++ 59 ∷ t) (sym parts)
-    ∙ so_far
-
 pub free_push : (fields : List (List ℕ)) (last : List ℕ) → All (HasNone is_separator) fields → AreFreeButLast (fields ++ last ∷ [])
 free_push [] last free = tt
 free_push (field ∷ []) last free = (All-head (HasNone is_separator) field [] free, tt)
