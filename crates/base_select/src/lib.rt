@@ -3,12 +3,11 @@
 
 mod choice;
 mod distance;
-mod laws;
+pub mod laws;
 
 pub use choice::select;
 pub use distance::measure;
 use gga_read::Position;
-pub use laws::choice_is_of_the_bases;
 
 /// A base station: a mountpoint by its number, and where its antenna stands.
 #[derive(Clone, Copy, Debug)]

@@ -5,7 +5,7 @@ ghost use Rattle.std.specs.Str.Lines.{lines, strip_carriage_return};
 ghost use Rattle.cast_text.specs.Split.{HasNone};
 
 /// The first place of this byte.
-fn place_of(byte: u8, text: &[u8]) -> Option<usize>
+pub fn place_of(byte: u8, text: &[u8]) -> Option<usize>
     ensures { result ≡ position (λ b. b == byte) text.now }
 {
     text.iter().position(|b| *b == byte)

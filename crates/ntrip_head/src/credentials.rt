@@ -7,13 +7,12 @@ ghost use Rattle.base64.specs.GeneralPurpose.{decode_of};
 ghost use Rattle.ntrip_head.specs.Credentials.{is_basic, after_spaces, user_and_password, decoded_pair, credentials, auth_of, password_of};
 ghost use Rattle.ntrip_head.specs.Outcome.{Gives};
 
-use crate::cut::place_of;
 use crate::fault::HeadFault;
 use crate::fields::is_same;
 use crate::request::Auth;
 use base64::DecodeAllocError;
 use base64::engine::general_purpose::STANDARD;
-use cast_text::{Text, TextFault};
+use cast_text::{Text, TextFault, place_of};
 use std::alloc::Global;
 
 /// The text of these bytes.
