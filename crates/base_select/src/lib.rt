@@ -10,7 +10,7 @@ pub use distance::measure;
 use gga_read::Position;
 
 /// A base station: a mountpoint by its number, and where its antenna stands.
-#[derive(Clone, Copy, Debug)]
+#[derive(Clone, Copy, Debug, PartialEq, Eq)]
 pub struct Base {
     /// The number of the mountpoint.
     pub mount: u32,
