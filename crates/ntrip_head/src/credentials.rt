@@ -61,7 +61,7 @@ fn user_and_password(alloc: Global, pair: &[u8]) -> Result<Auth, HeadFault>
 }
 
 /// The credentials of which this is the base64 text.
-fn decoded(alloc: Global, encoded: &[u8]) -> Result<Auth, HeadFault>
+fn decode_pair(alloc: Global, encoded: &[u8]) -> Result<Auth, HeadFault>
     requires { length encoded.now ≤ 8192 }
     ensures { Gives result (Ok (decoded_pair (decode_of standard encoded.now))) }
 {
@@ -79,7 +79,7 @@ pub fn auth_of(alloc: Global, value: Option<&[u8]>) -> Result<Auth, HeadFault>
 {
     match value {
         None => Ok(Auth::None),
-        Some(value) if is_basic(value) => decoded(alloc, after_spaces(&value[5..])),
+        Some(value) if is_basic(value) => decode_pair(alloc, after_spaces(&value[5..])),
         Some(_) => Ok(Auth::Unread),
     }
 }

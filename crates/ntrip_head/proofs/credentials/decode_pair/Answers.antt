@@ -1,6 +1,6 @@
 use Rattle.std.proofs.Common.{arith, ap, refl, length, List, ℕ}
 use Rattle.ntrip_head.proofs.Base64Lemmas.{length_decoded}
-use Rattle.ntrip_head.proofs.credentials.decoded.Goals as goal
+use Rattle.ntrip_head.proofs.credentials.decode_pair.Goals as goal
 
 pub user_and_password-requires : goal.user_and_password-requires
 user_and_password-requires c =
