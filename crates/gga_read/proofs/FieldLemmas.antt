@@ -11,7 +11,8 @@ is_comma b = eqb b 44
 pub fields_alone : (xs : List ℕ) → HasNone is_comma xs → fields xs ≡ xs ∷ []
 fields_alone xs none = split_alone is_comma xs none
 
-pub fields_front : (xs front rest : List ℕ) → xs ≡ front ++ 44 ∷ rest → HasNone is_comma front → fields xs ≡ front ∷ fields rest
+pub fields_front : (xs front rest : List ℕ) → xs ≡ front ++ 44 ∷ rest → HasNone is_comma front
+    → fields xs ≡ front ∷ fields rest
 fields_front xs front rest is free = ap fields is ∙ split_front is_comma front 44 rest free refl
 
 first_of : (x : List ℕ) (ps qs : List (List ℕ)) → qs ≡ x ∷ ps → x ≡ slice_index_or qs 0 []
@@ -24,7 +25,8 @@ pub first_front : (xs front rest : List ℕ) → xs ≡ front ++ 44 ∷ rest →
 first_front xs front rest is free = first_of front (fields rest) (fields xs) (fields_front xs front rest is free)
 
 -- the field with number n + 1 is the one with number n of what comes after the first comma
-pub field_later : (xs rest : List ℕ) (m n : ℕ) → m ≡ n + 1 → fields xs ≡ field 0 xs ∷ fields rest → field m xs ≡ field n rest
+pub field_later : (xs rest : List ℕ) (m n : ℕ) → m ≡ n + 1 → fields xs ≡ field 0 xs ∷ fields rest
+    → field m xs ≡ field n rest
 field_later xs rest m n more e =
     let at_suc : slice_index_or (field 0 xs ∷ fields rest) (suc n) [] ≡ field n rest = refl in
     let same : m ≡ suc n = omega arith in

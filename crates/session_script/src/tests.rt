@@ -127,6 +127,9 @@ fn a_script_has_at_most_8_mib(rt: HostRuntime) -> Result<(), Fail> {
     let most = long_script(rt.alloc(), 8_388_608)?;
     assert_eq!(rt; parse(rt.alloc(), &most, ScriptKind::Bare)?.len(), 0);
     let more = long_script(rt.alloc(), 8_388_609)?;
-    assert_eq!(rt; parse(rt.alloc(), &more, ScriptKind::Bare).err(), Some(ScriptFault::Long));
+    assert_eq!(rt;
+        parse(rt.alloc(), &more, ScriptKind::Bare).err(),
+        Some(ScriptFault::Long)
+    );
     Ok(())
 }

@@ -18,18 +18,24 @@ use Rattle.sourcetable.proofs.RecordLemmas.{count-append, count_behind, count_fi
 -- ---- the beginning of a line
 
 begins_split : (kind : Kind) (line : List ℕ) → begins_as kind line ≡ true → line ≡ letters kind ++ 59 ∷ drop 4 line
-begins_split Str line h = (starts_is {E = nat_eq} Decides-eqb line (83 ∷ 84 ∷ 82 ∷ 59 ∷ []) (begins_as Str line) refl).0 h
-begins_split Cas line h = (starts_is {E = nat_eq} Decides-eqb line (67 ∷ 65 ∷ 83 ∷ 59 ∷ []) (begins_as Cas line) refl).0 h
-begins_split Net line h = (starts_is {E = nat_eq} Decides-eqb line (78 ∷ 69 ∷ 84 ∷ 59 ∷ []) (begins_as Net line) refl).0 h
+begins_split Str line h =
+    (starts_is {E = nat_eq} Decides-eqb line (83 ∷ 84 ∷ 82 ∷ 59 ∷ []) (begins_as Str line) refl).0 h
+begins_split Cas line h =
+    (starts_is {E = nat_eq} Decides-eqb line (67 ∷ 65 ∷ 83 ∷ 59 ∷ []) (begins_as Cas line) refl).0 h
+begins_split Net line h =
+    (starts_is {E = nat_eq} Decides-eqb line (78 ∷ 69 ∷ 84 ∷ 59 ∷ []) (begins_as Net line) refl).0 h
 
 kind_begins : (line : List ℕ) (kind : Kind) → kind_of line ≡ Some kind → begins_as kind line ≡ true
 kind_begins line kind h =
     elim (cases_Bool (begins_as Str line)) [
-      | inl str ↦ let e : Str ≡ kind = (let g = rw str at h in cc) in subst (λ (k : Kind). begins_as k line ≡ true) e str
+      | inl str ↦ let e : Str ≡ kind = (let g = rw str at h in cc) in subst
+          (λ (k : Kind). begins_as k line ≡ true) e str
       | inr not_str ↦ elim (cases_Bool (begins_as Cas line)) [
-        | inl cas ↦ let e : Cas ≡ kind = (let g = rw (not_str, cas) at h in cc) in subst (λ (k : Kind). begins_as k line ≡ true) e cas
+        | inl cas ↦ let e : Cas ≡ kind = (let g = rw (not_str, cas) at h in cc) in subst
+            (λ (k : Kind). begins_as k line ≡ true) e cas
         | inr not_cas ↦ elim (cases_Bool (begins_as Net line)) [
-          | inl net ↦ let e : Net ≡ kind = (let g = rw (not_str, not_cas, net) at h in cc) in subst (λ (k : Kind). begins_as k line ≡ true) e net
+          | inl net ↦ let e : Net ≡ kind = (let g = rw (not_str, not_cas, net) at h in cc) in subst
+              (λ (k : Kind). begins_as k line ≡ true) e net
           | inr not_net ↦ absurd (let g = rw (not_str, not_cas, not_net) at h in cc)
         ]
       ]
@@ -56,9 +62,11 @@ count_letters Str = refl
 count_letters Cas = refl
 count_letters Net = refl
 
-pub count_line : (kind : Kind) (rest : List ℕ) → count_by is_separator (letters kind ++ rest) ≡ count_by is_separator rest
+pub count_line : (kind : Kind) (rest : List ℕ)
+    → count_by is_separator (letters kind ++ rest) ≡ count_by is_separator rest
 count_line kind rest =
-    let parts : count_by is_separator (letters kind ++ rest) ≡ count_by is_separator (letters kind) + count_by is_separator rest = count-append is_separator (letters kind) rest in
+    let parts : count_by is_separator (letters kind ++ rest) ≡ count_by is_separator
+    (letters kind) + count_by is_separator rest = count-append is_separator (letters kind) rest in
     let none : count_by is_separator (letters kind) ≡ 0 = count_letters kind in
     omega arith
 
@@ -67,10 +75,12 @@ count_line kind rest =
 pub fault_kind : (line : List ℕ) → kind_of line ≡ None → fault_of line ≡ Some faults.Kind
 fault_kind line none = ap (fault_as line) none
 
-pub fault_few : (line : List ℕ) (kind : Kind) → kind_of line ≡ Some kind → count_by is_separator line < field_count kind → fault_of line ≡ Some faults.Fields
+pub fault_few : (line : List ℕ) (kind : Kind) → kind_of line ≡ Some kind
+    → count_by is_separator line < field_count kind → fault_of line ≡ Some faults.Fields
 fault_few line kind is few = ap (fault_as line) is ∙ rw (lt-ltb _ _ few) refl
 
-fault_none : (line : List ℕ) (kind : Kind) → kind_of line ≡ Some kind → field_count kind ≤ count_by is_separator line → fault_of line ≡ None
+fault_none : (line : List ℕ) (kind : Kind) → kind_of line ≡ Some kind → field_count kind ≤ count_by is_separator line
+    → fault_of line ≡ None
 fault_none line kind is enough = ap (fault_as line) is ∙ rw (le-ltb _ _ enough) refl
 
 -- ---- the record of a line
@@ -87,7 +97,8 @@ some_count Str = omega arith
 some_count Cas = omega arith
 some_count Net = omega arith
 
-kind_of_fields : (kind : Kind) (fields : List (List ℕ)) → HasFields fields → kind_of (letters kind ++ fields_text fields) ≡ Some kind
+kind_of_fields : (kind : Kind) (fields : List (List ℕ)) → HasFields fields
+    → kind_of (letters kind ++ fields_text fields) ≡ Some kind
 kind_of_fields kind [] h = elim h [ ]
 kind_of_fields kind (field ∷ more) h = kind_of_letters kind (field ++ fields_text more)
 
@@ -100,7 +111,8 @@ kind_of_line r is =
 pub fault_of_line : (r : Record) → IsRecord r → fault_of (line_of r) ≡ None
 fault_of_line r is =
     let least : length r.fields ≤ count_by is_separator (fields_text r.fields) = count_fields_least r.fields in
-    let line : count_by is_separator (line_of r) ≡ count_by is_separator (fields_text r.fields) = count_line r.kind (fields_text r.fields) in
+    let line : count_by is_separator (line_of r) ≡ count_by is_separator (fields_text r.fields) = count_line r.kind
+    (fields_text r.fields) in
     let count : length r.fields ≡ field_count r.kind = is.count in
     fault_none (line_of r) r.kind (kind_of_line r is) (omega arith)
 

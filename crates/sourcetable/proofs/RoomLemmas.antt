@@ -15,4 +15,9 @@ field_within fields i d inside = omega (arith, length-flat_map-take (λ (field :
 pub line_within : (records : List Record) (i : ℕ) (d : Record) → i < length records
     → length (lines_text (take i records)) + (length (line_of (get_or records i d)) + 2) ≤ length (lines_text records)
 line_within records i d inside =
-    omega (arith, length-flat_map-take (λ (r : Record). line_of r ++ cr_lf) records i d inside, length-append (line_of (get_or records i d)) cr_lf)
+    omega (
+      arith,
+      length-flat_map-take (λ (r : Record). line_of r ++ cr_lf) records i d inside,
+      length-append
+          (line_of (get_or records i d)) cr_lf,
+    )

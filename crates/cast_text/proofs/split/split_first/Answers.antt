@@ -13,4 +13,5 @@ returns-clause-found c =
 
 pub returns-clause-free : goal.returns-clause-free
 returns-clause-free c =
-    (position_some (λ b. eqb b c.args.byte) c.args.text.now c.in_ok-place.place (sym c.place_of.ensures ∙ c.in_ok-place.was)).none
+    (position_some (λ b. eqb b c.args.byte) c.args.text.now c.in_ok-place.place
+    (sym c.place_of.ensures ∙ c.in_ok-place.was)).none

@@ -17,7 +17,8 @@ loop-at-preserved g c =
     record {
       within = omega arith;
       written = subst
-          (λ (n : ℕ). Appends (g.O.Sink.taken c.args.out.now) (g.O.Sink.taken c.write.new.self) (take n c.args.text.now))
+          (λ (n : ℕ). Appends (g.O.Sink.taken c.args.out.now) (g.O.Sink.taken c.write.new.self)
+          (take n c.args.text.now))
           same
           (piece_written _ _ _ c.args.text.now at (at + count - at) c.loop-at.invariant.written c.in-Ok.ensures.whole);
       unharmed = c.in-Ok.ensures.unharmed ∙ c.loop-at.invariant.unharmed;

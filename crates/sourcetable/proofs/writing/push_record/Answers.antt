@@ -15,7 +15,19 @@ returns-in_err-push-clause-room c room =
     let within = field_within items c.loop-field.field-index c.field-item.result c.loop-field-test.true in
     let grown = ap length c.loop-field.invariant.0 in
     absurd (false≢true (c.in_err-push.ensures.succeeds
-    (omega (arith, grown, length-append c.args.out.now.items (begun ++ so_far), length-append begun so_far, length-append begun (fields_text items), within, whole, c.loop-field.invariant.1, room))))
+    (omega (
+      arith,
+      grown,
+      length-append c.args.out.now.items
+          (begun ++ so_far),
+      length-append begun so_far,
+      length-append begun
+          (fields_text items),
+      within,
+      whole,
+      c.loop-field.invariant.1,
+      room,
+    ))))
 
 pub returns-in_err-extend_from_slice-2-clause-room : goal.returns-in_err-extend_from_slice-2-clause-room
 returns-in_err-extend_from_slice-2-clause-room c room =
@@ -27,4 +39,19 @@ returns-in_err-extend_from_slice-2-clause-room c room =
     let grown = ap length c.loop-field.invariant.0 in
     let item = ap length (c.bytes.ensures ∙ c.field-item.is) in
     absurd (false≢true (c.in_err-extend_from_slice-2.ensures.succeeds
-    (omega (arith, grown, length-append c.args.out.now.items (begun ++ so_far), length-append begun so_far, length-append begun (fields_text items), within, whole, item, c.loop-field.invariant.1, c.in_ok-push.ensures.len, c.in_ok-push.ensures.capacity, room))))
+    (omega (
+      arith,
+      grown,
+      length-append c.args.out.now.items
+          (begun ++ so_far),
+      length-append begun so_far,
+      length-append begun
+          (fields_text items),
+      within,
+      whole,
+      item,
+      c.loop-field.invariant.1,
+      c.in_ok-push.ensures.len,
+      c.in_ok-push.ensures.capacity,
+      room,
+    ))))
