@@ -23,7 +23,8 @@ nearest_unique all m n a b =
 any_base : Base
 any_base = record { mount = 0; at = record { lat = pos 0; lon = pos 0 } }
 
-of_place : (p : Base → Bool) (bases : List Base) (found : Option ℕ) → position p bases ≡ found → IfSome found (λ k. k < length bases)
+of_place : (p : Base → Bool) (bases : List Base) (found : Option ℕ) → position p bases ≡ found
+    → IfSome found (λ k. k < length bases)
 of_place p bases None e = tt
 of_place p bases (Some k) e = (position-Some p bases k any_base e).0
 
@@ -31,7 +32,8 @@ place_within : (current : Option ℕ) (bases : List Base) → IfSome (place_of c
 place_within None bases = tt
 place_within (Some m) bases = of_place (λ base. eqb base.mount m) bases (place_of (Some m) bases) refl
 
-chosen_within : (all : List ℕ) (h nearest : ℕ) (present : Option ℕ) (size : ℕ) → nearest < size → IfSome present (λ k. k < size)
+chosen_within : (all : List ℕ) (h nearest : ℕ) (present : Option ℕ) (size : ℕ) → nearest < size
+    → IfSome present (λ k. k < size)
     → chosen all h nearest present < size
 chosen_within all h nearest None size near here = near
 chosen_within all h nearest (Some k) size near here =
@@ -40,13 +42,15 @@ chosen_within all h nearest (Some k) size near here =
       | inr stays ↦ rw stays here
     ]
 
-pub among : (current : Option ℕ) (rover : Position) (bases : List Base) (h mount : ℕ) → IsChoice current rover bases h mount
+pub among : (current : Option ℕ) (rover : Position) (bases : List Base) (h mount : ℕ)
+    → IsChoice current rover bases h mount
     → (n : ℕ) × (n < length bases) × (mount ≡ slice_index (mounts bases) n)
 among current rover bases h mount c =
     let size : length (measures rover bases) ≡ length bases = length-map bases (λ base. measure_of rover base.at) in
     let near : c.nearest < length bases = omega (arith, size, c.is_nearest.within) in (
       chosen (measures rover bases) h c.nearest (place_of current bases),
-      chosen_within (measures rover bases) h c.nearest (place_of current bases) (length bases) near (place_within current bases),
+      chosen_within (measures rover bases) h c.nearest (place_of current bases) (length bases) near
+          (place_within current bases),
       c.is_chosen,
     )
 
@@ -62,7 +66,8 @@ pub without : (rover : Position) (bases : List Base) (h mount : ℕ) → IsChoic
     → (n : ℕ) × IsNearest (measures rover bases) n × (mount ≡ slice_index (mounts bases) n)
 without rover bases h mount c = (c.nearest, c.is_nearest, c.is_chosen)
 
-pub elsewhere : (present : ℕ) (rover : Position) (bases : List Base) (h mount : ℕ) → place_of (Some present) bases ≡ None
+pub elsewhere : (present : ℕ) (rover : Position) (bases : List Base) (h mount : ℕ)
+    → place_of (Some present) bases ≡ None
     → IsChoice (Some present) rover bases h mount → IsChoice None rover bases h mount
 elsewhere present rover bases h mount none c = record {
   nearest = c.nearest;
@@ -72,7 +77,8 @@ elsewhere present rover bases h mount none c = record {
 }
 
 -- what is chosen of the nearest and the present base, where the places are known
-of_places : (present place near : ℕ) (rover : Position) (bases : List Base) (h mount : ℕ) → place_of (Some present) bases ≡ Some place
+of_places : (present place near : ℕ) (rover : Position) (bases : List Base) (h mount : ℕ)
+    → place_of (Some present) bases ≡ Some place
     → IsNearest (measures rover bases) near → IsChoice (Some present) rover bases h mount
     → mount ≡ slice_index (mounts bases) (chosen (measures rover bases) h near (Some place))
 of_places present place near rover bases h mount at nearest c =
@@ -93,7 +99,8 @@ present_chosen : (all : List ℕ) (h near place : ℕ)
 present_chosen all h near place kept =
     rw (le-ltb (get_or all near 0 * 10000) (get_or all place 0 * (100 - h) * (100 - h)) kept) refl
 
-pub leaves : (present place near : ℕ) (rover : Position) (bases : List Base) (h mount : ℕ) → place_of (Some present) bases ≡ Some place
+pub leaves : (present place near : ℕ) (rover : Position) (bases : List Base) (h mount : ℕ)
+    → place_of (Some present) bases ≡ Some place
     → IsNearest (measures rover bases) near
     → slice_index (measures rover bases) near * 10000 < slice_index (measures rover bases) place * (100 - h) * (100 - h)
     → IsChoice (Some present) rover bases h mount → mount ≡ slice_index (mounts bases) near
@@ -101,7 +108,8 @@ leaves present place near rover bases h mount at nearest beats c =
     of_places present place near rover bases h mount at nearest c
     ∙ ap (slice_index (mounts bases)) (nearest_chosen (measures rover bases) h near place beats)
 
-pub stays : (present place near : ℕ) (rover : Position) (bases : List Base) (h mount : ℕ) → place_of (Some present) bases ≡ Some place
+pub stays : (present place near : ℕ) (rover : Position) (bases : List Base) (h mount : ℕ)
+    → place_of (Some present) bases ≡ Some place
     → IsNearest (measures rover bases) near
     → slice_index (measures rover bases) place * (100 - h) * (100 - h) ≤ slice_index (measures rover bases) near * 10000
     → IsChoice (Some present) rover bases h mount → mount ≡ slice_index (mounts bases) place

@@ -3,15 +3,14 @@
 
 mod choice;
 mod distance;
-mod laws;
+pub mod laws;
 
 pub use choice::select;
 pub use distance::measure;
 use gga_read::Position;
-pub use laws::choice_is_of_the_bases;
 
 /// A base station: a mountpoint by its number, and where its antenna stands.
-#[derive(Clone, Copy, Debug)]
+#[derive(Clone, Copy, Debug, PartialEq, Eq)]
 pub struct Base {
     /// The number of the mountpoint.
     pub mount: u32,

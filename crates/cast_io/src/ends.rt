@@ -45,5 +45,8 @@ pub trait Sink {
     fn write(&mut self, piece: &[u8]) -> Result<(), Failed>
         ensures whole { OnOk result (Appends (taken self.old) (taken self.new) piece.now) }
         ensures torn { OnErr result (AppendsPrefix (taken self.old) (taken self.new) piece.now) }
-        ensures cause { HasCause (faults self.old) (faults self.new) result };
+        ensures cause { HasCause (faults self.old) (faults self.new) result }
+
+        // Who writes all pieces knows the count: a fault is answered, and never kept silent.
+        ensures unharmed { OnOk result (faults self.new ≡ faults self.old) };
 }

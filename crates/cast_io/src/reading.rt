@@ -1,8 +1,8 @@
 //! Reading a source to its end.
-ghost use Rattle.std.specs.Prelude.{◌≤◌, ◌+◌, vec_len, IfOk, OnErr, IsErrOf};
+ghost use Rattle.std.specs.Prelude.{◌<◌, ◌≤◌, ◌+◌, length, vec_len, IfOk, IsErrOf};
 ghost use Rattle.std.specs.Io.KnownBytes.{Consumes, IsAtEnd};
 ghost use Rattle.cast_io.specs.Causes.{Rose};
-ghost use Rattle.cast_io.specs.Pieces.{LosesMore, LosesSome};
+ghost use Rattle.cast_io.specs.Pieces.{Loses};
 
 use crate::ends::Source;
 use std::alloc::Global;
@@ -28,8 +28,8 @@ const PIECE: usize = 4096;
 /// Reads the source to its end: all bytes that were left, at most `limit`.
 ///
 /// `Long` comes as soon as more than `limit` bytes came, `Failed` with the first read that fails,
-/// and `Memory` where the bytes could not be kept; the source has then lost what was read. It is
-/// read at most `limit` + 2 times.
+/// while at most `limit` bytes came, and `Memory` where the bytes could not be kept; the source has
+/// then lost what was read. It is read at most once more than bytes came.
 pub fn read_all<S: Source>(
     alloc: Global,
     source: &mut S,
@@ -39,12 +39,17 @@ pub fn read_all<S: Source>(
     ensures ended { IfOk result (λ v. IsAtEnd (S.left source.new)) }
     ensures within { IfOk result (λ v. vec_len v ≤ limit) }
     ensures long { IsErrOf result ReadAllFault.Long
-        → LosesMore limit (S.left source.old) (S.left source.new) }
-    ensures lost { OnErr result (LosesSome (S.left source.old) (S.left source.new)) }
+        → Loses (λ came. limit < length came) (S.left source.old) (S.left source.new) }
     ensures failed { IsErrOf result ReadAllFault.Failed
+        → Loses (λ came. length came ≤ limit) (S.left source.old) (S.left source.new) }
+    ensures cause { IsErrOf result ReadAllFault.Failed
         → Rose (S.faults source.old) (S.faults source.new) }
     ensures later { S.faults source.old ≤ S.faults source.new }
-    ensures reads { S.reads source.new ≤ S.reads source.old + limit + 2 }
+
+    // Each read but the last gave a byte, and after a read that ended or failed comes none.
+    ensures reads { Loses (λ came. S.reads source.new ≤ S.reads source.old + length came + 1)
+        (S.left source.old) (S.left source.new) }
+    ensures few { S.reads source.new ≤ S.reads source.old + limit + 2 }
 {
     let mut all = Vec::new(alloc);
     let mut piece = [0u8; PIECE];

@@ -1,3 +1,4 @@
 pub mod NameLemmas
+pub mod SplitLemmas
 pub mod LineLemmas
 pub mod Rows

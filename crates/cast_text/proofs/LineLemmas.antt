@@ -6,6 +6,7 @@ use Rattle.std.specs.Str.Lines.{strip_carriage_return}
 use Rattle.std.proofs.lemmas.Bool.{cases_Bool, cond_both, lt-leb, ltb-true, MatchBool-at_true, MatchBool-at_false}
 use Rattle.std.proofs.lemmas.List.{length-append, length-take, append-nil, map-append}
 use Rattle.std.proofs.lemmas.List.Elements.{filter-append}
+use Rattle.cast_text.proofs.SplitLemmas.{HasPart, part, has_part}
 use Rattle.cast_text.specs.Lines.{all_but_last, last_part, parts_of, unfinished, whole_lines, LineState, no_line, kept, StandsFor}
 
 -- ---- parts
@@ -16,26 +17,12 @@ with_last b [] = (b ∷ []) ∷ []
 with_last b (x ∷ []) = (x ++ b ∷ []) ∷ []
 with_last b (x ∷ y ∷ more) = x ∷ with_last b (y ∷ more)
 
-data HasPart : List (List ℕ) → Type 0 where
-  part : (x : List ℕ) (more : List (List ℕ)) → HasPart (x ∷ more)
-
-onto_has_part : (c : ℕ) (ps : List (List ℕ)) → HasPart (onto_first c ps)
-onto_has_part c [] = part (c ∷ []) []
-onto_has_part c (x ∷ more) = part (c ∷ x) more
-
-has_part : (p : ℕ → Bool) (bs : List ℕ) → HasPart (slice_split p bs)
-has_part p [] = part [] []
-has_part p (c ∷ bs) =
-    elim (cases_Bool (p c)) [
-      | inl splits ↦ rw splits (part [] (slice_split p bs))
-      | inr stays ↦ rw stays (onto_has_part c (slice_split p bs))
-    ]
-
 onto_new_part : (c : ℕ) (ps : List (List ℕ)) → HasPart ps → onto_first c (ps ++ [] ∷ []) ≡ onto_first c ps ++ [] ∷ []
 onto_new_part c [] h = elim h [ ]
 onto_new_part c (x ∷ more) h = refl
 
-onto_with_last : (c b : ℕ) (ps : List (List ℕ)) → HasPart ps → onto_first c (with_last b ps) ≡ with_last b (onto_first c ps)
+onto_with_last : (c b : ℕ) (ps : List (List ℕ)) → HasPart ps
+    → onto_first c (with_last b ps) ≡ with_last b (onto_first c ps)
 onto_with_last c b [] h = elim h [ ]
 onto_with_last c b (x ∷ []) h = refl
 onto_with_last c b (x ∷ y ∷ more) h = refl
@@ -44,7 +31,8 @@ with_last_behind : (b : ℕ) (ps : List (List ℕ)) → HasPart ps → with_last
 with_last_behind b [] h = elim h [ ]
 with_last_behind b (x ∷ more) h = refl
 
-split_ends : (p : ℕ → Bool) (b : ℕ) (bs : List ℕ) → p b ≡ true → slice_split p (bs ++ b ∷ []) ≡ slice_split p bs ++ [] ∷ []
+split_ends : (p : ℕ → Bool) (b : ℕ) (bs : List ℕ) → p b ≡ true
+    → slice_split p (bs ++ b ∷ []) ≡ slice_split p bs ++ [] ∷ []
 split_ends p b [] h = rw h refl
 split_ends p b (c ∷ bs) h =
     elim (cases_Bool (p c)) [
@@ -52,7 +40,8 @@ split_ends p b (c ∷ bs) h =
       | inr stays ↦ rw (stays, split_ends p b bs h) (onto_new_part c (slice_split p bs) (has_part p bs))
     ]
 
-split_goes_on : (p : ℕ → Bool) (b : ℕ) (bs : List ℕ) → p b ≡ false → slice_split p (bs ++ b ∷ []) ≡ with_last b (slice_split p bs)
+split_goes_on : (p : ℕ → Bool) (b : ℕ) (bs : List ℕ) → p b ≡ false
+    → slice_split p (bs ++ b ∷ []) ≡ with_last b (slice_split p bs)
 split_goes_on p b [] h = rw h refl
 split_goes_on p b (c ∷ bs) h =
     elim (cases_Bool (p c)) [
@@ -97,7 +86,9 @@ lines_same limit b bs h = rw (split_goes_on (λ c. eqb c 10) b bs h, ended_same 
 abbrev if_within : ℕ → List ℕ → List (List ℕ)
 if_within limit line = filter (λ l. leb (length l) limit) (line ∷ [])
 
-lines_more : (limit : ℕ) (bs : List ℕ) → whole_lines limit (bs ++ 10 ∷ []) ≡ whole_lines limit bs ++ if_within limit (strip_carriage_return (unfinished bs))
+lines_more : (limit : ℕ) (bs : List ℕ)
+    → whole_lines limit (bs ++ 10 ∷ []) ≡ whole_lines limit bs ++ if_within limit
+    (strip_carriage_return (unfinished bs))
 lines_more limit bs =
     let e : all_but_last (parts_of (bs ++ 10 ∷ [])) ≡ all_but_last (parts_of bs) ++ unfinished bs ∷ [] =
     ap all_but_last (split_ends (λ c. eqb c 10) 10 bs refl) ∙ ended_new (parts_of bs) (has_part (λ c. eqb c 10) bs) in
@@ -121,31 +112,38 @@ stays_same old coming = record { limit = refl; coming = coming; stands = λ byte
 abbrev Has : ℕ → List ℕ → Bool → List ℕ → Type 0
 Has limit line over tail = MatchBool over (limit + 1 < length tail) (tail ≡ line)
 
-over_now : (limit : ℕ) (line tail : List ℕ) (over : Bool) (b : ℕ) → Has limit line over tail → limit < length line → limit + 1 < length (tail ++ b ∷ [])
+over_now : (limit : ℕ) (line tail : List ℕ) (over : Bool) (b : ℕ) → Has limit line over tail → limit < length line
+    → limit + 1 < length (tail ++ b ∷ [])
 over_now limit line tail true b h long = omega (arith, length-append tail (b ∷ []))
 over_now limit line tail false b h long = omega (arith, length-append tail (b ∷ []), ap length h)
 
-has_more : (limit : ℕ) (line tail : List ℕ) (over : Bool) (b : ℕ) → Has limit line over tail → Has limit (line ++ b ∷ []) over (tail ++ b ∷ [])
+has_more : (limit : ℕ) (line tail : List ℕ) (over : Bool) (b : ℕ) → Has limit line over tail
+    → Has limit (line ++ b ∷ []) over (tail ++ b ∷ [])
 has_more limit line tail true b h = omega (arith, length-append tail (b ∷ []))
 has_more limit line tail false b h = ap (λ (l : List ℕ). l ++ b ∷ []) h
 
-pub stands_kept : (state : LineState) (b : ℕ) (bytes : List ℕ) → state.ended ≡ false → eqb b 10 ≡ false → StandsFor state bytes → StandsFor (kept state b) (bytes ++ b ∷ [])
+pub stands_kept : (state : LineState) (b : ℕ) (bytes : List ℕ) → state.ended ≡ false → eqb b 10 ≡ false
+    → StandsFor state bytes → StandsFor (kept state b) (bytes ++ b ∷ [])
 stands_kept state b bytes coming other stands =
-    let has = MatchBool-at_false (unfinished bytes ≡ []) (Has state.limit state.line state.over (unfinished bytes)) coming stands in
+    let has = MatchBool-at_false (unfinished bytes ≡ [])
+    (Has state.limit state.line state.over (unfinished bytes)) coming stands in
     let more = unfinished_more b bytes other in
     elim (cases_Bool (ltb state.limit (length state.line))) [
-      | inl long ↦ rw (long, coming, more) (over_now state.limit state.line (unfinished bytes) state.over b has (ltb-true _ _ long))
+      | inl long ↦ rw (long, coming, more)
+          (over_now state.limit state.line (unfinished bytes) state.over b has (ltb-true _ _ long))
       | inr fits ↦ rw (fits, coming, more) (has_more state.limit state.line (unfinished bytes) state.over b has)
     ]
 
-pub lines_kept : (old : LineState) (b : ℕ) (bytes : List ℕ) → eqb b 10 ≡ false → whole_lines old.limit (bytes ++ b ∷ []) ≡ whole_lines old.limit bytes ++ []
+pub lines_kept : (old : LineState) (b : ℕ) (bytes : List ℕ) → eqb b 10 ≡ false
+    → whole_lines old.limit (bytes ++ b ∷ []) ≡ whole_lines old.limit bytes ++ []
 lines_kept old b bytes other = lines_same old.limit b bytes other ∙ sym (append-nil (whole_lines old.limit bytes))
 
 pub stands_ended : (state : LineState) (bytes : List ℕ) → state.ended ≡ true → StandsFor state (bytes ++ 10 ∷ [])
 stands_ended state bytes ended = rw ended (unfinished_ended bytes)
 
 length-strip : (line : List ℕ) → length line ≤ length (strip_carriage_return line) + 1
-length-strip line = cond_both (eqb (get_or line (length line - 1) 0) 13) (take (length line - 1) line) line (λ l. length line ≤ length l + 1)
+length-strip line = cond_both (eqb (get_or line (length line - 1) 0) 13) (take (length line - 1) line) line
+    (λ l. length line ≤ length l + 1)
     (λ _. omega (arith, length-take (length line - 1) line)) (λ _. omega arith)
 
 given_line : (limit : ℕ) (line tail : List ℕ) (over result : Bool) (given : List ℕ) → Has limit line over tail
@@ -156,9 +154,14 @@ given_line limit line tail true result given h r g =
     rw (lt-leb (length (strip_carriage_return tail)) limit long, r) refl
 given_line limit line tail false result given h r g = rw (h, r, g) refl
 
-pub lines_ended : (state : LineState) (result : Bool) (given bytes : List ℕ) → state.ended ≡ false → StandsFor state bytes
-    → result ≡ (not state.over && leb (length (strip_carriage_return state.line)) state.limit) → given ≡ strip_carriage_return state.line
+pub lines_ended : (state : LineState) (result : Bool) (given bytes : List ℕ) → state.ended ≡ false
+    → StandsFor state bytes
+    → result ≡ (not state.over && leb (length (strip_carriage_return state.line)) state.limit)
+    → given ≡ strip_carriage_return state.line
     → whole_lines state.limit (bytes ++ 10 ∷ []) ≡ whole_lines state.limit bytes ++ cond result (given ∷ []) []
 lines_ended state result given bytes coming stands r g =
-    let has = MatchBool-at_false (unfinished bytes ≡ []) (Has state.limit state.line state.over (unfinished bytes)) coming stands in
-    lines_more state.limit bytes ∙ ap (λ (ls : List (List ℕ)). whole_lines state.limit bytes ++ ls) (given_line state.limit state.line (unfinished bytes) state.over result given has r g)
+    let has = MatchBool-at_false (unfinished bytes ≡ [])
+    (Has state.limit state.line state.over (unfinished bytes)) coming stands in
+    lines_more state.limit bytes
+    ∙ ap (λ (ls : List (List ℕ)). whole_lines state.limit bytes ++ ls)
+    (given_line state.limit state.line (unfinished bytes) state.over result given has r g)

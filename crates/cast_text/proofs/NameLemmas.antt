@@ -33,7 +33,8 @@ is_name_unless text none =
     let b = cond_none (ltb 100 (length text)) _ _ a.1 in
     let some : 1 ≤ length text = omega (arith, eqb-false (length text) 0 a.0) in
     let few : length text ≤ 100 = ltb-false 100 (length text) b.0 in
-    and_from _ _ (and_from _ _ (le-leb 1 (length text) some) (le-leb (length text) 100 few)) (no_place is_name_byte text b.1)
+    and_from _ _ (and_from _ _ (le-leb 1 (length text) some) (le-leb (length text) 100 few))
+    (no_place is_name_byte text b.1)
 
 -- where each byte is allowed, no place is refused
 whole_prefix : (p : ℕ → Bool) (bs : List ℕ) → list_all p bs ≡ true → prefix_len (λ b. not (not (p b))) bs ≡ length bs
@@ -43,18 +44,21 @@ whole_prefix p (b ∷ bs) all =
     rw parts.0 (let more = whole_prefix p bs parts.1 in omega arith)
 
 no_place_refused : (p : ℕ → Bool) (bs : List ℕ) → list_all p bs ≡ true → position (λ b. not (p b)) bs ≡ None
-no_place_refused p bs all = rw (le-ltb (prefix_len (λ b. not (not (p b))) bs) (length bs) (let whole = whole_prefix p bs all in omega arith)) refl
+no_place_refused p bs all = rw
+    (le-ltb (prefix_len (λ b. not (not (p b))) bs) (length bs) (let whole = whole_prefix p bs all in omega arith)) refl
 
 -- a name is read as itself
 pub name_of-name : (text : List ℕ) → is_name text ≡ true → name_of text ≡ Ok text
 name_of-name text name =
     let a = and_parts (leb 1 (length text) && leb (length text) 100) (list_all is_name_byte text) name in
     let b = and_parts (leb 1 (length text)) (leb (length text) 100) a.0 in
-    let some : eqb (length text) 0 ≡ false = ne_eqb (length text) 0 (λ none. let one = leb-true 1 (length text) b.0 in omega arith) in
+    let some : eqb (length text) 0 ≡ false = ne_eqb (length text) 0
+    (λ none. let one = leb-true 1 (length text) b.0 in omega arith) in
     let few : ltb 100 (length text) ≡ false = le-ltb 100 (length text) (leb-true (length text) 100 b.1) in
     rw (some, few, no_place_refused is_name_byte text a.1) refl
 
-unless_ok : (text name : List ℕ) (fault : Option NameFault) → name_unless text fault ≡ Ok name → (fault ≡ None) × (text ≡ name)
+unless_ok : (text name : List ℕ) (fault : Option NameFault) → name_unless text fault ≡ Ok name → (fault ≡ None)
+    × (text ≡ name)
 unless_ok text name None ok = (refl, cc)
 unless_ok text name (Some fault) ok = absurd cc
 

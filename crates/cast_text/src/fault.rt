@@ -8,7 +8,7 @@ use std::alloc::AllocError;
 use thiserror::Error;
 
 /// Why bytes are no name. The faults are tested in this order, but for `Memory`.
-#[derive(Debug, Drop, Error)]
+#[derive(Clone, Copy, Debug, PartialEq, Eq, Error)]
 pub enum NameFault {
     /// There is no byte.
     #[error("a name has at least one byte")]
@@ -33,7 +33,7 @@ impl From<AllocError> for NameFault {
 }
 
 /// Why bytes are no text.
-#[derive(Debug, Drop, Error)]
+#[derive(Clone, Copy, Debug, PartialEq, Eq, Error)]
 pub enum TextFault {
     /// There are this many bytes, more than 8,192.
     #[error("a text has at most 8192 bytes, not {0}")]

@@ -6,12 +6,14 @@ mod fault;
 mod lines;
 mod name;
 mod number;
+mod split;
 mod text;
 
 pub use fault::{NameFault, TextFault};
 pub use lines::Lines;
 pub use name::{GroupName, MountName, UserName};
 pub use number::{push_decimal, push_hex};
+pub use split::{place_of, split_first, split_line};
 pub use text::Text;
 
 #[cfg(test)]

@@ -1,6 +1,8 @@
 //! Names of mountpoints, users and groups.
 
 ghost use Rattle.std.specs.Prelude.{◌≡◌, not, position, IfOk, IsTrue};
+ghost use Rattle.std.proofs.Common.{rules};
+ghost use Rattle.std.specs.Cmp.Rules.{comparing};
 ghost use Rattle.cast_text.specs.Name.{Gives, is_name, is_name_byte, name_fault, name_of};
 
 use crate::fault::NameFault;
@@ -94,6 +96,22 @@ impl MountName {
     }
 }
 
+impl PartialEq for MountName {
+    ghost use Rattle.std.specs.Str.{bytes_eq};
+
+    ghost eq = { bytes_eq };
+
+    ghost laws = { Prim.search (comparing, rules) };
+
+    fn eq(&self, other: &MountName) -> bool {
+        self.bytes.as_slice() == other.bytes.as_slice()
+    }
+}
+
+impl Eq for MountName {
+    ghost laws = { Prim.search (comparing, rules) };
+}
+
 /// The name of a user: 1 to 100 printable ASCII bytes (hexadecimal 21 to 7E) without `;`, `/`,
 /// `?` and `:`. Contracts see it as the list of its bytes.
 #[derive(Debug, Drop)]
@@ -148,6 +166,22 @@ impl UserName {
     }
 }
 
+impl PartialEq for UserName {
+    ghost use Rattle.std.specs.Str.{bytes_eq};
+
+    ghost eq = { bytes_eq };
+
+    ghost laws = { Prim.search (comparing, rules) };
+
+    fn eq(&self, other: &UserName) -> bool {
+        self.bytes.as_slice() == other.bytes.as_slice()
+    }
+}
+
+impl Eq for UserName {
+    ghost laws = { Prim.search (comparing, rules) };
+}
+
 /// The name of a group: 1 to 100 printable ASCII bytes (hexadecimal 21 to 7E) without `;`, `/`,
 /// `?` and `:`. Contracts see it as the list of its bytes.
 #[derive(Debug, Drop)]
@@ -200,4 +234,20 @@ impl GroupName {
             bytes: Vec::from_slice(alloc, &self.bytes)?,
         })
     }
+}
+
+impl PartialEq for GroupName {
+    ghost use Rattle.std.specs.Str.{bytes_eq};
+
+    ghost eq = { bytes_eq };
+
+    ghost laws = { Prim.search (comparing, rules) };
+
+    fn eq(&self, other: &GroupName) -> bool {
+        self.bytes.as_slice() == other.bytes.as_slice()
+    }
+}
+
+impl Eq for GroupName {
+    ghost laws = { Prim.search (comparing, rules) };
 }

@@ -6,7 +6,7 @@ use Rattle.std.specs.Io.KnownBytes.{Consumes, IsAtEnd}
 use Rattle.session_script.specs.declared.ScriptKind.TheVariants.{Bare}
 use Rattle.session_script.specs.declared.ScriptFault.TheVariants as faults
 use Rattle.session_script.specs.Script.{script_of}
-use Rattle.cast_io.specs.Pieces.{LosesMore}
+use Rattle.cast_io.specs.Pieces.{Loses}
 use Rattle.caster_main.specs.declared.answers.Answer.{Answer}
 use Rattle.caster_main.specs.declared.answers.Answer.TheVariants.{Report, Session, Usage, Long, ReadFault, Memory}
 use Rattle.caster_main.specs.Command.{AreBare, command_of}
@@ -39,7 +39,7 @@ long_exit-outcome words bytes capacity h long =
     ∙ outcome-command words bytes (Some capacity) h
 
 pub long_is_outcome : (words : List (List ℕ)) (left new : Option (List ℕ)) (capacity : ℕ)
-    → Some capacity ≡ command_of words → LosesMore 8388608 left new → IsOutcome words left long_exit
+    → Some capacity ≡ command_of words → Loses (λ came. 8388608 < length came) left new → IsOutcome words left long_exit
 long_is_outcome words None new capacity h lost = (lost.0, tt, long_exit-outcome words lost.0 capacity h lost.1)
 long_is_outcome words (Some told) None capacity h lost = absurd lost.2
 long_is_outcome words (Some told) (Some rest) capacity h lost =

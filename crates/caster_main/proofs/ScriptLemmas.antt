@@ -17,7 +17,8 @@ use Rattle.caster_main.specs.Told.{IsNoSession}
 
 -- ---- only the size of a script makes it too long
 
-onto_long : (event : Event) (read : Result (List Event) ScriptFault) → onto_events event read ≡ Err Long → read ≡ Err Long
+onto_long : (event : Event) (read : Result (List Event) ScriptFault) → onto_events event read ≡ Err Long
+    → read ≡ Err Long
 onto_long event (Ok events) h = absurd cc
 onto_long event (Err fault) h = cc
 
@@ -36,7 +37,8 @@ found_not_long : (kind : ScriptKind) (n : ℕ) (numbers : Numbers) (lines : List
     → elim found as (λ _. Result (List Event) ScriptFault) [
       | None ↦ Err (Line n)
       | Some event ↦
-          if may_follow kind numbers event then onto_events event (events_of_lines kind (n + 1) (after_event numbers event) lines)
+          if may_follow kind numbers event then onto_events event
+          (events_of_lines kind (n + 1) (after_event numbers event) lines)
           else Err (State n)
     ] ≡ Err Long → ⊥
 found_not_long kind n numbers lines None later h = absurd cc

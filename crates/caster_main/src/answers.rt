@@ -1,8 +1,9 @@
 //! What is decided before anything is written.
-ghost use Rattle.std.specs.Prelude.{◌≡◌, ◌≤◌, length, MatchResult};
+ghost use Rattle.std.specs.Prelude.{◌≡◌, ◌≤◌, ◌+◌, length, MatchResult};
 ghost use Rattle.session_script.specs.declared.ScriptKind.TheVariants.{Bare};
 ghost use Rattle.session_script.specs.Script.{script_of};
-ghost use Rattle.caster_main.specs.Command.{texts};
+ghost use Rattle.cast_io.specs.Pieces.{Loses};
+ghost use Rattle.caster_main.specs.Command.{AreOfNoForm, texts};
 ghost use Rattle.caster_main.specs.Outcome.{exit_of_script, exit_of_fault};
 ghost use Rattle.caster_main.specs.Answers.{exit_of, IsAnswer, GivesExit};
 
@@ -67,6 +68,9 @@ pub fn answer_to<I: Source>(alloc: Global, words: &[String], input: &mut I) -> A
     ensures answer { IsAnswer (texts words.now) (I.left input.old)
         (I.faults input.old) (I.faults input.new) result }
     ensures later { I.faults input.old ≤ I.faults input.new }
+    ensures unread { AreOfNoForm (texts words.now) → input.new ≡ input.old }
+    ensures reads { Loses (λ came. I.reads input.new ≤ I.reads input.old + length came + 1)
+        (I.left input.old) (I.left input.new) }
 {
     let Some(capacity) = bare_capacity(words) else {
         return Answer::Usage;

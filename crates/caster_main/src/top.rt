@@ -1,5 +1,5 @@
 //! The call that the program makes.
-ghost use Rattle.std.specs.Prelude.{◌≡◌, ◌≢◌, ◌≤◌, ◌<◌, ◌⊎◌, ℕ, List, Some, Ok, Result, length, IsOk, OnOk, OnErr};
+ghost use Rattle.std.specs.Prelude.{◌≡◌, ◌≢◌, ◌≤◌, ◌<◌, ◌+◌, ◌⊎◌, ℕ, List, Some, Ok, Result, length, IsOk, OnOk, OnErr};
 ghost use Rattle.std.specs.Io.KnownBytes.{Appends};
 ghost use Rattle.session_script.specs.declared.Event.{Event};
 ghost use Rattle.session_script.specs.declared.ScriptKind.TheVariants.{Bare};
@@ -7,7 +7,7 @@ ghost use Rattle.session_script.specs.Script.{script_of};
 ghost use Rattle.caster_replay.specs.World.{bare};
 ghost use Rattle.caster_replay.specs.Report.{report};
 ghost use Rattle.cast_io.specs.Causes.{Rose, HasCause};
-ghost use Rattle.cast_io.specs.Pieces.{AppendsPrefix};
+ghost use Rattle.cast_io.specs.Pieces.{AppendsPrefix, Loses};
 ghost use Rattle.caster_main.specs.Command.{AreBare, AreOfNoForm, texts};
 ghost use Rattle.caster_main.specs.Outcome.{read_fault_exit, memory_exit};
 ghost use Rattle.caster_main.specs.Told.{FollowsOutcome, HaveInput, IsNoSession, IsStatus, WritesPart};
@@ -68,6 +68,12 @@ pub fn caster<I: Source, O: Sink>(alloc: Global, words: &[String], input: &mut I
         → HaveInput (λ bytes. 8388608 < length bytes) (texts words.now) (I.left input.old) }
     ensures input_faults { I.faults input.old ≤ I.faults input.new }
     ensures out_faults { O.faults out.old ≤ O.faults out.new }
+    ensures unharmed { result ≢ 5 → O.faults out.new ≡ O.faults out.old }
+
+    // What is read: nothing for words of no form, and else at most once more than bytes came.
+    ensures unread { AreOfNoForm (texts words.now) → input.new ≡ input.old }
+    ensures reads { Loses (λ came. I.reads input.new ≤ I.reads input.old + length came + 1)
+        (I.left input.old) (I.left input.new) }
 
     // What is written.
     ensures outcome { result ≢ 4 → result ≢ 5 → result ≢ 7
@@ -101,6 +107,7 @@ fn write_answer<O: Sink>(answer: &Answer, out: &mut O) -> u8
     ensures writes { Writes (exit_of answer.now) (O.taken out.old) (O.taken out.new)
         (O.faults out.old) (O.faults out.new) result }
     ensures later { O.faults out.old ≤ O.faults out.new }
+    ensures unharmed { result ≢ 5 → O.faults out.new ≡ O.faults out.old }
 {
     match write_text(answer.text(), out) {
         Ok(()) => answer.status(),
@@ -113,6 +120,7 @@ fn write_text<O: Sink>(text: &[u8], out: &mut O) -> Result<(), Failed>
     ensures whole { OnOk result (Appends (O.taken out.old) (O.taken out.new) text.now) }
     ensures torn { OnErr result (AppendsPrefix (O.taken out.old) (O.taken out.new) text.now) }
     ensures cause { HasCause (O.faults out.old) (O.faults out.new) result }
+    ensures unharmed { OnOk result (O.faults out.new ≡ O.faults out.old) }
 {
     let mut at = 0;
     while at < text.len() {

@@ -142,7 +142,7 @@ fn is_letter(letter: u8, text: &[u8]) -> bool
 }
 
 /// The angle with the sign that the letter says.
-fn signed(plus: u8, minus: u8, letter: &[u8], size: u64) -> Option<i64>
+fn with_sign(plus: u8, minus: u8, letter: &[u8], size: u64) -> Option<i64>
     requires { size ≤ 1800000000 }
     ensures value { result ≡ signed plus minus letter.now (Some size) }
     ensures within { IfSome result (λ angle. unsigned_abs angle ≤ size) }
@@ -163,7 +163,7 @@ pub fn latitude(text: &[u8], letter: &[u8]) -> Option<i64>
 {
     match latitude_size(text) {
         None => None,
-        Some(size) => signed(b'N', b'S', letter, size),
+        Some(size) => with_sign(b'N', b'S', letter, size),
     }
 }
 
@@ -174,6 +174,6 @@ pub fn longitude(text: &[u8], letter: &[u8]) -> Option<i64>
 {
     match longitude_size(text) {
         None => None,
-        Some(size) => signed(b'E', b'W', letter, size),
+        Some(size) => with_sign(b'E', b'W', letter, size),
     }
 }

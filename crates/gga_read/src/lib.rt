@@ -9,7 +9,7 @@ pub use reports::Reports;
 pub use sentence::parse_gga;
 
 /// A place on the earth, in units of 10^-7 degree. North and east are positive.
-#[derive(Clone, Copy, Debug, PartialEq)]
+#[derive(Clone, Copy, Debug, PartialEq, Eq)]
 pub struct Position {
     /// The latitude, from -900,000,000 to 900,000,000.
     pub lat: i64,

@@ -1,6 +1,6 @@
 //! GGA sentences: the frame, the checksum and the fields.
 
-ghost use Rattle.std.specs.Prelude.{unsigned_abs, ◌≤◌, ◌≡◌, ◌<◌, ◌+◌, ◌∷◌, ◌==◌, ◌&&◌, IsTrue, IfSome, IfNone, length, List, [], slice_index_or, position};
+ghost use Rattle.std.specs.Prelude.{unsigned_abs, ◌≤◌, ◌≡◌, ◌<◌, ◌+◌, ◌∷◌, ◌==◌, ◌&&◌, IsTrue, IfSome, IfNone, length, List, [], slice_index_or};
 ghost use Rattle.std.specs.List.{slice_split, position_or_len};
 ghost use Rattle.std.specs.Option.{option_map};
 ghost use Rattle.gga_read.specs.Sentence.{exclusive_or, is_hex_digit_of, inner, has_checksum, is_framed, fields, field, is_capital, is_gga_name, is_gga};
@@ -8,6 +8,7 @@ ghost use Rattle.gga_read.specs.Report.{is_fix, report_of, position_in};
 
 use crate::Position;
 use crate::angle::{latitude, longitude};
+use cast_text::split_first;
 
 /// The number of a sentence's fields, after its name.
 const FIELDS: usize = 14;
@@ -64,20 +65,13 @@ fn count_fields(text: &[u8]) -> usize
     count
 }
 
-/// The first place of a comma.
-fn comma_in(text: &[u8]) -> Option<usize>
-    ensures { result ≡ position (λ b. b == 44) text.now }
-{
-    text.iter().position(|byte| *byte == b',')
-}
-
 /// The part before the first comma.
 fn first_field(text: &[u8]) -> &[u8]
     ensures { result.now ≡ field 0 text.now }
 {
-    match comma_in(text) {
+    match split_first(b',', text) {
         None => text,
-        Some(place) => &text[..place],
+        Some((front, _)) => front,
     }
 }
 
@@ -86,9 +80,9 @@ fn later_fields(text: &[u8]) -> Option<&[u8]>
     ensures some { IfSome result (λ rest. fields text.now ≡ field 0 text.now ∷ fields rest.now) }
     ensures none { IfNone result (fields text.now ≡ text.now ∷ []) }
 {
-    match comma_in(text) {
+    match split_first(b',', text) {
         None => None,
-        Some(place) => Some(&text[place + 1..]),
+        Some((_, rest)) => Some(rest),
     }
 }
 

@@ -33,7 +33,8 @@ by_kind false bytes a b x y = http_once bytes a b x y
 pub head_once : (bytes : List ℕ) (a b : Result Request HeadFault) → HeadAnswer bytes a → HeadAnswer bytes b → a ≡ b
 head_once bytes a b x y = by_kind (is_source bytes) bytes a b x y
 
-pub upstream_once : (bytes : List ℕ) (a b : Result Upstream HeadFault) → UpstreamAnswer bytes a → UpstreamAnswer bytes b → a ≡ b
+pub upstream_once : (bytes : List ℕ) (a b : Result Upstream HeadFault) → UpstreamAnswer bytes a
+    → UpstreamAnswer bytes b → a ≡ b
 upstream_once bytes a b (inl (h, whole, e)) (inl (k, other, d)) =
     let same : h ≡ k = (response_unique bytes h k [] [] whole.reads other.reads).0 in
     e ∙ ap (λ (tree : ResponseHead). upstream_in tree) same ∙ sym d

@@ -16,5 +16,6 @@ pub length_decoded : (text pair : List ℕ) → text ≡ encode_of standard pair
 length_decoded text pair e =
     let symbols : List ℕ = encode_symbols standard.encode_table pair in
     let padding : List ℕ = replicate (padding_len (length pair)) 61 in
-    let size : length text ≡ length symbols + length padding = ap (λ (l : List ℕ). length l) e ∙ length-append symbols padding in
+    let size : length text ≡ length symbols + length padding = ap (λ (l : List ℕ). length l) e
+    ∙ length-append symbols padding in
     omega (arith, length_symbols standard.encode_table pair)

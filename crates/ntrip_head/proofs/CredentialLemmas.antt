@@ -26,7 +26,8 @@ pub record IsSpaced (text : List ℕ) : Type 0 where
 -- a space more, or another byte
 spaced_more : (b : ℕ) (text : List ℕ) (t : Bool) → (b == 32) ≡ t → IsSpaced text → IsSpaced (b ∷ text)
 spaced_more b text true e rest =
-    let at : after_spaces (b ∷ text) ≡ after_spaces text = ap (λ (t : Bool). if t then after_spaces text else b ∷ text) e in
+    let at : after_spaces (b ∷ text) ≡ after_spaces text = ap
+    (λ (t : Bool). if t then after_spaces text else b ∷ text) e in
     record {
       spaces = suc rest.spaces;
       text_is = ap (λ (n : ℕ). n ∷ text) (eqb-true b 32 e) ∙ ap (λ (l : List ℕ). 32 ∷ l) rest.text_is
@@ -38,7 +39,8 @@ spaced_more b text false e rest =
     record {
       spaces = 0;
       text_is = sym at;
-      no_space = subst (λ (l : List ℕ). slice_index l 0 ≢ 32) (sym at) (λ (is : b ≡ 32). let yes = eq-eqb b 32 is in absurd cc);
+      no_space = subst (λ (l : List ℕ). slice_index l 0 ≢ 32) (sym at)
+          (λ (is : b ≡ 32). let yes = eq-eqb b 32 is in absurd cc);
     }
 
 pub spaced : (text : List ℕ) → IsSpaced text
@@ -73,7 +75,8 @@ split_pair user password none =
     let at : position_or_len is_colon pair ≡ length user = first_colon user password none in
     let lt : position_or_len is_colon pair < length pair = omega (arith, length-append user (58 ∷ password)) in
     let found : position is_colon pair ≡ Some (position_or_len is_colon pair) =
-    ap (λ (t : Bool). cond t (Some (position_or_len is_colon pair)) None) (lt-ltb (position_or_len is_colon pair) (length pair) lt) in
+    ap (λ (t : Bool). cond t (Some (position_or_len is_colon pair)) None)
+    (lt-ltb (position_or_len is_colon pair) (length pair) lt) in
     ap (split_at pair) (found ∙ ap (λ (n : ℕ). Some n) at)
     ∙ ap (λ (front : List ℕ). Basic front (drop (length user + 1) pair)) (take-append_seam user (58 ∷ password))
     ∙ ap (λ (rest : List ℕ). Basic user rest) (drop-append-add user (58 ∷ password) 1)
@@ -93,7 +96,8 @@ at_colon pair user password colon found front rest =
     let below : k < colon = omega (arith, length-take-le colon pair (omega arith)) in
     rw get_or-take ((position-Some is_colon pair colon d found).2 k below)) in
     record {
-      pair_is = sym (take-append-drop colon pair) ∙ ap (λ (l : List ℕ). take colon pair ++ l) (drop_more pair colon 0 lt)
+      pair_is = sym (take-append-drop colon pair)
+          ∙ ap (λ (l : List ℕ). take colon pair ++ l) (drop_more pair colon 0 lt)
           ∙ ap (λ (n : ℕ). take colon pair ++ n ∷ drop (colon + 1) pair) here
           ∙ ap (λ (l : List ℕ). l ++ 58 ∷ drop (colon + 1) pair) front ∙ ap (λ (l : List ℕ). user ++ 58 ∷ l) rest;
       no_colon = subst (λ (l : List ℕ). list_any is_colon l ≡ false) front none;
@@ -105,7 +109,8 @@ by_place pair user password None found e = absurd cc
 by_place pair user password (Some colon) found e =
     at_colon pair user password colon found (cc) (cc)
 
-pub from_split : (pair user password : List ℕ) → user_and_password pair ≡ Basic user password → IsPair pair user password
+pub from_split : (pair user password : List ℕ) → user_and_password pair ≡ Basic user password
+    → IsPair pair user password
 from_split pair user password e = by_place pair user password (position is_colon pair) refl e
 
 -- ---- the form
@@ -144,7 +149,8 @@ to_form value user password e =
       no_colon = not_from_false (list_any is_colon user) pair.no_colon;
     }
   where
-    some : (n : ℕ) → drop 5 value ≡ replicate n 32 ++ after_spaces (drop 5 value) → slice_index (after_spaces (drop 5 value)) 0 ≢ 32
+    some : (n : ℕ) → drop 5 value ≡ replicate n 32 ++ after_spaces (drop 5 value)
+        → slice_index (after_spaces (drop 5 value)) 0 ≢ 32
         → slice_index (drop 5 value) 0 ≡ 32 → 0 < n
     some zero all other first = absurd (other (ap (λ (l : List ℕ). slice_index l 0) (sym all) ∙ first))
     some (suc n) all other first = omega arith
@@ -154,19 +160,25 @@ first_space zero text some = absurd (omega arith)
 first_space (suc n) text some = refl
 
 -- what has the form is read
-pub from_form : (value user password : List ℕ) → IsBasicText value user password → credentials value ≡ Basic user password
+pub from_form : (value user password : List ℕ) → IsBasicText value user password
+    → credentials value ≡ Basic user password
 from_form value user password form =
     let tail : List ℕ = replicate form.spaces 32 ++ form.text in
-    let all : value ≡ form.scheme ++ tail = form.value_is ∙ append_assoc form.scheme (replicate form.spaces 32) form.text in
+    let all : value ≡ form.scheme ++ tail = form.value_is
+    ∙ append_assoc form.scheme (replicate form.spaces 32) form.text in
     let same : str_to_ascii_lowercase form.scheme ≡ str_to_ascii_lowercase (codes "Basic") =
     (bytes_eq-Decides (str_to_ascii_lowercase form.scheme) (str_to_ascii_lowercase (codes "Basic"))).0 form.scheme_is in
-    let five : length form.scheme ≡ 5 = sym (length-map form.scheme to_ascii_lowercase) ∙ ap (λ (l : List ℕ). length l) same in
+    let five : length form.scheme ≡ 5 = sym (length-map form.scheme to_ascii_lowercase)
+    ∙ ap (λ (l : List ℕ). length l) same in
     let front : take 5 value ≡ form.scheme =
-    ap (λ (l : List ℕ). take 5 l) all ∙ subst (λ (n : ℕ). take n (form.scheme ++ tail) ≡ form.scheme) five (take-append_seam form.scheme tail) in
+    ap (λ (l : List ℕ). take 5 l) all
+    ∙ subst (λ (n : ℕ). take n (form.scheme ++ tail) ≡ form.scheme) five (take-append_seam form.scheme tail) in
     let rest : drop 5 value ≡ tail =
-    ap (λ (l : List ℕ). drop 5 l) all ∙ subst (λ (n : ℕ). drop n (form.scheme ++ tail) ≡ tail) five (drop-append_seam form.scheme tail) in
+    ap (λ (l : List ℕ). drop 5 l) all
+    ∙ subst (λ (n : ℕ). drop n (form.scheme ++ tail) ≡ tail) five (drop-append_seam form.scheme tail) in
     let sixth : slice_index value 5 ≡ 32 =
-    sym (get_or-drop 5 value 0 0) ∙ ap (λ (l : List ℕ). slice_index l 0) rest ∙ first_space form.spaces form.text form.some_space in
+    sym (get_or-drop 5 value 0 0) ∙ ap (λ (l : List ℕ). slice_index l 0) rest
+    ∙ first_space form.spaces form.text form.some_space in
     let word : str_eq_ignore_ascii_case (take 5 value) (codes "Basic") ≡ true =
     subst (λ (l : List ℕ). str_eq_ignore_ascii_case l (codes "Basic") ≡ true) (sym front) form.scheme_is in
     let basic : is_basic value ≡ true =

@@ -11,7 +11,8 @@ use Rattle.ntrip_head.specs.Head.{ends_with_empty_line, AtLineStart, EndsWithEmp
 
 -- ---- what ends with these bytes
 
-before_end : (bytes end : List ℕ) → ends_with nat_eq bytes end ≡ true → bytes ≡ take (length bytes - length end) bytes ++ end
+before_end : (bytes end : List ℕ) → ends_with nat_eq bytes end ≡ true
+    → bytes ≡ take (length bytes - length end) bytes ++ end
 before_end bytes end ends =
     let k : ℕ = length bytes - length end in
     let same : end ≡ drop k bytes = (bytes_eq-Decides end (drop k bytes)).0 ends in
@@ -30,13 +31,23 @@ after_lf front = front ++ 10 ∷ []
 
 lf_after : (bytes : List ℕ) → ends_with nat_eq bytes (10 ∷ 10 ∷ []) ≡ true → EndsWithEmptyLine bytes
 lf_after bytes ends =
-    let front : List ℕ = take (length bytes - 2) bytes in
-    (after_lf front, lf, inr (front, refl), before_end bytes (10 ∷ 10 ∷ []) ends ∙ sym (append_assoc front (10 ∷ []) (10 ∷ [])))
+    let front : List ℕ = take (length bytes - 2) bytes in (
+      after_lf front,
+      lf,
+      inr (front, refl),
+      before_end bytes (10 ∷ 10 ∷ []) ends
+          ∙ sym (append_assoc front (10 ∷ []) (10 ∷ [])),
+    )
 
 crlf_after : (bytes : List ℕ) → ends_with nat_eq bytes (10 ∷ 13 ∷ 10 ∷ []) ≡ true → EndsWithEmptyLine bytes
 crlf_after bytes ends =
-    let front : List ℕ = take (length bytes - 3) bytes in
-    (after_lf front, crlf, inr (front, refl), before_end bytes (10 ∷ 13 ∷ 10 ∷ []) ends ∙ sym (append_assoc front (10 ∷ []) (13 ∷ 10 ∷ [])))
+    let front : List ℕ = take (length bytes - 3) bytes in (
+      after_lf front,
+      crlf,
+      inr (front, refl),
+      before_end bytes (10 ∷ 13 ∷ 10 ∷ []) ends
+          ∙ sym (append_assoc front (10 ∷ []) (13 ∷ 10 ∷ [])),
+    )
 
 pub to_line_end : (bytes : List ℕ) → ends_with_empty_line bytes ≡ true → EndsWithEmptyLine bytes
 to_line_end bytes ends =
@@ -46,7 +57,8 @@ to_line_end bytes ends =
           elim (or_cases _ (bytes_eq bytes (10 ∷ [])) three) [
             | inr only ↦ ([], lf, inl refl, (bytes_eq-Decides bytes (10 ∷ [])).0 only)
             | inl two ↦
-                elim (or_cases (ends_with nat_eq bytes (10 ∷ 10 ∷ [])) (ends_with nat_eq bytes (10 ∷ 13 ∷ 10 ∷ [])) two) [
+                elim (or_cases (ends_with nat_eq bytes (10 ∷ 10 ∷ []))
+                (ends_with nat_eq bytes (10 ∷ 13 ∷ 10 ∷ [])) two) [
                   | inl one ↦ lf_after bytes one
                   | inr other ↦ crlf_after bytes other
                 ]
@@ -70,7 +82,8 @@ crlf_behind more =
     subst (λ (bytes : List ℕ). ends_with_empty_line bytes ≡ true) (sym (append_assoc more (10 ∷ []) (13 ∷ 10 ∷ [])))
     (or_left _ _ (or_left _ _ (or_right _ _ (ends_after more (10 ∷ 13 ∷ 10 ∷ [])))))
 
-line_end_at : (front : List ℕ) (end : LineEnd) → AtLineStart front → ends_with_empty_line (front ++ print_end end) ≡ true
+line_end_at : (front : List ℕ) (end : LineEnd) → AtLineStart front
+    → ends_with_empty_line (front ++ print_end end) ≡ true
 line_end_at front lf (inl none) =
     subst (λ (start : List ℕ). ends_with_empty_line (start ++ 10 ∷ []) ≡ true) (sym none) lf_only
 line_end_at front crlf (inl none) =
@@ -96,7 +109,8 @@ not_shorter a b x y head other e lt =
     let front : a ≡ take (length a) b = shorter_front a b x y e (omega arith) in
     let no : ends_with_empty_line (take (length a) b) ≡ false = other.first (length a) lt in
     let yes : ends_with_empty_line a ≡ true = head.ends in
-    let same : ends_with_empty_line a ≡ ends_with_empty_line (take (length a) b) = ap (λ (l : List ℕ). ends_with_empty_line l) front in
+    let same : ends_with_empty_line a ≡ ends_with_empty_line (take (length a) b) = ap
+    (λ (l : List ℕ). ends_with_empty_line l) front in
     absurd cc
 
 pub one_head : (a b x y : List ℕ) → IsHead a → IsHead b → a ++ x ≡ b ++ y → a ≡ b

@@ -20,7 +20,8 @@ EndsLf front = (more : List ℕ) × (front ≡ more ++ 10 ∷ [])
 -- an empty line of the text is at its end
 abbrev pub OnlyLast : List ℕ → Type 0
 OnlyLast text =
-    (front : List ℕ) (end : LineEnd) (rest : List ℕ) → AtLineStart front → text ≡ front ++ (print_end end ++ rest) → rest ≡ []
+    (front : List ℕ) (end : LineEnd) (rest : List ℕ) → AtLineStart front → text ≡ front ++ (print_end end ++ rest)
+    → rest ≡ []
 
 -- ---- past a line
 
@@ -77,10 +78,12 @@ end_begins crlf rest = refl
 pub only_line : (line : List ℕ) (end : LineEnd) (tail : List ℕ) → NoLf line → begins_in_line line ≡ true → OnlyLast tail
     → OnlyLast (line ++ (print_end end ++ tail))
 only_line line end tail clean begins only front last rest (inl none) e =
-    let same : line ++ (print_end end ++ tail) ≡ print_end last ++ rest = e ∙ ap (λ (l : List ℕ). l ++ (print_end last ++ rest)) none in
+    let same : line ++ (print_end end ++ tail) ≡ print_end last ++ rest = e
+    ∙ ap (λ (l : List ℕ). l ++ (print_end last ++ rest)) none in
     let yes : begins_in_line (line ++ (print_end end ++ tail)) ≡ true = begins_on line (print_end end ++ tail) begins in
     let no : begins_in_line (print_end last ++ rest) ≡ false = end_begins last rest in
-    let both : begins_in_line (line ++ (print_end end ++ tail)) ≡ begins_in_line (print_end last ++ rest) = ap (λ (l : List ℕ). begins_in_line l) same in
+    let both : begins_in_line (line ++ (print_end end ++ tail)) ≡ begins_in_line (print_end last ++ rest) = ap
+    (λ (l : List ℕ). begins_in_line l) same in
     absurd cc
 only_line line end tail clean begins only front last rest (inr ends) e =
     let past = past_line line end front (print_end last ++ rest) tail clean ends (sym e) in
@@ -144,5 +147,6 @@ only_section [] last all = only_end last
 only_section (f ∷ fields) last all =
     let is : IsField f = All-head IsField f fields all in
     subst OnlyLast (sym (section_more f fields last))
-    (only_line (field_line f) f.end (print_section fields last) (field_no_lf f is) (begins_token f.name (58 ∷ f.raw) is.name)
+    (only_line (field_line f) f.end (print_section fields last) (field_no_lf f is)
+    (begins_token f.name (58 ∷ f.raw) is.name)
     (only_section fields last (All-tail IsField f fields all)))

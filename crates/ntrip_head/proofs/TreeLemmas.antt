@@ -20,7 +20,8 @@ unfolding is_token_byte
 token_in_line b rest h =
     let other : (n : ℕ) → is_token_byte n ≡ false → eqb b n ≡ false = λ n no.
     elim (cases_Bool (eqb b n)) [
-      | inl e ↦ absurd (let at : is_token_byte n ≡ true = subst (λ (m : ℕ). is_token_byte m ≡ true) (eqb-true b n e) h in cc)
+      | inl e ↦ absurd (let at : is_token_byte n ≡ true = subst (λ (m : ℕ). is_token_byte m ≡ true)
+          (eqb-true b n e) h in cc)
       | inr e ↦ e
     ] in
     let not_cr : eqb b 13 ≡ false = other 13 refl in
@@ -42,15 +43,19 @@ begins_blank (lf ∷ blank) rest h = absurd cc
 pub whole_begins : (bytes : List ℕ) (h : RequestHead) → IsWholeRequest bytes h → begins_in_line bytes ≡ true
 whole_begins bytes h whole =
     let reads = whole.reads in
-    let text : List ℕ = h.target ++ 32 ∷ (print_version h.minor ++ (print_end h.line_end ++ (print_section h.fields h.last ++ []))) in
+    let text : List ℕ = h.target ++ 32 ∷
+    (print_version h.minor ++ (print_end h.line_end ++ (print_section h.fields h.last ++ []))) in
     let e : bytes ≡ h.method ++ 32 ∷ text =
-    reads.1 ∙ print_request-append h [] ∙ ap (λ (blank : List LineEnd). print_blank blank ++ (h.method ++ 32 ∷ text)) whole.first in
+    reads.1 ∙ print_request-append h []
+    ∙ ap (λ (blank : List LineEnd). print_blank blank ++ (h.method ++ 32 ∷ text)) whole.first in
     subst (λ (b : List ℕ). begins_in_line b ≡ true) (sym e) (begins_token h.method (32 ∷ text) reads.0.method)
 
 -- a head that begins in a line has no empty line before it
-pub first_is : (bytes rest : List ℕ) (h : RequestHead) → ReadsRequest bytes h rest → begins_in_line bytes ≡ true → h.blank ≡ []
+pub first_is : (bytes rest : List ℕ) (h : RequestHead) → ReadsRequest bytes h rest → begins_in_line bytes ≡ true
+    → h.blank ≡ []
 first_is bytes rest h reads begins =
-    begins_blank h.blank _ (subst (λ (text : List ℕ). begins_in_line text ≡ true) (reads.1 ∙ print_request-append h rest) begins)
+    begins_blank h.blank _
+    (subst (λ (text : List ℕ). begins_in_line text ≡ true) (reads.1 ∙ print_request-append h rest) begins)
 
 -- ---- how many fields it has
 
@@ -63,10 +68,12 @@ fields_fit bytes headers count fields le are =
 
 -- what the parser answers for all the bytes is a whole head
 pub found_whole : (bytes : List ℕ) (headers : List HeaderSpan) (spans : RequestSpans) → begins_in_line bytes ≡ true
-    → length bytes ≤ spans.len → length headers ≡ 32 → IsRequestWithin bytes headers spans → IsRequestOf bytes headers spans
+    → length bytes ≤ spans.len → length headers ≡ 32 → IsRequestWithin bytes headers spans
+    → IsRequestOf bytes headers spans
     → (h : RequestHead) × IsWholeRequest bytes h × IsRequestAt bytes headers spans h
 found_whole bytes headers spans begins all room within (h, at) =
-    let reads : ReadsRequest bytes h [] = subst (λ (rest : List ℕ). ReadsRequest bytes h rest) (drop_of_length-le bytes all) at.reads in
+    let reads : ReadsRequest bytes h [] = subst (λ (rest : List ℕ). ReadsRequest bytes h rest)
+    (drop_of_length-le bytes all) at.reads in
     let count : spans.headers ≤ length headers = within.section.count_fits in
     let size : length h.fields ≡ spans.headers = fields_fit bytes headers spans.headers h.fields count at.fields in
     (h, record { reads = reads; first = first_is bytes [] h reads begins; room = omega arith }, at)
@@ -77,21 +84,27 @@ found_whole bytes headers spans begins all room within (h, at) =
 pub response_begins : (bytes : List ℕ) (h : ResponseHead) → IsWholeResponse bytes h → begins_in_line bytes ≡ true
 response_begins bytes h whole =
     let reads = whole.reads in
-    let text : List ℕ = h.digits ++ (print_reason h.reason ++ (print_end h.line_end ++ (print_section h.fields h.last ++ []))) in
+    let text : List ℕ = h.digits ++
+    (print_reason h.reason ++ (print_end h.line_end ++ (print_section h.fields h.last ++ []))) in
     let e : bytes ≡ print_version h.minor ++ 32 ∷ text =
-    reads.1 ∙ print_response-append h [] ∙ ap (λ (blank : List LineEnd). print_blank blank ++ (print_version h.minor ++ 32 ∷ text)) whole.first in
+    reads.1 ∙ print_response-append h []
+    ∙ ap (λ (blank : List LineEnd). print_blank blank ++ (print_version h.minor ++ 32 ∷ text)) whole.first in
     subst (λ (b : List ℕ). begins_in_line b ≡ true) (sym e) refl
 
 -- a response that begins in a line has no empty line before it
-response_first : (bytes rest : List ℕ) (h : ResponseHead) → ReadsResponse bytes h rest → begins_in_line bytes ≡ true → h.blank ≡ []
+response_first : (bytes rest : List ℕ) (h : ResponseHead) → ReadsResponse bytes h rest → begins_in_line bytes ≡ true
+    → h.blank ≡ []
 response_first bytes rest h reads begins =
-    begins_blank h.blank _ (subst (λ (text : List ℕ). begins_in_line text ≡ true) (reads.1 ∙ print_response-append h rest) begins)
+    begins_blank h.blank _
+    (subst (λ (text : List ℕ). begins_in_line text ≡ true) (reads.1 ∙ print_response-append h rest) begins)
 
 pub found_response : (bytes : List ℕ) (headers : List HeaderSpan) (spans : ResponseSpans) → begins_in_line bytes ≡ true
-    → length bytes ≤ spans.len → length headers ≡ 32 → IsResponseWithin bytes headers spans → IsResponseOf bytes headers spans
+    → length bytes ≤ spans.len → length headers ≡ 32 → IsResponseWithin bytes headers spans
+    → IsResponseOf bytes headers spans
     → (h : ResponseHead) × IsWholeResponse bytes h × IsResponseAt bytes headers spans h
 found_response bytes headers spans begins all room within (h, at) =
-    let reads : ReadsResponse bytes h [] = subst (λ (rest : List ℕ). ReadsResponse bytes h rest) (drop_of_length-le bytes all) at.reads in
+    let reads : ReadsResponse bytes h [] = subst (λ (rest : List ℕ). ReadsResponse bytes h rest)
+    (drop_of_length-le bytes all) at.reads in
     let count : spans.headers ≤ length headers = within.section.count_fits in
     let size : length h.fields ≡ spans.headers = fields_fit bytes headers spans.headers h.fields count at.fields in
     (h, record { reads = reads; first = response_first bytes [] h reads begins; room = omega arith }, at)

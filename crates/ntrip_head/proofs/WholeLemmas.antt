@@ -38,34 +38,46 @@ fields_end front [] ends = subst EndsLf (sym (append-nil front)) ends
 fields_end front (f ∷ fields) ends =
     let one : EndsLf (front ++ print_field f) =
     subst EndsLf (append_assoc front (field_line f) (print_end f.end)) (end_ends (front ++ field_line f) f.end) in
-    subst EndsLf (append_assoc front (print_field f) (flat_map print_field fields)) (fields_end (front ++ print_field f) fields one)
+    subst EndsLf (append_assoc front (print_field f) (flat_map print_field fields))
+    (fields_end (front ++ print_field f) fields one)
 
-lines_end : (bytes line : List ℕ) (end : LineEnd) (fields : List Field) (last : LineEnd) → IsLines bytes line end fields last
+lines_end : (bytes line : List ℕ) (end : LineEnd) (fields : List Field) (last : LineEnd)
+    → IsLines bytes line end fields last
     → EndsWithEmptyLine bytes
 lines_end bytes line end fields last lines =
-    let front : List ℕ = (line ++ print_end end) ++ flat_map print_field fields in
-    (front, last, inr (fields_end (line ++ print_end end) fields (end_ends line end)), lines.text_is ∙ regroup line (print_end end) (flat_map print_field fields) (print_end last))
+    let front : List ℕ = (line ++ print_end end) ++ flat_map print_field fields in (
+      front,
+      last,
+      inr (fields_end (line ++ print_end end) fields (end_ends line end)),
+      lines.text_is
+          ∙ regroup line (print_end end) (flat_map print_field fields) (print_end last),
+    )
   where
     regroup : (a b c d : List ℕ) → a ++ (b ++ (c ++ d)) ≡ ((a ++ b) ++ c) ++ d
     regroup a b c d = sym (let e : ((a ++ b) ++ c) ++ d ≡ a ++ (b ++ (c ++ d)) = simp append_assoc in e)
 
-only_of : (bytes line : List ℕ) (end : LineEnd) (fields : List Field) (last : LineEnd) → IsLines bytes line end fields last
+only_of : (bytes line : List ℕ) (end : LineEnd) (fields : List Field) (last : LineEnd)
+    → IsLines bytes line end fields last
     → OnlyLast bytes
 only_of bytes line end fields last lines =
     subst OnlyLast (sym lines.text_is)
-    (only_line line end (print_section fields last) lines.no_lf lines.begins (only_section fields last lines.fields_are))
+    (only_line line end (print_section fields last) lines.no_lf lines.begins
+    (only_section fields last lines.fields_are))
 
 -- no shorter front ends with an empty line
-none_before : (bytes : List ℕ) → OnlyLast bytes → (n : ℕ) → n < length bytes → ends_with_empty_line (take n bytes) ≡ true → ⊥
+none_before : (bytes : List ℕ) → OnlyLast bytes → (n : ℕ) → n < length bytes
+    → ends_with_empty_line (take n bytes) ≡ true → ⊥
 none_before bytes only n lt ends =
     let line = to_line_end (take n bytes) ends in
     let rest : List ℕ = drop n bytes in
     let e : bytes ≡ line.0 ++ (print_end line.1 ++ rest) =
-    sym (take-append-drop n bytes) ∙ ap (λ (l : List ℕ). l ++ rest) line.3 ∙ append_assoc line.0 (print_end line.1) rest in
+    sym (take-append-drop n bytes) ∙ ap (λ (l : List ℕ). l ++ rest) line.3
+    ∙ append_assoc line.0 (print_end line.1) rest in
     let none : rest ≡ [] = only line.0 line.1 rest line.2 e in
     omega (arith, ap (λ (l : List ℕ). length l) none, length-drop n bytes)
 
-pub lines_head : (bytes line : List ℕ) (end : LineEnd) (fields : List Field) (last : LineEnd) → IsLines bytes line end fields last
+pub lines_head : (bytes line : List ℕ) (end : LineEnd) (fields : List Field) (last : LineEnd)
+    → IsLines bytes line end fields last
     → length bytes ≤ 8192 → IsHead bytes
 lines_head bytes line end fields last lines few = record {
   ends = from_line_end bytes (lines_end bytes line end fields last lines);
@@ -102,20 +114,25 @@ request_lines bytes h whole =
           (All-cons (λ (b : ℕ). b ≢ 10) 32 (print_version h.minor) (λ e. absurd cc) (version_no_lf h.minor))));
       fields_are = reads.0.fields;
       text_is = reads.1 ∙ print_request-append h []
-          ∙ ap (λ (blank : List LineEnd). print_blank blank ++ (h.method ++ 32 ∷ (h.target ++ 32 ∷ (print_version h.minor ++ (print_end h.line_end ++ (section ++ [])))))) whole.first
-          ∙ ap (λ (l : List ℕ). h.method ++ 32 ∷ (h.target ++ 32 ∷ (print_version h.minor ++ (print_end h.line_end ++ l)))) (append-nil section)
+          ∙ ap (λ (blank : List LineEnd). print_blank blank ++
+          (h.method ++ 32 ∷ (h.target ++ 32 ∷
+          (print_version h.minor ++ (print_end h.line_end ++ (section ++ [])))))) whole.first
+          ∙ ap (λ (l : List ℕ). h.method ++ 32 ∷
+          (h.target ++ 32 ∷ (print_version h.minor ++ (print_end h.line_end ++ l)))) (append-nil section)
           ∙ regroup h.method h.target (print_version h.minor) (print_end h.line_end ++ section);
     }
   where
     regroup : (a b c d : List ℕ) → a ++ 32 ∷ (b ++ 32 ∷ (c ++ d)) ≡ (a ++ 32 ∷ (b ++ 32 ∷ c)) ++ d
-    regroup a b c d = sym (append_assoc a (32 ∷ (b ++ 32 ∷ c)) d ∙ ap (λ (l : List ℕ). a ++ 32 ∷ l) (append_assoc b (32 ∷ c) d))
+    regroup a b c d = sym
+        (append_assoc a (32 ∷ (b ++ 32 ∷ c)) d ∙ ap (λ (l : List ℕ). a ++ 32 ∷ l) (append_assoc b (32 ∷ c) d))
 
 -- ---- responses
 
 digit_no_lf : (b : ℕ) → is_ascii_digit b ≡ true → b ≢ 10
 digit_no_lf b h is = let at : is_ascii_digit 10 ≡ true = subst (λ (n : ℕ). is_ascii_digit n ≡ true) is h in absurd cc
 
-reason_no_lf : (reason : Option (List ℕ)) → All (λ (b : ℕ). IsTrue (is_value_byte b)) (reason_phrase reason) → NoLf (print_reason reason)
+reason_no_lf : (reason : Option (List ℕ)) → All (λ (b : ℕ). IsTrue (is_value_byte b)) (reason_phrase reason)
+    → NoLf (print_reason reason)
 reason_no_lf None all = All-nil (λ (b : ℕ). b ≢ 10)
 reason_no_lf (Some phrase) all =
     All-cons (λ (b : ℕ). b ≢ 10) 32 phrase (λ e. absurd cc)
@@ -128,23 +145,29 @@ response_lines bytes h whole =
     let section : List ℕ = print_section h.fields h.last in
     record {
       begins = refl;
-      no_lf = All-append (λ (b : ℕ). b ≢ 10) (print_version h.minor) (32 ∷ (h.digits ++ print_reason h.reason)) (version_no_lf h.minor)
+      no_lf = All-append (λ (b : ℕ). b ≢ 10) (print_version h.minor) (32 ∷ (h.digits ++ print_reason h.reason))
+          (version_no_lf h.minor)
           (All-cons (λ (b : ℕ). b ≢ 10) 32 (h.digits ++ print_reason h.reason) (λ e. absurd cc)
           (All-append (λ (b : ℕ). b ≢ 10) h.digits (print_reason h.reason)
           (All-weaker (λ (b : ℕ). IsTrue (is_ascii_digit b)) (λ (b : ℕ). b ≢ 10) digit_no_lf h.digits reads.0.digits.1)
           (reason_no_lf h.reason reads.0.reason)));
       fields_are = reads.0.fields;
       text_is = reads.1 ∙ print_response-append h []
-          ∙ ap (λ (blank : List LineEnd). print_blank blank ++ (print_version h.minor ++ 32 ∷ (h.digits ++ (print_reason h.reason ++ (print_end h.line_end ++ (section ++ [])))))) whole.first
-          ∙ ap (λ (l : List ℕ). print_version h.minor ++ 32 ∷ (h.digits ++ (print_reason h.reason ++ (print_end h.line_end ++ l)))) (append-nil section)
+          ∙ ap (λ (blank : List LineEnd). print_blank blank ++
+          (print_version h.minor ++ 32 ∷
+          (h.digits ++ (print_reason h.reason ++ (print_end h.line_end ++ (section ++ [])))))) whole.first
+          ∙ ap (λ (l : List ℕ). print_version h.minor ++ 32 ∷
+          (h.digits ++ (print_reason h.reason ++ (print_end h.line_end ++ l)))) (append-nil section)
           ∙ regroup (print_version h.minor) h.digits (print_reason h.reason) (print_end h.line_end ++ section);
     }
   where
     regroup : (a b c d : List ℕ) → a ++ 32 ∷ (b ++ (c ++ d)) ≡ (a ++ 32 ∷ (b ++ c)) ++ d
     regroup a b c d = sym (append_assoc a (32 ∷ (b ++ c)) d ∙ ap (λ (l : List ℕ). a ++ 32 ∷ l) (append_assoc b c d))
 
-pub upstream_head : (bytes : List ℕ) (upstream : Upstream) → UpstreamAnswer bytes (Ok upstream) → length bytes ≤ 8192 → IsHead bytes
-upstream_head bytes upstream (inl (h, whole, e)) few = lines_head bytes _ h.line_end h.fields h.last (response_lines bytes h whole) few
+pub upstream_head : (bytes : List ℕ) (upstream : Upstream) → UpstreamAnswer bytes (Ok upstream) → length bytes ≤ 8192
+    → IsHead bytes
+upstream_head bytes upstream (inl (h, whole, e)) few = lines_head bytes _ h.line_end h.fields h.last
+    (response_lines bytes h whole) few
 upstream_head bytes upstream (inr (none, e)) few = absurd cc
 
 -- ---- sources
@@ -195,14 +218,16 @@ source_at bytes (Some place) found is (fields, last, reads, few) =
         begins = begins_before line rest (subst (λ (l : List ℕ). begins_in_line l ≡ true) e (source_begins bytes is));
         no_lf = λ k d lt.
             let below : k < place = omega (arith, lt, length-take-le place bytes (omega (arith, facts.0))) in
-            let not_lf : eqb (get_or bytes k d) 10 ≡ false = (position-Some (λ (b : ℕ). b == 10) bytes place d found).2 k below in
+            let not_lf : eqb (get_or bytes k d) 10 ≡ false =
+            (position-Some (λ (b : ℕ). b == 10) bytes place d found).2 k below in
             λ is. eqb-false (get_or bytes k d) 10 not_lf (sym (get_or-take place bytes k d below) ∙ is);
         fields_are = reads.0;
         text_is = e ∙ ap (λ (l : List ℕ). line ++ 10 ∷ l) (reads.1 ∙ append-nil (print_section fields last));
       };
     }
 
-source_head : (bytes : List ℕ) (request : Request) → is_source bytes ≡ true → SourceAnswer bytes (Ok request) → length bytes ≤ 8192
+source_head : (bytes : List ℕ) (request : Request) → is_source bytes ≡ true → SourceAnswer bytes (Ok request)
+    → length bytes ≤ 8192
     → IsHead bytes
 source_head bytes request is (inl (block, e)) few =
     let text = source_at bytes (position (λ (b : ℕ). b == 10) bytes) refl is block in
@@ -210,13 +235,16 @@ source_head bytes request is (inl (block, e)) few =
 source_head bytes request is (inr (none, e)) few = absurd cc
 
 http_head : (bytes : List ℕ) (request : Request) → HttpAnswer bytes (Ok request) → length bytes ≤ 8192 → IsHead bytes
-http_head bytes request (inl (h, whole, e)) few = lines_head bytes _ h.line_end h.fields h.last (request_lines bytes h whole) few
+http_head bytes request (inl (h, whole, e)) few = lines_head bytes _ h.line_end h.fields h.last
+    (request_lines bytes h whole) few
 http_head bytes request (inr (none, e)) few = absurd cc
 
 by_kind : (source : Bool) (bytes : List ℕ) (request : Request) → is_source bytes ≡ source
-    → MatchBool source (SourceAnswer bytes (Ok request)) (HttpAnswer bytes (Ok request)) → length bytes ≤ 8192 → IsHead bytes
+    → MatchBool source (SourceAnswer bytes (Ok request)) (HttpAnswer bytes (Ok request)) → length bytes ≤ 8192
+    → IsHead bytes
 by_kind true bytes request is answer few = source_head bytes request is answer few
 by_kind false bytes request is answer few = http_head bytes request answer few
 
-pub request_head : (bytes : List ℕ) (request : Request) → HeadAnswer bytes (Ok request) → length bytes ≤ 8192 → IsHead bytes
+pub request_head : (bytes : List ℕ) (request : Request) → HeadAnswer bytes (Ok request) → length bytes ≤ 8192
+    → IsHead bytes
 request_head bytes request answer few = by_kind (is_source bytes) bytes request refl answer few

@@ -30,8 +30,8 @@ fn ends_with_empty_line(bytes: &[u8]) -> bool
         || bytes == b"\r\n".as_slice()
 }
 
-/// The bytes of a head, taken one by one. A line ends with LF, with or without a CR before it, and
-/// the head ends with its first empty line. Contracts see all bytes that were taken.
+/// The bytes of a head, taken one by one. LF ends a line, and a CR in front of it belongs to
+/// the end; the first empty line ends the head. Contracts see all bytes that were taken.
 #[derive(Debug, Drop)]
 pub struct HeadBuf {
     bytes: Vec<u8>,

@@ -7,13 +7,12 @@ ghost use Rattle.base64.specs.GeneralPurpose.{decode_of};
 ghost use Rattle.ntrip_head.specs.Credentials.{is_basic, after_spaces, user_and_password, decoded_pair, credentials, auth_of, password_of};
 ghost use Rattle.ntrip_head.specs.Outcome.{Gives};
 
-use crate::cut::place_of;
 use crate::fault::HeadFault;
 use crate::fields::is_same;
 use crate::request::Auth;
 use base64::DecodeAllocError;
 use base64::engine::general_purpose::STANDARD;
-use cast_text::{Text, TextFault};
+use cast_text::{Text, TextFault, place_of};
 use std::alloc::Global;
 
 /// The text of these bytes.
@@ -62,7 +61,7 @@ fn user_and_password(alloc: Global, pair: &[u8]) -> Result<Auth, HeadFault>
 }
 
 /// The credentials of which this is the base64 text.
-fn decoded(alloc: Global, encoded: &[u8]) -> Result<Auth, HeadFault>
+fn decode_pair(alloc: Global, encoded: &[u8]) -> Result<Auth, HeadFault>
     requires { length encoded.now ≤ 8192 }
     ensures { Gives result (Ok (decoded_pair (decode_of standard encoded.now))) }
 {
@@ -80,7 +79,7 @@ pub fn auth_of(alloc: Global, value: Option<&[u8]>) -> Result<Auth, HeadFault>
 {
     match value {
         None => Ok(Auth::None),
-        Some(value) if is_basic(value) => decoded(alloc, after_spaces(&value[5..])),
+        Some(value) if is_basic(value) => decode_pair(alloc, after_spaces(&value[5..])),
         Some(_) => Ok(Auth::Unread),
     }
 }

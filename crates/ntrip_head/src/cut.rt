@@ -1,14 +1,9 @@
 //! Texts cut in two.
 
-ghost use Rattle.std.specs.Prelude.{◌≡◌, ◌≤◌, ◌==◌, length, position};
+ghost use Rattle.std.specs.Prelude.{◌≡◌, ◌≤◌, length};
 ghost use Rattle.ntrip_head.specs.Cut.{cut_by};
 
-/// The first place of this byte.
-pub fn place_of(byte: u8, text: &[u8]) -> Option<usize>
-    ensures { result ≡ position (λ b. b == byte) text.now }
-{
-    text.iter().position(|b| *b == byte)
-}
+use cast_text::place_of;
 
 /// The text before the first of these bytes, and the text after it.
 pub fn cut_by(byte: u8, text: &[u8]) -> (&[u8], &[u8])

@@ -48,7 +48,7 @@ fn gga_in(bytes: &[u8], headers: &[HeaderSpan]) -> Option<Position>
 }
 
 /// The mountpoint with this name.
-pub fn mount_named(alloc: Global, name: &[u8]) -> Result<MountName, HeadFault>
+pub fn mount_name(alloc: Global, name: &[u8]) -> Result<MountName, HeadFault>
     ensures { Gives result (or_bad (name_of name.now)) }
 {
     match MountName::new(alloc, name) {
@@ -63,7 +63,7 @@ fn mount_in(alloc: Global, target: &[u8]) -> Result<MountName, HeadFault>
     ensures { Gives result (mount_in target.now) }
 {
     match target {
-        [b'/', name @ ..] => mount_named(alloc, name),
+        [b'/', name @ ..] => mount_name(alloc, name),
         _ => Err(HeadFault::Bad),
     }
 }

@@ -9,7 +9,7 @@ use crate::credentials::text;
 use crate::cut::cut_by;
 use crate::fault::HeadFault;
 use crate::http_head::HEADERS;
-use crate::judge::mount_named;
+use crate::judge::mount_name;
 use crate::request::{Request, Version};
 use httparse::Status;
 use httparse::spans::{EMPTY_HEADER_SPAN, parse_headers};
@@ -67,7 +67,7 @@ fn source_of(alloc: Global, password: &[u8], mount: &[u8]) -> Result<Request, He
     requires { length password.now ≤ 8192 }
     ensures { Gives result (source_of password.now mount.now) }
 {
-    let mount = mount_named(alloc, without_slash(mount))?;
+    let mount = mount_name(alloc, without_slash(mount))?;
     let password = text(alloc, password)?;
     Ok(Request::Source {
         version: Version::One,

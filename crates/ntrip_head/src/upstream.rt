@@ -58,9 +58,10 @@ fn upstream_of(status: u16, bytes: &[u8], headers: &[HeaderSpan]) -> Result<Upst
 /// line.
 ///
 /// # Errors
-/// `Bad` exactly where the bytes are, as a whole, no response head of HTTP/1.0 or HTTP/1.1
-/// (RFC 9112, section 4) with at most 32 header lines. Then `Coding` exactly where the status is
-/// 200 and `Transfer-Encoding` is there and is not `chunked`.
+/// `Bad` exactly where the bytes are, as a whole, no response head with at most 32 header lines by
+/// the grammar of `httparse`. It is that of HTTP/1.0 and HTTP/1.1 (RFC 9112, section 4), and wider:
+/// it also takes a status line that ends behind its status, as `HTTP/1.0 200`. Then `Coding`
+/// exactly where the status is 200 and `Transfer-Encoding` is there and is not `chunked`.
 pub fn read_upstream(bytes: &[u8]) -> Result<Upstream, HeadFault>
     ensures { UpstreamAnswer bytes.now result }
 {

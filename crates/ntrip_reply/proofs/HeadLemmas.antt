@@ -42,12 +42,23 @@ fields_ok : (fields : List Field) → list_all is_field fields ≡ true → All 
 fields_ok fields e = λ k d h. field_ok _ (AllPass-from_list_all is_field fields e k d h)
 
 abbrev tree : ℕ → List ℕ → List ℕ → List Field → ResponseHead
-tree minor digits reason fields = record { blank = []; minor = minor; digits = digits; reason = Some reason; line_end = crlf; fields = fields; last = crlf }
+tree minor digits reason
+    fields = record {
+      blank = [];
+      minor = minor;
+      digits = digits;
+      reason = Some reason;
+      line_end = crlf;
+      fields = fields;
+      last = crlf;
+    }
 
 -- a tree that passes is what its text is read as
 answers : (text : List ℕ) (minor : ℕ) (digits reason : List ℕ) (fields : List Field) (u v : Upstream)
-    → minor ≤ 1 → length digits ≡ 3 → list_all is_ascii_digit digits ≡ true → list_all is_value_byte reason ≡ true → list_all is_field fields ≡ true → length fields ≤ 32
-    → text ≡ print_response (tree minor digits reason fields) ++ [] → upstream_in (tree minor digits reason fields) ≡ Ok u → Some u ≡ Some v → UpstreamAnswer text (Ok v)
+    → minor ≤ 1 → length digits ≡ 3 → list_all is_ascii_digit digits ≡ true → list_all is_value_byte reason ≡ true
+    → list_all is_field fields ≡ true → length fields ≤ 32
+    → text ≡ print_response (tree minor digits reason fields) ++ []
+    → upstream_in (tree minor digits reason fields) ≡ Ok u → Some u ≡ Some v → UpstreamAnswer text (Ok v)
 answers text minor digits reason fields u v m three ds r fs room printed read same =
     let e : u ≡ v = cc in
     inl (
@@ -143,7 +154,9 @@ skip_digits (c ∷ cs) e =
 trim_digits : (d : List ℕ) → list_all is_ascii_digit d ≡ true → trim_ows (32 ∷ d) ≡ d
 trim_digits d e =
     trim_ows_space d (skip_digits d e)
-    (skip_digits (reverse d) (list_all-from_AllPass is_ascii_digit (reverse d) (AllPass-reverse is_ascii_digit d (AllPass-from_list_all is_ascii_digit d e))))
+    (skip_digits (reverse d)
+    (list_all-from_AllPass is_ascii_digit (reverse d)
+    (AllPass-reverse is_ascii_digit d (AllPass-from_list_all is_ascii_digit d e))))
 
 digits_are_value : (d : List ℕ) → list_all is_ascii_digit d ≡ true → list_all is_value_byte d ≡ true
 digits_are_value [] e = refl
@@ -163,7 +176,8 @@ pub table_is_body : (table : List ℕ) → length table < 2 ^ 64 → HasBody (re
 unfolding httparse_on_literals
 table_is_body table small =
     let d = decimal (length table) in
-    let digits : list_all is_ascii_digit d ≡ true = as_list_all d (digits_decimal (numerals_by_value _ tells_all_ascii_digits) (length table) small) in
+    let digits : list_all is_ascii_digit d ≡ true = as_list_all d
+    (digits_decimal (numerals_by_value _ tells_all_ascii_digits) (length table) small) in
     let ends : (d ++ codes "\r\n") ++ (codes "Connection: close\r\n" ++ codes "\r\n") ≡ ((d ++ codes "\r\n") ++ codes "Connection: close\r\n") ++ codes "\r\n" =
     sym (append_assoc (d ++ codes "\r\n") (codes "Connection: close\r\n") (codes "\r\n")) in
     record {

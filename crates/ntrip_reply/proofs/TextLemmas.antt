@@ -9,7 +9,8 @@ use Rattle.std.proofs.Math.Seq.{take-length}
 use Rattle.ntrip_reply.specs.Message.{line, lines, texts_in, content_length, close, message}
 
 -- a front of a front of the text
-pub front_kept : (old more text : List ℕ) (n m : ℕ) → length old ≡ n → n ≤ m → take m text ≡ old ++ more → take n text ≡ old
+pub front_kept : (old more text : List ℕ) (n m : ℕ) → length old ≡ n → n ≤ m → take m text ≡ old ++ more
+    → take n text ≡ old
 front_kept old more text n m size within kept =
     let short : n ≤ length old = omega arith in
     sym (take-take n m text within) ∙ ap (take n) kept ∙ take-append-le n old more short
@@ -21,10 +22,18 @@ on_err (Err e) p = p
 
 -- the lines before one of them, and that line, are not longer than all lines
 pub lines_within : (slices : List (Bor (List ℕ))) (i : ℕ) (d : Bor (List ℕ)) → i < length slices
-    → length (lines (texts_in (take i slices))) + length (line (get_or slices i d).now) ≤ length (lines (texts_in slices))
+    → length (lines (texts_in (take i slices))) + length (line (get_or slices i d).now) ≤ length
+    (lines (texts_in slices))
 lines_within slices i d inside =
     let f : Bor (List ℕ) → List ℕ = λ s. line s.now in
-    omega (arith, length-flat_map-take f slices i d inside, ap length (flat_map-map line (λ (s : Bor (List ℕ)). s.now) slices), ap length (flat_map-map line (λ (s : Bor (List ℕ)). s.now) (take i slices)))
+    omega (
+      arith,
+      length-flat_map-take f slices i d inside,
+      ap length
+          (flat_map-map line (λ (s : Bor (List ℕ)). s.now) slices),
+      ap length
+          (flat_map-map line (λ (s : Bor (List ℕ)). s.now) (take i slices)),
+    )
 
 -- a line that is appended in two pieces
 line_in_two : (text : List ℕ) (after : List (List ℕ)) → lines (text ∷ after) ≡ text ++ lines ([] ∷ after)
@@ -33,7 +42,8 @@ line_in_two text after = append_assoc text (codes "\r\n") (lines after)
 abbrev pub last_lines : List (List ℕ)
 last_lines = [] ∷ close ∷ [] ∷ []
 
-regroup : (old first name digits last body : List ℕ) → ((((old ++ first) ++ name) ++ digits) ++ last) ++ body ≡ old ++ ((first ++ ((name ++ digits) ++ last)) ++ body)
+regroup : (old first name digits last body : List ℕ)
+    → ((((old ++ first) ++ name) ++ digits) ++ last) ++ body ≡ old ++ ((first ++ ((name ++ digits) ++ last)) ++ body)
 regroup old first name digits last body = simp append_assoc
 
 -- a message that is appended in pieces

@@ -1,6 +1,6 @@
 -- The text of each reply. The words `ICY 200 OK` and `SOURCETABLE 200 OK` are those of NTRIP 1.0
--- (RTCM 10410.0); the line `Ntrip-Version: Ntrip/2.0` and the types `gnss/data` and
--- `gnss/sourcetable` are those of NTRIP 2.0 (RTCM 10410.1). The statuses and their phrases are
+-- (RTCM 10410.0); NTRIP 2.0 (RTCM 10410.1) has the line `Ntrip-Version: Ntrip/2.0` and the types
+-- `gnss/data` and `gnss/sourcetable`. The statuses and their phrases are
 -- those of RFC 9110, section 15. What else stands here is this caster's own choice: which status
 -- is told when, the empty line after `ICY 200 OK`, the lines that begin with `ERROR`, and the
 -- header lines with their order.

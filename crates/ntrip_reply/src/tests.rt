@@ -3,8 +3,9 @@ use ntrip_head::Version;
 use std::test::Fail;
 
 /// The sourcetable of two mountpoints and one that is near them.
-const TABLE: &[u8] =
-    b"STR;ALPHA;ALPHA;RTCM 3.3;;2;GPS;;;48.11;11.51;0;0;;none;B;N;0;\r\nSTR;BRAVO;BRAVO;RTCM 3.3;;2;GPS;;;48.20;11.51;0;0;;none;B;N;0;\r\nSTR;NEAR;NEAR;RTCM 3.3;;2;GPS;;;48.11;11.51;1;1;;none;B;N;0;\r\nENDSOURCETABLE\r\n";
+const TABLE: &[u8] = b"STR;ALPHA;ALPHA;RTCM 3.3;;2;GPS;;;48.11;11.51;0;0;;none;B;N;0;\r\n\
+STR;BRAVO;BRAVO;RTCM 3.3;;2;GPS;;;48.20;11.51;0;0;;none;B;N;0;\r\n\
+STR;NEAR;NEAR;RTCM 3.3;;2;GPS;;;48.11;11.51;1;1;;none;B;N;0;\r\nENDSOURCETABLE\r\n";
 
 /// The sourcetable of no mountpoint.
 const NO_MOUNTS: &[u8] = b"ENDSOURCETABLE\r\n";
@@ -33,15 +34,22 @@ fn replies_of_version_one_are_these_bytes(rt: HostRuntime) -> Result<(), Fail> {
         (Reply::SourceOk, icy),
         (
             Reply::Unauthorized,
-            b"HTTP/1.0 401 Unauthorized\r\nServer: NTRIP lapcast/1.0\r\nWWW-Authenticate: Basic realm=\"caster\"\r\nContent-Length: 0\r\nConnection: close\r\n\r\n".as_slice(),
+            b"HTTP/1.0 401 Unauthorized\r\nServer: NTRIP lapcast/1.0\r\n\
+WWW-Authenticate: Basic realm=\"caster\"\r\nContent-Length: 0\r\nConnection: close\r\n\r\n\
+"
+                .as_slice(),
         ),
         (
             Reply::Denied,
-            b"HTTP/1.0 403 Forbidden\r\nServer: NTRIP lapcast/1.0\r\nContent-Length: 0\r\nConnection: close\r\n\r\n".as_slice(),
+            b"HTTP/1.0 403 Forbidden\r\nServer: NTRIP lapcast/1.0\r\nContent-Length: 0\r\n\
+Connection: close\r\n\r\n"
+                .as_slice(),
         ),
         (
             Reply::Full,
-            b"HTTP/1.0 503 Service Unavailable\r\nServer: NTRIP lapcast/1.0\r\nContent-Length: 0\r\nConnection: close\r\n\r\n".as_slice(),
+            b"HTTP/1.0 503 Service Unavailable\r\nServer: NTRIP lapcast/1.0\r\n\
+Content-Length: 0\r\nConnection: close\r\n\r\n"
+                .as_slice(),
         ),
         (
             Reply::SourcePassword,
@@ -57,18 +65,26 @@ fn replies_of_version_one_are_these_bytes(rt: HostRuntime) -> Result<(), Fail> {
 
 #[test]
 fn replies_of_version_two_are_these_bytes(rt: HostRuntime) -> Result<(), Fail> {
-    let not_found =
-        b"HTTP/1.1 404 Not Found\r\nNtrip-Version: Ntrip/2.0\r\nServer: NTRIP lapcast/1.0\r\nContent-Length: 0\r\nConnection: close\r\n\r\n".as_slice();
-    let unauthorized =
-        b"HTTP/1.1 401 Unauthorized\r\nNtrip-Version: Ntrip/2.0\r\nServer: NTRIP lapcast/1.0\r\nWWW-Authenticate: Basic realm=\"caster\"\r\nContent-Length: 0\r\nConnection: close\r\n\r\n".as_slice();
+    let not_found = b"HTTP/1.1 404 Not Found\r\nNtrip-Version: Ntrip/2.0\r\n\
+Server: NTRIP lapcast/1.0\r\nContent-Length: 0\r\nConnection: close\r\n\r\n"
+        .as_slice();
+    let unauthorized = b"HTTP/1.1 401 Unauthorized\r\nNtrip-Version: Ntrip/2.0\r\n\
+Server: NTRIP lapcast/1.0\r\nWWW-Authenticate: Basic realm=\"caster\"\r\n\
+Content-Length: 0\r\nConnection: close\r\n\r\n"
+        .as_slice();
     for (r, want) in [
         (
             Reply::RoverOk,
-            b"HTTP/1.1 200 OK\r\nNtrip-Version: Ntrip/2.0\r\nServer: NTRIP lapcast/1.0\r\nContent-Type: gnss/data\r\nTransfer-Encoding: chunked\r\nConnection: close\r\n\r\n".as_slice(),
+            b"HTTP/1.1 200 OK\r\nNtrip-Version: Ntrip/2.0\r\nServer: NTRIP lapcast/1.0\r\n\
+Content-Type: gnss/data\r\nTransfer-Encoding: chunked\r\nConnection: close\r\n\r\n\
+"
+                .as_slice(),
         ),
         (
             Reply::SourceOk,
-            b"HTTP/1.1 200 OK\r\nNtrip-Version: Ntrip/2.0\r\nServer: NTRIP lapcast/1.0\r\nConnection: close\r\n\r\n".as_slice(),
+            b"HTTP/1.1 200 OK\r\nNtrip-Version: Ntrip/2.0\r\nServer: NTRIP lapcast/1.0\r\n\
+Connection: close\r\n\r\n"
+                .as_slice(),
         ),
         (Reply::RoverNoMount, not_found),
         (Reply::SourceNoMount, not_found),
@@ -76,15 +92,21 @@ fn replies_of_version_two_are_these_bytes(rt: HostRuntime) -> Result<(), Fail> {
         (Reply::SourcePassword, unauthorized),
         (
             Reply::Denied,
-            b"HTTP/1.1 403 Forbidden\r\nNtrip-Version: Ntrip/2.0\r\nServer: NTRIP lapcast/1.0\r\nContent-Length: 0\r\nConnection: close\r\n\r\n".as_slice(),
+            b"HTTP/1.1 403 Forbidden\r\nNtrip-Version: Ntrip/2.0\r\n\
+Server: NTRIP lapcast/1.0\r\nContent-Length: 0\r\nConnection: close\r\n\r\n"
+                .as_slice(),
         ),
         (
             Reply::Full,
-            b"HTTP/1.1 503 Service Unavailable\r\nNtrip-Version: Ntrip/2.0\r\nServer: NTRIP lapcast/1.0\r\nContent-Length: 0\r\nConnection: close\r\n\r\n".as_slice(),
+            b"HTTP/1.1 503 Service Unavailable\r\nNtrip-Version: Ntrip/2.0\r\n\
+Server: NTRIP lapcast/1.0\r\nContent-Length: 0\r\nConnection: close\r\n\r\n"
+                .as_slice(),
         ),
         (
             Reply::Taken,
-            b"HTTP/1.1 409 Conflict\r\nNtrip-Version: Ntrip/2.0\r\nServer: NTRIP lapcast/1.0\r\nContent-Length: 0\r\nConnection: close\r\n\r\n".as_slice(),
+            b"HTTP/1.1 409 Conflict\r\nNtrip-Version: Ntrip/2.0\r\n\
+Server: NTRIP lapcast/1.0\r\nContent-Length: 0\r\nConnection: close\r\n\r\n"
+                .as_slice(),
         ),
     ] {
         assert_eq!(rt; text_of(&rt, Version::Two, r, TABLE)?.as_slice(), want);
@@ -94,10 +116,13 @@ fn replies_of_version_two_are_these_bytes(rt: HostRuntime) -> Result<(), Fail> {
 
 #[test]
 fn refused_heads_have_one_reply_in_both_versions(rt: HostRuntime) -> Result<(), Fail> {
-    let bad =
-        b"HTTP/1.1 400 Bad Request\r\nServer: NTRIP lapcast/1.0\r\nContent-Length: 0\r\nConnection: close\r\n\r\n".as_slice();
+    let bad = b"HTTP/1.1 400 Bad Request\r\nServer: NTRIP lapcast/1.0\r\nContent-Length: 0\r\n\
+Connection: close\r\n\r\n"
+        .as_slice();
     let not_implemented =
-        b"HTTP/1.1 501 Not Implemented\r\nServer: NTRIP lapcast/1.0\r\nContent-Length: 0\r\nConnection: close\r\n\r\n".as_slice();
+        b"HTTP/1.1 501 Not Implemented\r\nServer: NTRIP lapcast/1.0\r\nContent-Length: 0\r\n\
+Connection: close\r\n\r\n"
+            .as_slice();
     for version in [Version::One, Version::Two] {
         assert_eq!(rt;
             text_of(&rt, version, Reply::BadHead, TABLE)?.as_slice(),
@@ -119,14 +144,20 @@ fn refused_heads_have_one_reply_in_both_versions(rt: HostRuntime) -> Result<(), 
 fn the_table_comes_with_its_length(rt: HostRuntime) -> Result<(), Fail> {
     assert_eq!(rt; TABLE.len(), 206);
     assert_eq!(rt; NO_MOUNTS.len(), 16);
-    let one_206 =
-        b"SOURCETABLE 200 OK\r\nServer: NTRIP lapcast/1.0\r\nContent-Type: text/plain\r\nContent-Length: 206\r\nConnection: close\r\n\r\n".as_slice();
-    let one_16 =
-        b"SOURCETABLE 200 OK\r\nServer: NTRIP lapcast/1.0\r\nContent-Type: text/plain\r\nContent-Length: 16\r\nConnection: close\r\n\r\n".as_slice();
-    let two_206 =
-        b"HTTP/1.1 200 OK\r\nNtrip-Version: Ntrip/2.0\r\nServer: NTRIP lapcast/1.0\r\nContent-Type: gnss/sourcetable\r\nContent-Length: 206\r\nConnection: close\r\n\r\n".as_slice();
-    let two_16 =
-        b"HTTP/1.1 200 OK\r\nNtrip-Version: Ntrip/2.0\r\nServer: NTRIP lapcast/1.0\r\nContent-Type: gnss/sourcetable\r\nContent-Length: 16\r\nConnection: close\r\n\r\n".as_slice();
+    let one_206 = b"SOURCETABLE 200 OK\r\nServer: NTRIP lapcast/1.0\r\nContent-Type: text/plain\r\n\
+Content-Length: 206\r\nConnection: close\r\n\r\n"
+        .as_slice();
+    let one_16 = b"SOURCETABLE 200 OK\r\nServer: NTRIP lapcast/1.0\r\nContent-Type: text/plain\r\n\
+Content-Length: 16\r\nConnection: close\r\n\r\n"
+        .as_slice();
+    let two_206 = b"HTTP/1.1 200 OK\r\nNtrip-Version: Ntrip/2.0\r\nServer: NTRIP lapcast/1.0\r\n\
+Content-Type: gnss/sourcetable\r\nContent-Length: 206\r\nConnection: close\r\n\r\n\
+"
+        .as_slice();
+    let two_16 = b"HTTP/1.1 200 OK\r\nNtrip-Version: Ntrip/2.0\r\nServer: NTRIP lapcast/1.0\r\n\
+Content-Type: gnss/sourcetable\r\nContent-Length: 16\r\nConnection: close\r\n\r\n\
+"
+        .as_slice();
     for (version, r, front, table) in [
         (Version::One, Reply::Table, one_206, TABLE),
         (Version::One, Reply::RoverNoMount, one_16, NO_MOUNTS),

@@ -36,7 +36,8 @@ number_text text n e small =
     let value : number_from 0 text < 2 ^ 64 = omega (arith, h.1, small) in
     sym (decimal-digits_value own text a.1 some (λ zero. absurd (first zero)) value) ∙ ap decimal h.1
 
-within_text : (limit n : ℕ) (text : List ℕ) → limit < 2 ^ 64 → at_most limit (number_of text) ≡ Some n → text ≡ decimal n
+within_text : (limit n : ℕ) (text : List ℕ) → limit < 2 ^ 64 → at_most limit (number_of text) ≡ Some n
+    → text ≡ decimal n
 within_text limit n text small e =
     let h = at_most-is limit n (number_of text) e in number_text text n h.0 (omega (arith, h.1))
 
@@ -47,15 +48,19 @@ AreNear event parts = IsNear event → AreParts event parts
 near_at : (parts : List (List ℕ)) (a b : Event) → a ≡ b → AreNear a parts → AreNear b parts
 near_at parts a b e near = subst (λ (x : Event). AreNear x parts) e near
 
-two_parts : (word number text : List ℕ) (k : ℕ) → word ≡ text → number ≡ decimal k → word ∷ number ∷ [] ≡ text ∷ decimal k ∷ []
+two_parts : (word number text : List ℕ) (k : ℕ) → word ≡ text → number ≡ decimal k
+    → word ∷ number ∷ [] ≡ text ∷ decimal k ∷ []
 two_parts word number text k w n = ap (λ (x : List ℕ). x ∷ number ∷ []) w ∙ ap (λ (x : List ℕ). text ∷ x ∷ []) n
 
-three_parts : (word number value text : List ℕ) (k : ℕ) (last : List ℕ) → word ≡ text → number ≡ decimal k → value ≡ last
+three_parts : (word number value text : List ℕ) (k : ℕ) (last : List ℕ) → word ≡ text → number ≡ decimal k
+    → value ≡ last
     → word ∷ number ∷ value ∷ [] ≡ text ∷ decimal k ∷ last ∷ []
 three_parts word number value text k last w n v =
-    ap (λ (x : List ℕ). x ∷ number ∷ value ∷ []) w ∙ ap (λ (x : List ℕ). text ∷ x ∷ value ∷ []) n ∙ ap (λ (x : List ℕ). text ∷ decimal k ∷ x ∷ []) v
+    ap (λ (x : List ℕ). x ∷ number ∷ value ∷ []) w ∙ ap (λ (x : List ℕ). text ∷ x ∷ value ∷ []) n
+    ∙ ap (λ (x : List ℕ). text ∷ decimal k ∷ x ∷ []) v
 
-short_form : (kind : ScriptKind) (word number : List ℕ) (k : ℕ) (event : Event) → number ≡ decimal k → short_event kind word k ≡ Some event
+short_form : (kind : ScriptKind) (word number : List ℕ) (k : ℕ) (event : Event) → number ≡ decimal k
+    → short_event kind word k ≡ Some event
     → AreNear event (word ∷ number ∷ [])
 short_form kind word number k event n e =
     elim (cases_Bool (bytes_eq word (codes "break"))) [
@@ -123,7 +128,8 @@ module _ (kind : ScriptKind) (word number value : List ℕ) (k : ℕ) (n : numbe
         ]
       ]
 
-parts_form : (kind : ScriptKind) (ps : List (List ℕ)) (event : Event) → event_of_parts kind ps ≡ Some event → AreNear event ps
+parts_form : (kind : ScriptKind) (ps : List (List ℕ)) (event : Event) → event_of_parts kind ps ≡ Some event
+    → AreNear event ps
 parts_form kind [] event e = absurd cc
 parts_form kind (word ∷ []) event e = absurd cc
 parts_form kind (word ∷ number ∷ []) event e =
@@ -135,7 +141,12 @@ parts_form kind (word ∷ number ∷ value ∷ []) event e =
 parts_form kind (word ∷ number ∷ value ∷ more ∷ others) event e = absurd cc
 
 -- a line is a line of the event that it reads as
-pub line_form : (kind : ScriptKind) (line : List ℕ) (event : Event) → event_of_line kind line ≡ Some event → IsNear event → IsLine line event
+pub line_form : (kind : ScriptKind) (line : List ℕ) (event : Event) → event_of_line kind line ≡ Some event
+    → IsNear event → IsLine line event
 unfolding event_of_line
-line_form kind line event e near =
-    (slice_split (λ b. eqb b 32) line, parts_form kind (slice_split (λ b. eqb b 32) line) event e near, sym (join_with_byte-slice_split 32 line))
+line_form kind line event e near = (
+  slice_split (λ b. eqb b 32) line,
+  parts_form kind (slice_split (λ b. eqb b 32) line) event e near,
+  sym
+      (join_with_byte-slice_split 32 line),
+)

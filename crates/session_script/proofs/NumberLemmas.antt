@@ -13,15 +13,19 @@ capped_same [] a b e = e
 capped_same (c ∷ cs) a b e = capped_same cs (10 * a + (c - 48)) (10 * b + (c - 48)) (omega arith)
 
 -- one more digit
-pub capped_more : (digits : List ℕ) (i v w total : ℕ) → i < length digits → w ≡ capped (capped (v * 10) + (get_or digits i 0 - 48))
+pub capped_more : (digits : List ℕ) (i v w total : ℕ) → i < length digits
+    → w ≡ capped (capped (v * 10) + (get_or digits i 0 - 48))
     → capped (number_from v (drop i digits)) ≡ total → capped (number_from w (drop (i + 1) digits)) ≡ total
 capped_more digits i v w total lt e so_far =
-    let step : capped (number_from v (drop i digits)) ≡ capped (number_from (10 * v + (get_or digits i 0 - 48)) (drop (i + 1) digits)) =
+    let step : capped (number_from v (drop i digits)) ≡ capped
+    (number_from (10 * v + (get_or digits i 0 - 48)) (drop (i + 1) digits)) =
     ap (λ (ds : List ℕ). capped (number_from v ds)) (drop_more digits i 0 lt) in
     capped_same (drop (i + 1) digits) w (10 * v + (get_or digits i 0 - 48)) (omega arith) ∙ sym step ∙ so_far
 
 -- no digit is left
-pub capped_all : (digits : List ℕ) (i v total : ℕ) → length digits ≤ i → v ≤ 2 ^ 64 - 1 → capped (number_from v (drop i digits)) ≡ total → v ≡ total
+pub capped_all : (digits : List ℕ) (i v total : ℕ) → length digits ≤ i → v ≤ 2 ^ 64 - 1
+    → capped (number_from v (drop i digits)) ≡ total → v ≡ total
 capped_all digits i v total le few so_far =
-    let end : capped (number_from v (drop i digits)) ≡ capped v = ap (λ (ds : List ℕ). capped (number_from v ds)) (drop_all i digits le) in
+    let end : capped (number_from v (drop i digits)) ≡ capped v = ap (λ (ds : List ℕ). capped (number_from v ds))
+    (drop_all i digits le) in
     omega (arith, end, so_far)

@@ -18,7 +18,7 @@ use Rattle.session_script.specs.declared.ScriptKind.{ScriptKind}
 use Rattle.session_script.specs.Digits.{is_digit, number_from, is_number, number_of, at_most}
 use Rattle.session_script.specs.Line.{is_connection, is_bare, is_replay, is_input, is_event, mount_of, input_within, input_of, relay_number, short_event, long_event, event_of_parts, event_of_line}
 use Rattle.session_script.specs.Script.{input_length}
-use Rattle.session_script.proofs.PartLemmas.{HasPart, part, has_part}
+use Rattle.cast_text.proofs.SplitLemmas.{HasPart, part, has_part}
 
 -- ---- numbers
 
@@ -63,11 +63,13 @@ in_limits limit n text e =
 
 -- ---- values
 
-pub map_some : {A B : Type 0} (f : A → B) (o : Option A) (y : B) → option_map f o ≡ Some y → (x : A) × (o ≡ Some x) × (f x ≡ y)
+pub map_some : {A B : Type 0} (f : A → B) (o : Option A) (y : B) → option_map f o ≡ Some y → (x : A) × (o ≡ Some x)
+    × (f x ≡ y)
 map_some f None y e = absurd cc
 map_some f (Some x) y e = (x, refl, cc)
 
-pub then_is : {A B : Type 0} (f : A → Option B) (o : Option A) (y : B) → option_and_then f o ≡ Some y → (x : A) × (o ≡ Some x) × (f x ≡ Some y)
+pub then_is : {A B : Type 0} (f : A → Option B) (o : Option A) (y : B) → option_and_then f o ≡ Some y → (x : A)
+    × (o ≡ Some x) × (f x ≡ Some y)
 then_is f None y e = absurd cc
 then_is f (Some x) y e = (x, refl, e)
 
@@ -78,7 +80,8 @@ pub ok_is_some : {A E : Type 0} (r : Result A E) (x : A) → result_ok r ≡ Som
 ok_is_some (Ok y) x e = ap (λ z. Ok z) (some_is y x e)
 ok_is_some (Err f) x e = absurd cc
 
-pub input_is : (o : Option (List ℕ)) (bytes : List ℕ) → input_within o ≡ Some bytes → (o ≡ Some bytes) × (is_input bytes ≡ true)
+pub input_is : (o : Option (List ℕ)) (bytes : List ℕ) → input_within o ≡ Some bytes → (o ≡ Some bytes)
+    × (is_input bytes ≡ true)
 input_is None bytes e = absurd cc
 input_is (Some found) bytes e =
     let h = cond_is (is_input found) found bytes e in
@@ -86,7 +89,8 @@ input_is (Some found) bytes e =
 
 bytes_from : (bs : List ℕ) → IsBytes bs → list_all (λ b. ltb b 256) bs ≡ true
 bytes_from [] fits = refl
-bytes_from (b ∷ bs) fits = and_from (ltb b 256) (list_all (λ c. ltb c 256) bs) (lt-ltb b 256 (fits 0)) (bytes_from bs (λ i. fits (suc i)))
+bytes_from (b ∷ bs) fits = and_from (ltb b 256) (list_all (λ c. ltb c 256) bs) (lt-ltb b 256 (fits 0))
+    (bytes_from bs (λ i. fits (suc i)))
 
 -- ---- lengths
 
@@ -113,12 +117,15 @@ lengths [] = 0
 lengths (x ∷ xs) = length x + lengths xs
 
 strip-le : (line : List ℕ) → length (strip_carriage_return line) ≤ length line
-strip-le line = cond_both (eqb (get_or line (length line - 1) 0) 13) _ line (λ l. length l ≤ length line) (λ _. omega (arith, length-take (length line - 1) line)) (λ _. omega arith)
+strip-le line = cond_both (eqb (get_or line (length line - 1) 0) 13) _ line (λ l. length l ≤ length line)
+    (λ _. omega (arith, length-take (length line - 1) line)) (λ _. omega arith)
 
 lengths-parts : (ps : List (List ℕ)) → HasPart ps → lengths (lines_of_parts ps) + 1 ≤ total ps
 lengths-parts [] h = elim h [ ]
-lengths-parts (x ∷ []) h = cond_both (eqb (length x) 0) [] (x ∷ []) (λ ls. lengths ls + 1 ≤ length x + 1 + 0) (λ _. omega arith) (λ _. omega arith)
-lengths-parts (x ∷ y ∷ more) h = let others = lengths-parts (y ∷ more) (part y more) in let strip = strip-le x in omega arith
+lengths-parts (x ∷ []) h = cond_both (eqb (length x) 0) [] (x ∷ []) (λ ls. lengths ls + 1 ≤ length x + 1 + 0)
+    (λ _. omega arith) (λ _. omega arith)
+lengths-parts (x ∷ y ∷ more) h = let others = lengths-parts (y ∷ more)
+    (part y more) in let strip = strip-le x in omega arith
 
 -- the lines are no longer than the bytes
 pub lengths-lines : (bytes : List ℕ) → lengths (lines bytes) ≤ length bytes
@@ -137,16 +144,24 @@ pub record IsSound (kind : ScriptKind) (event : Event) (size : ℕ) : Type 0 whe
 IsSound-at : (kind : ScriptKind) (size : ℕ) (a b : Event) → a ≡ b → IsSound kind a size → IsSound kind b size
 IsSound-at kind size a b e h = subst (λ (x : Event). IsSound kind x size) e h
 
-short_sound : (kind : ScriptKind) (word : List ℕ) (k size : ℕ) (event : Event) → is_connection k ≡ true → 2 ≤ size → short_event kind word k ≡ Some event → IsSound kind event size
+short_sound : (kind : ScriptKind) (word : List ℕ) (k size : ℕ) (event : Event) → is_connection k ≡ true → 2 ≤ size
+    → short_event kind word k ≡ Some event → IsSound kind event size
 short_sound kind word k size event number le e =
     elim (cases_Bool (bytes_eq word (codes "break"))) [
-      | inl breaks ↦ IsSound-at kind size (Break k) event (some_is _ _ (rw breaks at e)) (record { in_grammar = number; fits = omega arith })
+      | inl breaks ↦ IsSound-at kind size (Break k) event (some_is _ _ (rw breaks at e))
+          (record { in_grammar = number; fits = omega arith })
       | inr a ↦ elim (cases_Bool (bytes_eq word (codes "end"))) [
-        | inl ends ↦ IsSound-at kind size (End k) event (some_is _ _ (rw (a, ends) at e)) (record { in_grammar = number; fits = omega arith })
+        | inl ends ↦ IsSound-at kind size (End k) event (some_is _ _ (rw (a, ends) at e))
+            (record { in_grammar = number; fits = omega arith })
         | inr b ↦
             let h = cond_is (bytes_eq word (codes "open") && is_replay kind) (Open k) event (rw (a, b) at e) in
             let replay = and_parts (bytes_eq word (codes "open")) (is_replay kind) h.0 in
-            IsSound-at kind size (Open k) event h.1 (record { in_grammar = and_from (is_replay kind) (is_connection k) replay.1 number; fits = omega arith })
+            IsSound-at kind size (Open k) event h.1
+            (record {
+              in_grammar = and_from (is_replay kind)
+                  (is_connection k) replay.1 number;
+              fits = omega arith;
+            })
       ]
     ]
 
@@ -156,47 +171,59 @@ mount_sound value mount e =
     subst (λ (text : List ℕ). is_name text ≡ true) h.0 h.1
 
 -- the lines of three parts
-module _ (kind : ScriptKind) (k size : ℕ) (value : List ℕ) (number : is_connection k ≡ true) (room : 2 + length value ≤ size) where
-  input_sound : (event : Event) → option_map (λ bytes. In k bytes) (input_of value) ≡ Some event → IsSound kind event size
+module _ (kind : ScriptKind) (k size : ℕ) (value : List ℕ) (number : is_connection k ≡ true)
+    (room : 2 + length value ≤ size) where
+  input_sound : (event : Event) → option_map (λ bytes. In k bytes) (input_of value) ≡ Some event
+      → IsSound kind event size
   input_sound event e =
       let m = map_some (λ bytes. In k bytes) (input_of value) event e in
       let i = input_is (result_ok (decode_of value)) m.0 m.1 in
       let d = decode_of-ok value m.0 (ok_is_some (decode_of value) m.0 i.0) in
       IsSound-at kind size (In k m.0) event m.2 (record {
-        in_grammar = and_from (is_connection k && is_input m.0) (list_all (λ b. ltb b 256) m.0) (and_from (is_connection k) (is_input m.0) number i.1) (bytes_from m.0 d.3);
+        in_grammar = and_from (is_connection k && is_input m.0) (list_all (λ b. ltb b 256) m.0)
+            (and_from (is_connection k) (is_input m.0) number i.1) (bytes_from m.0 d.3);
         fits = omega (arith, d.2);
       })
 
-  turn_sound : (event : Event) → option_map (λ budget. Turn k budget) (at_most 16 (number_of value)) ≡ Some event → IsSound kind event size
+  turn_sound : (event : Event) → option_map (λ budget. Turn k budget) (at_most 16 (number_of value)) ≡ Some event
+      → IsSound kind event size
   turn_sound event e =
       let m = map_some (λ budget. Turn k budget) (at_most 16 (number_of value)) event e in
       let l = and_parts (leb 1 m.0) (leb m.0 16) (in_limits 16 m.0 value m.1) in
       IsSound-at kind size (Turn k m.0) event m.2 (record {
-        in_grammar = and_from (is_connection k && leb 1 m.0) (leb m.0 16) (and_from (is_connection k) (leb 1 m.0) number l.0) l.1;
+        in_grammar = and_from (is_connection k && leb 1 m.0) (leb m.0 16)
+            (and_from (is_connection k) (leb 1 m.0) number l.0) l.1;
         fits = omega arith;
       })
 
-  source_sound : (event : Event) → is_bare kind ≡ true → option_map (λ mount. Source k mount) (mount_of value) ≡ Some event → IsSound kind event size
+  source_sound : (event : Event) → is_bare kind ≡ true
+      → option_map (λ mount. Source k mount) (mount_of value) ≡ Some event → IsSound kind event size
   source_sound event bare e =
       let m = map_some (λ mount. Source k mount) (mount_of value) event e in
       IsSound-at kind size (Source k m.0) event m.2 (record {
-        in_grammar = and_from (is_bare kind && is_connection k) (is_name m.0) (and_from (is_bare kind) (is_connection k) bare number) (mount_sound value m.0 m.1);
+        in_grammar = and_from (is_bare kind && is_connection k) (is_name m.0)
+            (and_from (is_bare kind) (is_connection k) bare number) (mount_sound value m.0 m.1);
         fits = omega arith;
       })
 
-  rover_sound : (event : Event) → is_bare kind ≡ true → option_map (λ mount. Rover k mount) (mount_of value) ≡ Some event → IsSound kind event size
+  rover_sound : (event : Event) → is_bare kind ≡ true
+      → option_map (λ mount. Rover k mount) (mount_of value) ≡ Some event → IsSound kind event size
   rover_sound event bare e =
       let m = map_some (λ mount. Rover k mount) (mount_of value) event e in
       IsSound-at kind size (Rover k m.0) event m.2 (record {
-        in_grammar = and_from (is_bare kind && is_connection k) (is_name m.0) (and_from (is_bare kind) (is_connection k) bare number) (mount_sound value m.0 m.1);
+        in_grammar = and_from (is_bare kind && is_connection k) (is_name m.0)
+            (and_from (is_bare kind) (is_connection k) bare number) (mount_sound value m.0 m.1);
         fits = omega arith;
       })
 
-  relay_sound : (event : Event) → is_replay kind ≡ true → option_map (λ n. Relay k (relay_number n)) (number_of value) ≡ Some event → IsSound kind event size
+  relay_sound : (event : Event) → is_replay kind ≡ true
+      → option_map (λ n. Relay k (relay_number n)) (number_of value) ≡ Some event → IsSound kind event size
   relay_sound event replay e =
       let m = map_some (λ n. Relay k (relay_number n)) (number_of value) event e in
       IsSound-at kind size (Relay k (relay_number m.0)) event m.2 (record {
-        in_grammar = and_from (is_replay kind && is_connection k) (ltb (relay_number m.0) (2 ^ 32)) (and_from (is_replay kind) (is_connection k) replay number) (lt-ltb (relay_number m.0) (2 ^ 32) (omega arith));
+        in_grammar = and_from (is_replay kind && is_connection k) (ltb (relay_number m.0) (2 ^ 32))
+            (and_from (is_replay kind) (is_connection k) replay number)
+            (lt-ltb (relay_number m.0) (2 ^ 32) (omega arith));
         fits = omega arith;
       })
 
@@ -219,7 +246,8 @@ module _ (kind : ScriptKind) (k size : ℕ) (value : List ℕ) (number : is_conn
         ]
       ]
 
-parts_sound : (kind : ScriptKind) (ps : List (List ℕ)) (event : Event) → event_of_parts kind ps ≡ Some event → (size : ℕ) → total ps ≤ size → IsSound kind event size
+parts_sound : (kind : ScriptKind) (ps : List (List ℕ)) (event : Event) → event_of_parts kind ps ≡ Some event
+    → (size : ℕ) → total ps ≤ size → IsSound kind event size
 parts_sound kind [] event e size le = absurd cc
 parts_sound kind (word ∷ []) event e size le = absurd cc
 parts_sound kind (word ∷ number ∷ []) event e size le =
@@ -231,6 +259,8 @@ parts_sound kind (word ∷ number ∷ value ∷ []) event e size le =
 parts_sound kind (word ∷ number ∷ value ∷ more ∷ others) event e size le = absurd cc
 
 -- the event of a line
-pub line_sound : (kind : ScriptKind) (line : List ℕ) (event : Event) → event_of_line kind line ≡ Some event → IsSound kind event (length line + 1)
+pub line_sound : (kind : ScriptKind) (line : List ℕ) (event : Event) → event_of_line kind line ≡ Some event
+    → IsSound kind event (length line + 1)
 unfolding event_of_line
-line_sound kind line event e = parts_sound kind (slice_split (λ b. eqb b 32) line) event e (length line + 1) (let all = total-split (λ b. eqb b 32) line in omega arith)
+line_sound kind line event e = parts_sound kind (slice_split (λ b. eqb b 32) line) event e (length line + 1)
+    (let all = total-split (λ b. eqb b 32) line in omega arith)

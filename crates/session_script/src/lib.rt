@@ -8,20 +8,19 @@ ghost use Rattle.std.specs.Prelude.{◌≡◌};
 ghost use Rattle.session_script.specs.declared.ScriptFault.TheVariants.{Memory};
 
 mod connections;
-mod law;
+pub mod laws;
 mod line;
 mod number;
 mod parts;
 mod reading;
 
 use cast_text::{MountName, Text};
-pub use law::{reads_lines, reads_what_is_written};
 pub use reading::parse;
 use std::alloc::{AllocError, AllocFailed};
 use thiserror::Error;
 
 /// One event of a script. The first number of each is the connection's, from 1 to 9999.
-#[derive(Debug, Drop)]
+#[derive(Debug, PartialEq, Eq, Drop)]
 pub enum Event {
     /// A source opens, for this mountpoint.
     Source(u32, MountName),
@@ -42,7 +41,7 @@ pub enum Event {
 }
 
 /// Which lines a script may have.
-#[derive(Clone, Copy, Debug)]
+#[derive(Clone, Copy, Debug, PartialEq, Eq)]
 pub enum ScriptKind {
     /// Sources and rovers open at their mountpoints: `source` and `rover`.
     Bare,
@@ -54,7 +53,7 @@ pub enum ScriptKind {
 }
 
 /// Why bytes are no script. Lines are numbered from 1, and the first faulty line is named.
-#[derive(Debug, Drop, Error)]
+#[derive(Clone, Copy, Debug, PartialEq, Eq, Error)]
 pub enum ScriptFault {
     /// This line is of no form of its kind.
     #[error("line {0} is of no form")]

@@ -7,7 +7,7 @@ ghost use Rattle.session_script.specs.Line.{is_bare, is_replay, mount_of, input_
 use crate::number::{number_of, number_within};
 use crate::parts::split_part;
 use crate::{Event, ScriptKind};
-use cast_text::{MountName, NameFault, Text};
+use cast_text::{MountName, NameFault, Text, TextFault};
 use hex::FromHexError;
 use std::alloc::{AllocError, Global};
 
@@ -57,7 +57,8 @@ fn input_of(alloc: Global, text: &[u8]) -> Result<Option<Text>, AllocError>
     }
     match Text::new(alloc, &bytes) {
         Ok(input) => Ok(Some(input)),
-        Err(_) => Err(AllocError),
+        Err(TextFault::Memory) => Err(AllocError),
+        Err(TextFault::Long(_)) => unreachable!(),
     }
 }
 

@@ -6,8 +6,8 @@ ghost use Rattle.session_script.specs.Reading.{line_read};
 
 use crate::connections::Connections;
 use crate::line::event_of_line;
-use crate::parts::split_line;
 use crate::{Event, ScriptFault, ScriptKind};
+use cast_text::split_line;
 use std::alloc::{AllocError, Global};
 
 /// The most bytes of a script.

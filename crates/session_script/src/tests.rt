@@ -1,5 +1,6 @@
 use super::*;
 use cast_text::push_decimal;
+use std::alloc::{AllocError, Global};
 use std::test::Fail;
 
 const REPLAY: ScriptKind = ScriptKind::Replay { relays: 2 };
@@ -111,5 +112,24 @@ fn the_257th_connection_is_refused(rt: HostRuntime) -> Result<(), Fail> {
     script.truncate(whole);
     script.extend_from_slice(b"stop\n")?;
     assert_eq!(rt; parse(rt.alloc(), &script, REPLAY)?.len(), 256);
+    Ok(())
+}
+
+/// A script of this many bytes: a comment, and `stop`.
+fn long_script(alloc: Global, size: usize) -> Result<Vec<u8>, AllocError> {
+    let mut script = vec![in alloc; b'#'; size.saturating_sub(5)]?;
+    script.extend_from_slice(b"\nstop")?;
+    Ok(script)
+}
+
+#[test]
+fn a_script_has_at_most_8_mib(rt: HostRuntime) -> Result<(), Fail> {
+    let most = long_script(rt.alloc(), 8_388_608)?;
+    assert_eq!(rt; parse(rt.alloc(), &most, ScriptKind::Bare)?.len(), 0);
+    let more = long_script(rt.alloc(), 8_388_609)?;
+    assert_eq!(rt;
+        parse(rt.alloc(), &more, ScriptKind::Bare).err(),
+        Some(ScriptFault::Long)
+    );
     Ok(())
 }

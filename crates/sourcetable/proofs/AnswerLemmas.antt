@@ -30,8 +30,10 @@ records_same [] [] ar bs e = refl
 records_same [] (s ∷ ss) ar bs e = absurd cc
 records_same (r ∷ rs) [] ar bs e = absurd cc
 records_same (r ∷ rs) (s ∷ ss) ar bs e =
-    let first : r ≡ s = line_same r s (All-head IsRecord r rs ar) (All-head IsRecord s ss bs) (head_same (line_of r) (line_of s) (map line_of rs) (map line_of ss) e) in
-    let rest : rs ≡ ss = records_same rs ss (All-tail IsRecord r rs ar) (All-tail IsRecord s ss bs) (tail_same (line_of r) (line_of s) (map line_of rs) (map line_of ss) e) in
+    let first : r ≡ s = line_same r s (All-head IsRecord r rs ar) (All-head IsRecord s ss bs)
+    (head_same (line_of r) (line_of s) (map line_of rs) (map line_of ss) e) in
+    let rest : rs ≡ ss = records_same rs ss (All-tail IsRecord r rs ar) (All-tail IsRecord s ss bs)
+    (tail_same (line_of r) (line_of s) (map line_of rs) (map line_of ss) e) in
     cc
 
 -- ---- the one verdict on a text
@@ -54,7 +56,8 @@ none_found number (line ∷ more) sound =
     ap (λ (f : Option LineFault). or_next number f (first_from (number + 1) more)) first
     ∙ none_found (number + 1) more (All-tail Sound line more sound)
 
-found : (number : ℕ) (front : List (List ℕ)) (line : List ℕ) (more : List (List ℕ)) (why : LineFault) → All Sound front → fault_of line ≡ Some why
+found : (number : ℕ) (front : List (List ℕ)) (line : List ℕ) (more : List (List ℕ)) (why : LineFault)
+    → All Sound front → fault_of line ≡ Some why
     → first_from number (front ++ line ∷ more) ≡ Some (table_fault (number + length front) why)
 found number [] line more why sound fault =
     let here : number + 0 ≡ number = omega arith in
@@ -80,22 +83,28 @@ abbrev bare : {X E : Type 0} → Result X E → Result (Unit {0}) E
 bare (Ok x) = Ok tt
 bare (Err e) = Err e
 
-short : (text : List ℕ) (first : Option TableFault) (ended : Bool) → length text ≤ most_bytes → first_from 1 (lines_before_end text) ≡ first → has_end text ≡ ended
+short : (text : List ℕ) (first : Option TableFault) (ended : Bool) → length text ≤ most_bytes
+    → first_from 1 (lines_before_end text) ≡ first → has_end text ≡ ended
     → verdict text ≡ verdict_of false first ended
 short text first ended within is ends =
     ap (λ (b : Bool). verdict_of b (first_from 1 (lines_before_end text)) (has_end text)) (le-ltb _ _ within)
     ∙ ap (λ (f : Option TableFault). verdict_of false f (has_end text)) is
     ∙ ap (verdict_of false first) ends
 
-fault_found : (text : List ℕ) (number : ℕ) (why : LineFault) → IsFirstFault text number why → first_from 1 (lines_before_end text) ≡ Some (table_fault number why)
+fault_found : (text : List ℕ) (number : ℕ) (why : LineFault) → IsFirstFault text number why
+    → first_from 1 (lines_before_end text) ≡ Some (table_fault number why)
 fault_found text number why h =
     let counted : 1 + length h.front ≡ number = omega (arith, h.counted) in
-    ap (first_from 1) h.stands ∙ found 1 h.front h.line h.more why h.sound h.fault ∙ ap (λ (n : ℕ). Some (table_fault n why)) counted
+    ap (first_from 1) h.stands ∙ found 1 h.front h.line h.more why h.sound h.fault
+    ∙ ap (λ (n : ℕ). Some (table_fault n why)) counted
 
-one_verdict : (text : List ℕ) (answer : Result Table TableFault) → IsTableRead text answer → answer ≢ Err tables.Memory → verdict text ≡ bare answer
+one_verdict : (text : List ℕ) (answer : Result Table TableFault) → IsTableRead text answer
+    → answer ≢ Err tables.Memory → verdict text ≡ bare answer
 one_verdict text (Ok table) h not_memory =
     short text None true h.within
-    (none_found 1 (lines_before_end text) (All-same Sound (lines_before_end text) (map line_of table.records) h.stands (sound_records table.records h.are))) h.ended
+    (none_found 1 (lines_before_end text)
+    (All-same Sound (lines_before_end text) (map line_of table.records) h.stands
+    (sound_records table.records h.are))) h.ended
 one_verdict text (Err tables.Long) h not_memory =
     ap (λ (b : Bool). verdict_of b (first_from 1 (lines_before_end text)) (has_end text)) (lt-ltb _ _ h)
 one_verdict text (Err (tables.Kind number)) h not_memory =
@@ -120,7 +129,8 @@ one_table_answer text (Ok t) (Err f) ha hb na nb =
 one_table_answer text (Err e) (Ok u) ha hb na nb =
     absurd (let e = sym (one_verdict text (Err e) ha na) ∙ one_verdict text (Ok u) hb nb in cc)
 one_table_answer text (Err e) (Err f) ha hb na nb =
-    let same : bare {X = Table} (Err e) ≡ bare {X = Table} (Err f) = sym (one_verdict text (Err e) ha na) ∙ one_verdict text (Err f) hb nb in
+    let same : bare {X = Table} (Err e) ≡ bare {X = Table} (Err f) = sym (one_verdict text (Err e) ha na)
+    ∙ one_verdict text (Err f) hb nb in
     let fault : e ≡ f = cc in
     ap (λ (g : TableFault). Err g) fault
 
@@ -134,10 +144,13 @@ line_verdict_of None None = Ok tt
 abbrev line_verdict : List ℕ → Result (Unit {0}) RecordFault
 line_verdict line = line_verdict_of (fault_of line) (line_end_in line)
 
-judged : (line : List ℕ) (fault : Option LineFault) (place : Option ℕ) → fault_of line ≡ fault → line_end_in line ≡ place → line_verdict line ≡ line_verdict_of fault place
-judged line fault place f p = ap (λ (g : Option LineFault). line_verdict_of g (line_end_in line)) f ∙ ap (line_verdict_of fault) p
+judged : (line : List ℕ) (fault : Option LineFault) (place : Option ℕ) → fault_of line ≡ fault
+    → line_end_in line ≡ place → line_verdict line ≡ line_verdict_of fault place
+judged line fault place f p = ap (λ (g : Option LineFault). line_verdict_of g (line_end_in line)) f
+    ∙ ap (line_verdict_of fault) p
 
-one_line_verdict : (line : List ℕ) (answer : Result Record RecordFault) → IsRecordRead line answer → answer ≢ Err records.Memory → line_verdict line ≡ bare answer
+one_line_verdict : (line : List ℕ) (answer : Result Record RecordFault) → IsRecordRead line answer
+    → answer ≢ Err records.Memory → line_verdict line ≡ bare answer
 one_line_verdict line (Ok r) h not_memory = judged line None None (fault_of_record line r h.0) h.1
 one_line_verdict line (Err records.Kind) h not_memory = judged line (Some faults.Kind) (line_end_in line) h refl
 one_line_verdict line (Err records.Fields) h not_memory = judged line (Some faults.Fields) (line_end_in line) h refl
@@ -155,6 +168,7 @@ one_record_answer line (Ok r) (Err f) ha hb na nb =
 one_record_answer line (Err e) (Ok s) ha hb na nb =
     absurd (let e = sym (one_line_verdict line (Err e) ha na) ∙ one_line_verdict line (Ok s) hb nb in cc)
 one_record_answer line (Err e) (Err f) ha hb na nb =
-    let same : bare {X = Record} (Err e) ≡ bare {X = Record} (Err f) = sym (one_line_verdict line (Err e) ha na) ∙ one_line_verdict line (Err f) hb nb in
+    let same : bare {X = Record} (Err e) ≡ bare {X = Record} (Err f) = sym (one_line_verdict line (Err e) ha na)
+    ∙ one_line_verdict line (Err f) hb nb in
     let fault : e ≡ f = cc in
     ap (λ (g : RecordFault). Err g) fault

@@ -13,20 +13,17 @@ use Rattle.sourcetable.specs.declared.record.Record.{Record}
 use Rattle.sourcetable.specs.declared.record.Table.{Table}
 use Rattle.sourcetable.specs.declared.fault.TableFault.{TableFault}
 use Rattle.sourcetable.specs.declared.fault.TableFault.TheVariants as tables
-use Rattle.sourcetable.specs.Record.{letters, field_count, fields_text, line_of, is_separator, is_line_end, HasNone, AreFreeButLast, IsRecord, IsOneLine}
+use Rattle.sourcetable.specs.Record.{letters, field_count, fields_text, line_of, is_separator, is_line_end, AreFreeButLast, IsRecord, IsOneLine}
+use Rattle.cast_text.specs.Split.{HasNone}
 use Rattle.sourcetable.specs.Table.{kind_of, fault_of, most_bytes, cr_lf, text_with}
 use Rattle.sourcetable.specs.Reading.{line_end_in, IsRecordOf, IsTableOf, IsTableRead}
-use Rattle.sourcetable.proofs.SplitLemmas.{position_none, position_some, parts_at}
-use Rattle.sourcetable.proofs.LineLemmas.{is_lf, lines_front, strip_none, strip_one}
+use Rattle.cast_text.proofs.SplitLemmas.{is_lf, lines_front, none-append, parts_at, position_none, position_some, strip_none, strip_one}
 use Rattle.sourcetable.proofs.RecordLemmas.{count-append, count_behind, count_none}
-use Rattle.sourcetable.proofs.KindLemmas.{fault_kind, fault_few, kind_split, count_line}
+use Rattle.sourcetable.proofs.KindLemmas.{fault_kind, fault_few, kind_split, count_line, some_count}
 use Rattle.sourcetable.proofs.TableLemmas.{IsReadSoFar, read_whole}
 use Rattle.sourcetable.proofs.AnswerLemmas.{one_table_answer}
 
 -- ---- a byte that a text has nowhere
-
-none-append : (p : ℕ → Bool) (a b : List ℕ) → HasNone p a → HasNone p b → HasNone p (a ++ b)
-none-append p a b na nb = list_any-append p a b ∙ or_from (list_any p a) (list_any p b) na nb
 
 none_parts : (p : ℕ → Bool) (a b : List ℕ) → HasNone p (a ++ b) → HasNone p a × HasNone p b
 none_parts p a b h = or_parts (list_any p a) (list_any p b) (sym (list_any-append p a b) ∙ h)
@@ -43,7 +40,8 @@ fields_none (field ∷ more) h =
     (fields_none more (All-tail (HasNone is_line_end) field more h))
 
 line_none : (r : Record) → IsOneLine r → HasNone is_line_end (line_of r)
-line_none r h = none-append is_line_end (letters r.kind) (fields_text r.fields) (letters_none r.kind) (fields_none r.fields h.ends)
+line_none r h = none-append is_line_end (letters r.kind) (fields_text r.fields) (letters_none r.kind)
+    (fields_none r.fields h.ends)
 
 each_none : (fields : List (List ℕ)) → HasNone is_line_end (fields_text fields) → All (HasNone is_line_end) fields
 each_none [] h = All-nil (HasNone is_line_end)
@@ -54,8 +52,13 @@ each_none (field ∷ more) h =
 -- the record of a line without CR and LF is one line
 pub one_line : (line : List ℕ) (r : Record) → IsRecordOf line r → line_end_in line ≡ None → IsOneLine r
 one_line line r of none =
-    let whole : HasNone is_line_end (line_of r) = subst (HasNone is_line_end) of.line_is (position_none is_line_end line none) in
-    record { is = of.is; ends = each_none r.fields (none_parts is_line_end (letters r.kind) (fields_text r.fields) whole).1 }
+    let whole : HasNone is_line_end (line_of r) = subst (HasNone is_line_end) of.line_is
+    (position_none is_line_end line none) in
+    record {
+      is = of.is;
+      ends = each_none r.fields
+          (none_parts is_line_end (letters r.kind) (fields_text r.fields) whole).1;
+    }
 
 lf_none : (text : List ℕ) → HasNone is_line_end text → HasNone is_lf text
 lf_none [] h = refl
@@ -86,7 +89,8 @@ cr_lf_ends = record {
 pub lf_ends : EndsLine (10 ∷ [])
 lf_ends = record {
   ends = λ line rest none.
-      lines_front line rest (lf_none line none) ∙ ap (λ (l : List ℕ). l ∷ lines rest) (strip_none line (cr_none line none));
+      lines_front line rest (lf_none line none)
+      ∙ ap (λ (l : List ℕ). l ∷ lines rest) (strip_none line (cr_none line none));
 }
 
 lines_records : (e : List ℕ) (rs : List Record) (rest : List ℕ) → EndsLine e → All IsOneLine rs
@@ -108,16 +112,20 @@ end_line : (e : List ℕ) → EndsLine e → lines (codes "ENDSOURCETABLE" ++ e)
 end_line e ends =
     ap (λ (t : List ℕ). lines (codes "ENDSOURCETABLE" ++ t)) (sym (append-nil e)) ∙ ends.ends (codes "ENDSOURCETABLE") [] refl
 
-written_is_table : (e : List ℕ) (table : Table) → EndsLine e → All IsOneLine table.records → length (text_with e table.records) ≤ most_bytes
+written_is_table : (e : List ℕ) (table : Table) → EndsLine e → All IsOneLine table.records
+    → length (text_with e table.records) ≤ most_bytes
     → IsTableOf (text_with e table.records) table
 written_is_table e table ends all within =
     read_whole (text_with e table.records) (codes "ENDSOURCETABLE" ++ e) [] (codes "ENDSOURCETABLE") table.records
     (written_so_far e table.records ends all) (end_line e ends) refl within
 
-pub reads_back : (e : List ℕ) → EndsLine e → (table : Table) (answer : Result Table TableFault) → All IsOneLine table.records
-    → length (text_with e table.records) ≤ most_bytes → IsTableRead (text_with e table.records) answer → answer ≢ Err tables.Memory → answer ≡ Ok table
+pub reads_back : (e : List ℕ) → EndsLine e → (table : Table) (answer : Result Table TableFault)
+    → All IsOneLine table.records
+    → length (text_with e table.records) ≤ most_bytes → IsTableRead (text_with e table.records) answer
+    → answer ≢ Err tables.Memory → answer ≡ Ok table
 reads_back e ends table answer all within read not_memory =
-    one_table_answer (text_with e table.records) answer (Ok table) read (written_is_table e table ends all within) not_memory
+    one_table_answer (text_with e table.records) answer (Ok table) read
+    (written_is_table e table ends all within) not_memory
     (λ (same : Ok table ≡ Err tables.Memory). cc)
 
 -- ---- a line without a fault
@@ -128,7 +136,8 @@ record IsCut (text : List ℕ) : Type 0 where
   none : HasNone is_separator front
   is : text ≡ front ++ 59 ∷ rest
 
-cut_at : (text : List ℕ) (place : Option ℕ) → position is_separator text ≡ place → 0 < count_by is_separator text → IsCut text
+cut_at : (text : List ℕ) (place : Option ℕ) → position is_separator text ≡ place → 0 < count_by is_separator text
+    → IsCut text
 cut_at text None at some =
     let none : count_by is_separator text ≡ 0 = count_none is_separator text (position_none is_separator text at) in
     absurd (omega arith)
@@ -139,7 +148,8 @@ cut_at text (Some place) at some = record {
   is = parts_at 59 text place at;
 }
 
-free_more : (field : List ℕ) (fields : List (List ℕ)) → HasNone is_separator field → AreFreeButLast fields → AreFreeButLast (field ∷ fields)
+free_more : (field : List ℕ) (fields : List (List ℕ)) → HasNone is_separator field → AreFreeButLast fields
+    → AreFreeButLast (field ∷ fields)
 free_more field [] none free = tt
 free_more field (second ∷ more) none free = (none, free)
 
@@ -158,8 +168,11 @@ fields_exist zero text enough = record {
 }
 fields_exist (suc n) text enough =
     let cut : IsCut text = cut_at text (position is_separator text) refl (omega arith) in
-    let a : count_by is_separator text ≡ count_by is_separator (cut.front ++ 59 ∷ cut.rest) = ap (count_by is_separator) cut.is in
-    let b : count_by is_separator (cut.front ++ 59 ∷ cut.rest) ≡ count_by is_separator cut.front + count_by is_separator (59 ∷ cut.rest) = count-append is_separator cut.front (59 ∷ cut.rest) in
+    let a : count_by is_separator text ≡ count_by is_separator (cut.front ++ 59 ∷ cut.rest) = ap
+    (count_by is_separator) cut.is in
+    let b : count_by is_separator
+    (cut.front ++ 59 ∷ cut.rest) ≡ count_by is_separator cut.front + count_by is_separator
+    (59 ∷ cut.rest) = count-append is_separator cut.front (59 ∷ cut.rest) in
     let d : count_by is_separator cut.front ≡ 0 = count_none is_separator cut.front cut.none in
     let e : count_by is_separator (59 ∷ cut.rest) ≡ 1 + count_by is_separator cut.rest = count_behind cut.rest in
     let more : HasFields n cut.rest = fields_exist n cut.rest (omega arith) in
@@ -170,18 +183,18 @@ fields_exist (suc n) text enough =
       joined = ap (λ (t : List ℕ). 59 ∷ (cut.front ++ t)) more.joined ∙ ap (λ (t : List ℕ). 59 ∷ t) (sym cut.is);
     }
 
-some_count : (kind : Kind) → 0 < field_count kind
-some_count Str = omega arith
-some_count Cas = omega arith
-some_count Net = omega arith
-
-record_of_kind : (line : List ℕ) (kind : Kind) → kind_of line ≡ Some kind → field_count kind ≤ count_by is_separator line → (r : Record) × IsRecordOf line r
+record_of_kind : (line : List ℕ) (kind : Kind) → kind_of line ≡ Some kind
+    → field_count kind ≤ count_by is_separator line → (r : Record) × IsRecordOf line r
 record_of_kind line kind is enough =
-    let all : count_by is_separator line ≡ count_by is_separator (letters kind ++ 59 ∷ drop 4 line) = ap (count_by is_separator) (kind_split line kind is) in
-    let rest : count_by is_separator (letters kind ++ 59 ∷ drop 4 line) ≡ count_by is_separator (59 ∷ drop 4 line) = count_line kind (59 ∷ drop 4 line) in
-    let behind : count_by is_separator (59 ∷ drop 4 line) ≡ 1 + count_by is_separator (drop 4 line) = count_behind (drop 4 line) in
+    let all : count_by is_separator line ≡ count_by is_separator (letters kind ++ 59 ∷ drop 4 line) = ap
+    (count_by is_separator) (kind_split line kind is) in
+    let rest : count_by is_separator (letters kind ++ 59 ∷ drop 4 line) ≡ count_by is_separator
+    (59 ∷ drop 4 line) = count_line kind (59 ∷ drop 4 line) in
+    let behind : count_by is_separator (59 ∷ drop 4 line) ≡ 1 + count_by is_separator (drop 4 line) = count_behind
+    (drop 4 line) in
     let some : 0 < field_count kind = some_count kind in
-    let has : HasFields (field_count kind - 1) (drop 4 line) = fields_exist (field_count kind - 1) (drop 4 line) (omega arith) in
+    let has : HasFields (field_count kind - 1) (drop 4 line) = fields_exist (field_count kind - 1) (drop 4 line)
+    (omega arith) in
     let count : length has.fields ≡ (field_count kind - 1) + 1 = has.count in (
       record { kind = kind; fields = has.fields },
       record {
@@ -190,7 +203,8 @@ record_of_kind line kind is enough =
       },
     )
 
-record_by_kind : (line : List ℕ) (kind : Option Kind) → kind_of line ≡ kind → fault_of line ≡ None → (r : Record) × IsRecordOf line r
+record_by_kind : (line : List ℕ) (kind : Option Kind) → kind_of line ≡ kind → fault_of line ≡ None → (r : Record)
+    × IsRecordOf line r
 record_by_kind line None is none = absurd (let h = fault_kind line is in cc)
 record_by_kind line (Some kind) is none =
     elim (cases_lt (count_by is_separator line) (field_count kind)) [

@@ -18,18 +18,24 @@ use Rattle.sourcetable.proofs.RecordLemmas.{count-append, count_behind, count_fi
 -- ---- the beginning of a line
 
 begins_split : (kind : Kind) (line : List ℕ) → begins_as kind line ≡ true → line ≡ letters kind ++ 59 ∷ drop 4 line
-begins_split Str line h = (starts_is {E = nat_eq} Decides-eqb line (83 ∷ 84 ∷ 82 ∷ 59 ∷ []) (begins_as Str line) refl).0 h
-begins_split Cas line h = (starts_is {E = nat_eq} Decides-eqb line (67 ∷ 65 ∷ 83 ∷ 59 ∷ []) (begins_as Cas line) refl).0 h
-begins_split Net line h = (starts_is {E = nat_eq} Decides-eqb line (78 ∷ 69 ∷ 84 ∷ 59 ∷ []) (begins_as Net line) refl).0 h
+begins_split Str line h =
+    (starts_is {E = nat_eq} Decides-eqb line (83 ∷ 84 ∷ 82 ∷ 59 ∷ []) (begins_as Str line) refl).0 h
+begins_split Cas line h =
+    (starts_is {E = nat_eq} Decides-eqb line (67 ∷ 65 ∷ 83 ∷ 59 ∷ []) (begins_as Cas line) refl).0 h
+begins_split Net line h =
+    (starts_is {E = nat_eq} Decides-eqb line (78 ∷ 69 ∷ 84 ∷ 59 ∷ []) (begins_as Net line) refl).0 h
 
 kind_begins : (line : List ℕ) (kind : Kind) → kind_of line ≡ Some kind → begins_as kind line ≡ true
 kind_begins line kind h =
     elim (cases_Bool (begins_as Str line)) [
-      | inl str ↦ let e : Str ≡ kind = (let g = rw str at h in cc) in subst (λ (k : Kind). begins_as k line ≡ true) e str
+      | inl str ↦ let e : Str ≡ kind = (let g = rw str at h in cc) in subst
+          (λ (k : Kind). begins_as k line ≡ true) e str
       | inr not_str ↦ elim (cases_Bool (begins_as Cas line)) [
-        | inl cas ↦ let e : Cas ≡ kind = (let g = rw (not_str, cas) at h in cc) in subst (λ (k : Kind). begins_as k line ≡ true) e cas
+        | inl cas ↦ let e : Cas ≡ kind = (let g = rw (not_str, cas) at h in cc) in subst
+            (λ (k : Kind). begins_as k line ≡ true) e cas
         | inr not_cas ↦ elim (cases_Bool (begins_as Net line)) [
-          | inl net ↦ let e : Net ≡ kind = (let g = rw (not_str, not_cas, net) at h in cc) in subst (λ (k : Kind). begins_as k line ≡ true) e net
+          | inl net ↦ let e : Net ≡ kind = (let g = rw (not_str, not_cas, net) at h in cc) in subst
+              (λ (k : Kind). begins_as k line ≡ true) e net
           | inr not_net ↦ absurd (let g = rw (not_str, not_cas, not_net) at h in cc)
         ]
       ]
@@ -49,13 +55,6 @@ length_letters Str = refl
 length_letters Cas = refl
 length_letters Net = refl
 
-pub kind_length : (line : List ℕ) (kind : Kind) → kind_of line ≡ Some kind → 4 ≤ length line
-kind_length line kind h =
-    let is : length line ≡ length (letters kind ++ 59 ∷ drop 4 line) = ap length (kind_split line kind h) in
-    let more : length (letters kind ++ 59 ∷ drop 4 line) ≡ length (letters kind) + length (59 ∷ drop 4 line) = length-append (letters kind) (59 ∷ drop 4 line) in
-    let three : length (letters kind) ≡ 3 = length_letters kind in
-    omega arith
-
 -- ---- how many `;` a line has
 
 count_letters : (kind : Kind) → count_by is_separator (letters kind) ≡ 0
@@ -63,9 +62,11 @@ count_letters Str = refl
 count_letters Cas = refl
 count_letters Net = refl
 
-pub count_line : (kind : Kind) (rest : List ℕ) → count_by is_separator (letters kind ++ rest) ≡ count_by is_separator rest
+pub count_line : (kind : Kind) (rest : List ℕ)
+    → count_by is_separator (letters kind ++ rest) ≡ count_by is_separator rest
 count_line kind rest =
-    let parts : count_by is_separator (letters kind ++ rest) ≡ count_by is_separator (letters kind) + count_by is_separator rest = count-append is_separator (letters kind) rest in
+    let parts : count_by is_separator (letters kind ++ rest) ≡ count_by is_separator
+    (letters kind) + count_by is_separator rest = count-append is_separator (letters kind) rest in
     let none : count_by is_separator (letters kind) ≡ 0 = count_letters kind in
     omega arith
 
@@ -74,21 +75,13 @@ count_line kind rest =
 pub fault_kind : (line : List ℕ) → kind_of line ≡ None → fault_of line ≡ Some faults.Kind
 fault_kind line none = ap (fault_as line) none
 
-pub fault_few : (line : List ℕ) (kind : Kind) → kind_of line ≡ Some kind → count_by is_separator line < field_count kind → fault_of line ≡ Some faults.Fields
+pub fault_few : (line : List ℕ) (kind : Kind) → kind_of line ≡ Some kind
+    → count_by is_separator line < field_count kind → fault_of line ≡ Some faults.Fields
 fault_few line kind is few = ap (fault_as line) is ∙ rw (lt-ltb _ _ few) refl
 
-fault_none : (line : List ℕ) (kind : Kind) → kind_of line ≡ Some kind → field_count kind ≤ count_by is_separator line → fault_of line ≡ None
+fault_none : (line : List ℕ) (kind : Kind) → kind_of line ≡ Some kind → field_count kind ≤ count_by is_separator line
+    → fault_of line ≡ None
 fault_none line kind is enough = ap (fault_as line) is ∙ rw (le-ltb _ _ enough) refl
-
--- too few fields after the fourth byte
-pub fault_fields : (line : List ℕ) (kind : Kind) → kind_of line ≡ Some kind
-    → count_by is_separator (take (length line - 4) (drop 4 line)) + 1 < field_count kind → fault_of line ≡ Some faults.Fields
-fault_fields line kind is few =
-    let all : count_by is_separator line ≡ count_by is_separator (letters kind ++ 59 ∷ drop 4 line) = ap (count_by is_separator) (kind_split line kind is) in
-    let rest : count_by is_separator (letters kind ++ 59 ∷ drop 4 line) ≡ count_by is_separator (59 ∷ drop 4 line) = count_line kind (59 ∷ drop 4 line) in
-    let behind : count_by is_separator (59 ∷ drop 4 line) ≡ 1 + count_by is_separator (drop 4 line) = count_behind (drop 4 line) in
-    let less : count_by is_separator (drop 4 line) + 1 < field_count kind = rw take_rest at few in
-    fault_few line kind is (omega arith)
 
 -- ---- the record of a line
 
@@ -99,12 +92,13 @@ some_fields : (fields : List (List ℕ)) → 0 < length fields → HasFields fie
 some_fields [] h = absurd (omega arith)
 some_fields (field ∷ more) h = has field more
 
-some_count : (kind : Kind) → 0 < field_count kind
+pub some_count : (kind : Kind) → 0 < field_count kind
 some_count Str = omega arith
 some_count Cas = omega arith
 some_count Net = omega arith
 
-kind_of_fields : (kind : Kind) (fields : List (List ℕ)) → HasFields fields → kind_of (letters kind ++ fields_text fields) ≡ Some kind
+kind_of_fields : (kind : Kind) (fields : List (List ℕ)) → HasFields fields
+    → kind_of (letters kind ++ fields_text fields) ≡ Some kind
 kind_of_fields kind [] h = elim h [ ]
 kind_of_fields kind (field ∷ more) h = kind_of_letters kind (field ++ fields_text more)
 
@@ -117,7 +111,8 @@ kind_of_line r is =
 pub fault_of_line : (r : Record) → IsRecord r → fault_of (line_of r) ≡ None
 fault_of_line r is =
     let least : length r.fields ≤ count_by is_separator (fields_text r.fields) = count_fields_least r.fields in
-    let line : count_by is_separator (line_of r) ≡ count_by is_separator (fields_text r.fields) = count_line r.kind (fields_text r.fields) in
+    let line : count_by is_separator (line_of r) ≡ count_by is_separator (fields_text r.fields) = count_line r.kind
+    (fields_text r.fields) in
     let count : length r.fields ≡ field_count r.kind = is.count in
     fault_none (line_of r) r.kind (kind_of_line r is) (omega arith)
 

@@ -1,5 +1,4 @@
-pub mod SplitLemmas
-pub mod LineLemmas
+pub mod RoomLemmas
 pub mod RecordLemmas
 pub mod KindLemmas
 pub mod TableLemmas

@@ -19,13 +19,15 @@ use Rattle.sourcetable.proofs.KindLemmas.{fault_of_line, line_not_end}
 before_at_end : (line : List ℕ) (ls : List (List ℕ)) → is_end line ≡ true → before_first is_end (line ∷ ls) ≡ []
 before_at_end line ls h = rw (take_while-cons (λ l. not (is_end l)) line ls, h) refl
 
-before_at_line : (line : List ℕ) (ls : List (List ℕ)) → is_end line ≡ false → before_first is_end (line ∷ ls) ≡ line ∷ before_first is_end ls
+before_at_line : (line : List ℕ) (ls : List (List ℕ)) → is_end line ≡ false
+    → before_first is_end (line ∷ ls) ≡ line ∷ before_first is_end ls
 before_at_line line ls h = rw (take_while-cons (λ l. not (is_end l)) line ls, h) refl
 
 record_not_end : (r : Record) → is_end (line_of r) ≡ false
 record_not_end r = line_not_end r.kind (fields_text r.fields)
 
-before_records : (rs : List Record) (ls : List (List ℕ)) → before_first is_end (map line_of rs ++ ls) ≡ map line_of rs ++ before_first is_end ls
+before_records : (rs : List Record) (ls : List (List ℕ))
+    → before_first is_end (map line_of rs ++ ls) ≡ map line_of rs ++ before_first is_end ls
 before_records [] ls = refl
 before_records (r ∷ rs) ls =
     before_at_line (line_of r) (map line_of rs ++ ls) (record_not_end r)
@@ -36,7 +38,8 @@ any_records [] ls = refl
 any_records (r ∷ rs) ls = rw (record_not_end r) (any_records rs ls)
 
 pub sound_records : (rs : List Record) → All IsRecord rs → All (λ l. fault_of l ≡ None) (map line_of rs)
-sound_records rs are = All-map (λ l. fault_of l ≡ None) line_of rs (All-weaker IsRecord (λ r. fault_of (line_of r) ≡ None) fault_of_line rs are)
+sound_records rs are = All-map (λ l. fault_of l ≡ None) line_of rs
+    (All-weaker IsRecord (λ r. fault_of (line_of r) ≡ None) fault_of_line rs are)
 
 -- ---- reading
 
@@ -60,22 +63,29 @@ read_more text rest more line rs r so_far step of = record {
 }
 
 pub read_whole : (text rest more line : List ℕ) (rs : List Record) → IsReadSoFar text rest rs
-    → lines rest ≡ line ∷ lines more → is_end line ≡ true → length text ≤ most_bytes → IsTableOf text (record { records = rs })
+    → lines rest ≡ line ∷ lines more → is_end line ≡ true → length text ≤ most_bytes
+    → IsTableOf text (record { records = rs })
 read_whole text rest more line rs so_far step ends within =
-    let all : lines text ≡ map line_of rs ++ line ∷ lines more = so_far.stands ∙ ap (λ (ls : List (List ℕ)). map line_of rs ++ ls) step in
+    let all : lines text ≡ map line_of rs ++ line ∷ lines more = so_far.stands
+    ∙ ap (λ (ls : List (List ℕ)). map line_of rs ++ ls) step in
     record {
       within = within;
-      ended = ap (list_any is_end) all ∙ any_records rs (line ∷ lines more) ∙ or_left (is_end line) (list_any is_end (lines more)) ends;
+      ended = ap (list_any is_end) all ∙ any_records rs (line ∷ lines more)
+          ∙ or_left (is_end line) (list_any is_end (lines more)) ends;
       stands =
           ap (before_first is_end) all ∙ before_records rs (line ∷ lines more)
-          ∙ ap (λ (ls : List (List ℕ)). map line_of rs ++ ls) (before_at_end line (lines more) ends) ∙ append-nil (map line_of rs);
+          ∙ ap (λ (ls : List (List ℕ)). map line_of rs ++ ls) (before_at_end line (lines more) ends)
+          ∙ append-nil (map line_of rs);
       are = so_far.are;
     }
 
-first_fault : (text rest more line : List ℕ) (rs : List Record) (number : ℕ) (why : LineFault) → IsReadSoFar text rest rs
-    → lines rest ≡ line ∷ lines more → is_end line ≡ false → number ≡ length rs + 1 → fault_of line ≡ Some why → IsFirstFault text number why
+first_fault : (text rest more line : List ℕ) (rs : List Record) (number : ℕ) (why : LineFault)
+    → IsReadSoFar text rest rs
+    → lines rest ≡ line ∷ lines more → is_end line ≡ false → number ≡ length rs + 1 → fault_of line ≡ Some why
+    → IsFirstFault text number why
 first_fault text rest more line rs number why so_far step goes_on counted fault =
-    let all : lines text ≡ map line_of rs ++ line ∷ lines more = so_far.stands ∙ ap (λ (ls : List (List ℕ)). map line_of rs ++ ls) step in
+    let all : lines text ≡ map line_of rs ++ line ∷ lines more = so_far.stands
+    ∙ ap (λ (ls : List (List ℕ)). map line_of rs ++ ls) step in
     let len : length (map line_of rs) ≡ length rs = length-map rs line_of in
     record {
       front = map line_of rs;
@@ -89,7 +99,8 @@ first_fault text rest more line rs number why so_far step goes_on counted fault 
       fault = fault;
     }
 
-pub read_fault : (text rest more line : List ℕ) (rs : List Record) (number : ℕ) (why : LineFault) → IsReadSoFar text rest rs
+pub read_fault : (text rest more line : List ℕ) (rs : List Record) (number : ℕ) (why : LineFault)
+    → IsReadSoFar text rest rs
     → lines rest ≡ line ∷ lines more → is_end line ≡ false → length text ≤ most_bytes → number ≡ length rs + 1
     → IsLineRead line (Err why) → IsTableRead text (Err (table_fault number why))
 read_fault text rest more line rs number faults.Kind so_far step goes_on within counted fault =
@@ -98,12 +109,14 @@ read_fault text rest more line rs number faults.Fields so_far step goes_on withi
     (within, first_fault text rest more line rs number faults.Fields so_far step goes_on counted fault)
 read_fault text rest more line rs number faults.Memory so_far step goes_on within counted fault = tt
 
-pub read_no_end : (text rest : List ℕ) (rs : List Record) → IsReadSoFar text rest rs → rest ≡ [] → length text ≤ most_bytes → HasNoEnd text
+pub read_no_end : (text rest : List ℕ) (rs : List Record) → IsReadSoFar text rest rs → rest ≡ []
+    → length text ≤ most_bytes → HasNoEnd text
 read_no_end text rest rs so_far none within =
     let all : lines text ≡ map line_of rs ++ [] = so_far.stands ∙ ap (λ (t : List ℕ). map line_of rs ++ lines t) none in
     record {
       within = within;
       ended = ap (list_any is_end) all ∙ any_records rs [];
       sound = All-same (λ l. fault_of l ≡ None) (lines_before_end text) (map line_of rs)
-          (ap (before_first is_end) all ∙ before_records rs [] ∙ append-nil (map line_of rs)) (sound_records rs so_far.are);
+          (ap (before_first is_end) all ∙ before_records rs [] ∙ append-nil (map line_of rs))
+          (sound_records rs so_far.are);
     }

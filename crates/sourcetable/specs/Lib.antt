@@ -1,3 +1,4 @@
 pub mod Record
 pub mod Table
 pub mod Reading
+pub mod Room

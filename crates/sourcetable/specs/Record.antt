@@ -2,6 +2,7 @@
 -- fields, which are one line.
 use Rattle.std.specs.Prelude.{◌≡◌, ℕ, ◌==◌, ◌||◌, Bool, false, codes, List, [], ◌∷◌, ◌++◌, length}
 use Rattle.std.specs.List.{All, flat_map, list_any}
+use Rattle.cast_text.specs.Split.{HasNone}
 use Rattle.sourcetable.specs.declared.record.Kind.{Kind}
 use Rattle.sourcetable.specs.declared.record.Kind.TheVariants.{Str, Cas, Net}
 use Rattle.sourcetable.specs.declared.record.Record.{Record}
@@ -33,10 +34,6 @@ is_separator byte = byte == 59
 -- a byte that ends a line: CR (13) or LF (10)
 abbrev pub is_line_end : ℕ → Bool
 is_line_end byte = byte == 13 || byte == 10
-
--- no byte of the text passes the test
-abbrev pub HasNone : (ℕ → Bool) → List ℕ → Type 0
-HasNone test text = list_any test text ≡ false
 
 -- every field but the last one is without `;`
 abbrev pub AreFreeButLast : List (List ℕ) → Type 0

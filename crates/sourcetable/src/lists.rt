@@ -1,6 +1,8 @@
 //! Lists of a sourcetable, which contracts see as plain lists. Each is made from a `Vec` and gives
 //! it back without taking memory.
 ghost use Rattle.std.specs.Prelude.{◌≡◌};
+ghost use Rattle.std.proofs.Common.{rules};
+ghost use Rattle.std.specs.Cmp.Rules.{comparing};
 
 use crate::record::Record;
 use std::marker::Model;
@@ -42,6 +44,22 @@ impl Field {
     }
 }
 
+impl PartialEq for Field {
+    ghost use Rattle.std.specs.Str.{bytes_eq};
+
+    ghost eq = { bytes_eq };
+
+    ghost laws = { Prim.search (comparing, rules) };
+
+    fn eq(&self, other: &Field) -> bool {
+        self.bytes.as_slice() == other.bytes.as_slice()
+    }
+}
+
+impl Eq for Field {
+    ghost laws = { Prim.search (comparing, rules) };
+}
+
 /// The fields of a record, in order. Contracts see the list of them, each as its bytes.
 #[derive(Debug, Drop)]
 pub struct Fields {
@@ -77,6 +95,23 @@ impl Fields {
     {
         self.items
     }
+}
+
+impl PartialEq for Fields {
+    ghost use Rattle.std.specs.Cmp.Lexicographic.{pointwise};
+    ghost use Rattle.std.specs.Str.{bytes_eq};
+
+    ghost eq = { pointwise bytes_eq };
+
+    ghost laws = { Prim.search (comparing, rules) };
+
+    fn eq(&self, other: &Fields) -> bool {
+        self.items.as_slice() == other.items.as_slice()
+    }
+}
+
+impl Eq for Fields {
+    ghost laws = { Prim.search (comparing, rules) };
 }
 
 /// The records of a table, in order. Contracts see the list of them.

@@ -7,7 +7,8 @@ ghost use Rattle.sourcetable.specs.Reading.{IsRecordRead, IsLineRead, IsTableRea
 use crate::fault::{LineFault, RecordFault, TableFault};
 use crate::lists::Records;
 use crate::record::{Kind, Record, Table};
-use crate::split::{line_end_place, split_fields, split_line};
+use crate::split::{line_end_place, split_fields};
+use cast_text::split_line;
 use std::alloc::Global;
 
 /// The most bytes of a text.
@@ -55,9 +56,9 @@ fn read_line(alloc: Global, line: &[u8]) -> Result<Record, LineFault>
 /// The record that a line is.
 ///
 /// # Errors
-/// Tested in this order: `Kind` exactly where the line does not begin with `STR;`, `CAS;` or
-/// `NET;`; `Fields` exactly where it then has too few fields; `Byte` exactly where it holds a CR or
-/// LF, with the first such place. `Memory` at any time.
+/// Tested in this order: `Kind` exactly where the line begins with none of `STR;`, `CAS;` and
+/// `NET;`; `Fields` exactly where fields of its kind are missing; `Byte` exactly where a CR or LF
+/// stands in it, with the first such place. `Memory` at any time.
 pub fn read_record(alloc: Global, line: &[u8]) -> Result<Record, RecordFault>
     ensures { IsRecordRead line.now result }
 {

@@ -17,7 +17,7 @@ pub enum Kind {
 
 /// A record of a sourcetable: its kind, and as many fields as the kind has. A `;` stands in the
 /// last field at most.
-#[derive(Debug, Drop)]
+#[derive(Debug, PartialEq, Eq, Drop)]
 pub struct Record {
     pub kind: Kind,
     pub fields: Fields,

@@ -113,6 +113,27 @@ fn a_text_above_a_mebibyte_is_long(rt: HostRuntime) -> Result<(), Fail> {
     Ok(())
 }
 
+/// As many of the shortest records as fit into a text of 1 MiB, and the end.
+fn text_near_a_mebibyte(alloc: Global) -> Result<Vec<u8>, AllocError> {
+    let mut text = Vec::with_capacity(alloc, 1 << 20)?;
+    for _ in 0..80_658u32 {
+        text.extend_from_slice(b"NET;;;;;;;;\r\n")?;
+    }
+    text.extend_from_slice(b"ENDSOURCETABLE\r\n")?;
+    Ok(text)
+}
+
+#[test]
+fn a_table_near_a_mebibyte_is_read_whole_and_written_again(rt: HostRuntime) -> Result<(), Fail> {
+    let text = text_near_a_mebibyte(rt.alloc())?;
+    let table = read_table(rt.alloc(), &text)?;
+    assert_eq!(rt; table.records.as_slice().len(), 80_658);
+    let mut out = Vec::new(rt.alloc());
+    write_table(&table, &mut out)?;
+    assert!(rt; out.as_slice() == text.as_slice());
+    Ok(())
+}
+
 #[test]
 fn lines_end_with_lf_too_and_the_end_with_the_text(rt: HostRuntime) -> Result<(), Fail> {
     let fields = ["a", "b", "c", "d", "e", "f", "g", "h\ri"];

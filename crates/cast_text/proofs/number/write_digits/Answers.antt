@@ -8,5 +8,6 @@ unfolding digits
 loop-at-init c = record {
   size = c.requires.size;
   within = omega arith;
-  so_far = ap (λ (acc : List ℕ). digits_onto 64 c.args.base false c.args.value acc) (drop_all 64 c.args.room.now (omega (arith, c.requires.size)));
+  so_far = ap (λ (acc : List ℕ). digits_onto 64 c.args.base false c.args.value acc)
+      (drop_all 64 c.args.room.now (omega (arith, c.requires.size)));
 }

@@ -1,5 +1,5 @@
 -- What was written before, and one more piece of it or its first part.
-use Rattle.std.proofs.Common.{◌≡◌, ℕ, ◌+◌, ◌-◌, take, arith, subst}
+use Rattle.std.proofs.Common.{◌≡◌, ℕ, ◌+◌, ◌-◌, take, arith, subst, ◌∙◌}
 use Rattle.std.specs.Io.KnownBytes.{Appends}
 use Rattle.caster_main.proofs.PieceLemmas.{piece_written, piece_torn}
 use Rattle.caster_main.proofs.top.write_text.Goals as goal
@@ -17,8 +17,9 @@ loop-at-preserved g c =
     record {
       within = omega arith;
       written = subst
-          (λ (n : ℕ). Appends (g.O.Sink.taken c.args.out.now) (g.O.Sink.taken c.write.new.self) (take n c.args.text.now))
+          (λ (n : ℕ). Appends (g.O.Sink.taken c.args.out.now) (g.O.Sink.taken c.write.new.self)
+          (take n c.args.text.now))
           same
           (piece_written _ _ _ c.args.text.now at (at + count - at) c.loop-at.invariant.written c.in-Ok.ensures.whole);
-      later = omega arith;
+      unharmed = c.in-Ok.ensures.unharmed ∙ c.loop-at.invariant.unharmed;
     }

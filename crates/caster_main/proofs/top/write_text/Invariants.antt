@@ -1,5 +1,5 @@
 -- The text up to `at` was written.
-use Rattle.std.proofs.Common.{◌≤◌, ◌-◌, length, take}
+use Rattle.std.proofs.Common.{◌≡◌, ◌≤◌, ◌-◌, length, take}
 use Rattle.std.specs.Io.KnownBytes.{Appends}
 use Rattle.caster_main.proofs.top.write_text.Given as goal
 
@@ -7,7 +7,7 @@ abbrev pub invariant-loop-at : goal.invariant-loop-at
 invariant-loop-at g l = let sink = g.O.Sink in record {
   within : l.at ≤ length l.text;
   written : Appends (sink.taken l.fn.out) (sink.taken l.out) (take l.at l.text);
-  later : sink.faults l.fn.out ≤ sink.faults l.out;
+  unharmed : sink.faults l.out ≡ sink.faults l.fn.out;
 }
 
 abbrev pub decreases-loop-at : goal.decreases-loop-at

@@ -1,6 +1,7 @@
 use Rattle.std.proofs.Common.{◌≡◌, ◌+◌, ◌-◌, ◌≤◌, ◌∷◌, ◌++◌, length, vec_len}
 use Rattle.std.specs.List.{All}
-use Rattle.sourcetable.specs.Record.{is_separator, fields_text, HasNone}
+use Rattle.sourcetable.specs.Record.{is_separator, fields_text}
+use Rattle.cast_text.specs.Split.{HasNone}
 use Rattle.sourcetable.proofs.split.split_fields.Given as goal
 
 -- the fields so far, each free, and the rest of the text behind a `;` are all of it

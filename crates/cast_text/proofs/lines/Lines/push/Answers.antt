@@ -15,7 +15,8 @@ unchanged : (old state : LineState) → (old.ended ≡ false) × (state ≡ old)
 unchanged old state h = subst (λ (t : LineState). Stays old t) (sym h.1) (stays_same old h.0)
 
 pub returns-then-byte-eq10-clause-stands : goal.returns-then-byte-eq10-clause-stands
-returns-then-byte-eq10-clause-stands c bytes stands = rw c.if-byte-eq10.true (stands_ended c.finish.new.self bytes c.finish.ensures.ended)
+returns-then-byte-eq10-clause-stands c bytes stands = rw c.if-byte-eq10.true
+    (stands_ended c.finish.new.self bytes c.finish.ensures.ended)
 
 pub returns-then-byte-eq10-clause-lines : goal.returns-then-byte-eq10-clause-lines
 returns-then-byte-eq10-clause-lines c bytes stands =
@@ -23,7 +24,9 @@ returns-then-byte-eq10-clause-lines c bytes stands =
       | then-self w ↦ forgotten c.args.self.now c.if-self.self (cc, cc)
       | else-self w ↦ unchanged c.args.self.now c.if-self.self (cc, cc)
     ] in
-    rw (c.if-byte-eq10.true, ← stays.limit) (lines_ended c.if-self.self c.finish.result c.finish.new.self.line bytes stays.coming (stays.stands bytes stands) c.finish.ensures.within c.finish.ensures.line)
+    rw (c.if-byte-eq10.true, ← stays.limit)
+    (lines_ended c.if-self.self c.finish.result c.finish.new.self.line bytes stays.coming
+    (stays.stands bytes stands) c.finish.ensures.within c.finish.ensures.line)
 
 pub returns-else-byte-eq10-clause-stands : goal.returns-else-byte-eq10-clause-stands
 returns-else-byte-eq10-clause-stands c bytes stands =
@@ -31,7 +34,9 @@ returns-else-byte-eq10-clause-stands c bytes stands =
       | then-self w ↦ forgotten c.args.self.now c.if-self.self (cc, cc)
       | else-self w ↦ unchanged c.args.self.now c.if-self.self (cc, cc)
     ] in
-    rw c.keep.ensures (stands_kept c.if-self.self c.args.byte bytes stays.coming (ne_eqb c.args.byte 10 c.if-byte-eq10.false) (stays.stands bytes stands))
+    rw c.keep.ensures (stands_kept c.if-self.self c.args.byte bytes stays.coming
+    (ne_eqb c.args.byte 10 c.if-byte-eq10.false) (stays.stands bytes stands))
 
 pub returns-else-byte-eq10-clause-lines : goal.returns-else-byte-eq10-clause-lines
-returns-else-byte-eq10-clause-lines c bytes stands = lines_kept c.args.self.now c.args.byte bytes (ne_eqb c.args.byte 10 c.if-byte-eq10.false)
+returns-else-byte-eq10-clause-lines c bytes stands = lines_kept c.args.self.now c.args.byte bytes
+    (ne_eqb c.args.byte 10 c.if-byte-eq10.false)

@@ -15,7 +15,8 @@ returns-clause-reports c bytes stands =
     let reported : filter_map report_of given ≡ option_to_list c.if-push.result =
     elim c.if-push.branch [
       | then-push w ↦
-          rw w.if-push.true (of_one line c.if-push.result (w.result-is ∙ w.parse_gga.ensures.value ∙ ap report_of w.line.ensures))
+          rw w.if-push.true (of_one line c.if-push.result
+          (w.result-is ∙ w.parse_gga.ensures.value ∙ ap report_of w.line.ensures))
       | else-push w ↦ rw w.if-push.false (sym (ap option_to_list w.result-is))
     ] in
     reports_more c.self.inside.lines.limit bytes (bytes ++ c.args.byte ∷ []) given c.if-push.result c.self.invariant

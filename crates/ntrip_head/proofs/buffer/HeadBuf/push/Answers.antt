@@ -14,7 +14,9 @@ returns-clause-more c =
           (subst (λ (bytes : List ℕ). IsOpen bytes) (sym c.self.view_is) c.requires) c.push_reserved.ensures.items
           (ap (λ (bytes : List ℕ). ends_with_empty_line bytes) (sym c.deref.ensures.value)
           ∙ sym c.ends_with_empty_line.ensures ∙ w.if-ends_with_empty_line.false)
-          (λ full. w.if-len-eq-LIMIT.false (w.len.ensures ∙ sym c.deref.ensures.len ∙ ap (λ (bytes : List ℕ). length bytes) c.deref.ensures.value ∙ full))
+          (λ full. w.if-len-eq-LIMIT.false
+          (w.len.ensures ∙ sym c.deref.ensures.len ∙ ap (λ (bytes : List ℕ). length bytes) c.deref.ensures.value
+          ∙ full))
     ]
 
 pub returns-clause-done : goal.returns-clause-done
@@ -38,6 +40,7 @@ returns-clause-long c =
           (subst (λ (bytes : List ℕ). IsOpen bytes) (sym c.self.view_is) c.requires) c.push_reserved.ensures.items
           (ap (λ (bytes : List ℕ). ends_with_empty_line bytes) (sym c.deref.ensures.value)
           ∙ sym c.ends_with_empty_line.ensures ∙ w.if-ends_with_empty_line.false)
-          (ap (λ (bytes : List ℕ). length bytes) (sym c.deref.ensures.value) ∙ c.deref.ensures.len ∙ sym w.len.ensures ∙ w.if-len-eq-LIMIT.true)
+          (ap (λ (bytes : List ℕ). length bytes) (sym c.deref.ensures.value) ∙ c.deref.ensures.len
+          ∙ sym w.len.ensures ∙ w.if-len-eq-LIMIT.true)
       | else-ends_with_empty_line+else-len-eq-LIMIT w ↦ λ is. absurd cc
     ]

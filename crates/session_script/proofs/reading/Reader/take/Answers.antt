@@ -17,7 +17,8 @@ pub returns-in_ok-push-in-Ok-Happens-clause-goes : goal.returns-in_ok-push-in-Ok
 returns-in_ok-push-in-Ok-Happens-clause-goes c lines =
     let r = c.args.self.now in
     let read = rw c.in-Ok-Happens.field-0-is at c.in-Ok-Happens.ensures in
-    goes_on_event r.kind r.line r.connections c.follow.new.self c.args.line.now lines r.events.items c.push.new.self.items c.in-Ok-Happens.event read
+    goes_on_event r.kind r.line r.connections c.follow.new.self c.args.line.now lines r.events.items
+    c.push.new.self.items c.in-Ok-Happens.event read
     c.in_ok-follow-in-Ok-Happens.ensures c.in_ok-push-in-Ok-Happens.ensures.items
 
 pub returns-in-Err-clause-fails : goal.returns-in-Err-clause-fails

@@ -1,5 +1,5 @@
 use Rattle.session_script.proofs.ScriptLemmas.{reads_any, reads_plain}
-use Rattle.session_script.proofs.law.reads_what_is_written.Goals as goal
+use Rattle.session_script.proofs.laws.reads_what_is_written.Goals as goal
 
 pub returns-clause-plain : goal.returns-clause-plain
 returns-clause-plain c = reads_plain

@@ -1,7 +1,7 @@
 use Rattle.session_script.proofs.FormLemmas.{line_form}
 use Rattle.session_script.proofs.SoundLemmas.{line_sound}
 use Rattle.session_script.proofs.WriteLemmas.{line_reads}
-use Rattle.session_script.proofs.law.reads_lines.Goals as goal
+use Rattle.session_script.proofs.laws.reads_lines.Goals as goal
 
 pub returns-clause-reads : goal.returns-clause-reads
 returns-clause-reads c kind line event fits is = (line_reads kind line event fits is).found

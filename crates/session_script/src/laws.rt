@@ -1,4 +1,4 @@
-//! The law of writing and reading.
+//! The laws of writing and reading.
 
 ghost use Rattle.std.specs.Prelude.{◌≡◌, ℕ, ◌≤◌, List, length, IsTrue, Ok, Some};
 ghost use Rattle.session_script.specs.declared.Event.{Event};
