@@ -191,10 +191,6 @@ open_at t fine going =
       going = λ ended. going (body_goes t (ended_live t ended live).0 (ended_live t ended live).1).ends;
     }
 
--- what is open came to neither
-pub open_fine : (t : List ℕ) → IsOpen t → (run start t ≡ Ended → ⊥)
-open_fine t is ends = is.going (ended_at t ends)
-
 -- a text is no longer live behind a fault
 pub bad_dead : (t : List ℕ) (k : ℕ) → IsBadAt t k → IsLive t → ⊥
 bad_dead t k bad live =

@@ -41,6 +41,18 @@ impl Model for Dechunk {
     ghost invariant = { λ d. IsTrue (is_within d.phase) };
 }
 
+impl Default for Dechunk {
+    ghost use Rattle.std.specs.Prelude.{[]};
+    ghost use Rattle.chunk_body.specs.Machine.{read};
+
+    ghost is_default = { λ d. d ≡ read [] };
+
+    /// Before the first byte.
+    fn default() -> Dechunk {
+        Dechunk::new()
+    }
+}
+
 impl Dechunk {
     ghost use Rattle.chunk_body.specs.Machine.{Reading, read, after};
     ghost use Rattle.chunk_body.specs.Answer.{answer, given_by, goes_on, plain_of};

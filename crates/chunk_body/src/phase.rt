@@ -104,7 +104,7 @@ fn next_if(wanted: u8, byte: u8, next: Phase) -> Phase
 }
 
 // Behind a byte in a size's digits.
-#[tactic(auto, unfolding(crate::specs::Machine::in_digits, crate::specs::Machine::expected, crate::specs::Machine::is_within))]
+#[tactic(auto, unfolding(crate::specs::Machine::in_digits, crate::specs::Machine::is_within))]
 fn next_in_digits(count: u16, value: u32, byte: u8) -> Phase
     requires count { count ≤ 6 }
     requires value { value < 16 ^ count }
@@ -122,14 +122,13 @@ fn next_in_digits(count: u16, value: u32, byte: u8) -> Phase
     if count == 0 {
         return Phase::Broken;
     }
-    match byte {
-        b';' => Phase::Extension {
+    if byte == b';' {
+        return Phase::Extension {
             count: count + 1,
             value,
-        },
-        CR => Phase::SizeLf { value },
-        _ => Phase::Broken,
+        };
     }
+    next_if(CR, byte, Phase::SizeLf { value })
 }
 
 // Behind a byte in an extension.

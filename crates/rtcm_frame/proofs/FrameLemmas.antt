@@ -4,7 +4,7 @@ use Rattle.std.proofs.lemmas.Bool.Decides.{nat_tests}
 use Rattle.std.proofs.lemmas.List.{drop-replicate, length-replicate}
 use Rattle.std.proofs.Math.Seq.{take-append_seam, drop-append_seam}
 use Rattle.rtcm_frame.specs.Crc.{crc24q_of}
-use Rattle.rtcm_frame.specs.Transport.{preamble, frame_length, checksum, is_frame}
+use Rattle.rtcm_frame.specs.Transport.{preamble, longest, frame_length, checksum, is_frame}
 use Rattle.rtcm_frame.specs.Padded.{IsPadded}
 
 -- a frame has the length that it claims
@@ -28,29 +28,29 @@ pub frame_least : (bytes : List ℕ) → IsTrue (is_frame bytes) → 6 ≤ lengt
 frame_least bytes valid = omega (arith, frame_claim bytes valid)
 
 -- a frame has at most 1,029 bytes
-pub frame_most : (bytes : List ℕ) → IsTrue (is_frame bytes) → length bytes ≤ 1029
+pub frame_most : (bytes : List ℕ) → IsTrue (is_frame bytes) → length bytes ≤ longest
 frame_most bytes valid = omega (arith, frame_claim bytes valid)
 
 -- both bounds of a frame's length
-pub frame_bounds : (bytes : List ℕ) → IsTrue (is_frame bytes) → (6 ≤ length bytes) × (length bytes ≤ 1029)
+pub frame_bounds : (bytes : List ℕ) → IsTrue (is_frame bytes) → (6 ≤ length bytes) × (length bytes ≤ longest)
 frame_bounds bytes valid = (frame_least bytes valid, frame_most bytes valid)
 
 -- a frame that was written over a buffer of zeros is padded
 pub frame_padded : (bytes all : List ℕ) → IsTrue (is_frame bytes)
-    → all ≡ bytes ++ drop (length bytes) (replicate 1029 0)
+    → all ≡ bytes ++ drop (length bytes) (replicate longest 0)
     → IsPadded record { bytes = all; len = length bytes }
 frame_padded bytes all valid written =
-    let zeros = drop (length bytes) (replicate 1029 0) in
+    let zeros = drop (length bytes) (replicate longest 0) in
     let most = frame_most bytes valid in
-    let padding : zeros ≡ replicate (1029 - length bytes) 0 = drop-replicate (length bytes) 1029 0 in
+    let padding : zeros ≡ replicate (longest - length bytes) 0 = drop-replicate (length bytes) longest 0 in
     let front : take (length bytes) all ≡ bytes =
     ap (λ (xs : List ℕ). take (length bytes) xs) written ∙ take-append_seam bytes zeros
     in
     let behind : drop (length bytes) all ≡ zeros =
     ap (λ (xs : List ℕ). drop (length bytes) xs) written ∙ drop-append_seam bytes zeros
     in
-    let length_zeros : length zeros ≡ 1029 - length bytes =
-    ap (λ (xs : List ℕ). length xs) padding ∙ length-replicate (1029 - length bytes) 0
+    let length_zeros : length zeros ≡ longest - length bytes =
+    ap (λ (xs : List ℕ). length xs) padding ∙ length-replicate (longest - length bytes) 0
     in
     record {
       size = ap (λ (xs : List ℕ). length xs) written ∙ length-append bytes zeros ∙ omega arith;

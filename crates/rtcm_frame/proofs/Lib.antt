@@ -2,7 +2,6 @@ pub mod Rows
 pub mod CrcLemmas
 pub mod FrameLemmas
 pub mod CutLemmas
-pub mod CutSteps
 pub mod PendingLemmas
 pub mod HeldLemmas
 pub mod FramedLemmas

@@ -1,9 +1,10 @@
 -- What a cutter's steps do to the cut of all bytes pushed.
-use Rattle.std.proofs.Common.{◌≡◌, ℕ, ◌+◌, ◌≤◌, ◌<◌, false, List, [], ◌∷◌, ◌++◌, length, take, drop, IsTrue, ap, ◌∙◌, sym, arith, append_assoc, append-nil, length-append, length-drop, length-take-le, refl, subst}
+use Rattle.std.proofs.Common.{◌≡◌, ℕ, ◌+◌, ◌≤◌, ◌<◌, false, List, [], ◌∷◌, ◌++◌, length, take, drop, IsTrue, ap, ap₂, ◌∙◌, sym, arith, append_assoc, append-nil, length-append, length-drop, length-take-le, refl, subst}
+use Rattle.std.proofs.lemmas.List.{take-append-drop}
 use Rattle.std.proofs.lemmas.List.Sums.{sum_by-append, sum_by-cons}
-use Rattle.rtcm_frame.specs.Transport.{is_frame}
+use Rattle.rtcm_frame.specs.Transport.{longest, is_frame}
 use Rattle.rtcm_frame.specs.Cut.{Parts, begins_with_frame, is_unfinished, IsWaiting, cut, followed_by}
-use Rattle.rtcm_frame.specs.Pending.{Pending, Gave, GaveAll, Took}
+use Rattle.rtcm_frame.specs.Pending.{Pending, Gave, GaveAll, Took, IsBehindJunk}
 use Rattle.rtcm_frame.proofs.CutLemmas.{cut_waiting, cut-append, front_frame, front_junk, waiting_short}
 
 -- the state of these bytes and this count
@@ -11,7 +12,7 @@ abbrev pub pending_of : List ℕ → ℕ → Pending
 pending_of bytes junk = record { bytes = bytes; junk = junk }
 
 -- what waits is shorter than the longest frame
-pub waiting_fits : (bytes : List ℕ) → IsWaiting bytes → length bytes < 1029
+pub waiting_fits : (bytes : List ℕ) → IsWaiting bytes → length bytes < longest
 waiting_fits [] waits = omega arith
 waiting_fits (x ∷ t) waits = omega (arith, waiting_short x t waits)
 
@@ -69,6 +70,42 @@ took_found old p new count frame took fits valid is_front is_behind =
     subst (λ (f : List ℕ). Took old behind (f ∷ [])) (sym is_front) before
     in
     subst (λ (q : Pending). Took old q (frame ∷ [])) (sym is_behind) with_frame_given
+
+-- with nothing done nothing is passed over
+pub behind_none : (p : Pending) → IsBehindJunk p p []
+behind_none p = record { junk = []; split = refl; added = omega arith }
+
+-- the bytes that are passed over and those behind them
+behind_front : (old p : Pending) (count : ℕ) (passed : IsBehindJunk old p [])
+    → old.bytes ≡ passed.junk ++ (take count p.bytes ++ drop count p.bytes)
+behind_front old p count passed =
+    passed.split ∙ ap (λ (xs : List ℕ). passed.junk ++ xs) (sym (take-append-drop count p.bytes))
+
+-- further bytes in front are passed over
+pub behind_more : (old p : Pending) (count : ℕ) → IsBehindJunk old p [] → count ≤ length p.bytes
+    → IsBehindJunk old (pending_of (drop count p.bytes) (p.junk + count)) []
+behind_more old p count passed fits =
+    let more = take count p.bytes in
+    record {
+      junk = passed.junk ++ more;
+      split = behind_front old p count passed ∙ sym (append_assoc passed.junk more (drop count p.bytes));
+      added = omega (
+        arith,
+        passed.added,
+        length-append passed.junk more,
+        length-take-le count p.bytes fits,
+      );
+    }
+
+-- a frame stands behind the bytes that were passed over
+pub behind_found : (old p new : Pending) (count : ℕ) (frame : List ℕ) → IsBehindJunk old p []
+    → frame ≡ take count p.bytes → new ≡ pending_of (drop count p.bytes) p.junk → IsBehindJunk old new frame
+behind_found old p new count frame passed is_front is_behind = record {
+  junk = passed.junk;
+  split = behind_front old p count passed
+      ∙ ap₂ (λ (xs ys : List ℕ). passed.junk ++ (xs ++ ys)) (sym is_front) (sym (ap (λ (q : Pending). q.bytes) is_behind));
+  added = ap (λ (q : Pending). q.junk) is_behind ∙ passed.added;
+}
 
 -- what is taken is given behind what was
 pub gave_took : (given frames : List (List ℕ)) (all : List ℕ) (old new : Pending)

@@ -8,8 +8,8 @@ use Rattle.std.specs.List.{fold, flat_map}
 abbrev pub generator : ℕ
 generator = 0x1864CFB
 
--- one bit of the message: the value of 24 bits is doubled, and the generator is exclusive-ored in
--- where the bit that leaves differs from the bit of the message
+-- one bit of the message moves the register of 24 bits up by one place. Where the bit that falls
+-- out at the top is not the message's, the polynomial is added without carry
 unfoldable pub after_bit : ℕ → ℕ → ℕ
 after_bit value bit =
     (if value / 2 ^ 23 == bit then 2 * value else bit_xor (2 * value) generator) % 2 ^ 24

@@ -27,3 +27,10 @@ pub record Took (old new : Pending) (frames : List (List ℕ)) : Type 0 where
   pub junk : old.junk + (cut old.bytes).junk ≡ new.junk + (cut new.bytes).junk
   pub rest : (cut old.bytes).rest ≡ (cut new.bytes).rest
   pub counted : old.junk + length old.bytes ≡ sum_by length frames + new.junk + length new.bytes
+
+-- of the old state's bytes some in front are now counted as junk, then comes this frame, and
+-- nothing behind it was cut yet
+pub record IsBehindJunk (old new : Pending) (frame : List ℕ) : Type 0 where
+  pub junk : List ℕ
+  pub split : old.bytes ≡ junk ++ (frame ++ new.bytes)
+  pub added : new.junk ≡ old.junk + length junk

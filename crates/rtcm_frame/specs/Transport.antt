@@ -8,11 +8,15 @@ use Rattle.rtcm_frame.specs.Crc.{crc24q_of}
 abbrev pub preamble : ℕ
 preamble = 0xD3
 
+-- the greatest length of a frame: a header of three bytes, 1,023 bytes of payload, and the checksum
+abbrev pub longest : ℕ
+longest = 1029
+
 -- the ten low bits of the two bytes behind the preamble
 abbrev pub payload_length : List ℕ → ℕ
 payload_length bytes = (slice_index bytes 1 * 256 + slice_index bytes 2) % 1024
 
--- the whole length that these bytes claim, 6 to 1029. A byte that has not come reads as 0
+-- the whole length that these bytes claim, 6 to the greatest. A byte that has not come reads as 0
 abbrev pub frame_length : List ℕ → ℕ
 frame_length bytes = payload_length bytes + 6
 

@@ -1,15 +1,24 @@
 //! A whole frame of RTCM 10403.3's transport layer.
 ghost use Rattle.std.specs.Prelude.{◌≡◌, ℕ, ◌+◌, ◌<◌, ◌≤◌, List, [], ◌∷◌, ◌++◌, ◌*◌, length, drop, if◌then◌else◌, IsTrue, IfSome};
-ghost use Rattle.rtcm_frame.specs.Transport.{frame_length, is_frame, number_of};
+ghost use Rattle.rtcm_frame.specs.Transport.{preamble, frame_length, is_frame, number_of};
 
 use crate::checksum::crc24q;
 use std::marker::Model;
+
+/// The first byte of every frame.
+pub(crate) const PREAMBLE: u8 = 0xD3;
+
+/// The greatest length of a frame in bytes.
+pub(crate) const LONGEST: usize = 1029;
+
+/// The bytes of a header and of a checksum, the least length of a frame.
+const SHORTEST: usize = 6;
 
 /// One whole valid frame, 6 to 1,029 bytes (RTCM 10403.3, transport layer). Contracts see its
 /// bytes.
 #[derive(Clone, Copy, Debug, PartialEq, Eq)]
 pub struct Frame {
-    bytes: [u8; 1029],
+    bytes: [u8; LONGEST],
     len: usize,
 }
 
@@ -30,13 +39,16 @@ impl Model for Frame {
 }
 
 impl Default for Frame {
-    ghost is_default = { λ f. f ≡ 0xD3 ∷ 0 ∷ 0 ∷ 0x47 ∷ 0xEA ∷ 0x4B ∷ [] };
+    ghost is_default = { λ f. f ≡ preamble ∷ 0 ∷ 0 ∷ 0x47 ∷ 0xEA ∷ 0x4B ∷ [] };
 
     /// The shortest frame, with an empty payload.
     fn default() -> Frame {
-        let mut bytes = [0; 1029];
-        put_front(&mut bytes, &[0xD3, 0x00, 0x00, 0x47, 0xEA, 0x4B]);
-        Frame { bytes, len: 6 }
+        let mut bytes = [0; LONGEST];
+        put_front(&mut bytes, &[PREAMBLE, 0x00, 0x00, 0x47, 0xEA, 0x4B]);
+        Frame {
+            bytes,
+            len: SHORTEST,
+        }
     }
 }
 
@@ -57,7 +69,7 @@ impl Frame {
         requires { IsTrue (is_frame bytes.now) }
         ensures { result ≡ bytes.now }
     {
-        let mut held = [0; 1029];
+        let mut held = [0; LONGEST];
         put_front(&mut held, bytes);
         Frame {
             bytes: held,
@@ -114,7 +126,7 @@ pub(crate) fn claimed_length(bytes: &[u8]) -> usize
     } else {
         0
     };
-    (high * 256 + low) % 1024 + 6
+    (high * 256 + low) % 1024 + SHORTEST
 }
 
 // These bytes are one whole valid frame.
@@ -123,7 +135,7 @@ pub(crate) fn is_whole(bytes: &[u8]) -> bool
     ensures { result ≡ is_frame bytes.now }
 {
     let n = bytes.len();
-    if n < 6 || bytes[0] != 0xD3 || n != claimed_length(bytes) {
+    if n < SHORTEST || bytes[0] != PREAMBLE || n != claimed_length(bytes) {
         return false;
     }
     let stored = big_endian(bytes[n - 3], bytes[n - 2], bytes[n - 1]);

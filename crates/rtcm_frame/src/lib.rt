@@ -9,7 +9,6 @@ pub mod laws;
 mod stream;
 
 pub use checksum::crc24q;
-pub use cutting::{Pieces, cut_all};
 pub use framing::Frame;
 pub use stream::Cutter;
 

@@ -2,21 +2,22 @@
 ghost use Rattle.std.specs.Prelude.{◌≡◌, ℕ, ◌+◌, ◌-◌, ◌^◌, ◌<◌, ◌≤◌, List, [], ◌∷◌, ◌++◌, length};
 ghost use Rattle.std.specs.Prelude.{take, drop, IfSome, IfNone};
 ghost use Rattle.rtcm_frame.specs.Cut.{IsWaiting};
-ghost use Rattle.rtcm_frame.specs.Pending.{Pending, Gave, GaveAll, Took};
+ghost use Rattle.rtcm_frame.specs.Pending.{Pending, Gave, GaveAll, Took, IsBehindJunk};
 
 use crate::cutting::{Front, front_of};
-use crate::framing::Frame;
+use crate::framing::{Frame, LONGEST};
+use std::fmt;
 use std::marker::Model;
 
 /// Cuts a byte stream into frames as its bytes come. Contracts see the bytes that are not yet cut
 /// and the count of junk. It takes no memory beyond its buffer of one frame's greatest length.
 ///
-/// With the frames given so far and all bytes pushed so far a cutter stands in the relation `Gave`;
-/// each call says what it makes of that. So however a stream was cut into pushes, the frames given
-/// are a prefix of its frames, and all of them once `next` answers none.
+/// With the frames given so far and all bytes taken so far a cutter stands in the relation `Gave`;
+/// each call says what it makes of that. So the frames given are always a prefix of the frames of
+/// these bytes, and all of them once `next` answers none.
 #[derive(Drop)]
 pub struct Cutter {
-    buffer: [u8; 1029],
+    buffer: [u8; LONGEST],
     start: usize,
     len: usize,
     junk: u64,
@@ -24,23 +25,42 @@ pub struct Cutter {
 
 impl Model for Cutter {
     ghost use Rattle.std.specs.Prelude.{◌+◌, ◌≤◌, take, drop};
+    ghost use Rattle.rtcm_frame.specs.Transport.{longest};
     ghost use Rattle.rtcm_frame.specs.Pending.{Pending};
 
     ghost Value = { Pending };
 
     ghost view = { λ c. record { bytes = take c.len (drop c.start c.buffer); junk = c.junk } };
 
-    ghost invariant = { λ c. c.start + c.len ≤ 1029 };
+    ghost invariant = { λ c. c.start + c.len ≤ longest };
+}
+
+impl Default for Cutter {
+    ghost is_default = { λ c. c ≡ record { bytes = []; junk = 0 } };
+
+    /// A cutter that has taken no byte.
+    fn default() -> Cutter {
+        Cutter::new()
+    }
+}
+
+impl fmt::Debug for Cutter {
+    fn fmt<W: fmt::Write>(&self, f: &mut fmt::Formatter<W>) -> fmt::Result {
+        f.debug_struct("Cutter")
+            .field("waiting", &self.waiting())
+            .field("junk", &self.junk)
+            .finish()
+    }
 }
 
 impl Cutter {
-    /// A cutter that no byte was pushed to.
+    /// A cutter that has taken no byte.
     pub fn new() -> Cutter
         ensures empty { result ≡ record { bytes = []; junk = 0 } }
         ensures stands { Gave [] [] result }
     {
         Cutter {
-            buffer: [0; 1029],
+            buffer: [0; LONGEST],
             start: 0,
             len: 0,
             junk: 0,
@@ -61,11 +81,13 @@ impl Cutter {
         self.len += 1;
     }
 
-    /// The next frame of the bytes so far; none exactly where they hold no further whole frame. The
+    /// The next frame of the bytes so far; none exactly where they hold no further whole frame. Of
+    /// the bytes that wait those in front of the frame are counted as junk, and none behind it. The
     /// condition on the count of junk holds where fewer than 2^63 bytes were pushed.
     pub fn next(&mut self) -> Option<Frame>
         requires { self.old.junk + length self.old.bytes < 2 ^ 64 }
         ensures found { IfSome result (λ frame. Took self.old self.new (frame ∷ [])) }
+        ensures in_front { IfSome result (λ frame. IsBehindJunk self.old self.new frame) }
         ensures none { IfNone result (Took self.old self.new [] × IsWaiting self.new.bytes) }
         ensures gave { (given : List (List ℕ)) (all : List ℕ) → Gave given all self.old
             → IfSome result (λ frame. Gave (given ++ frame ∷ []) all self.new) }
@@ -139,8 +161,7 @@ fn put_behind(buffer: &mut [u8], start: usize, count: usize, byte: u8) -> usize
 }
 
 // Moves the bytes that a buffer holds to its front where they reach its end, and answers where they
-// begin then. That is only where some in front of them were passed over, after a checksum over as
-// many bytes.
+// begin then. There is room in front of them then, since they are fewer than the buffer holds.
 fn with_room(buffer: &mut [u8], start: usize, count: usize) -> usize
     requires within { start + count ≤ length buffer.old }
     requires room { count < length buffer.old }

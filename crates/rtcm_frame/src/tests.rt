@@ -1,5 +1,5 @@
 //! Known frames and streams, by the public calls.
-use crate::{Cutter, Frame, crc24q, cut_all};
+use crate::{Cutter, Frame, crc24q};
 use std::alloc::{AllocError, Global};
 use std::test::Fail;
 
@@ -53,46 +53,15 @@ fn known_frames_have_their_numbers(rt: HostRuntime) -> Result<(), Fail> {
     Ok(())
 }
 
-#[test]
-fn whole_streams_are_cut(rt: HostRuntime) -> Result<(), Fail> {
-    let hidden = cut_all(rt.alloc(), &FALSE_PREAMBLE)?;
-    assert_eq!(rt; hidden.frames.len(), 1);
-    assert_eq!(rt; hidden.frames[0].bytes(), FRAME_A.as_slice());
-    assert_eq!(rt; hidden.junk, 3);
-    assert_eq!(rt; hidden.rest, 0);
-    let waiting = cut_all(rt.alloc(), &LONG_CLAIM)?;
-    assert_eq!(rt; waiting.frames.len(), 0);
-    assert_eq!(rt; waiting.junk, 0);
-    assert_eq!(rt; waiting.rest, 10);
-    let broken = cut_all(rt.alloc(), &WRONG_CHECKSUM)?;
-    assert_eq!(rt; broken.frames.len(), 1);
-    assert_eq!(rt; broken.frames[0].bytes(), FRAME_B.as_slice());
-    assert_eq!(rt; broken.junk, 8);
-    assert_eq!(rt; broken.rest, 0);
-    Ok(())
-}
-
-#[test]
-fn streams_are_cut_byte_by_byte(rt: HostRuntime) -> Result<(), Fail> {
-    let (none, junk) = cut_by_bytes(rt.alloc(), &FALSE_PREAMBLE[..7])?;
-    assert_eq!(rt; none.len(), 0);
-    assert_eq!(rt; junk, 3);
-    let (hidden, junk) = cut_by_bytes(rt.alloc(), &FALSE_PREAMBLE)?;
-    assert_eq!(rt; hidden.len(), 1);
-    assert_eq!(rt; hidden[0].bytes(), FRAME_A.as_slice());
-    assert_eq!(rt; junk, 3);
-    let (waiting, junk) = cut_by_bytes(rt.alloc(), &LONG_CLAIM)?;
-    assert_eq!(rt; waiting.len(), 0);
-    assert_eq!(rt; junk, 0);
-    let (broken, junk) = cut_by_bytes(rt.alloc(), &WRONG_CHECKSUM)?;
-    assert_eq!(rt; broken.len(), 1);
-    assert_eq!(rt; broken[0].bytes(), FRAME_B.as_slice());
-    assert_eq!(rt; junk, 8);
-    Ok(())
+// What a stream is cut into: its frames in order, and the count of junk.
+#[derive(Drop)]
+struct Parts {
+    frames: Vec<Frame>,
+    junk: u64,
 }
 
 // Pushes these bytes one at a time, and keeps the frames that were given and the count of junk.
-fn cut_by_bytes(alloc: Global, bytes: &[u8]) -> Result<(Vec<Frame>, u64), AllocError> {
+fn cut_by_bytes(alloc: Global, bytes: &[u8]) -> Result<Parts, AllocError> {
     let mut cutter = Cutter::new();
     let mut frames = Vec::new(alloc);
     for byte in bytes {
@@ -101,5 +70,37 @@ fn cut_by_bytes(alloc: Global, bytes: &[u8]) -> Result<(Vec<Frame>, u64), AllocE
             frames.push(frame)?;
         }
     }
-    Ok((frames, cutter.junk()))
+    Ok(Parts {
+        frames,
+        junk: cutter.junk(),
+    })
+}
+
+#[test]
+fn a_false_preamble_hides_no_frame(rt: HostRuntime) -> Result<(), Fail> {
+    let parts = cut_by_bytes(rt.alloc(), &FALSE_PREAMBLE)?;
+    assert_eq!(rt; parts.frames.len(), 1);
+    assert_eq!(rt; parts.frames[0].bytes(), FRAME_A.as_slice());
+    assert_eq!(rt; parts.junk, 3);
+    let unfinished = cut_by_bytes(rt.alloc(), &FALSE_PREAMBLE[..7])?;
+    assert_eq!(rt; unfinished.frames.len(), 0);
+    assert_eq!(rt; unfinished.junk, 3);
+    Ok(())
+}
+
+#[test]
+fn a_long_claim_keeps_all_bytes_waiting(rt: HostRuntime) -> Result<(), Fail> {
+    let parts = cut_by_bytes(rt.alloc(), &LONG_CLAIM)?;
+    assert_eq!(rt; parts.frames.len(), 0);
+    assert_eq!(rt; parts.junk, 0);
+    Ok(())
+}
+
+#[test]
+fn a_frame_with_a_wrong_checksum_is_junk(rt: HostRuntime) -> Result<(), Fail> {
+    let parts = cut_by_bytes(rt.alloc(), &WRONG_CHECKSUM)?;
+    assert_eq!(rt; parts.frames.len(), 1);
+    assert_eq!(rt; parts.frames[0].bytes(), FRAME_B.as_slice());
+    assert_eq!(rt; parts.junk, 8);
+    Ok(())
 }

@@ -14,14 +14,14 @@ overflow_add-result-in-Some c =
     let small = six_digits c.args.count c.args.value c.requires.count c.requires.value in
     omega (arith, small, c.in-Some.ensures.value)
 
-pub returns-in-59-clause-within : goal.returns-in-59-clause-within
+pub returns-then-byte-eq59-clause-within : goal.returns-then-byte-eq59-clause-within
 unfolding is_within
-returns-in-59-clause-within c =
+returns-then-byte-eq59-clause-within c =
     let small = six_digits c.args.count c.args.value c.requires.count c.requires.value in
     grind (arith, nat_tests, small)
 
-pub returns-in-13-clause-within : goal.returns-in-13-clause-within
+pub next_if-requires : goal.next_if-requires
 unfolding is_within
-returns-in-13-clause-within c =
+next_if-requires c =
     let small = six_digits c.args.count c.args.value c.requires.count c.requires.value in
     grind (arith, nat_tests, small)

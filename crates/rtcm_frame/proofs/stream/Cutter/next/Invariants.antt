@@ -1,9 +1,12 @@
 use Rattle.std.proofs.Common.{[], length}
-use Rattle.rtcm_frame.specs.Pending.{Took}
+use Rattle.rtcm_frame.specs.Pending.{Took, IsBehindJunk}
 use Rattle.rtcm_frame.proofs.stream.Cutter.next.Given as goal
 
 abbrev pub invariant-loop-count : goal.invariant-loop-count
-invariant-loop-count l = Took l.fn.self l.self []
+invariant-loop-count l = record {
+  took : Took l.fn.self l.self [];
+  passed : IsBehindJunk l.fn.self l.self [];
+}
 
 abbrev pub decreases-loop-count : goal.decreases-loop-count
 decreases-loop-count l = length l.self.bytes
