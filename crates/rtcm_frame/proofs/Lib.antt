@@ -1,4 +1,8 @@
 pub mod Rows
+pub mod LinearLemmas
+pub mod StepLemmas
+pub mod TableFacts
+pub mod TableLemmas
 pub mod CrcLemmas
 pub mod FrameLemmas
 pub mod CutLemmas

@@ -1,4 +1,5 @@
 pub mod Crc
+pub mod Bytewise
 pub mod Transport
 pub mod Cut
 pub mod Order

@@ -7,6 +7,7 @@ mod cutting;
 mod framing;
 pub mod laws;
 mod stream;
+mod tables;
 
 pub use checksum::crc24q;
 pub use framing::Frame;
