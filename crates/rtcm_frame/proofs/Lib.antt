@@ -4,6 +4,7 @@ pub mod StepLemmas
 pub mod TableFacts
 pub mod TableLemmas
 pub mod CrcLemmas
+pub mod SumLemmas
 pub mod FrameLemmas
 pub mod CutLemmas
 pub mod PendingLemmas

@@ -76,6 +76,26 @@ fn cut_by_bytes(alloc: Global, bytes: &[u8]) -> Result<Parts, AllocError> {
     })
 }
 
+// Feeds these bytes in blocks of this size, and keeps the same.
+fn cut_by_blocks(alloc: Global, bytes: &[u8], size: usize) -> Result<Parts, AllocError>
+    requires { 0 < size }
+{
+    let mut cutter = Cutter::new();
+    let mut frames = Vec::new(alloc);
+    let mut at = 0;
+    while at < bytes.len() {
+        let end = bytes.len().min(at.saturating_add(size));
+        at += cutter.feed(&bytes[at..end]);
+        while let Some(frame) = cutter.next() {
+            frames.push(frame)?;
+        }
+    }
+    Ok(Parts {
+        frames,
+        junk: cutter.junk(),
+    })
+}
+
 #[test]
 fn a_false_preamble_hides_no_frame(rt: HostRuntime) -> Result<(), Fail> {
     let parts = cut_by_bytes(rt.alloc(), &FALSE_PREAMBLE)?;
