@@ -6,16 +6,16 @@ use Rattle.std.proofs.Math.Seq.{take-length}
 use Rattle.std.proofs.lemmas.Bool.{and_parts, and_from, eqb-true, true≢false}
 use Rattle.std.proofs.lemmas.List.Sums.{fold-append}
 use Rattle.mount_ring.specs.declared.call.RingCall.{RingCall}
-use Rattle.mount_ring.specs.declared.call.RingCall.TheVariants.{Claim, Release, Publish, Join, Read}
+use Rattle.mount_ring.specs.declared.call.RingCall.TheVariants.{Claim, Release, Publish, Join, Look, Read}
 use Rattle.mount_ring.specs.declared.call.RingAnswer.{RingAnswer}
-use Rattle.mount_ring.specs.declared.call.RingAnswer.TheVariants.{Given}
+use Rattle.mount_ring.specs.declared.call.RingAnswer.TheVariants.{Given, Looked}
 use Rattle.mount_ring.specs.declared.call.Holder.{Holder}
 pub use Rattle.mount_ring.specs.Places.{published_by, frames_of}
 use Rattle.mount_ring.specs.Places.{gives, claims_given, are_fit}
 use Rattle.mount_ring.specs.declared.cursor.Cursor.{Cursor}
 use Rattle.mount_ring.specs.Reads.{read_report}
 use Rattle.mount_ring.proofs.ReadLemmas.{read_ends}
-use Rattle.mount_ring.specs.History.{Shape, State, start, after, after_call, after_claim, state_of, answer, answers_from, own_answers, with_own, has_none_of, is_holder, fits, is_readable, permits_at, joined, claim_answer}
+use Rattle.mount_ring.specs.History.{Shape, State, start, after, after_call, after_claim, state_of, answer, answers_from, own_answers, with_own, has_none_of, is_holder, fits, is_readable, permits_at, joined, live_claim, claim_answer}
 
 -- the state after more entries
 pub state_of-append : (history more : List (ℕ × RingCall)) → state_of (history ++ more) ≡ fold after (state_of history) more
@@ -30,6 +30,7 @@ published-call state me Claim = published-claim state me state.holder ∙ sym (a
 published-call state me (Release claim) = sym (append-nil state.published)
 published-call state me (Publish claim frame) = refl
 published-call state me (Join filter) = sym (append-nil state.published)
+published-call state me Look = sym (append-nil state.published)
 published-call state me (Read cursor budget) = sym (append-nil state.published)
 
 -- entries only add to what was published
@@ -105,6 +106,7 @@ claims-call shape state me Claim = claims-claim shape state me state.holder
 claims-call shape state me (Release claim) = omega arith
 claims-call shape state me (Publish claim frame) = omega arith
 claims-call shape state me (Join filter) = omega arith
+claims-call shape state me Look = omega arith
 claims-call shape state me (Read cursor budget) = omega arith
 
 -- the claims of a state are those that were given
@@ -141,6 +143,7 @@ latest-call state me Claim h = latest-claim state me state.holder h
 latest-call state me (Release claim) h = tt
 latest-call state me (Publish claim frame) h = h
 latest-call state me (Join filter) h = h
+latest-call state me Look h = h
 latest-call state me (Read cursor budget) h = h
 
 pub latest-entries : (state : State) (entries : List (ℕ × RingCall)) → IsLatest state → IsLatest (fold after state entries)
@@ -155,6 +158,17 @@ one_holder (Some holder) me by claim other mine theirs =
     let b : ((holder.caller == by) ≡ true) × ((holder.claim == other) ≡ true) = and_parts _ _ theirs in
     (sym (eqb-true holder.caller me a.0) ∙ eqb-true holder.caller by b.0, sym (eqb-true holder.claim claim a.1) ∙ eqb-true holder.claim other b.1)
 
+live_held : (holder : Option Holder) (by claim : ℕ) → is_holder holder by claim ≡ true → live_claim holder ≡ Some claim
+live_held None by claim held = absurd cc
+live_held (Some holder) by claim held = ap (λ (n : ℕ). Some n) (eqb-true holder.claim claim (and_parts _ _ held).1)
+
+pub look_held : (shape : Shape) (state : State) (by claim : ℕ) → is_holder state.holder by claim ≡ true →
+    answer shape state Look ≡ Looked (Some claim)
+look_held shape state by claim held = ap (λ (o : Option ℕ). Looked o) (live_held state.holder by claim held)
+
+pub look_free : (shape : Shape) (state : State) → state.holder ≡ None → answer shape state Look ≡ Looked None
+look_free shape state free = ap (λ (o : Option Holder). Looked (live_claim o)) free
+
 held-claim : (state : State) (by me claim : ℕ) (holder : Option Holder) → state.holder ≡ holder → is_holder holder me claim ≡ true →
     is_holder (after_claim state by holder).holder me claim ≡ true
 held-claim state by me claim None at h = absurd cc
@@ -167,6 +181,7 @@ held-call shape state by me claim (Release given) other h may =
     absurd (true≢false (sym (eq-eqb by me (one_holder state.holder by me given claim may h).0) ∙ other))
 held-call shape state by me claim (Publish given frame) other h may = h
 held-call shape state by me claim (Join filter) other h may = h
+held-call shape state by me claim Look other h may = h
 held-call shape state by me claim (Read cursor budget) other h may = h
 
 other_by : (own others : Bool) → cond own false others ≡ true → (own ≡ false) × (others ≡ true)

@@ -18,7 +18,7 @@ use Rattle.mount_ring.specs.declared.reading.ReadStart.{ReadStart}
 use Rattle.mount_ring.specs.declared.watch.Watch.{Watch}
 use Rattle.mount_ring.specs.declared.ring.Ring.{Ring}
 use Rattle.mount_ring.specs.declared.call.RingCall.{RingCall}
-use Rattle.mount_ring.specs.declared.call.RingCall.TheVariants.{Claim, Release, Publish, Join, Read}
+use Rattle.mount_ring.specs.declared.call.RingCall.TheVariants.{Claim, Release, Publish, Join, Look, Read}
 use Rattle.mount_ring.specs.declared.call.Holder.{Holder}
 use Rattle.mount_ring.specs.Reads.{oldest, read_start, read_end, read_frames, read_lap, read_report, looked}
 use Rattle.mount_ring.specs.History.{Shape, State, start, state_of, after, after_call, after_claim, is_readable, permits_at}
@@ -184,6 +184,7 @@ frames_few Claim = omega arith
 frames_few (Release claim) = omega arith
 frames_few (Publish claim frame) = omega arith
 frames_few (Join filter) = omega arith
+frames_few Look = omega arith
 frames_few (Read cursor budget) = omega arith
 
 published_by_few : (h : List (ℕ × RingCall)) → length (published_by h) ≤ length h
@@ -202,6 +203,7 @@ claims_call state me Claim = claims_claim state me state.holder
 claims_call state me (Release claim) = omega arith
 claims_call state me (Publish claim frame) = omega arith
 claims_call state me (Join filter) = omega arith
+claims_call state me Look = omega arith
 claims_call state me (Read cursor budget) = omega arith
 
 claims_entries : (state : State) (h : List (ℕ × RingCall)) → (fold after state h).claims ≤ state.claims + length h

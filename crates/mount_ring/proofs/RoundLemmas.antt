@@ -1,5 +1,5 @@
 -- What the turns of a source and a reader leave at a desk: the source still holds, and the reader may read.
-use Rattle.std.proofs.Common.{◌≡◌, ℕ, true, List, [], ◌∷◌, ◌++◌, refl, ap, ◌∙◌, sym, subst, arith, Option, Some}
+use Rattle.std.proofs.Common.{◌≡◌, ℕ, true, false, List, [], ◌∷◌, ◌++◌, refl, ap, ◌∙◌, sym, subst, arith, Option, Some}
 use Rattle.std.specs.Prelude.{IsTrue, ◌≢◌, length, Result, Ok, Err, IfOk, IfErr}
 use Rattle.turn_log.specs.declared.place.TurnFault.{TurnFault}
 use Rattle.turn_log.specs.Faults.{IsFault, worn_of}
@@ -63,7 +63,7 @@ pub round_published : (shape later : RingShape) (h now : List (ℕ × RingCall))
     (result : Result RingAnswer TurnFault) (before after : List (List ℕ)) → later ≡ shape →
     IfOk result (λ reply. (now ≡ h ++ (1, Publish 1 frame) ∷ []) × (reply ≡ answer (shape_of shape) (state_of h) (Publish 1 frame))
     × (after ≡ filled (shape_of shape) (state_of h) (Publish 1 frame) before)) →
-    IfErr result (λ fault. (now ≡ h) × (after ≡ before) × IsFault true (worn_of (length now)) fault) →
+    IfErr result (λ fault. (now ≡ h) × (after ≡ before) × IsFault false (worn_of (length now)) fault) →
     IsHeld h → MayRead shape h cursor → IsHeld now × MayRead later now cursor
 round_published shape later h now frame cursor (Ok reply) before after same ok err held may =
     (held_published h now frame ok.0 held, read_published shape later h now frame cursor same ok.0 held may)

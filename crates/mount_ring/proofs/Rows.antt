@@ -5,8 +5,8 @@ use Rattle.rtcm_frame.specs.Transport.{number_of}
 use Rattle.rtcm_frame.proofs.Rows.{frame_a, frame_b, frame_z}
 use Rattle.mount_ring.specs.declared.cursor.Cursor.{Cursor}
 use Rattle.mount_ring.specs.declared.call.RingCall.{RingCall}
-use Rattle.mount_ring.specs.declared.call.RingCall.TheVariants.{Claim, Release, Publish, Join, Read}
-use Rattle.mount_ring.specs.declared.call.RingAnswer.TheVariants.{Given, Taken, Released, At, Joined, Read as Reported}
+use Rattle.mount_ring.specs.declared.call.RingCall.TheVariants.{Claim, Release, Publish, Join, Look, Read}
+use Rattle.mount_ring.specs.declared.call.RingAnswer.TheVariants.{Given, Taken, Released, At, Joined, Looked, Read as Reported}
 use Rattle.mount_ring.specs.Reads.{every_frame, read_report, read_frames}
 use Rattle.mount_ring.specs.History.{Shape, own_answers}
 
@@ -79,6 +79,11 @@ four = record { capacity = 4; filters = every_frame ∷ [] }
 abbrev pub two_callers : List (ℕ × RingCall)
 two_callers =
     (1, Claim) ∷ (2, Claim) ∷ (2, Join 0) ∷ (1, Publish 1 frame_a) ∷ (1, Release 1) ∷ (2, Claim) ∷ (2, Publish 2 frame_b) ∷ (2, Read first 16) ∷ []
+
+-- a look before the first claim, while the claim is held, by anyone, and behind its release
+looks : own_answers four 3 ((3, Look) ∷ (1, Claim) ∷ (3, Look) ∷ (1, Look) ∷ (1, Release 1) ∷ (3, Look) ∷ [])
+    ≡ Looked None ∷ Looked (Some 1) ∷ Looked None ∷ []
+looks = refl
 
 first_caller : own_answers four 1 two_callers ≡ Given 1 ∷ At 0 ∷ Released ∷ []
 first_caller = refl

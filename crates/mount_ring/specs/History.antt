@@ -5,7 +5,7 @@ use Rattle.std.specs.Prelude.{ℕ, ◌+◌, ◌==◌, nat_le, nat_lt, Bool, true
 use Rattle.std.specs.List.{count_by}
 use Rattle.mount_ring.specs.declared.cursor.Cursor.{Cursor}
 use Rattle.mount_ring.specs.declared.call.RingCall.{RingCall}
-use Rattle.mount_ring.specs.declared.call.RingCall.TheVariants.{Claim, Release, Publish, Join, Read}
+use Rattle.mount_ring.specs.declared.call.RingCall.TheVariants.{Claim, Release, Publish, Join, Look, Read}
 use Rattle.mount_ring.specs.declared.call.RingAnswer.{RingAnswer}
 use Rattle.mount_ring.specs.declared.call.RingAnswer.TheVariants as answers
 use Rattle.mount_ring.specs.declared.call.Holder.{Holder}
@@ -46,6 +46,7 @@ after_call state me (Release claim) = record state { holder = None }
 after_call state me (Publish claim frame) =
     record state { published = state.published ++ frame ∷ [] }
 after_call state me (Join filter) = state
+after_call state me Look = state
 after_call state me (Read cursor budget) = state
 
 -- the state after one entry
@@ -76,12 +77,18 @@ fits shape state me Claim = true
 fits shape state me (Release claim) = is_holder state.holder me claim
 fits shape state me (Publish claim frame) = is_holder state.holder me claim
 fits shape state me (Join filter) = nat_lt filter (length shape.filters)
+fits shape state me Look = true
 fits shape state me (Read cursor budget) = is_readable shape state cursor
 
 -- a claim is given with the next number where nobody holds the mountpoint, else it names the holder
 abbrev pub claim_answer : State → Option Holder → RingAnswer
 claim_answer state None = answers.Given (state.claims + 1)
 claim_answer state (Some holder) = answers.Taken holder.caller holder.claim
+
+-- the claim under which a mountpoint is held, if it is held
+abbrev pub live_claim : Option Holder → Option ℕ
+live_claim None = None
+live_claim (Some holder) = Some holder.claim
 
 -- the cursor of one who joins: at the end of what was published
 abbrev pub joined : Shape → State → ℕ → Cursor
@@ -97,6 +104,7 @@ answer shape state Claim = claim_answer state state.holder
 answer shape state (Release claim) = answers.Released
 answer shape state (Publish claim frame) = answers.At (length state.published)
 answer shape state (Join filter) = answers.Joined (joined shape state filter)
+answer shape state Look = answers.Looked (live_claim state.holder)
 answer shape state (Read cursor budget) =
     answers.Read
     (read_report (permits_at shape cursor.filter) shape.capacity state.published cursor budget)
@@ -108,6 +116,7 @@ filled shape state Claim room = room
 filled shape state (Release claim) room = room
 filled shape state (Publish claim frame) room = room
 filled shape state (Join filter) room = room
+filled shape state Look room = room
 filled shape state (Read cursor budget) room =
     read_frames (permits_at shape cursor.filter) shape.capacity state.published cursor budget
 

@@ -1,6 +1,5 @@
 pub mod Reads
 pub mod History
-pub mod Holding
 pub mod Places
 pub mod Shapes
 pub mod Watches

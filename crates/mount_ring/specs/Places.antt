@@ -5,7 +5,7 @@ use Rattle.mount_ring.specs.declared.cursor.Cursor.{Cursor}
 use Rattle.mount_ring.specs.declared.cursor.Lap.{Lap}
 use Rattle.mount_ring.specs.declared.cursor.ReadReport.{ReadReport}
 use Rattle.mount_ring.specs.declared.call.RingCall.{RingCall}
-use Rattle.mount_ring.specs.declared.call.RingCall.TheVariants.{Claim, Release, Publish, Join, Read}
+use Rattle.mount_ring.specs.declared.call.RingCall.TheVariants.{Claim, Release, Publish, Join, Look, Read}
 use Rattle.mount_ring.specs.declared.call.RingAnswer.{RingAnswer}
 use Rattle.mount_ring.specs.declared.call.RingAnswer.TheVariants as answers
 use Rattle.mount_ring.specs.Reads.{read_report, read_frames}
@@ -59,6 +59,7 @@ frames_of Claim = []
 frames_of (Release claim) = []
 frames_of (Publish claim frame) = frame ∷ []
 frames_of (Join filter) = []
+frames_of Look = []
 frames_of (Read cursor budget) = []
 
 -- the frames of all Publish entries, in order
@@ -73,6 +74,7 @@ gives (answers.Taken caller claim) = 0
 gives answers.Released = 0
 gives (answers.At place) = 0
 gives (answers.Joined cursor) = 0
+gives (answers.Looked claim) = 0
 gives (answers.Read report) = 0
 
 -- how many claims the answers to these entries give, from this state on

@@ -7,7 +7,7 @@ use Rattle.std.proofs.lemmas.List.{take-append-le}
 use Rattle.std.proofs.lemmas.List.Sums.{fold-append}
 use Rattle.mount_ring.specs.declared.cursor.Cursor.{Cursor}
 use Rattle.mount_ring.specs.declared.call.RingCall.{RingCall}
-use Rattle.mount_ring.specs.declared.call.RingCall.TheVariants.{Claim, Release, Publish, Join, Read}
+use Rattle.mount_ring.specs.declared.call.RingCall.TheVariants.{Claim, Release, Publish, Join, Look, Read}
 use Rattle.mount_ring.specs.declared.call.Holder.{Holder}
 use Rattle.mount_ring.specs.History.{Shape, State, start, state_of, fits, after, after_call, after_claim, is_holder, is_readable, permits_at}
 
@@ -42,6 +42,7 @@ holder_keeps shape state me by claim (Release given) apart mine fitting =
     absurd (apart (same_holder state.holder me by claim given mine fitting))
 holder_keeps shape state me by claim (Publish given frame) apart mine fitting = mine
 holder_keeps shape state me by claim (Join filter) apart mine fitting = mine
+holder_keeps shape state me by claim Look apart mine fitting = mine
 holder_keeps shape state me by claim (Read cursor budget) apart mine fitting = mine
 
 -- a cursor may still be read from when one more frame was published
@@ -77,6 +78,7 @@ readable_after shape state by (Release given) cursor may = may
 readable_after shape state by (Publish given frame) cursor may =
     readable_keeps shape state frame cursor may
 readable_after shape state by (Join filter) cursor may = may
+readable_after shape state by Look cursor may = may
 readable_after shape state by (Read other budget) cursor may = may
 
 fits_after : (shape : Shape) (state : State) (me by : ℕ) (call other : RingCall) →
@@ -88,6 +90,7 @@ fits_after shape state me by (Release claim) other apart mine theirs =
 fits_after shape state me by (Publish claim frame) other apart mine theirs =
     holder_keeps shape state me by claim other apart mine theirs
 fits_after shape state me by (Join filter) other apart mine theirs = mine
+fits_after shape state me by Look other apart mine theirs = refl
 fits_after shape state me by (Read cursor budget) other apart mine theirs =
     readable_after shape state by other cursor mine
 

@@ -2,7 +2,7 @@ use crate::cursor::{Cursor, ReadReport};
 use rtcm_frame::Frame;
 
 /// A call that a connection makes on a mountpoint's ring.
-#[derive(Clone, Copy, Debug)]
+#[derive(Clone, Copy, Debug, PartialEq, Eq)]
 pub enum RingCall {
     /// Asks to be the one source of the mountpoint.
     Claim,
@@ -13,6 +13,8 @@ pub enum RingCall {
     /// Begins to read, through the filter of this number, behind the frames that were published so
     /// far.
     Join(u32),
+    /// Asks whether the mountpoint is held.
+    Look,
     /// Reads from the cursor on. A budget of more than 16 frames counts as 16.
     Read { cursor: Cursor, budget: u32 },
 }
@@ -22,7 +24,8 @@ pub enum RingCall {
 pub enum RingAnswer {
     /// The claim was given, and has this number. Claims are numbered from 1.
     Given(u64),
-    /// Another caller holds the mountpoint, under this claim.
+    /// The mountpoint is held already, by this caller, who may be the one that asked, under this
+    /// claim.
     Taken { caller: u32, claim: u64 },
     /// The claim was given back.
     Released,
@@ -30,6 +33,8 @@ pub enum RingAnswer {
     At(u64),
     /// The reader joined, and stands here.
     Joined(Cursor),
+    /// The claim under which the mountpoint is held; `None` where nobody holds it.
+    Looked(Option<u64>),
     /// What a read found. The frames are in the outbox.
     Read(ReadReport),
 }

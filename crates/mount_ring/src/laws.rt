@@ -119,6 +119,19 @@ pub fn claims_are_numbered()
         (λ holder. holder.claim ≡ (state_of history).claims) }
 {}
 
+/// A look: it may always be made, tells under which claim the mountpoint is held, whoever holds it,
+/// and changes nothing.
+pub fn look_tells_the_claim()
+    ensures may { (shape : Shape) (state : State) (me : ℕ)
+        → IsTrue (fits shape state me RingCall.Look) }
+    ensures held { (shape : Shape) (state : State) (by claim : ℕ)
+        → IsTrue (is_holder state.holder by claim)
+        → answer shape state RingCall.Look ≡ RingAnswer.Looked (Some claim) }
+    ensures free { (shape : Shape) (state : State) → state.holder ≡ None
+        → answer shape state RingCall.Look ≡ RingAnswer.Looked None }
+    ensures unchanged { (state : State) (me : ℕ) → after_call state me RingCall.Look ≡ state }
+{}
+
 /// The holder: at most one caller, under one claim. It goes on to hold while others make calls that
 /// they may make, and holds no longer once it released, which it alone may do.
 pub fn holder_is_one()

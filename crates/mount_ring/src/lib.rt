@@ -1,14 +1,14 @@
 //! The ring of a mountpoint: who holds it, and the last frames that were published there.
 //!
-//! `Ring` keeps its last frames alone and is an object of turns. `Plain` keeps every frame, and
-//! answers the same. The laws of reads and of histories stand beside them.
+//! `Ring` keeps its last frames alone and is an object of turns: what each call is answered is said
+//! over the list of all frames that were ever published. The laws of reads and of histories stand
+//! beside it.
 #![tactic(auto)]
 
 mod call;
 mod cursor;
 pub mod laws;
 mod outbox;
-mod plain;
 mod reading;
 mod ring;
 mod shape;
@@ -17,9 +17,5 @@ mod watch;
 pub use call::{Holder, RingAnswer, RingCall};
 pub use cursor::{Cursor, Lap, ReadReport};
 pub use outbox::Outbox;
-pub use plain::Plain;
 pub use ring::Ring;
 pub use shape::RingShape;
-
-#[cfg(test)]
-mod tests;

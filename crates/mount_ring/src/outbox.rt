@@ -1,6 +1,7 @@
 ghost use Rattle.std.specs.Prelude.{◌≡◌, ℕ, ◌+◌, ◌<◌, ◌≤◌, List, [], ◌∷◌, ◌++◌, length};
 
 use rtcm_frame::Frame;
+use std::fmt;
 use std::marker::Model;
 
 /// The most frames that one read takes.
@@ -11,7 +12,7 @@ pub const MOST_TAKEN: usize = 16;
 /// Contracts see it as the list of its frames.
 #[derive(Drop)]
 pub struct Outbox {
-    frames: [Frame; 16],
+    frames: [Frame; MOST_TAKEN],
     len: usize,
 }
 
@@ -31,7 +32,7 @@ impl Outbox {
         ensures { result ≡ [] }
     {
         Outbox {
-            frames: [Frame::default(); 16],
+            frames: [Frame::default(); MOST_TAKEN],
             len: 0,
         }
     }
@@ -59,17 +60,6 @@ impl Outbox {
         self.frames[self.len] = frame;
         self.len += 1;
     }
-
-    /// Holds exactly these frames afterwards.
-    pub(crate) fn fill(&mut self, frames: &[Frame])
-        requires { length frames.now ≤ 16 }
-        ensures { self.new ≡ frames.now }
-    {
-        self.clear();
-        for frame in frames {
-            self.push(*frame);
-        }
-    }
 }
 
 impl Default for Outbox {
@@ -79,5 +69,11 @@ impl Default for Outbox {
 
     fn default() -> Self {
         Outbox::new()
+    }
+}
+
+impl fmt::Debug for Outbox {
+    fn fmt<W: fmt::Write>(&self, f: &mut fmt::Formatter<W>) -> fmt::Result {
+        write!(f, "Outbox({:?})", self.frames())
     }
 }

@@ -11,28 +11,31 @@ use std::alloc::{AllocError, Global};
 use turn_log::Played;
 use type_filter::Filters;
 
+#[cfg(test)]
+mod lock_tests;
 mod playing;
 #[cfg(test)]
 mod tests;
 
-/// The ring of a mountpoint: who holds it, and the last frames that were published there.
+/// The ring of a mountpoint: who holds it, and the last frames that were published there, as many
+/// as its capacity.
 ///
 /// It is `Played`: connections call it by `RingCall`, and a read puts its frames into an `Outbox`.
 /// All memory is taken when it is made. For each filter it counts how many permitted frames were
 /// published and how many of these it no longer keeps, so that joins and laps need no search.
-#[derive(Drop)]
+#[derive(Debug, Drop)]
 pub struct Ring {
     frames: HeapCircularBuffer<Frame>,
     watches: Vec<Watch>,
     published: u64,
     claims: u64,
     holder: Option<Holder>,
-    // It keeps 1 to 4,096 frames.
+    // Its capacity is 1 to 4,096 frames.
     ghost sized: { (1 ≤ frames.capacity) × (frames.capacity ≤ 4096) },
 }
 
 impl Ring {
-    ghost use Rattle.mount_ring.specs.History.{State, state_of, claim_answer, after_claim, joined};
+    ghost use Rattle.mount_ring.specs.History.{State, state_of, claim_answer, after_claim, joined, live_claim};
     ghost use Rattle.mount_ring.specs.History.{is_readable, permits_at};
     ghost use Rattle.mount_ring.specs.Reads.{read_report, read_frames};
     ghost use Rattle.mount_ring.specs.Shapes.{shape_of};
@@ -48,7 +51,7 @@ impl Ring {
     {
         let mut watches = Vec::new(alloc);
         for number in 0..filters.len() {
-            watches.push(Watch::new(filters.get(number).copy()?))?;
+            watches.push(Watch::new(filters.get(number).copy(alloc)?))?;
         }
         Ok(Ring {
             frames: HeapCircularBuffer::with_capacity(alloc, capacity as usize)?,
@@ -106,6 +109,13 @@ impl Ring {
             → Keeps self.new (record s { holder = None }) }
     {
         self.holder = None;
+    }
+
+    /// The claim under which the mountpoint is held, if it is held.
+    fn look(&self) -> Option<u64>
+        ensures { (s : State) → Keeps self.now s → result ≡ live_claim s.holder }
+    {
+        self.holder.map(|holder| holder.claim)
     }
 
     /// Publishes a frame, and gives its place. A full ring drops its oldest frame for it.

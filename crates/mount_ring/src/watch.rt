@@ -7,7 +7,7 @@ use type_filter::Filter;
 
 /// What a ring counts for one of its filters: how many frames that the filter permits were
 /// published, and how many of these the ring no longer keeps.
-#[derive(Drop)]
+#[derive(Debug, Drop)]
 pub(crate) struct Watch {
     pub(crate) filter: Filter,
     pub(crate) permitted: u64,

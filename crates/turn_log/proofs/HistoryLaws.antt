@@ -1,5 +1,5 @@
 -- Laws of histories: one caller's calls, legality, and what entries of others leave as it was.
-use Rattle.std.proofs.Common.{◌≡◌, ◌≢◌, ℕ, ◌⊎◌, inl, inr, ⊎_elim, Bool, true, false, IsTrue, cond, List, [], ◌∷◌, ◌++◌, refl, sym, ◌∙◌, ap, subst, eqb, eq-eqb, append_assoc}
+use Rattle.std.proofs.Common.{◌≡◌, ◌≢◌, ℕ, ◌⊎◌, inl, inr, ⊎_elim, Bool, true, false, IsTrue, cond, List, [], ◌∷◌, ◌++◌, refl, sym, ◌∙◌, ap, subst, eqb, append_assoc}
 use Rattle.std.proofs.lemmas.Bool.{eqb-false, ne_eqb}
 use Rattle.std.proofs.lemmas.List.{append-nil}
 use Rattle.turn_log.specs.History.{History, IsLegal, IsLegalAfter, own, entries_of, GoesOn}
@@ -16,18 +16,8 @@ own-append me (e ∷ a) b =
       | false ↦ rest
     ]
 
-pub own_mine : {C : Type 0} (me : ℕ) (call : C) → own me ((me, call) ∷ []) ≡ call ∷ []
-own_mine me call = ap (λ t. cond t (call ∷ []) []) (eq-eqb me me refl)
-
 pub own_other : {C : Type 0} (me by : ℕ) (call : C) → by ≢ me → own me ((by, call) ∷ []) ≡ []
 own_other me by call other = ap (λ t. cond t (call ∷ []) []) (ne_eqb by me other)
-
-pub own_entries : {C : Type 0} (me : ℕ) (calls : List C) → own me (entries_of me calls) ≡ calls
-own_entries me [] = refl
-own_entries me (call ∷ calls) =
-    ap (λ t. cond t (call ∷ own me (entries_of me calls)) (own me (entries_of me calls)))
-    (eq-eqb me me refl)
-    ∙ ap (λ more. call ∷ more) (own_entries me calls)
 
 -- another caller's entries hold no call of this one
 pub own_else : {C : Type 0} (me by : ℕ) (calls : List C) → by ≢ me → own me (entries_of by calls) ≡ []
@@ -48,9 +38,6 @@ own_none me e h none =
     in at refl none
 
 -- a history that goes on without one caller
-
-pub goes_none : {C : Type 0} (me : ℕ) (h : History C) → GoesOn me h h
-goes_none me h = ([], sym (append-nil h), refl)
 
 pub goes_both : {C : Type 0} (me : ℕ) (a b c : History C) → GoesOn me a b → GoesOn me b c → GoesOn me a c
 goes_both me a b c x y = (

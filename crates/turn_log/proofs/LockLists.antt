@@ -76,10 +76,6 @@ times_cut k ns =
 pub times_one : (k : ℕ) → times k (k ∷ []) ≡ 1
 times_one k = times-cons k k [] ∙ ap (λ b. cond b 1 0 + times k []) (eq-eqb k k refl)
 
-pub times_some : (k : ℕ) (ns : List ℕ) → 0 < times k ns → 0 < length ns
-times_some k [] stands = absurd (omega arith)
-times_some k (n ∷ ns) stands = omega arith
-
 -- numbers one after another
 
 pub length-from : (m n : ℕ) → length (from m n) ≡ n

@@ -11,7 +11,7 @@ use lib.ListN.{get_elem?}
 use Rattle.atomic_table.specs.Table.{State, Splits, Joins, opening, Final, Seen}
 use Rattle.atomic_table.proofs.Lists.{set_else, at_longer, at_snoc}
 use Rattle.turn_log.specs.declared.lock.rule.Stage.{Stage}
-use Rattle.turn_log.specs.declared.lock.rule.Stage.TheVariants.{Idle, AtTurn}
+use Rattle.turn_log.specs.declared.lock.rule.Stage.TheVariants.{Idle}
 use Rattle.turn_log.specs.declared.lock.rule.Known.{Known}
 use Rattle.turn_log.specs.declared.lock.rule.Held.{Held}
 use Rattle.turn_log.specs.History.{History, own, GoesOn}
@@ -20,15 +20,7 @@ use Rattle.turn_log.specs.LockSteps.{after_deal, dealt, noted, met, spent}
 use Rattle.turn_log.proofs.HistoryLaws.{legal_none}
 use Rattle.turn_log.proofs.LockLists.{at_same, each_set, sum_set, two_in_sum, times-append, times_cut, length-from, from_within, from_once}
 use Rattle.turn_log.proofs.LockHistories.{begins_self, between}
-use Rattle.turn_log.proofs.LockSteps.{lies_set, apart_set}
-
--- who is idle has no ticket, and is not at its turn
-
-pub no_ticket : (stage : Stage) → stage ≡ Idle → (n : ℕ) → HasTicket stage n → ⊥
-no_ticket stage idle n has = subst (λ (x : Stage). HasTicket x n) idle has
-
-pub not_served : (stage : Stage) → stage ≡ Idle → (t : ℕ) → stage ≡ AtTurn t → ⊥
-not_served stage idle t is = let e : Idle ≡ AtTurn t = sym idle ∙ is in absurd (cc e)
+use Rattle.turn_log.proofs.LockSteps.{no_ticket, not_served, holder_set, lies_set, apart_set}
 
 -- what a seat knows is true where it is idle, as far as its numbers and histories go
 pub record Fair {C V Z : Type 0} (shape : V → Z) (z : Z) (passes ticket : ℕ) (whole : History C) (view : Known C V) : Type 0 where
@@ -40,23 +32,23 @@ pub record Fair {C V Z : Type 0} (shape : V → Z) (z : Z) (passes ticket : ℕ)
   pub own_seen : (k : ℕ) → 0 < times k view.numbers → own k whole ≡ own k view.seen
   pub own_told : (k : ℕ) → 0 < times k view.brought → own k whole ≡ own k view.told
 
-pub idle_ok : {C V Z : Type 0} (shape : V → Z) (z : Z) (passes serving ticket : ℕ) (whole : History C) (view : Known C V)
-    → view.stage ≡ Idle → Fair shape z passes ticket whole view → ViewOk shape z passes serving ticket whole view
-idle_ok shape z passes serving ticket whole view idle fair = record {
-  about = fair.about;
-  worn = fair.worn;
-  sees = fair.sees;
-  hears = fair.hears;
-  below = fair.below;
-  own_seen = fair.own_seen;
-  own_told = fair.own_told;
-  stage = subst (λ (stage : Stage). StageOk serving ticket whole view.seen view.numbers stage) (sym idle) tt;
-}
-
 module _ {V C Z : Type 0} (passes : ℕ) (stands : V → History C → Type 0) (shape : V → Z)
     (fits : Z → History C → ℕ → C → Bool) (z : Z) where
   abbrev Rule : State (Held V C) (Known C V) → Type 0
   Rule s = Kept passes stands shape fits z s
+
+  idle_ok : (serving ticket : ℕ) (whole : History C) (view : Known C V)
+      → view.stage ≡ Idle → Fair shape z passes ticket whole view → ViewOk shape z passes serving ticket whole view
+  idle_ok serving ticket whole view idle fair = record {
+    about = fair.about;
+    worn = fair.worn;
+    sees = fair.sees;
+    hears = fair.hears;
+    below = fair.below;
+    own_seen = fair.own_seen;
+    own_told = fair.own_told;
+    stage = subst (λ (stage : Stage). StageOk serving ticket whole view.seen view.numbers stage) (sym idle) tt;
+  }
 
   -- the two parts of a view speak together for no more than it did
   pub record Parts (v left right : Known C V) : Type 0 where
@@ -73,7 +65,7 @@ module _ {V C Z : Type 0} (passes : ℕ) (stands : V → History C → Type 0) (
       let both = fair k.serving k.ticket k.whole (k.each id v here) in
       let Ok : Known C V → Type 0 = ViewOk shape z passes k.serving k.ticket k.whole in
       let first_each = each_set Ok s.views id left (λ j u else at. k.each j u at)
-      (idle_ok shape z passes k.serving k.ticket k.whole left idle_left both.0) in
+      (idle_ok k.serving k.ticket k.whole left idle_left both.0) in
       let first_apart = apart_set s.views id left k.apart
       (λ j u n else at has mine. no_ticket left.stage idle_left n mine) in
       record {
@@ -100,8 +92,12 @@ module _ {V C Z : Type 0} (passes : ℕ) (stands : V → History C → Type 0) (
               let f : Known C V → ℕ = λ view. times n (voices view) in
               omega (arith, parts.each n, k.counts.once n, sum_by_push f views right, sum_set f s.views id v left here);
         };
-        each = λ j u at. ⊎_elim (first_each j u) (λ is. subst Ok is (idle_ok shape z passes k.serving k.ticket k.whole right idle_right both.1))
+        each = λ j u at. ⊎_elim (first_each j u) (λ is. subst Ok is (idle_ok k.serving k.ticket k.whole right idle_right both.1))
             (at_snoc views right u j at);
+        drawn = λ n from below.
+            let holder = holder_set s.views id n v left here
+            (λ has. absurd (no_ticket v.stage idle n has)) (k.drawn n from below) in
+            (holder.0, holder.1, at_longer views (right ∷ []) holder.0 holder.1 holder.2, holder.3);
         apart = λ i j u w n at_i at_j has_i has_j. ⊎_elim
             (λ one. ⊎_elim
             (λ two. first_apart i j u w n one two has_i has_j)
@@ -165,8 +161,12 @@ module _ {V C Z : Type 0} (passes : ℕ) (stands : V → History C → Type 0) (
         };
         each = each_set Ok views other rest
             (λ j u other_j at. each_set Ok s.views id both (λ i x else_i found. k.each i x found)
-            (idle_ok shape z passes k.serving k.ticket k.whole both idle_both two.0) j u at)
-            (idle_ok shape z passes k.serving k.ticket k.whole rest idle_rest two.1);
+            (idle_ok k.serving k.ticket k.whole both idle_both two.0) j u at)
+            (idle_ok k.serving k.ticket k.whole rest idle_rest two.1);
+        drawn = λ n from below. holder_set views other n w rest there
+            (λ has. absurd (no_ticket w.stage idle_w n has))
+            (holder_set s.views id n v both here (λ has. absurd (no_ticket v.stage idle n has))
+            (k.drawn n from below));
         apart = apart_set views other rest
             (apart_set s.views id both k.apart (λ j u n else_j at has mine. no_ticket both.stage idle_both n mine))
             (λ j u n else_j at has mine. no_ticket rest.stage idle_rest n mine);
@@ -332,6 +332,7 @@ module _ {V C Z : Type 0} (passes : ℕ) (stands : V → History C → Type 0) (
               own_told = λ n speaks. refl;
               stage = tt;
             });
+        drawn = λ n from below. absurd (omega (arith, below));
         apart = λ i j v w n at_i at_j has_i has_j. opened_at held.value i v at_i ∙ sym (opened_at held.value j w at_j);
         lies = inl (
           held,

@@ -14,7 +14,7 @@ use Rattle.turn_log.specs.declared.lock.rule.Stage.TheVariants.{Idle, Cleared, W
 use Rattle.turn_log.specs.declared.lock.rule.Known.{Known}
 use Rattle.turn_log.specs.declared.lock.rule.Held.{Held}
 use Rattle.turn_log.specs.History.{History, IsLegal, own, GoesOn}
-use Rattle.turn_log.specs.LockRule.{times, voices, HasTicket, is_cleared, StageOk, ViewOk, Counts, Lies, Kept}
+use Rattle.turn_log.specs.LockRule.{times, voices, HasTicket, HasHolder, is_cleared, StageOk, ViewOk, Counts, Lies, Kept}
 use Rattle.turn_log.specs.LockSteps.{Seated, clears, draws, Took, looks, advances, settles}
 use Rattle.turn_log.proofs.HistoryLaws.{legal_snoc, legal_front}
 use Rattle.turn_log.proofs.LockLists.{at_length, at_same, each_set, sum_set, in_sum, two_in_sum, sum_le, times-append}
@@ -53,6 +53,31 @@ apart_set {C} {V} views id w apart new i j u v n at_i at_j has_i has_j =
     (at_set views id j w v at_j))
     (at_set views id i w u at_i)
 
+-- who is idle has no ticket, and is not at its turn
+
+pub no_ticket : (stage : Stage) → stage ≡ Idle → (n : ℕ) → HasTicket stage n → ⊥
+no_ticket stage idle n has = subst (λ (x : Stage). HasTicket x n) idle has
+
+pub not_served : (stage : Stage) → stage ≡ Idle → (t : ℕ) → stage ≡ AtTurn t → ⊥
+not_served stage idle t is = let e : Idle ≡ AtTurn t = sym idle ∙ is in absurd (cc e)
+
+-- the seat that was set has this ticket
+pub holder_here : {C V : Type 0} (views : List (Known C V)) (id n : ℕ) (v w : Known C V)
+    → get_elem? views id ≡ some v → HasTicket w.stage n → HasHolder (set views id w) n
+holder_here views id n v w here has = (id, w, set_here views id w (at_length views id v here), has)
+
+-- a ticket is some seat's as before, where the seat that was set keeps its own
+pub holder_set : {C V : Type 0} (views : List (Known C V)) (id n : ℕ) (v w : Known C V)
+    → get_elem? views id ≡ some v → (HasTicket v.stage n → HasTicket w.stage n)
+    → HasHolder views n → HasHolder (set views id w) n
+holder_set {C} {V} views id n v w here kept holder =
+    let j : ℕ = holder.0 in
+    let u : Known C V = holder.1 in
+    dite (ℕ_discrete j id)
+    (λ is. holder_here views id n v w here (kept (subst (λ (view : Known C V). HasTicket view.stage n)
+    (at_same views j id u v is holder.2 here) holder.3)))
+    (λ else. (j, u, set_else views id j w else ∙ holder.2, holder.3))
+
 -- nobody is at its turn
 abbrev pub Quiet : {C V : Type 0} → List (Known C V) → Type 0
 Quiet {C} {V} views = (id : ℕ) (view : Known C V) (t : ℕ) → get_elem? views id ≡ some view → view.stage ≡ AtTurn t → ⊥
@@ -63,6 +88,22 @@ pub quiet_set : {C V : Type 0} (views : List (Known C V)) (id : ℕ) (w : Known 
 quiet_set {C} {V} views id w others mine j u t at is =
     each_set (λ (view : Known C V). view.stage ≡ AtTurn t → ⊥) views id w
     (λ i v else found. others i v t else found) (mine t) j u at is
+
+all_one : {A : Type 0} (P : A → Type 0) (x : A) → P x → All P (x ∷ [])
+all_one P x holds zero d le = holds
+all_one P x holds (suc i) d le = absurd (omega (arith, le))
+
+at_stage : {C : Type 0} (stage : Stage) (numbers brought : List ℕ) (seen : History C) (serving ticket : ℕ) (whole : History C)
+    → StageOk serving ticket whole seen numbers stage → is_cleared stage ≤ length (numbers ++ brought)
+at_stage Idle numbers brought seen serving ticket whole ok = omega arith
+at_stage Cleared numbers brought seen serving ticket whole ok = omega (arith, ok, length-append numbers brought)
+at_stage (Waiting t) numbers brought seen serving ticket whole ok = omega arith
+at_stage (AtTurn t) numbers brought seen serving ticket whole ok = omega arith
+
+-- who may draw speaks for some caller
+cleared_speaks : {C V : Type 0} (serving ticket : ℕ) (whole : History C) (view : Known C V)
+    → StageOk serving ticket whole view.seen view.numbers view.stage → is_cleared view.stage ≤ length (voices view)
+cleared_speaks serving ticket whole view ok = at_stage view.stage view.numbers view.brought view.seen serving ticket whole ok
 
 pub lies_set : {C V Z : Type 0} (stands : V → History C → Type 0) (shape : V → Z) (z : Z) (whole : History C)
     (homes : List (maybe.Option (Held V C))) (views : List (Known C V)) (id : ℕ) (v w : Known C V)
@@ -82,22 +123,6 @@ lies_set {C} {V} stands shape z whole homes views id v w here before after lies 
     before out.1.2 (ap (λ (view : Known C V). view.stage) (at_same views id j v u (sym is) here out.1.3) ∙ out.1.4) in
     inr (out.0, (j, u, out.1.2, set_else views id j w else ∙ out.1.3, out.1.4)))
     lies
-
-all_one : {A : Type 0} (P : A → Type 0) (x : A) → P x → All P (x ∷ [])
-all_one P x holds zero d le = holds
-all_one P x holds (suc i) d le = absurd (omega (arith, le))
-
-at_stage : {C : Type 0} (stage : Stage) (numbers brought : List ℕ) (seen : History C) (serving ticket : ℕ) (whole : History C)
-    → StageOk serving ticket whole seen numbers stage → is_cleared stage ≤ length (numbers ++ brought)
-at_stage Idle numbers brought seen serving ticket whole ok = omega arith
-at_stage Cleared numbers brought seen serving ticket whole ok = omega (arith, ok, length-append numbers brought)
-at_stage (Waiting t) numbers brought seen serving ticket whole ok = omega arith
-at_stage (AtTurn t) numbers brought seen serving ticket whole ok = omega arith
-
--- who may draw speaks for some caller
-cleared_speaks : {C V : Type 0} (serving ticket : ℕ) (whole : History C) (view : Known C V)
-    → StageOk serving ticket whole view.seen view.numbers view.stage → is_cleared view.stage ≤ length (voices view)
-cleared_speaks serving ticket whole view ok = at_stage view.stage view.numbers view.brought view.seen serving ticket whole ok
 
 module _ {V C Z : Type 0} (passes : ℕ) (stands : V → History C → Type 0) (shape : V → Z)
     (fits : Z → History C → ℕ → C → Bool) (z : Z) where
@@ -128,10 +153,11 @@ module _ {V C Z : Type 0} (passes : ℕ) (stands : V → History C → Type 0) (
   -- one view changes, and neither a word nor the slot
   pub quiet_step : (s : State (Held V C) (Known C V)) (k : Rule s) (id : ℕ) (v w : Known C V)
       → get_elem? s.views id ≡ some v → ((t : ℕ) → v.stage ≡ AtTurn t → ⊥) → ((t : ℕ) → w.stage ≡ AtTurn t → ⊥)
-      → ((n : ℕ) → HasTicket w.stage n → HasTicket v.stage n) → Counts passes k.ticket (set s.views id w)
+      → ((n : ℕ) → HasTicket w.stage n → HasTicket v.stage n) → ((n : ℕ) → HasTicket v.stage n → HasTicket w.stage n)
+      → Counts passes k.ticket (set s.views id w)
       → ViewOk shape z passes k.serving k.ticket k.whole w
       → Rule (record { words = k.serving ∷ k.ticket ∷ []; homes = s.homes; views = set s.views id w })
-  quiet_step s k id v w here before after kept counts ok = record {
+  quiet_step s k id v w here before after kept still counts ok = record {
     serving = k.serving;
     ticket = k.ticket;
     whole = k.whole;
@@ -143,6 +169,7 @@ module _ {V C Z : Type 0} (passes : ℕ) (stands : V → History C → Type 0) (
     numbered = k.numbered;
     counts = counts;
     each = each_set (ViewOk shape z passes k.serving k.ticket k.whole) s.views id w (λ j u else at. k.each j u at) ok;
+    drawn = λ n from below. holder_set s.views id n v w here (still n) (k.drawn n from below);
     apart = apart_set s.views id w k.apart
         (λ j u n else at has mine. else (k.apart j id u v n at here has (kept n mine)));
     lies = lies_set stands shape z k.whole s.homes s.views id v w here before after k.lies;
@@ -185,9 +212,6 @@ module _ {V C Z : Type 0} (passes : ℕ) (stands : V → History C → Type 0) (
           → ViewOk shape z passes k.serving k.ticket k.whole me.0
       ok s k here = k.each id me.0 here
 
-      not_served : (t : ℕ) → me.0.stage ≡ AtTurn t → ⊥
-      not_served t is = let e : Idle ≡ AtTurn t = sym idle ∙ is in absurd (cc e)
-
       clear_worn : (s : State (Held V C) (Known C V)) (k : Rule s) → get_elem? s.views id ≡ some me.0 → 2 ^ 62 ≤ k.ticket
           → (w : Known C V) × (a : Act (Held V C)) × Valid s.homes me.1 a
           × Rule (record { words = k.serving ∷ k.ticket ∷ []; homes = homes_after s.homes me.1 a; views = slice_set s.views id w })
@@ -198,7 +222,7 @@ module _ {V C Z : Type 0} (passes : ℕ) (stands : V → History C → Type 0) (
             w,
             keeps,
             tt,
-            quiet_step s k id me.0 w here not_served not_served (λ n has. has)
+            quiet_step s k id me.0 w here (not_served me.0.stage idle) (not_served me.0.stage idle) (λ n has. has) (λ n has. has)
                 (counts_set passes k.ticket k.ticket s.views id me.0 w here k.counts
                 (let sums = sum_set (λ (view : Known C V). is_cleared view.stage) s.views id me.0 w here in
                 omega (arith, sums, k.counts.room)) (omega arith) (λ n. omega arith))
@@ -225,7 +249,8 @@ module _ {V C Z : Type 0} (passes : ℕ) (stands : V → History C → Type 0) (
             w,
             keeps,
             tt,
-            quiet_step s k id me.0 w here not_served (λ t is. absurd (cc is)) (λ n has. absurd has)
+            quiet_step s k id me.0 w here (not_served me.0.stage idle) (λ t is. absurd (cc is)) (λ n has. absurd has)
+                (λ n has. absurd (no_ticket me.0.stage idle n has))
                 (clear_room s k id me.0 w here idle refl speaks refl refl few)
                 (record {
                   about = was.about;
@@ -270,9 +295,9 @@ module _ {V C Z : Type 0} (passes : ℕ) (stands : V → History C → Type 0) (
   drawn_stage serving ticket whole seen numbers (Waiting t) n ok has = (omega (arith, ok.0, has), omega (arith, ok.1, has))
   drawn_stage serving ticket whole seen numbers (AtTurn t) n ok has = (omega (arith, ok.0, has), omega (arith, ok.1, has))
 
-  drawn : (s : State (Held V C) (Known C V)) (k : Rule s) (j n : ℕ) (u : Known C V)
+  was_drawn : (s : State (Held V C) (Known C V)) (k : Rule s) (j n : ℕ) (u : Known C V)
       → get_elem? s.views j ≡ some u → HasTicket u.stage n → (k.serving ≤ n) × (n < k.ticket)
-  drawn s k j n u at has = drawn_stage k.serving k.ticket k.whole u.seen u.numbers u.stage n (k.each j u at).stage has
+  was_drawn s k j n u at has = drawn_stage k.serving k.ticket k.whole u.seen u.numbers u.stage n (k.each j u at).stage has
 
   pub draws_allowed : (slots id : ℕ) (me : Seated C V) → me.0.stage ≡ Cleared
       → Allows Rule slots id me 1 (λ n. (n + 1) % 2 ^ 64) (draws me)
@@ -318,8 +343,13 @@ module _ {V C Z : Type 0} (passes : ℕ) (stands : V → History C → Type 0) (
                     own_told = was.own_told;
                     stage = (k.behind, omega arith, speaks);
                   });
+              drawn = λ n from below. dite (dec_le k.ticket n)
+                  (λ last. holder_here s.views id n me.0 w here (omega (arith, last, below)))
+                  (λ earlier. holder_set s.views id n me.0 w here
+                  (λ has. absurd (subst (λ (stage : Stage). HasTicket stage n) cleared has))
+                  (k.drawn n from (omega (arith, earlier))));
               apart = apart_set s.views id w k.apart
-                  (λ j u n else at has mine. let d = drawn s k j n u at has in
+                  (λ j u n else at has mine. let d = was_drawn s k j n u at has in
                   let is : k.ticket ≡ n = mine in absurd (omega (arith, d.1, is)));
               lies = lies_set stands shape z k.whole s.homes s.views id me.0 w here
                   (λ t is. let e : Cleared ≡ AtTurn t = sym cleared ∙ is in absurd (cc e))
@@ -349,7 +379,7 @@ module _ {V C Z : Type 0} (passes : ℕ) (stands : V → History C → Type 0) (
             me.0,
             keeps,
             tt,
-            quiet_step s k id me.0 me.0 here not_served not_served (λ n has. has)
+            quiet_step s k id me.0 me.0 here not_served not_served (λ n has. has) (λ n has. has)
                 (counts_set passes k.ticket k.ticket s.views id me.0 me.0 here k.counts
                 (let sums = sum_set (λ (view : Known C V). is_cleared view.stage) s.views id me.0 me.0 here in
                 omega (arith, sums, k.counts.room)) (omega arith) (λ n. omega arith))
@@ -419,6 +449,8 @@ module _ {V C Z : Type 0} (passes : ℕ) (stands : V → History C → Type 0) (
                     own_told = was.own_told;
                     stage = (sym is, waits.1, waits.2, sym was.sees.1);
                   });
+              drawn = λ n from below. holder_set s.views id n me.0 w here
+                  (λ has. subst (λ (stage : Stage). HasTicket stage n) waiting has) (k.drawn n from below);
               apart = apart_set s.views id w k.apart
                   (λ j u n else at has mine. else (k.apart j id u me.0 n at here has
                   (subst (λ (stage : Stage). HasTicket stage n) (sym waiting) mine)));
@@ -572,6 +604,10 @@ module _ {V C Z : Type 0} (passes : ℕ) (stands : V → History C → Type 0) (
                         absurd (omega (arith, none_of, speaks));
                     stage = tt;
                   });
+              drawn = λ n from below. holder_set s.views id n me.0 w here
+                  (λ has. let is : t ≡ n = subst (λ (stage : Stage). HasTicket stage n) ready.turn has in
+                  absurd (omega (arith, is, turn.0, from)))
+                  (k.drawn n (omega (arith, from)) below);
               apart = apart_set s.views id w k.apart (λ j u n else at has mine. absurd mine);
               lies = ⊎_elim
                   (λ home. absurd (home.4 id me.0 t here ready.turn))
@@ -614,13 +650,11 @@ module _ {V C Z : Type 0} (passes : ℕ) (stands : V → History C → Type 0) (
           let silent : (n : ℕ) → 0 < times n me.0.numbers → own n more ≡ [] =
           λ n speaks. none_more n me.0.seen more k.whole found.2 (was.own_seen n speaks) in
           let told : (n : ℕ) → 0 < times n me.0.brought → GoesOn n me.0.told now × (own n k.whole ≡ own n now) =
-          λ n speaks. between n me.0.told now k.whole found.1 found.2 (was.own_told n speaks) in
-          let not_served : (x : ℕ) → me.0.stage ≡ AtTurn x → ⊥ = λ x is.
-          let e : Idle ≡ AtTurn x = sym idle ∙ is in absurd (cc e) in (
+          λ n speaks. between n me.0.told now k.whole found.1 found.2 (was.own_told n speaks) in (
             w,
             keeps,
             tt,
-            quiet_step s k id me.0 w here not_served not_served (λ n has. has)
+            quiet_step s k id me.0 w here (not_served me.0.stage idle) (not_served me.0.stage idle) (λ n has. has) (λ n has. has)
                 (counts_set passes k.ticket k.ticket s.views id me.0 w here k.counts
                 (let sums = sum_set (λ (view : Known C V). is_cleared view.stage) s.views id me.0 w here in
                 omega (arith, sums, k.counts.room)) (omega (arith, voiced_length))

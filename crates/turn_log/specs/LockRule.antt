@@ -31,6 +31,11 @@ HasTicket Cleared n = ⊥
 HasTicket (Waiting t) n = t ≡ n
 HasTicket (AtTurn t) n = t ≡ n
 
+-- some seat has this ticket
+abbrev pub HasHolder : {C V : Type 0} → List (Known C V) → ℕ → Type 0
+HasHolder {C} {V} views n =
+    (id : ℕ) × (view : Known C V) × (get_elem? views id ≡ some view) × HasTicket view.stage n
+
 -- 1 where the seat may draw a ticket, else 0
 abbrev pub is_cleared : Stage → ℕ
 is_cleared Idle = 0
@@ -92,7 +97,9 @@ pub record Kept {C V Z : Type 0} (passes : ℕ) (stands : V → History C → Ty
   pub counts : Counts passes ticket s.views
   pub each : (id : ℕ) (view : Known C V) → get_elem? s.views id ≡ some view
       → ViewOk shape z passes serving ticket whole view
-  -- no two seats have one ticket
+  -- each number from the word that is served up to the word that is drawn is some seat's ticket,
+  pub drawn : (n : ℕ) → serving ≤ n → n < ticket → HasHolder s.views n
+  -- and no two seats have one ticket
   pub apart : (i j : ℕ) (v w : Known C V) (n : ℕ)
       → get_elem? s.views i ≡ some v → get_elem? s.views j ≡ some w
       → HasTicket v.stage n → HasTicket w.stage n → i ≡ j

@@ -43,6 +43,7 @@ impl Played for Ring {
             }
             RingCall::Publish(_, frame) => RingAnswer::At(self.publish(frame)),
             RingCall::Join(filter) => RingAnswer::Joined(self.join(filter)),
+            RingCall::Look => RingAnswer::Looked(self.look()),
             RingCall::Read { cursor, budget } => {
                 RingAnswer::Read(self.read(cursor, budget, room))
             }

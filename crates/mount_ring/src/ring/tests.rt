@@ -4,10 +4,11 @@ ghost use Rattle.mount_ring.specs.History as history;
 ghost use Rattle.mount_ring.specs.Shapes.{shape_of};
 
 use super::Ring;
-use crate::{Cursor, Lap, Outbox, Plain, ReadReport, RingAnswer, RingCall};
+use crate::watch::Watch;
+use crate::{Cursor, Holder, Lap, Outbox, ReadReport, RingAnswer, RingCall};
+use circular_buffer::HeapCircularBuffer;
 use rtcm_frame::Frame;
 use std::alloc::Global;
-use std::process::Abort;
 use std::test::Fail;
 use turn_log::{Desk, TurnFault, Turns};
 use type_filter::{Filter, Filters};
@@ -42,7 +43,7 @@ impl Round {
         let mut list = Vec::new(alloc);
         list.push(filter)?;
         let filters = Filters::new(list);
-        let mut desk = Desk::new(alloc, Ring::new(alloc, capacity, &filters)?);
+        let mut desk = Desk::new(Ring::new(alloc, capacity, &filters)?);
         let mut out = Outbox::new();
         let RingAnswer::Given(_) = desk.turn(1, RingCall::Claim, &mut out)? else {
             unreachable!();
@@ -91,210 +92,168 @@ fn only(alloc: Global, number: u16) -> Result<Filter, Fail> {
     Ok(Filter::list(alloc, &[number])?)
 }
 
-#[test]
-fn the_overrun_counts_permitted_frames(rt: HostRuntime) -> Result<(), Fail> {
+// The frames of the numbers 1005 and 1077.
+fn two_frames() -> Result<(Frame, Frame), Fail> {
     let a = Frame::of(&FRAME_A).ok_or("no frame")?;
     let b = Frame::of(&FRAME_B).ok_or("no frame")?;
+    Ok((a, b))
+}
+
+// A report of a read by filter 0.
+fn report(next: u64, passed: u64, taken: u32, lapped: Option<Lap>) -> ReadReport {
+    ReadReport {
+        cursor: Cursor {
+            next,
+            passed,
+            filter: 0,
+        },
+        lapped,
+        taken,
+    }
+}
+
+#[test]
+fn the_overrun_counts_permitted_frames(rt: HostRuntime) -> Result<(), Fail> {
+    let (a, b) = two_frames()?;
     let mut round = Round::new(rt.alloc(), 2, only(rt.alloc(), 1005)?)?;
-    assert_eq!(rt;
-        round.cursor,
-        Cursor {
-            next: 0,
-            passed: 0,
-            filter: 0
-        }
-    );
     for (place, frame) in [a, b, b, b].iter().enumerate() {
         assert_eq!(rt; round.publish(*frame)?, RingAnswer::At(place as u64));
     }
-    let report = round.read(16)?;
-    assert_eq!(rt; report.taken, 0);
-    assert_eq!(rt;
-        report.lapped,
-        Some(Lap {
-            from: 0,
-            to: 2,
-            published: 4,
-            overrun: 1
-        })
-    );
-    assert_eq!(rt;
-        report.cursor,
-        Cursor {
-            next: 4,
-            passed: 1,
-            filter: 0
-        }
-    );
+    let lap = Lap {
+        from: 0,
+        to: 2,
+        published: 4,
+        overrun: 1,
+    };
+    assert_eq!(rt; round.read(16)?, report(4, 1, 0, Some(lap)));
     assert!(rt; round.out.frames().is_empty());
     Ok(())
 }
 
 #[test]
 fn a_lap_may_lose_nothing(rt: HostRuntime) -> Result<(), Fail> {
-    let b = Frame::of(&FRAME_B).ok_or("no frame")?;
+    let (_, b) = two_frames()?;
     let mut round = Round::new(rt.alloc(), 2, only(rt.alloc(), 1005)?)?;
-    for place in 0..4 {
-        assert_eq!(rt; round.publish(b)?, RingAnswer::At(place));
+    for frame in [b, b, b, b] {
+        round.publish(frame)?;
     }
-    let report = round.read(16)?;
-    assert_eq!(rt; report.taken, 0);
-    assert_eq!(rt;
-        report.lapped,
-        Some(Lap {
-            from: 0,
-            to: 2,
-            published: 4,
-            overrun: 0
-        })
-    );
-    assert_eq!(rt;
-        report.cursor,
-        Cursor {
-            next: 4,
-            passed: 0,
-            filter: 0
-        }
-    );
+    let lap = Lap {
+        from: 0,
+        to: 2,
+        published: 4,
+        overrun: 0,
+    };
+    assert_eq!(rt; round.read(16)?, report(4, 0, 0, Some(lap)));
     Ok(())
 }
 
 #[test]
 fn a_slow_reader_is_lapped(rt: HostRuntime) -> Result<(), Fail> {
-    let a = Frame::of(&FRAME_A).ok_or("no frame")?;
-    let b = Frame::of(&FRAME_B).ok_or("no frame")?;
+    let (a, b) = two_frames()?;
     let z = Frame::of(&FRAME_Z).ok_or("no frame")?;
     let mut round = Round::new(rt.alloc(), 2, Filter::all())?;
     for frame in [a, b, a, b, z] {
         round.publish(frame)?;
     }
-    let report = round.read(16)?;
-    assert_eq!(rt;
-        report.lapped,
-        Some(Lap {
-            from: 0,
-            to: 3,
-            published: 5,
-            overrun: 3
-        })
-    );
-    assert_eq!(rt; report.taken, 2);
-    assert_eq!(rt;
-        report.cursor,
-        Cursor {
-            next: 5,
-            passed: 5,
-            filter: 0
-        }
-    );
+    let lap = Lap {
+        from: 0,
+        to: 3,
+        published: 5,
+        overrun: 3,
+    };
+    assert_eq!(rt; round.read(16)?, report(5, 5, 2, Some(lap)));
     assert_eq!(rt; round.out.frames(), [b, z].as_slice());
     assert_eq!(rt; round.desk.value().published(), 5);
-    assert_eq!(rt; round.desk.value().claims(), 1);
     Ok(())
 }
 
 #[test]
 fn the_smallest_ring_is_read_frame_by_frame(rt: HostRuntime) -> Result<(), Fail> {
-    let a = Frame::of(&FRAME_A).ok_or("no frame")?;
-    let b = Frame::of(&FRAME_B).ok_or("no frame")?;
+    let (a, b) = two_frames()?;
     let mut round = Round::new(rt.alloc(), 1, Filter::all())?;
-    for frame in [a, b] {
-        round.publish(frame)?;
-        let report = round.read(16)?;
-        assert_eq!(rt; report.lapped, None);
-        assert_eq!(rt; report.taken, 1);
-        assert_eq!(rt; round.out.frames(), [frame].as_slice());
-    }
-    assert_eq!(rt;
-        round.cursor,
-        Cursor {
-            next: 2,
-            passed: 2,
-            filter: 0
-        }
-    );
+    round.publish(a)?;
+    assert_eq!(rt; round.read(16)?, report(1, 1, 1, None));
+    assert_eq!(rt; round.out.frames(), [a].as_slice());
+    round.publish(b)?;
+    assert_eq!(rt; round.read(16)?, report(2, 2, 1, None));
+    assert_eq!(rt; round.out.frames(), [b].as_slice());
     Ok(())
 }
 
 #[test]
 fn a_full_ring_laps_nobody(rt: HostRuntime) -> Result<(), Fail> {
-    let a = Frame::of(&FRAME_A).ok_or("no frame")?;
-    let b = Frame::of(&FRAME_B).ok_or("no frame")?;
+    let (a, b) = two_frames()?;
     let mut round = Round::new(rt.alloc(), 2, Filter::all())?;
     round.publish(a)?;
     round.publish(b)?;
-    let report = round.read(16)?;
-    assert_eq!(rt; report.lapped, None);
-    assert_eq!(rt; report.taken, 2);
-    assert_eq!(rt;
-        report.cursor,
-        Cursor {
-            next: 2,
-            passed: 2,
-            filter: 0
-        }
-    );
+    assert_eq!(rt; round.read(16)?, report(2, 2, 2, None));
     assert_eq!(rt; round.out.frames(), [a, b].as_slice());
     Ok(())
 }
 
-// Both rings publish a frame, and answer the same.
-fn publish_both(
-    rt: &impl Abort,
-    round: &mut Round,
-    plain: &mut Plain,
-    frame: Frame,
-) -> Result<(), Fail> {
-    let place = plain.publish(frame)?;
-    assert_eq!(rt; round.publish(frame)?, RingAnswer::At(place));
-    assert_eq!(rt; round.desk.value().published(), plain.published());
-    Ok(())
-}
-
-// Both rings are read from the reader's cursor, and answer the same.
-fn read_both(rt: &impl Abort, round: &mut Round, plain: &Plain, budget: u32) -> Result<(), Fail> {
-    let cursor = round.cursor;
-    let mut out = Outbox::new();
-    assert!(rt; cursor.next <= plain.published());
-    let report = plain.read(cursor, budget, &mut out);
-    assert_eq!(rt; round.read(budget)?, report);
-    assert_eq!(rt; round.out.frames(), out.frames());
-    Ok(())
-}
-
-// Both rings are claimed by a caller, and answer the same.
-fn claim_both(
-    rt: &impl Abort,
-    desk: &mut Desk<Ring>,
-    plain: &mut Plain,
-    me: u32,
-) -> Result<(), Fail> {
-    let mut out = Outbox::new();
-    assert!(rt; plain.claims() < 100);
-    assert_eq!(rt; desk.turn(me, RingCall::Claim, &mut out)?, plain.claim(me));
-    assert_eq!(rt; desk.value().claims(), plain.claims());
+#[test]
+fn a_read_takes_its_budget_and_at_most_16(rt: HostRuntime) -> Result<(), Fail> {
+    let (a, _) = two_frames()?;
+    let mut round = Round::new(rt.alloc(), 20, Filter::all())?;
+    for _ in 0..20 {
+        round.publish(a)?;
+    }
+    assert_eq!(rt; round.read(0)?, report(0, 0, 0, None));
+    assert_eq!(rt; round.read(3)?, report(3, 3, 3, None));
+    assert_eq!(rt; round.read(40)?, report(19, 19, 16, None));
+    assert_eq!(rt; round.read(16)?, report(20, 20, 1, None));
     Ok(())
 }
 
 #[test]
-fn both_rings_answer_the_same(rt: HostRuntime) -> Result<(), Fail> {
-    let a = Frame::of(&FRAME_A).ok_or("no frame")?;
-    let b = Frame::of(&FRAME_B).ok_or("no frame")?;
-    let mut round = Round::new(rt.alloc(), 20, Filter::all())?;
-    let mut plain = Plain::new(rt.alloc(), 20);
-    assert_eq!(rt; plain.claim(1), RingAnswer::Given(1));
-    assert_eq!(rt; round.cursor, plain.join());
-    for (count, budget) in [(1, 0), (1, 1), (19, 16), (5, 3), (30, 40), (0, 2), (2, 1)] {
-        for number in 0..count {
-            let frame = if number % 3 == 0 { a } else { b };
-            publish_both(&rt, &mut round, &mut plain, frame)?;
-        }
-        read_both(&rt, &mut round, &plain, budget)?;
-        read_both(&rt, &mut round, &plain, 1)?;
-    }
-    let mut desk = round.release()?;
-    plain.release();
-    claim_both(&rt, &mut desk, &mut plain, 2)?;
-    claim_both(&rt, &mut desk, &mut plain, 1)?;
+fn claims_are_numbered_and_looks_tell_them(rt: HostRuntime) -> Result<(), Fail> {
+    let mut list = Vec::new(rt.alloc());
+    list.push(Filter::all())?;
+    let mut desk = Desk::new(Ring::new(rt.alloc(), 4, &Filters::new(list))?);
+    let mut out = Outbox::new();
+    assert_eq!(rt; desk.turn(3, RingCall::Look, &mut out)?, RingAnswer::Looked(None));
+    assert_eq!(rt; desk.turn(1, RingCall::Claim, &mut out)?, RingAnswer::Given(1));
+    assert_eq!(rt; desk.turn(3, RingCall::Look, &mut out)?, RingAnswer::Looked(Some(1)));
+    let taken = RingAnswer::Taken {
+        caller: 1,
+        claim: 1,
+    };
+    assert_eq!(rt; desk.turn(2, RingCall::Claim, &mut out)?, taken);
+    assert_eq!(rt; desk.turn(1, RingCall::Claim, &mut out)?, taken);
+    Ok(())
+}
+
+#[test]
+fn a_claim_that_was_given_back_is_given_anew(rt: HostRuntime) -> Result<(), Fail> {
+    let mut desk = Round::new(rt.alloc(), 4, Filter::all())?.release()?;
+    let mut out = Outbox::new();
+    assert_eq!(rt; desk.turn(3, RingCall::Look, &mut out)?, RingAnswer::Looked(None));
+    assert_eq!(rt; desk.turn(2, RingCall::Claim, &mut out)?, RingAnswer::Given(2));
+    assert_eq!(rt; desk.value().claims(), 2);
+    Ok(())
+}
+
+// All that a ring is made of: its last frames, the counts for its filters, two numbers and the
+// holder. There is no list of all frames beside them.
+#[test]
+fn a_ring_keeps_its_last_frames_alone(rt: HostRuntime) -> Result<(), Fail> {
+    let mut list = Vec::new(rt.alloc());
+    list.push(Filter::all())?;
+    let ring = Ring::new(rt.alloc(), 2, &Filters::new(list))?;
+    let Ring {
+        frames,
+        watches,
+        published,
+        claims,
+        holder,
+    } = ring;
+    let frames: HeapCircularBuffer<Frame> = frames;
+    let watches: Vec<Watch> = watches;
+    let (published, claims): (u64, u64) = (published, claims);
+    let holder: Option<Holder> = holder;
+    assert_eq!(rt; frames.capacity(), 2);
+    assert_eq!(rt; watches.len(), 1);
+    assert_eq!(rt; (published, claims), (0, 0));
+    assert_eq!(rt; holder, None);
     Ok(())
 }

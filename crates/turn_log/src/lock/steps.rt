@@ -9,6 +9,7 @@ use super::parts::{Token, Turn};
 use super::plays::{Advance, Clear, Draw, Look};
 use super::rule::Held;
 use crate::object::Played;
+use crate::place::MOST;
 use std::sync::Wait;
 use std::thread;
 
@@ -20,9 +21,6 @@ pub const TICKET: usize = 1;
 
 /// The lock's one slot.
 pub const OBJECT: usize = 0;
-
-/// How many tickets may be drawn.
-const MOST: u64 = 1 << 62;
 
 impl<V: Played> Turn<V> {
     /// Draws a ticket. Where 2^62 or more were drawn, it tells how many.
@@ -44,8 +42,8 @@ impl<V: Played> Turn<V> {
         Ok(self.table.shared.fetch_add::<Draw<V>>(token, TICKET, 1))
     }
 
-    /// Waits until the ticket is served, and yields the processor between two looks. Then the object
-    /// is lent to the token.
+    /// Waits until the ticket is served, and yields the processor between two looks. Then the
+    /// object is lent to the token.
     fn wait<R: Wait>(&self, rt: &R, token: &mut Token<V>, ticket: u64)
         requires here { token.old.table_id ≡ self.now.table.shared.table_id }
         requires waiting { token.old.me.0.stage ≡ Waiting ticket }
