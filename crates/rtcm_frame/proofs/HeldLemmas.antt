@@ -1,6 +1,6 @@
 -- The bytes that a cutter's buffer holds from a place on.
-use Rattle.std.proofs.Common.{◌≡◌, ℕ, zero, suc, ◌+◌, ◌-◌, ◌^◌, ◌≤◌, ◌<◌, List, [], ◌∷◌, ◌++◌, length, take, drop, set, replicate, get_or, ap, ap₂, ◌∙◌, sym, subst, arith, length-drop, length-take-le}
-use Rattle.std.proofs.lemmas.List.{drop-drop, drop-take, drop-set-add, take_more_set, get_or-replicate}
+use Rattle.std.proofs.Common.{◌≡◌, ℕ, zero, suc, ◌+◌, ◌-◌, ◌≤◌, ◌<◌, List, [], ◌∷◌, ◌++◌, length, take, drop, set, replicate, ap, ap₂, ◌∙◌, sym, subst, arith, length-drop, length-take-le}
+use Rattle.std.proofs.lemmas.List.{drop-drop, drop-take, drop-set-add, take_more_set}
 use Rattle.std.proofs.Math.Seq.{take-add}
 use Rattle.rtcm_frame.specs.declared.stream.Cutter.TheInside.{Inside}
 use Rattle.rtcm_frame.specs.Sums.{AreSums}

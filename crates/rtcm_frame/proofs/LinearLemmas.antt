@@ -1,5 +1,5 @@
 -- CRC-24Q is linear over the exclusive or, and so it goes by bytes and by parts.
-use Rattle.std.proofs.Common.{◌≡◌, ℕ, zero, suc, ◌+◌, ◌*◌, ◌/◌, ◌%◌, ◌^◌, ◌<◌, ◌==◌, inl, inr, Bool, true, false, if◌then◌else◌, bit_xor, List, [], ◌∷◌, ◌++◌, length, replicate, fold, refl, ap, ap₂, ◌∙◌, sym, arith, eq-eqb}
+use Rattle.std.proofs.Common.{◌≡◌, ℕ, zero, suc, ◌+◌, ◌*◌, ◌/◌, ◌%◌, ◌^◌, ◌<◌, ◌==◌, inl, inr, Bool, if◌then◌else◌, bit_xor, List, [], ◌∷◌, ◌++◌, length, replicate, fold, refl, ap, ap₂, ◌∙◌, sym, arith}
 use Rattle.std.proofs.lemmas.Bool.{cases_Bool}
 use Rattle.std.proofs.lemmas.Bool.Decides.{nat_tests}
 use Rattle.std.proofs.lemmas.Grind.{fold-append}
@@ -8,7 +8,7 @@ use Rattle.std.proofs.Math.Nat.{mod-lt}
 use Rattle.std.specs.Int.Bits.{xor_assoc, xor_self, xor_zero_l, xor_zero_r}
 use Rattle.std.specs.List.{flat_map}
 use Rattle.rtcm_frame.specs.Crc.{generator, after_bit, bits_of, crc24q_of, xor_each}
-use Rattle.rtcm_frame.specs.Bytewise.{after_byte, crc_on, moved, row}
+use Rattle.rtcm_frame.specs.Bytewise.{after_byte, crc_on, moved}
 
 -- ---- exclusive or
 
@@ -84,8 +84,8 @@ step_plain value bit fits is_bit = elim (cases_Bool (value / 2 ^ 23 == bit)) [
       ap (λ (test : Bool). (if test then 2 * value else bit_xor (2 * value) generator) % 2 ^ 24) same
       ∙ twice
       ∙ sym (
-        ap (λ (x : ℕ). bit_xor (value * 2 % 2 ^ 24) (x * low_generator)) nothing
-        ∙ xor_zero_r (value * 2 % 2 ^ 24)
+      ap (λ (x : ℕ). bit_xor (value * 2 % 2 ^ 24) (x * low_generator)) nothing
+      ∙ xor_zero_r (value * 2 % 2 ^ 24)
       )
   | inr other ↦
       let differ : (value / 2 ^ 23 ≡ bit) → ⊥ = λ equal. absurd (grind (arith, nat_tests)) in

@@ -1,12 +1,12 @@
 -- How a register takes a byte, eight bytes, or bytes of zero, by tables.
-use Rattle.std.proofs.Common.{◌≡◌, ℕ, zero, suc, inl, inr, ◌+◌, ◌-◌, ◌*◌, ◌/◌, ◌%◌, ◌^◌, ◌≤◌, ◌<◌, ◌==◌, Bool, true, false, ◌&&◌, if◌then◌else◌, bit_xor, List, [], ◌∷◌, length, get_or, refl, ap, ap₂, ◌∙◌, sym, subst, arith, eq-eqb}
+use Rattle.std.proofs.Common.{◌≡◌, ℕ, zero, suc, inl, inr, ◌+◌, ◌*◌, ◌/◌, ◌%◌, ◌^◌, ◌<◌, ◌==◌, Bool, true, ◌&&◌, if◌then◌else◌, bit_xor, List, [], ◌∷◌, length, get_or, refl, ap, ap₂, ◌∙◌, sym, subst, arith, eq-eqb}
 use Rattle.std.proofs.lemmas.Bool.Decides.{nat_tests}
 use Rattle.std.proofs.lemmas.Bool.{cases_Bool}
 use Rattle.std.proofs.lemmas.Nat.{xor_comm, xor_lt}
-use Rattle.std.specs.Int.Bits.{xor_zero_l, xor_zero_r}
+use Rattle.std.specs.Int.Bits.{xor_zero_r}
 use Rattle.rtcm_frame.specs.Crc.{generator, after_bit, bits_of}
 use Rattle.rtcm_frame.specs.Bytewise.{after_byte, crc_on, moved, row}
-use Rattle.rtcm_frame.proofs.LinearLemmas.{xor_split, byte_xor, byte_alone, byte_fits, moved_fits, moved_xor, moved_add, crc_on_from}
+use Rattle.rtcm_frame.proofs.LinearLemmas.{xor_split, byte_xor, byte_alone, byte_fits, moved_xor, moved_add, crc_on_from}
 
 -- ---- one byte
 
@@ -100,7 +100,7 @@ last_byte byte = refl
 
 eight_items : (xs : List ℕ) → length xs ≡ 8
     → xs ≡ get_or xs 0 0 ∷ get_or xs 1 0 ∷ get_or xs 2 0 ∷ get_or xs 3 0
-        ∷ get_or xs 4 0 ∷ get_or xs 5 0 ∷ get_or xs 6 0 ∷ get_or xs 7 0 ∷ []
+    ∷ get_or xs 4 0 ∷ get_or xs 5 0 ∷ get_or xs 6 0 ∷ get_or xs 7 0 ∷ []
 eight_items (a ∷ (b ∷ (c ∷ (d ∷ (e ∷ (f ∷ (g ∷ (h ∷ [])))))))) eight = refl
 eight_items (a ∷ (b ∷ (c ∷ (d ∷ (e ∷ (f ∷ (g ∷ (h ∷ (i ∷ t))))))))) eight = absurd (omega arith)
 eight_items (a ∷ (b ∷ (c ∷ (d ∷ (e ∷ (f ∷ (g ∷ []))))))) eight = absurd (omega arith)
@@ -132,10 +132,10 @@ register_moved value fits =
     let sum : a * 2 ^ 16 + value % 65536 ≡ value = omega arith in
     let parts : value ≡ bit_xor (a * 2 ^ 16) (bit_xor (b * 2 ^ 8) c) =
     sym (
-      ap (bit_xor (a * 2 ^ 16)) low
-      ∙ xor_comm (a * 2 ^ 16) (value % 65536)
-      ∙ xor_split 16 a (value % 65536) (omega arith) (omega arith)
-      ∙ sum
+    ap (bit_xor (a * 2 ^ 16)) low
+    ∙ xor_comm (a * 2 ^ 16) (value % 65536)
+    ∙ xor_split 16 a (value % 65536) (omega arith) (omega arith)
+    ∙ sum
     )
     in
     ap (moved 8) parts
@@ -208,16 +208,16 @@ six_digits : (v : ℕ) → v < 2 ^ 24
     bit_xor (v / 2 ^ 4 % 16 * 2 ^ 4) (v / 2 ^ 0 % 16 * 2 ^ 0)))))
 six_digits v fits =
     sym (
-      ap (bit_xor (v / 2 ^ 20 % 16 * 2 ^ 20)) (
-      ap (bit_xor (v / 2 ^ 16 % 16 * 2 ^ 16)) (
-      ap (bit_xor (v / 2 ^ 12 % 16 * 2 ^ 12)) (
-      ap (bit_xor (v / 2 ^ 8 % 16 * 2 ^ 8)) (
-      ap (bit_xor (v / 2 ^ 4 % 16 * 2 ^ 4)) lowest
-      ∙ join 4 (v / 2 ^ 4 % 16) (v % 2 ^ 4) (v % 2 ^ 8) (omega arith) (omega arith) (omega arith))
-      ∙ join 8 (v / 2 ^ 8 % 16) (v % 2 ^ 8) (v % 2 ^ 12) (omega arith) (omega arith) (omega arith))
-      ∙ join 12 (v / 2 ^ 12 % 16) (v % 2 ^ 12) (v % 2 ^ 16) (omega arith) (omega arith) (omega arith))
-      ∙ join 16 (v / 2 ^ 16 % 16) (v % 2 ^ 16) (v % 2 ^ 20) (omega arith) (omega arith) (omega arith))
-      ∙ join 20 (v / 2 ^ 20 % 16) (v % 2 ^ 20) v (omega arith) (omega arith) (omega arith)
+    ap (bit_xor (v / 2 ^ 20 % 16 * 2 ^ 20)) (
+    ap (bit_xor (v / 2 ^ 16 % 16 * 2 ^ 16)) (
+    ap (bit_xor (v / 2 ^ 12 % 16 * 2 ^ 12)) (
+    ap (bit_xor (v / 2 ^ 8 % 16 * 2 ^ 8)) (
+    ap (bit_xor (v / 2 ^ 4 % 16 * 2 ^ 4)) lowest
+    ∙ join 4 (v / 2 ^ 4 % 16) (v % 2 ^ 4) (v % 2 ^ 8) (omega arith) (omega arith) (omega arith))
+    ∙ join 8 (v / 2 ^ 8 % 16) (v % 2 ^ 8) (v % 2 ^ 12) (omega arith) (omega arith) (omega arith))
+    ∙ join 12 (v / 2 ^ 12 % 16) (v % 2 ^ 12) (v % 2 ^ 16) (omega arith) (omega arith) (omega arith))
+    ∙ join 16 (v / 2 ^ 16 % 16) (v % 2 ^ 16) (v % 2 ^ 20) (omega arith) (omega arith) (omega arith))
+    ∙ join 20 (v / 2 ^ 20 % 16) (v % 2 ^ 20) v (omega arith) (omega arith) (omega arith)
     )
   where
     lowest : v / 2 ^ 0 % 16 * 2 ^ 0 ≡ v % 2 ^ 4

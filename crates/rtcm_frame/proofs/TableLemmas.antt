@@ -1,14 +1,12 @@
 -- What the tables hold, and how the checksum is read from them.
-use Rattle.std.proofs.Common.{◌≡◌, ℕ, zero, suc, ◌+◌, ◌-◌, ◌*◌, ◌/◌, ◌%◌, ◌^◌, ◌≤◌, ◌<◌, ◌==◌, Bool, true, false, ◌&&◌, bit_xor, List, [], ◌∷◌, ◌++◌, length, take, drop, get_or, refl, ap, ap₂, ◌∙◌, sym, subst, arith, length-drop, length-take-le}
+use Rattle.std.proofs.Common.{◌≡◌, ℕ, zero, suc, ◌+◌, ◌*◌, ◌/◌, ◌%◌, ◌^◌, ◌≤◌, ◌<◌, true, List, [], ◌∷◌, length, take, drop, get_or, ap, ap₂, ◌∙◌, sym, subst, arith, length-drop, length-take-le}
 use Rattle.std.proofs.lemmas.Bool.Decides.{nat_tests}
 use Rattle.std.proofs.lemmas.List.{get_or-drop, get_or-take}
-use Rattle.std.proofs.lemmas.Nat.{xor_comm, xor_lt}
-use Rattle.std.specs.Int.Bits.{xor_zero_l, xor_zero_r}
-use Rattle.rtcm_frame.specs.Bytewise.{after_byte, crc_on, moved, row}
+use Rattle.rtcm_frame.specs.Bytewise.{moved, row}
 use Rattle.rtcm_frame.specs.declared.tables.rows.TheConstants.{ROWS}
 use Rattle.rtcm_frame.specs.declared.tables.shifts.TheConstants.{NEAR, FAR}
 use Rattle.rtcm_frame.proofs.TableFacts.{agree, follow, row_entry, rows_agree, digit_entry, near_digits, near_follow, far_digits, far_follow}
-use Rattle.rtcm_frame.proofs.LinearLemmas.{moved_fits, xor_split, byte_xor, byte_alone, byte_fits, moved_xor, moved_add, crc_on_from}
+use Rattle.rtcm_frame.proofs.LinearLemmas.{moved_fits, byte_fits, moved_add}
 
 -- ---- a table of a function's values
 

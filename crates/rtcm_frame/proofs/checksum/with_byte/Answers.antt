@@ -1,6 +1,6 @@
-use Rattle.std.proofs.Common.{◌*◌, ◌/◌, ◌%◌, bit_xor, ap, ◌∙◌, sym, arith}
+use Rattle.std.proofs.Common.{◌*◌, ◌%◌, bit_xor, ap, ◌∙◌, sym, arith}
 use Rattle.std.proofs.lemmas.Nat.{xor_lt}
-use Rattle.rtcm_frame.specs.Bytewise.{moved, row}
+use Rattle.rtcm_frame.specs.Bytewise.{moved}
 use Rattle.rtcm_frame.proofs.StepLemmas.{byte_by_row}
 use Rattle.rtcm_frame.proofs.checksum.with_byte.Goals as goal
 

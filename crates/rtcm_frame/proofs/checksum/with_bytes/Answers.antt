@@ -1,10 +1,10 @@
-use Rattle.std.proofs.Common.{◌≡◌, ℕ, get_or, ap, ◌∙◌, sym}
+use Rattle.std.proofs.Common.{ℕ, get_or, ap, ◌∙◌, sym}
 use Rattle.rtcm_frame.specs.Bytewise.{after_byte}
 use Rattle.rtcm_frame.proofs.CrcLemmas.{crc_none, crc_more}
 use Rattle.rtcm_frame.proofs.checksum.with_bytes.Goals as goal
 
 pub loop-byte-init : goal.loop-byte-init
-loop-byte-init c = record { value = sym (crc_none _); bound = c.requires; }
+loop-byte-init c = record { value = sym (crc_none _); bound = c.requires }
 
 pub loop-byte-preserved : goal.loop-byte-preserved
 loop-byte-preserved c = record {

@@ -1,10 +1,10 @@
-use Rattle.std.proofs.Common.{ℕ, ◌+◌, ◌-◌, ◌≡◌, List, take, drop, ap, ◌∙◌, sym, arith}
+use Rattle.std.proofs.Common.{ℕ, ◌+◌, ◌-◌, ◌≡◌, take, drop, ap, ◌∙◌, sym, arith}
 use Rattle.rtcm_frame.specs.Bytewise.{crc_on}
 use Rattle.rtcm_frame.proofs.CrcLemmas.{crc_none, crc_part}
 use Rattle.rtcm_frame.proofs.checksum.with_eights.Goals as goal
 
 pub loop-at-init : goal.loop-at-init
-loop-at-init c = record { within = omega arith; eights = omega arith; value = sym (crc_none 0); bound = omega arith; }
+loop-at-init c = record { within = omega arith; eights = omega arith; value = sym (crc_none 0); bound = omega arith }
 
 pub loop-at-preserved : goal.loop-at-preserved
 loop-at-preserved c =

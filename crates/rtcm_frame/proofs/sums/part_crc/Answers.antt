@@ -1,4 +1,4 @@
-use Rattle.std.proofs.Common.{◌-◌, bit_xor, get_or, ap, ◌∙◌}
+use Rattle.std.proofs.Common.{bit_xor, get_or, ap, ◌∙◌}
 use Rattle.rtcm_frame.proofs.SumLemmas.{part_is}
 use Rattle.rtcm_frame.proofs.sums.part_crc.Goals as goal
 

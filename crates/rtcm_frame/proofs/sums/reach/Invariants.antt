@@ -1,4 +1,4 @@
-use Rattle.std.proofs.Common.{◌≡◌, ℕ, ◌-◌, ◌≤◌, length, get_or, max}
+use Rattle.std.proofs.Common.{◌≡◌, ℕ, ◌-◌, ◌≤◌, get_or, max}
 use Rattle.rtcm_frame.specs.Sums.{Chained, AreSums}
 use Rattle.rtcm_frame.proofs.sums.reach.Given as goal
 

@@ -1,4 +1,4 @@
-use Rattle.std.proofs.Common.{◌≡◌, [], subst, arith}
+use Rattle.std.proofs.Common.{[], subst, arith}
 use Rattle.rtcm_frame.specs.Pending.{Pending, Took, IsBehindJunk}
 use Rattle.rtcm_frame.proofs.PendingLemmas.{took_then, behind_then}
 use Rattle.rtcm_frame.proofs.stream.Cutter.find.Goals as goal

@@ -1,5 +1,4 @@
-use Rattle.std.proofs.Common.{rules, ◌≡◌, ◌≤◌, length, get_or, arith, ap, ◌∙◌, List, ℕ}
-use Rattle.std.proofs.lemmas.Bool.Decides.{nat_tests}
+use Rattle.std.proofs.Common.{rules, ◌≤◌, length}
 use Rattle.rtcm_frame.proofs.CutLemmas.{front_other}
 use Rattle.rtcm_frame.proofs.stream.Cutter.front.Goals as goal
 

@@ -1,5 +1,5 @@
-use Rattle.std.proofs.Common.{◌≡◌, ℕ, List, [], ◌∷◌, take, ap, ◌∙◌, subst, append-nil}
-use Rattle.rtcm_frame.specs.Pending.{Pending, Gave, Took}
+use Rattle.std.proofs.Common.{ℕ, List, [], take, ap, ◌∙◌, subst, append-nil}
+use Rattle.rtcm_frame.specs.Pending.{Gave}
 use Rattle.rtcm_frame.proofs.PendingLemmas.{took_found, gave_took, gave_waiting}
 use Rattle.rtcm_frame.proofs.stream.Cutter.next.Goals as goal
 

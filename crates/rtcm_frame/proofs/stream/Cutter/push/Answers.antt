@@ -1,4 +1,4 @@
-use Rattle.std.proofs.Common.{◌≡◌, ℕ, ◌+◌, ◌<◌, List, [], ◌∷◌, ◌++◌, length, take, drop, set, ap, ap₂, ◌∙◌, sym, subst, arith}
+use Rattle.std.proofs.Common.{ℕ, ◌+◌, ◌<◌, List, [], ◌∷◌, ◌++◌, length, ap, ap₂, ◌∙◌, sym, subst, arith}
 use Rattle.rtcm_frame.specs.Pending.{Pending, Gave}
 use Rattle.rtcm_frame.proofs.HeldLemmas.{held_length, written_behind}
 use Rattle.rtcm_frame.proofs.PendingLemmas.{gave_more, pending_of, waiting_fits}
@@ -47,8 +47,8 @@ returns-clause-stands c = λ given all gave.
     in
     let room : place + held.len < length buffer = c.with_room-place.ensures.room few in
     let bytes = written_behind buffer place held.len byte room
-        ∙ ap (λ (xs : List ℕ). xs ++ byte ∷ []) c.with_room-place.ensures.bytes
-        ∙ ap (λ (p : Pending). p.bytes ++ byte ∷ []) c.self.view_is
+    ∙ ap (λ (xs : List ℕ). xs ++ byte ∷ []) c.with_room-place.ensures.bytes
+    ∙ ap (λ (p : Pending). p.bytes ++ byte ∷ []) c.self.view_is
     in
     let junk = ap (λ (p : Pending). p.junk) c.self.view_is in
     subst (Gave given (all ++ byte ∷ [])) (sym (ap₂ pending_of bytes junk)) (gave_more given all c.args.self.now (byte ∷ []) gave)
