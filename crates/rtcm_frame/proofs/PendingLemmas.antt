@@ -1,6 +1,7 @@
 -- What a cutter's steps do to the cut of all bytes pushed.
 use Rattle.std.proofs.Common.{◌≡◌, ℕ, zero, suc, ◌+◌, ◌-◌, ◌≤◌, ◌<◌, false, List, [], ◌∷◌, ◌++◌, length, take, drop, get_or, IsTrue, ap, ap₂, ◌∙◌, sym, arith, append_assoc, append-nil, length-append, length-drop, length-take-le, refl, subst}
-use Rattle.std.proofs.lemmas.List.{take-append-drop, drop-drop, get_or-drop}
+use Rattle.std.proofs.lemmas.List.{take-append-drop, take_rest, drop-drop, get_or-drop}
+use Rattle.std.proofs.Math.Seq.{take-add}
 use Rattle.std.proofs.lemmas.List.Sums.{sum_by-append, sum_by-cons}
 use Rattle.rtcm_frame.specs.Transport.{preamble, longest, is_frame}
 use Rattle.rtcm_frame.specs.Cut.{Parts, begins_with_frame, is_unfinished, IsWaiting, cut, followed_by}
@@ -151,16 +152,6 @@ behind_then old mid new first second = record {
   added = omega (arith, first.added, second.added, length-append first.junk second.junk);
 }
 
--- a frame stands behind the bytes that were passed over
-pub behind_found : (old p new : Pending) (count : ℕ) (frame : List ℕ) → IsBehindJunk old p []
-    → frame ≡ take count p.bytes → new ≡ pending_of (drop count p.bytes) p.junk → IsBehindJunk old new frame
-behind_found old p new count frame passed is_front is_behind = record {
-  junk = passed.junk;
-  split = behind_front old p count passed
-      ∙ ap₂ (λ (xs ys : List ℕ). passed.junk ++ (xs ++ ys)) (sym is_front) (sym (ap (λ (q : Pending). q.bytes) is_behind));
-  added = ap (λ (q : Pending). q.junk) is_behind ∙ passed.added;
-}
-
 -- what is taken is given behind what was
 pub gave_took : (given frames : List (List ℕ)) (all : List ℕ) (old new : Pending)
     → Gave given all old → Took old new frames → Gave (given ++ frames) all new
@@ -184,6 +175,12 @@ gave_waiting given all p gave waits =
       junk = none ∙ ap (λ (q : Parts). p.junk + q.junk) (sym step) ∙ gave.junk;
       rest = ap (λ (q : Parts). q.rest) (sym step) ∙ gave.rest;
     }
+
+-- the bytes fed so far, and then so many of those that are left
+pub fed_front : (bytes : List ℕ) (place count : ℕ)
+    → take place bytes ++ take count (take (length bytes - place) (drop place bytes)) ≡ take (place + count) bytes
+fed_front bytes place count =
+    ap (λ (xs : List ℕ). take place bytes ++ take count xs) (take_rest bytes place) ∙ sym (take-add place count bytes)
 
 -- bytes behind what is not yet cut are bytes behind all
 pub gave_more : (given : List (List ℕ)) (all : List ℕ) (p : Pending) (more : List ℕ) → Gave given all p

@@ -12,49 +12,6 @@ use Rattle.rtcm_frame.proofs.CrcLemmas.{crc_none, crc_more}
 pub chained_none : (buffer sums : List ℕ) (start end : ℕ) → end ≤ start → Chained buffer sums start end
 chained_none buffer sums start end none = record { link = λ k from below. absurd (omega arith) }
 
--- bytes in front may be passed over
-pub chained_later : (buffer sums : List ℕ) (start later end : ℕ) → start ≤ later → Chained buffer sums start end
-    → Chained buffer sums later end
-chained_later buffer sums start later end order chained =
-    record { link = λ k from below. chained.link k (omega arith) below }
-
--- one more sum
-pub chained_more : (buffer sums : List ℕ) (start end crc : ℕ) → Chained buffer sums start end → end + 1 < length sums
-    → crc ≡ after_byte (get_or sums end 0) (get_or buffer end 0) → Chained buffer (set sums (end + 1) crc) start (end + 1)
-chained_more buffer sums start end crc chained fits is_next = record { link = link }
-  where
-    link : (k : ℕ) → start ≤ k → k < end + 1
-        → get_or (set sums (end + 1) crc) (k + 1) 0 ≡ after_byte (get_or (set sums (end + 1) crc) k 0) (get_or buffer k 0)
-    link k from below = elim (cases_lt k end) [
-      | inl before ↦
-          get_or-set_other sums (end + 1) (k + 1) crc 0 (λ same. absurd (omega arith))
-          ∙ chained.link k from before
-          ∙ ap (λ (v : ℕ). after_byte v (get_or buffer k 0)) (sym (get_or-set_other sums (end + 1) k crc 0 (λ same. absurd (omega arith))))
-      | inr last ↦
-          let here : k ≡ end = omega arith in
-          let stored : get_or (set sums (end + 1) crc) (k + 1) 0 ≡ crc =
-          ap (λ (n : ℕ). get_or (set sums (end + 1) crc) (n + 1) 0) here ∙ get_or-set_same sums (end + 1) crc 0 fits
-          in
-          let before : get_or (set sums (end + 1) crc) k 0 ≡ get_or sums end 0 =
-          get_or-set_other sums (end + 1) k crc 0 (λ same. absurd (omega arith)) ∙ ap (λ (n : ℕ). get_or sums n 0) here
-          in
-          stored
-          ∙ is_next
-          ∙ ap₂ after_byte (sym before) (ap (λ (n : ℕ). get_or buffer n 0) (sym here))
-    ]
-
--- a sum of 24 bits is stored
-pub sums_set : (sums : List ℕ) (place crc : ℕ) → AreSums sums → place < length sums → crc < 2 ^ 24 → AreSums (set sums place crc)
-sums_set sums place crc fits within small k = elim (cases_lt k place) [
-  | inl before ↦ subst (λ (v : ℕ). v < 2 ^ 24) (sym (get_or-set_other sums place k crc 0 (λ same. absurd (omega arith)))) (fits k)
-  | inr after ↦ elim (cases_lt place k) [
-    | inl behind ↦ subst (λ (v : ℕ). v < 2 ^ 24) (sym (get_or-set_other sums place k crc 0 (λ same. absurd (omega arith)))) (fits k)
-    | inr same ↦
-        let here : k ≡ place = omega arith in
-        subst (λ (v : ℕ). v < 2 ^ 24) (sym (ap (λ (n : ℕ). get_or (set sums place crc) n 0) here ∙ get_or-set_same sums place crc 0 within)) small
-  ]
-]
-
 -- the sums go on as the checksum does
 chained_on : (buffer sums : List ℕ) (start n end : ℕ) → Chained buffer sums start end → start + n ≤ end → start + n ≤ length buffer
     → get_or sums (start + n) 0 ≡ crc_on (get_or sums start 0) (take n (drop start buffer))

@@ -1,5 +1,5 @@
--- How a cutter holds what waits: in a buffer of twice the longest frame, with running checksums over
--- a part of it.
+-- How a cutter holds what waits: in a buffer of twice the longest frame, with running checksums
+-- over a part of it.
 use Rattle.std.specs.Prelude.{ℕ, ◌+◌, ◌*◌, ◌≤◌}
 use Rattle.rtcm_frame.specs.declared.stream.Cutter.TheInside.{Inside}
 use Rattle.rtcm_frame.specs.Transport.{longest}

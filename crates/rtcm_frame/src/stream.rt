@@ -13,8 +13,8 @@ use crate::sums::{part_crc, reach};
 use std::fmt;
 use std::marker::Model;
 
-// The buffer holds twice the longest frame, so it moves what waits to its front at most once for each
-// longest frame's length of bytes that were passed over.
+// The buffer holds twice the longest frame, so at least a longest frame's length of bytes was passed
+// over each time that what waits is moved to its front.
 const ROOM: usize = 2 * LONGEST;
 
 // A sum stands before each byte of the buffer, and one behind the last.
