@@ -1,16 +1,16 @@
 -- What one more frame does to the counts.
-use Rattle.std.proofs.Common.{◌≡◌, ℕ, ◌+◌, ◌≤◌, List, [], ◌∷◌, ◌++◌, length, take, IsTrue, IfSome, Option, Some, None, refl, ap, ◌∙◌, sym, arith, append_assoc, append-nil, length-append, subst}
+use Rattle.std.proofs.Common.{◌≡◌, ℕ, ◌+◌, ◌-◌, ◌≤◌, List, [], ◌∷◌, ◌++◌, length, take, drop, IsTrue, IfSome, Option, Some, None, refl, ap, ◌∙◌, sym, arith, append_assoc, append-nil, length-append, length-take-le, subst}
 use Rattle.std.specs.Io.KnownBytes.{Consumes, IsAtEnd}
 use Rattle.std.proofs.lemmas.List.Elements.{All-head}
 use Rattle.std.proofs.lemmas.List.Sums.{sum_by-cons}
 use Rattle.std.specs.List.{All}
 use Rattle.rtcm_frame.specs.Transport.{is_frame}
 use Rattle.rtcm_frame.specs.Cut.{IsWaiting, cut}
-use Rattle.rtcm_frame.specs.Pending.{Pending, Took}
+use Rattle.rtcm_frame.specs.Pending.{Pending, Gave, Took}
 use Rattle.rtcm_frame.proofs.CutLemmas.{all-frames}
 use Rattle.rtcm_frame.proofs.FrameLemmas.{frame_least}
-use Rattle.rtcm_frame.proofs.PendingLemmas.{gave_start, gave_took, gave_waiting}
-use Rattle.bench_cut.specs.Counted.{GaveSoMany}
+use Rattle.rtcm_frame.proofs.PendingLemmas.{fed_front, gave_start, gave_took, gave_waiting}
+use Rattle.bench_cut.specs.Counted.{GaveSoMany, size}
 
 -- a frame that is taken is one
 taken_valid : (old new : Pending) (frame : List ℕ) → Took old new (frame ∷ []) → IsTrue (is_frame frame)
@@ -38,6 +38,46 @@ one_more all count old new frame so_many took = record {
   count_is = omega (arith, length-append so_many.given (frame ∷ []), so_many.count_is);
   gave = gave_took so_many.given (frame ∷ []) all old new so_many.gave took;
 }
+
+-- a byte that is pushed goes on behind what was pushed
+pub pushed_more : (all : List ℕ) (byte before frames : ℕ) (old mid new : Pending) → GaveSoMany all before old
+    → ((given : List (List ℕ)) (so_far : List ℕ) → Gave given so_far old → Gave given (so_far ++ byte ∷ []) mid)
+    → ((so_far : List ℕ) → GaveSoMany so_far before mid → GaveSoMany so_far frames new)
+    → GaveSoMany (all ++ byte ∷ []) frames new
+pushed_more all byte before frames old mid new so_many pushed ready =
+    ready _ (record {
+      given = so_many.given;
+      count_is = so_many.count_is;
+      gave = pushed so_many.given all so_many.gave;
+    })
+
+-- the bytes that are not yet cut grow by a block
+pub fed_size : (old mid : Pending) (more : List ℕ) (count before : ℕ) → count ≤ length more
+    → mid ≡ record { bytes = old.bytes ++ take count more; junk = old.junk }
+    → size mid before ≡ size old before + count
+fed_size old mid more count before within is =
+    ap (λ (p : Pending). size p before) is
+    ∙ omega (arith, length-append old.bytes (take count more), length-take-le count more within)
+
+-- a block that is fed, and the frames that it completes, go on behind what was fed
+pub fed_more : (all piece : List ℕ) (place count before frames : ℕ) (old mid new : Pending)
+    → GaveSoMany (all ++ take place piece) before old
+    → ((given : List (List ℕ)) (so_far : List ℕ) → Gave given so_far old
+        → Gave given (so_far ++ take count (take (length piece - place) (drop place piece))) mid)
+    → ((so_far : List ℕ) → GaveSoMany so_far before mid → GaveSoMany so_far frames new)
+    → GaveSoMany (all ++ take (place + count) piece) frames new
+fed_more all piece place count before frames old mid new so_many fed ready =
+    let front = all ++ take place piece in
+    let block = take count (take (length piece - place) (drop place piece)) in
+    let whole : front ++ block ≡ all ++ take (place + count) piece =
+    append_assoc all (take place piece) block ∙ ap (λ (xs : List ℕ). all ++ xs) (fed_front piece place count)
+    in
+    subst (λ (xs : List ℕ). GaveSoMany xs frames new) whole (
+    ready _ (record {
+      given = so_many.given;
+      count_is = so_many.count_is;
+      gave = fed so_many.given front so_many.gave;
+    }))
 
 -- from a reader's first state to its present one so many frames of what was read were given
 pub record ReadSoFar (old now : Option (List ℕ)) (count : ℕ) (pending : Pending) : Type 0 where

@@ -1,5 +1,5 @@
 -- What the bytes of a frame are known to be.
-use Rattle.std.proofs.Common.{◌≡◌, ℕ, ◌-◌, ◌≤◌, List, ◌++◌, length, get_or, take, drop, replicate, IsTrue, arith, ap, ◌∙◌, sym, length-append, subst}
+use Rattle.std.proofs.Common.{◌≡◌, ℕ, ◌-◌, ◌≤◌, false, ◌<◌, List, ◌++◌, length, get_or, take, drop, replicate, IsTrue, arith, ap, ◌∙◌, sym, length-append, subst}
 use Rattle.std.proofs.lemmas.Bool.Decides.{nat_tests}
 use Rattle.std.proofs.lemmas.List.{drop-replicate, length-replicate}
 use Rattle.std.proofs.Math.Seq.{take-append_seam, drop-append_seam}
@@ -26,6 +26,11 @@ frame_checksum bytes valid = grind (arith, nat_tests)
 -- a frame has at least six bytes
 pub frame_least : (bytes : List ℕ) → IsTrue (is_frame bytes) → 6 ≤ length bytes
 frame_least bytes valid = omega (arith, frame_claim bytes valid)
+
+-- fewer are none
+pub shorter_is_none : (bytes : List ℕ) → length bytes < 6 → is_frame bytes ≡ false
+unfolding is_frame
+shorter_is_none bytes short = grind (arith, nat_tests)
 
 -- a frame has at most 1,029 bytes
 pub frame_most : (bytes : List ℕ) → IsTrue (is_frame bytes) → length bytes ≤ longest

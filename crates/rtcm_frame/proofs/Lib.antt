@@ -1,5 +1,10 @@
 pub mod Rows
+pub mod LinearLemmas
+pub mod StepLemmas
+pub mod TableFacts
+pub mod TableLemmas
 pub mod CrcLemmas
+pub mod SumLemmas
 pub mod FrameLemmas
 pub mod CutLemmas
 pub mod PendingLemmas

@@ -1,11 +1,12 @@
 -- What a cutter's steps do to the cut of all bytes pushed.
-use Rattle.std.proofs.Common.{◌≡◌, ℕ, ◌+◌, ◌≤◌, ◌<◌, false, List, [], ◌∷◌, ◌++◌, length, take, drop, IsTrue, ap, ap₂, ◌∙◌, sym, arith, append_assoc, append-nil, length-append, length-drop, length-take-le, refl, subst}
-use Rattle.std.proofs.lemmas.List.{take-append-drop}
+use Rattle.std.proofs.Common.{◌≡◌, ℕ, zero, suc, ◌+◌, ◌-◌, ◌≤◌, ◌<◌, false, List, [], ◌∷◌, ◌++◌, length, take, drop, get_or, IsTrue, ap, ap₂, ◌∙◌, sym, arith, append_assoc, append-nil, length-append, length-drop, length-take-le, refl, subst}
+use Rattle.std.proofs.lemmas.List.{take-append-drop, take_rest, drop-drop, get_or-drop}
+use Rattle.std.proofs.Math.Seq.{take-add}
 use Rattle.std.proofs.lemmas.List.Sums.{sum_by-append, sum_by-cons}
-use Rattle.rtcm_frame.specs.Transport.{longest, is_frame}
+use Rattle.rtcm_frame.specs.Transport.{preamble, longest, is_frame}
 use Rattle.rtcm_frame.specs.Cut.{Parts, begins_with_frame, is_unfinished, IsWaiting, cut, followed_by}
 use Rattle.rtcm_frame.specs.Pending.{Pending, Gave, GaveAll, Took, IsBehindJunk}
-use Rattle.rtcm_frame.proofs.CutLemmas.{cut_waiting, cut-append, front_frame, front_junk, waiting_short}
+use Rattle.rtcm_frame.proofs.CutLemmas.{cut_waiting, cut-append, front_frame, front_junk, front_other, waiting_short}
 
 -- the state of these bytes and this count
 abbrev pub pending_of : List ℕ → ℕ → Pending
@@ -38,6 +39,50 @@ took_junk old p took some no_frame finished =
       rest = took.rest ∙ ap (λ (q : Parts). q.rest) step;
       counted = omega (arith, took.counted, length-drop 1 p.bytes);
     }
+
+-- one state after another
+pub took_then : (old mid new : Pending) → Took old mid [] → Took mid new [] → Took old new []
+took_then old mid new first second = record {
+  in_order = first.in_order ∙ second.in_order;
+  junk = first.junk ∙ second.junk;
+  rest = first.rest ∙ second.rest;
+  counted = omega (arith, first.counted, second.counted);
+}
+
+-- bytes in front that are no preamble are counted
+pub took_others : (n : ℕ) (old p : Pending) → Took old p [] → n ≤ length p.bytes
+    → ((k : ℕ) → k < n → get_or p.bytes k 0 ≡ preamble → ⊥)
+    → Took old (pending_of (drop n p.bytes) (p.junk + n)) []
+took_others zero old p took within others =
+    let none : p.junk ≡ p.junk + 0 = omega arith in
+    subst (λ (n : ℕ). Took old (pending_of p.bytes n) []) none took
+took_others (suc n) old p took within others =
+    let front = front_other p.bytes (omega arith) (others 0 (omega arith)) in
+    let next = pending_of (drop 1 p.bytes) (p.junk + 1) in
+    let left : length (drop 1 p.bytes) ≡ length p.bytes - 1 = length-drop 1 p.bytes in
+    let later : (k : ℕ) → k < n → get_or (drop 1 p.bytes) k 0 ≡ preamble → ⊥ =
+    λ k below same. others (1 + k) (omega arith) (sym (get_or-drop 1 p.bytes k 0) ∙ same)
+    in
+    let one_more : 1 + n ≡ suc n = omega arith in
+    let sum : p.junk + 1 + n ≡ p.junk + suc n = omega arith in
+    let there : drop n (drop 1 p.bytes) ≡ drop (suc n) p.bytes =
+    drop-drop n 1 p.bytes ∙ ap (λ (k : ℕ). drop k p.bytes) one_more
+    in
+    subst (λ (q : Pending). Took old q []) (ap₂ pending_of there sum) (
+    took_others n old next (took_junk old p took (omega arith) front.0 front.1) (omega (arith, left)) later)
+
+-- a byte in front that is junk is counted, with those behind it that are no preamble
+pub took_run : (p : Pending) (n : ℕ) → 1 ≤ length p.bytes → begins_with_frame p.bytes ≡ false
+    → is_unfinished p.bytes ≡ false → n ≤ length p.bytes - 1
+    → ((k : ℕ) → k < n → get_or (drop 1 p.bytes) k 0 ≡ preamble → ⊥)
+    → Took p (pending_of (drop (1 + n) p.bytes) (p.junk + (1 + n))) []
+took_run p n some no_frame finished within others =
+    let next = pending_of (drop 1 p.bytes) (p.junk + 1) in
+    let one_more : n + 1 ≡ 1 + n = omega arith in
+    let sum : p.junk + 1 + n ≡ p.junk + (1 + n) = omega arith in
+    let there : drop n (drop 1 p.bytes) ≡ drop (1 + n) p.bytes = drop-drop n 1 p.bytes in
+    subst (λ (q : Pending). Took p q []) (ap₂ pending_of there sum) (
+    took_others n p next (took_junk p p (took_none p) some no_frame finished) (omega (arith, length-drop 1 p.bytes)) others)
 
 -- a frame in front is given
 pub took_frame : (old p : Pending) (count : ℕ) → Took old p [] → count ≤ length p.bytes
@@ -97,14 +142,14 @@ behind_more old p count passed fits =
       );
     }
 
--- a frame stands behind the bytes that were passed over
-pub behind_found : (old p new : Pending) (count : ℕ) (frame : List ℕ) → IsBehindJunk old p []
-    → frame ≡ take count p.bytes → new ≡ pending_of (drop count p.bytes) p.junk → IsBehindJunk old new frame
-behind_found old p new count frame passed is_front is_behind = record {
-  junk = passed.junk;
-  split = behind_front old p count passed
-      ∙ ap₂ (λ (xs ys : List ℕ). passed.junk ++ (xs ++ ys)) (sym is_front) (sym (ap (λ (q : Pending). q.bytes) is_behind));
-  added = ap (λ (q : Pending). q.junk) is_behind ∙ passed.added;
+-- and then more
+pub behind_then : (old mid new : Pending) → IsBehindJunk old mid [] → IsBehindJunk mid new [] → IsBehindJunk old new []
+behind_then old mid new first second = record {
+  junk = first.junk ++ second.junk;
+  split = first.split
+      ∙ ap (λ (xs : List ℕ). first.junk ++ xs) second.split
+      ∙ sym (append_assoc first.junk second.junk new.bytes);
+  added = omega (arith, first.added, second.added, length-append first.junk second.junk);
 }
 
 -- what is taken is given behind what was
@@ -131,19 +176,31 @@ gave_waiting given all p gave waits =
       rest = ap (λ (q : Parts). q.rest) (sym step) ∙ gave.rest;
     }
 
--- a byte behind what waits is a byte behind all
-pub gave_push : (given : List (List ℕ)) (all : List ℕ) (p : Pending) (byte : ℕ) → Gave given all p → IsWaiting p.bytes
-    → Gave given (all ++ byte ∷ []) (record { bytes = p.bytes ++ byte ∷ []; junk = p.junk })
-gave_push given all p byte gave waits =
-    let done = gave_waiting given all p gave waits in
-    let more = p.bytes ++ byte ∷ [] in
-    let step : cut (all ++ byte ∷ []) ≡ followed_by (cut all) (cut more) =
-    cut-append all (byte ∷ []) ∙ ap (λ (xs : List ℕ). followed_by (cut all) (cut (xs ++ byte ∷ []))) (sym done.rest)
+-- the bytes fed so far, and then so many of those that are left
+pub fed_front : (bytes : List ℕ) (place count : ℕ)
+    → take place bytes ++ take count (take (length bytes - place) (drop place bytes)) ≡ take (place + count) bytes
+fed_front bytes place count =
+    ap (λ (xs : List ℕ). take place bytes ++ take count xs) (take_rest bytes place) ∙ sym (take-add place count bytes)
+
+-- bytes behind what is not yet cut are bytes behind all
+pub gave_more : (given : List (List ℕ)) (all : List ℕ) (p : Pending) (more : List ℕ) → Gave given all p
+    → Gave given (all ++ more) (pending_of (p.bytes ++ more) p.junk)
+gave_more given all p more gave =
+    let behind = cut ((cut all).rest ++ more) in
+    let whole : cut (all ++ more) ≡ followed_by (cut all) behind = cut-append all more in
+    let left : cut (p.bytes ++ more) ≡ followed_by (cut p.bytes) behind =
+    cut-append p.bytes more ∙ ap (λ (xs : List ℕ). followed_by (cut p.bytes) (cut (xs ++ more))) gave.rest
     in
+    let sum : p.junk + ((cut p.bytes).junk + behind.junk) ≡ (p.junk + (cut p.bytes).junk) + behind.junk = omega arith in
     record {
-      frames = ap (λ (fs : List (List ℕ)). fs ++ (cut more).frames) done.frames
-          ∙ ap (λ (q : Parts). q.frames) (sym step);
-      junk = ap (λ (n : ℕ). n + (cut more).junk) done.junk ∙ ap (λ (q : Parts). q.junk) (sym step);
-      rest = ap (λ (q : Parts). q.rest) (sym step);
-      counted = omega (arith, gave.counted, length-append all (byte ∷ []), length-append p.bytes (byte ∷ []));
+      frames = ap (λ (q : Parts). given ++ q.frames) left
+          ∙ sym (append_assoc given (cut p.bytes).frames behind.frames)
+          ∙ ap (λ (fs : List (List ℕ)). fs ++ behind.frames) gave.frames
+          ∙ ap (λ (q : Parts). q.frames) (sym whole);
+      junk = ap (λ (q : Parts). p.junk + q.junk) left
+          ∙ sum
+          ∙ ap (λ (n : ℕ). n + behind.junk) gave.junk
+          ∙ ap (λ (q : Parts). q.junk) (sym whole);
+      rest = ap (λ (q : Parts). q.rest) left ∙ ap (λ (q : Parts). q.rest) (sym whole);
+      counted = omega (arith, gave.counted, length-append all more, length-append p.bytes more);
     }

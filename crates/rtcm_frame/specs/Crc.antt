@@ -30,3 +30,9 @@ bits_of byte =
 -- the checksum of the whole message
 unfoldable pub crc24q_of : List ℕ → ℕ
 crc24q_of message = fold after_bit 0 (flat_map bits_of message)
+
+-- two messages of one length, byte by byte
+abbrev pub xor_each : List ℕ → List ℕ → List ℕ
+xor_each [] ys = []
+xor_each (x ∷ xs) [] = []
+xor_each (x ∷ xs) (y ∷ ys) = bit_xor x y ∷ xor_each xs ys

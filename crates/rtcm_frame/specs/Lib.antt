@@ -1,7 +1,10 @@
 pub mod Crc
+pub mod Bytewise
+pub mod Sums
 pub mod Transport
 pub mod Cut
 pub mod Order
 pub mod Padded
 pub mod Pending
+pub mod Held
 pub mod Front

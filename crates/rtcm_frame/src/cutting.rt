@@ -1,7 +1,9 @@
 //! What stands in front of a byte stream.
-ghost use Rattle.rtcm_frame.specs.Front.{IsFrontOf};
+ghost use Rattle.std.specs.Prelude.{◌≡◌, ℕ, ◌≤◌, ◌<◌, length, slice_index};
+ghost use Rattle.rtcm_frame.specs.Transport.{preamble};
 
-use crate::framing::{PREAMBLE, claimed_length, is_whole};
+use crate::framing::PREAMBLE;
+use memchr::memchr;
 
 // What stands in front of some bytes.
 pub(crate) enum Front {
@@ -13,24 +15,10 @@ pub(crate) enum Front {
     Junk,
 }
 
-// What stands in front of these bytes. The checksum is computed once at most, and only where the
-// whole length has come.
-pub(crate) fn front_of(bytes: &[u8]) -> Front
-    ensures { IsFrontOf bytes.now result }
+// How many bytes stand in front of the first preamble.
+pub(crate) fn bytes_before_preamble(bytes: &[u8]) -> usize
+    ensures within { result ≤ length bytes.now }
+    ensures others { (k : ℕ) → k < result → slice_index bytes.now k ≡ preamble → ⊥ }
 {
-    if bytes.is_empty() {
-        return Front::Waits;
-    }
-    if bytes[0] != PREAMBLE {
-        return Front::Junk;
-    }
-    let count = claimed_length(bytes);
-    if bytes.len() < count {
-        return Front::Waits;
-    }
-    if is_whole(&bytes[..count]) {
-        Front::Whole(count)
-    } else {
-        Front::Junk
-    }
+    memchr(PREAMBLE, bytes).unwrap_or(bytes.len())
 }

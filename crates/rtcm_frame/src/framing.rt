@@ -1,5 +1,6 @@
 //! A whole frame of RTCM 10403.3's transport layer.
-ghost use Rattle.std.specs.Prelude.{◌≡◌, ℕ, ◌+◌, ◌<◌, ◌≤◌, List, [], ◌∷◌, ◌++◌, ◌*◌, length, drop, if◌then◌else◌, IsTrue, IfSome};
+ghost use Rattle.std.specs.Prelude.{◌≡◌, ℕ, ◌+◌, ◌-◌, ◌<◌, ◌≤◌, List, [], ◌∷◌, ◌++◌, ◌*◌, length, take, drop, if◌then◌else◌, IsTrue, IfSome};
+ghost use Rattle.rtcm_frame.specs.Crc.{crc24q_of};
 ghost use Rattle.rtcm_frame.specs.Transport.{preamble, frame_length, is_frame, number_of};
 
 use crate::checksum::crc24q;
@@ -130,16 +131,29 @@ pub(crate) fn claimed_length(bytes: &[u8]) -> usize
 }
 
 // These bytes are one whole valid frame.
-#[tactic(auto, unfolding(crate::specs::Transport::is_frame))]
+#[tactic(auto, using(crate::proofs::FrameLemmas::shorter_is_none))]
 pub(crate) fn is_whole(bytes: &[u8]) -> bool
     ensures { result ≡ is_frame bytes.now }
 {
     let n = bytes.len();
-    if n < SHORTEST || bytes[0] != PREAMBLE || n != claimed_length(bytes) {
+    if n < SHORTEST {
         return false;
     }
-    let stored = big_endian(bytes[n - 3], bytes[n - 2], bytes[n - 1]);
-    crc24q(&bytes[..n - 3]) == stored
+    is_whole_by(bytes, crc24q(&bytes[..n - 3]))
+}
+
+// The same, where the checksum of all but their last three is known.
+#[tactic(auto, unfolding(crate::specs::Transport::is_frame))]
+pub(crate) fn is_whole_by(bytes: &[u8], crc: u32) -> bool
+    requires least { 6 ≤ length bytes.now }
+    requires crc { crc ≡ crc24q_of (take (length bytes.now - 3) bytes.now) }
+    ensures { result ≡ is_frame bytes.now }
+{
+    let n = bytes.len();
+    if bytes[0] != PREAMBLE || n != claimed_length(bytes) {
+        return false;
+    }
+    crc == big_endian(bytes[n - 3], bytes[n - 2], bytes[n - 1])
 }
 
 // The number that three bytes hold, most significant first.

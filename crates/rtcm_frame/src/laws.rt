@@ -1,11 +1,22 @@
 //! Laws of frames and of the cut, each the contract of a function that does nothing: what a reader
 //! of RTCM 10403.3 expects of any frame, and of any cut of a byte stream into frames.
 ghost use Rattle.std.specs.Prelude.{◌≡◌, ℕ, ◌+◌, ◌*◌, ◌/◌, ◌<◌, List, [], ◌∷◌, ◌++◌, length, All, sum_by};
-ghost use Rattle.std.specs.Prelude.{IsTrue, slice_index};
+ghost use Rattle.std.specs.Prelude.{IsTrue, slice_index, bit_xor, replicate};
+ghost use Rattle.rtcm_frame.specs.Crc.{crc24q_of, xor_each};
 ghost use Rattle.std.specs.List.{concat};
 ghost use Rattle.rtcm_frame.specs.Transport.{is_frame, framed, payload, number_of};
 ghost use Rattle.rtcm_frame.specs.Cut.{cut, only_rest, with_frame, with_junk, followed_by};
 ghost use Rattle.rtcm_frame.specs.Order.{IsUnfinishedFrame, HasNoFrameInFront, StandIn};
+
+/// CRC-24Q starts at 0 and ends with no exclusive or, so it is linear: the checksum of two messages
+/// of one length, byte by byte exclusive-ored, is that of their checksums; and of a message in two
+/// parts the front counts as if zeros followed it.
+pub fn checksum_is_linear()
+    ensures linear { (a b : List ℕ) → length a ≡ length b
+        → crc24q_of (xor_each a b) ≡ bit_xor (crc24q_of a) (crc24q_of b) }
+    ensures parts { (front behind : List ℕ) → crc24q_of (front ++ behind)
+        ≡ bit_xor (crc24q_of (front ++ replicate (length behind) 0)) (crc24q_of behind) }
+{}
 
 /// What a frame is made of: every payload of at most 1,023 bytes makes one with every six reserved
 /// bits, and every frame of bytes is made so. Its number is the payload's first twelve bits.

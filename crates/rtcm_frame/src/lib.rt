@@ -2,11 +2,14 @@
 //! message number, and how a byte stream is cut into frames.
 #![tactic(auto)]
 
+mod buffer;
 mod checksum;
 mod cutting;
 mod framing;
 pub mod laws;
 mod stream;
+mod sums;
+mod tables;
 
 pub use checksum::crc24q;
 pub use framing::Frame;

@@ -1,38 +1,53 @@
-//! Cutting a stream as its bytes come, one at a time.
-ghost use Rattle.std.specs.Prelude.{◌≡◌, ℕ, ◌+◌, ◌-◌, ◌^◌, ◌<◌, ◌≤◌, List, [], ◌∷◌, ◌++◌, length};
-ghost use Rattle.std.specs.Prelude.{take, drop, IfSome, IfNone};
-ghost use Rattle.rtcm_frame.specs.Cut.{IsWaiting};
+//! Cutting a stream as its bytes come, one at a time or in blocks.
+ghost use Rattle.std.specs.Prelude.{◌≡◌, ℕ, ◌+◌, ◌-◌, ◌^◌, ◌*◌, ◌<◌, ◌≤◌, List, [], ◌∷◌, ◌++◌, length};
+ghost use Rattle.std.specs.Prelude.{take, drop, false, IfSome, IfNone, IsTrue};
+ghost use Rattle.rtcm_frame.specs.Transport.{is_frame};
+ghost use Rattle.rtcm_frame.specs.Cut.{IsWaiting, begins_with_frame, is_unfinished};
+ghost use Rattle.rtcm_frame.specs.Front.{IsFrontOf};
 ghost use Rattle.rtcm_frame.specs.Pending.{Pending, Gave, GaveAll, Took, IsBehindJunk};
 
-use crate::cutting::{Front, front_of};
-use crate::framing::{Frame, LONGEST};
+use crate::buffer::{put_from, with_room};
+use crate::cutting::{Front, bytes_before_preamble};
+use crate::framing::{Frame, LONGEST, PREAMBLE, claimed_length, is_whole, is_whole_by};
+use crate::sums::{part_crc, reach};
 use std::fmt;
 use std::marker::Model;
 
+// The buffer holds twice the longest frame, so at least a longest frame's length of bytes was passed
+// over each time that what waits is moved to its front.
+const ROOM: usize = 2 * LONGEST;
+
+// A sum stands before each byte of the buffer, and one behind the last.
+const SUMS: usize = ROOM + 1;
+
 /// Cuts a byte stream into frames as its bytes come. Contracts see the bytes that are not yet cut
-/// and the count of junk. It takes no memory beyond its buffer of one frame's greatest length.
+/// and the count of junk. It takes no memory beyond its fixed buffer.
 ///
 /// With the frames given so far and all bytes taken so far a cutter stands in the relation `Gave`;
 /// each call says what it makes of that. So the frames given are always a prefix of the frames of
 /// these bytes, and all of them once `next` answers none.
+/// No stream makes a byte pay twice: where a candidate's checksum fails, running sums are made over
+/// its bytes, and every later candidate that begins among them is judged by these in constant time.
 #[derive(Drop)]
 pub struct Cutter {
-    buffer: [u8; LONGEST],
+    buffer: [u8; ROOM],
+    sums: [u32; SUMS],
     start: usize,
     len: usize,
+    summed: usize,
     junk: u64,
 }
 
 impl Model for Cutter {
-    ghost use Rattle.std.specs.Prelude.{◌+◌, ◌≤◌, take, drop};
-    ghost use Rattle.rtcm_frame.specs.Transport.{longest};
+    ghost use Rattle.std.specs.Prelude.{take, drop};
+    ghost use Rattle.rtcm_frame.specs.Held.{IsHeld};
     ghost use Rattle.rtcm_frame.specs.Pending.{Pending};
 
     ghost Value = { Pending };
 
     ghost view = { λ c. record { bytes = take c.len (drop c.start c.buffer); junk = c.junk } };
 
-    ghost invariant = { λ c. c.start + c.len ≤ longest };
+    ghost invariant = { IsHeld };
 }
 
 impl Default for Cutter {
@@ -60,9 +75,11 @@ impl Cutter {
         ensures stands { Gave [] [] result }
     {
         Cutter {
-            buffer: [0; LONGEST],
+            buffer: [0; ROOM],
+            sums: [0; SUMS],
             start: 0,
             len: 0,
+            summed: 0,
             junk: 0,
         }
     }
@@ -77,8 +94,29 @@ impl Cutter {
         ensures stands { (given : List (List ℕ)) (all : List ℕ)
             → Gave given all self.old → Gave given (all ++ byte ∷ []) self.new }
     {
-        self.start = put_behind(&mut self.buffer, self.start, self.len, byte);
+        let place = with_room(&mut self.buffer, self.start, self.len, self.summed);
+        self.buffer[place.start + self.len] = byte;
+        self.start = place.start;
+        self.summed = place.summed;
         self.len += 1;
+    }
+
+    /// Takes the stream's next bytes, as many as there is room for, and answers how many. Where
+    /// `next` has answered none since the last call it takes at least one.
+    pub fn feed(&mut self, bytes: &[u8]) -> usize
+        ensures within { result ≤ length bytes.now }
+        ensures some { IsWaiting self.old.bytes → 0 < length bytes.now → 0 < result }
+        ensures behind { self.new
+            ≡ record { bytes = self.old.bytes ++ take result bytes.now; junk = self.old.junk } }
+        ensures stands { (given : List (List ℕ)) (all : List ℕ) → Gave given all self.old
+            → Gave given (all ++ take result bytes.now) self.new }
+    {
+        let place = with_room(&mut self.buffer, self.start, self.len, self.summed);
+        let count = put_from(&mut self.buffer, place.start + self.len, bytes);
+        self.start = place.start;
+        self.summed = place.summed;
+        self.len += count;
+        count
     }
 
     /// The next frame of the bytes so far; none exactly where they hold no further whole frame. Of
@@ -94,16 +132,13 @@ impl Cutter {
         ensures gave_all { (given : List (List ℕ)) (all : List ℕ) → Gave given all self.old
             → IfNone result (Gave given all self.new × GaveAll given all self.new) }
     {
-        loop {
-            match front_of(self.waiting()) {
-                Front::Whole(count) => {
-                    let frame = Frame::held(&self.waiting()[..count]);
-                    self.skip(count);
-                    return Some(frame);
-                }
-                Front::Waits => return None,
-                Front::Junk => self.count_junk(),
+        match self.find() {
+            Some(count) => {
+                let frame = Frame::held(&self.waiting()[..count]);
+                self.skip(count);
+                Some(frame)
             }
+            None => None,
         }
     }
 
@@ -115,10 +150,82 @@ impl Cutter {
     }
 
     // The bytes that are not yet cut.
+    #[inline]
     fn waiting(&self) -> &[u8]
         ensures { result.now ≡ self.now.bytes }
     {
         &self.buffer[self.start..self.start + self.len]
+    }
+
+    // Passes over junk up to a whole frame, and answers its length; none where no more is whole.
+    fn find(&mut self) -> Option<usize>
+        requires { self.old.junk + length self.old.bytes < 2 ^ 64 }
+        ensures found { IfSome result (λ count. Took self.old self.new []
+            × IsBehindJunk self.old self.new []
+            × (count ≤ length self.new.bytes) × IsTrue (is_frame (take count self.new.bytes))) }
+        ensures none { IfNone result (Took self.old self.new [] × IsWaiting self.new.bytes) }
+    {
+        loop {
+            match self.front() {
+                Front::Whole(count) => return Some(count),
+                Front::Waits => return None,
+                Front::Junk => self.pass_junk(),
+            }
+        }
+    }
+
+    // What stands in front of the bytes that wait. A checksum is looked at only where the whole
+    // length has come.
+    fn front(&mut self) -> Front
+        ensures front { IsFrontOf self.old.bytes result }
+        ensures same { self.new ≡ self.old }
+    {
+        let waiting = self.waiting();
+        if waiting.is_empty() {
+            return Front::Waits;
+        }
+        if waiting[0] != PREAMBLE {
+            return Front::Junk;
+        }
+        let count = claimed_length(waiting);
+        if waiting.len() < count {
+            return Front::Waits;
+        }
+        if self.is_frame(count) {
+            Front::Whole(count)
+        } else {
+            Front::Junk
+        }
+    }
+
+    // Whether so many bytes in front are a whole frame: by their own checksum, or by the sums where
+    // an earlier candidate has failed among them.
+    fn is_frame(&mut self, count: usize) -> bool
+        requires within { count ≤ length self.old.bytes }
+        requires least { 6 ≤ count }
+        requires most { count ≤ 1029 }
+        ensures value { result ≡ is_frame (take count self.old.bytes) }
+        ensures same { self.new ≡ self.old }
+    {
+        if self.summed <= self.start && is_whole(&self.waiting()[..count]) {
+            return true;
+        }
+        self.is_frame_by_sums(count)
+    }
+
+    // The same by the sums alone, which then reach over these bytes.
+    fn is_frame_by_sums(&mut self, count: usize) -> bool
+        requires within { count ≤ length self.old.bytes }
+        requires least { 6 ≤ count }
+        requires most { count ≤ 1029 }
+        ensures value { result ≡ is_frame (take count self.old.bytes) }
+        ensures same { self.new ≡ self.old }
+    {
+        let end = self.start + count - 3;
+        let summed = self.summed.max(self.start);
+        self.summed = reach(&mut self.sums, &self.buffer, summed, end);
+        let crc = part_crc(&self.sums, self.start, end);
+        is_whole_by(&self.waiting()[..count], crc)
     }
 
     // Passes over bytes in front.
@@ -129,48 +236,30 @@ impl Cutter {
     {
         self.start += count;
         self.len -= count;
-        if self.len == 0 {
-            self.start = 0;
-        }
     }
 
-    // Counts the first byte as junk, and passes over it.
-    fn count_junk(&mut self)
+    // Counts the first byte as junk, with those behind it up to the next preamble.
+    fn pass_junk(&mut self)
         requires some { 1 ≤ length self.old.bytes }
-        requires room { self.old.junk + 1 < 2 ^ 64 }
-        ensures { self.new ≡ record { bytes = drop 1 self.old.bytes; junk = self.old.junk + 1 } }
+        requires no_frame { begins_with_frame self.old.bytes ≡ false }
+        requires finished { is_unfinished self.old.bytes ≡ false }
+        requires room { self.old.junk + length self.old.bytes < 2 ^ 64 }
+        ensures took { Took self.old self.new [] }
+        ensures passed { IsBehindJunk self.old self.new [] }
+        ensures less { length self.new.bytes < length self.old.bytes }
     {
-        self.skip(1);
-        self.junk += 1;
+        let run = 1 + bytes_before_preamble(&self.waiting()[1..]);
+        self.count_junk(run);
     }
-}
 
-// Writes a byte behind the bytes that a buffer holds from a place on, and answers where they begin
-// then.
-#[tactic(auto, using(crate::proofs::HeldLemmas::written_behind))]
-fn put_behind(buffer: &mut [u8], start: usize, count: usize, byte: u8) -> usize
-    requires within { start + count ≤ length buffer.old }
-    requires room { count < length buffer.old }
-    ensures within { result + count + 1 ≤ length buffer.new }
-    ensures bytes { take (count + 1) (drop result buffer.new)
-        ≡ take count (drop start buffer.old) ++ byte ∷ [] }
-{
-    let first = with_room(buffer, start, count);
-    buffer[first + count] = byte;
-    first
-}
-
-// Moves the bytes that a buffer holds to its front where they reach its end, and answers where they
-// begin then. There is room in front of them then, since they are fewer than the buffer holds.
-fn with_room(buffer: &mut [u8], start: usize, count: usize) -> usize
-    requires within { start + count ≤ length buffer.old }
-    requires room { count < length buffer.old }
-    ensures room { result + count < length buffer.new }
-    ensures bytes { take count (drop result buffer.new) ≡ take count (drop start buffer.old) }
-{
-    if start + count < buffer.len() {
-        return start;
+    // Counts bytes in front as junk, and passes over them.
+    fn count_junk(&mut self, count: usize)
+        requires within { count ≤ length self.old.bytes }
+        requires room { self.old.junk + count < 2 ^ 64 }
+        ensures { self.new
+            ≡ record { bytes = drop count self.old.bytes; junk = self.old.junk + count } }
+    {
+        self.skip(count);
+        self.junk += count as u64;
     }
-    buffer.copy_within(start.., 0);
-    0
 }

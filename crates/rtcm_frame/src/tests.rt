@@ -1,4 +1,6 @@
 //! Known frames and streams, by the public calls.
+ghost use Rattle.std.specs.Prelude.{◌^◌, ◌<◌, length};
+
 use crate::{Cutter, Frame, crc24q};
 use std::alloc::{AllocError, Global};
 use std::test::Fail;
@@ -76,6 +78,25 @@ fn cut_by_bytes(alloc: Global, bytes: &[u8]) -> Result<Parts, AllocError> {
     })
 }
 
+// Feeds these bytes, all at once where there is room, and keeps the same.
+fn cut_by_blocks(alloc: Global, bytes: &[u8]) -> Result<Parts, AllocError>
+    requires { length bytes.now < 2 ^ 62 }
+{
+    let mut cutter = Cutter::new();
+    let mut frames = Vec::new(alloc);
+    let mut at = 0;
+    while at < bytes.len() {
+        at += cutter.feed(&bytes[at..]);
+        while let Some(frame) = cutter.next() {
+            frames.push(frame)?;
+        }
+    }
+    Ok(Parts {
+        frames,
+        junk: cutter.junk(),
+    })
+}
+
 #[test]
 fn a_false_preamble_hides_no_frame(rt: HostRuntime) -> Result<(), Fail> {
     let parts = cut_by_bytes(rt.alloc(), &FALSE_PREAMBLE)?;
@@ -85,6 +106,10 @@ fn a_false_preamble_hides_no_frame(rt: HostRuntime) -> Result<(), Fail> {
     let unfinished = cut_by_bytes(rt.alloc(), &FALSE_PREAMBLE[..7])?;
     assert_eq!(rt; unfinished.frames.len(), 0);
     assert_eq!(rt; unfinished.junk, 3);
+    let fed = cut_by_blocks(rt.alloc(), &FALSE_PREAMBLE)?;
+    assert_eq!(rt; fed.frames.len(), 1);
+    assert_eq!(rt; fed.frames[0].bytes(), FRAME_A.as_slice());
+    assert_eq!(rt; fed.junk, 3);
     Ok(())
 }
 
@@ -93,6 +118,9 @@ fn a_long_claim_keeps_all_bytes_waiting(rt: HostRuntime) -> Result<(), Fail> {
     let parts = cut_by_bytes(rt.alloc(), &LONG_CLAIM)?;
     assert_eq!(rt; parts.frames.len(), 0);
     assert_eq!(rt; parts.junk, 0);
+    let fed = cut_by_blocks(rt.alloc(), &LONG_CLAIM)?;
+    assert_eq!(rt; fed.frames.len(), 0);
+    assert_eq!(rt; fed.junk, 0);
     Ok(())
 }
 
@@ -102,5 +130,25 @@ fn a_frame_with_a_wrong_checksum_is_junk(rt: HostRuntime) -> Result<(), Fail> {
     assert_eq!(rt; parts.frames.len(), 1);
     assert_eq!(rt; parts.frames[0].bytes(), FRAME_B.as_slice());
     assert_eq!(rt; parts.junk, 8);
+    Ok(())
+}
+
+#[test]
+fn junk_is_counted_up_to_the_frame_that_is_given(rt: HostRuntime) -> Result<(), Fail> {
+    let mut cutter = Cutter::new();
+    // two bytes of junk, FRAME_A, three of junk, FRAME_Z
+    let stream = [
+        0x01, 0x02, 0xD3, 0x00, 0x02, 0x3E, 0xD0, 0xA4, 0xE0, 0x00, 0x03, 0x04, 0x05, 0xD3, 0x00,
+        0x00, 0x47, 0xEA, 0x4B,
+    ];
+    assert_eq!(rt; cutter.feed(&stream), 19);
+    let first = cutter.next().ok_or("no frame")?;
+    assert_eq!(rt; first.bytes(), FRAME_A.as_slice());
+    assert_eq!(rt; cutter.junk(), 2);
+    let second = cutter.next().ok_or("no frame")?;
+    assert_eq!(rt; second.bytes(), FRAME_Z.as_slice());
+    assert_eq!(rt; cutter.junk(), 5);
+    assert!(rt; cutter.next().is_none());
+    assert_eq!(rt; cutter.junk(), 5);
     Ok(())
 }

@@ -1,9 +1,6 @@
-use Rattle.std.proofs.Common.{arith}
-use Rattle.bench_cut.proofs.CountLemmas.{one_more, took_one}
+use Rattle.bench_cut.proofs.CountLemmas.{pushed_more}
 use Rattle.bench_cut.proofs.counting.count_byte.Goals as goal
 
-pub loop-frames-preserved : goal.loop-frames-preserved
-loop-frames-preserved c = record {
-  room = omega (arith, took_one _ _ _ c.in-Some.ensures.found, c.loop-frames.invariant.room);
-  gave = λ all before. one_more _ _ _ _ _ (c.loop-frames.invariant.gave all before) c.in-Some.ensures.found;
-}
+pub returns-clause-gave : goal.returns-clause-gave
+returns-clause-gave g c = λ all before.
+    pushed_more all _ _ _ _ _ _ before c.push.ensures.stands c.take_ready.ensures.gave
