@@ -1,0 +1,5 @@
+pub mod Answers
+pub mod Rules
+pub mod Texts
+pub mod Lists
+pub mod Records

@@ -1,0 +1,17 @@
+//! Single keys of a configuration: what each may hold, how it is read from a TOML value, and what is
+//! printed where a key breaks its rule.
+#![tactic(auto)]
+
+mod fault;
+mod key;
+mod lists;
+mod numbers;
+mod records;
+mod strings;
+
+pub use fault::KeyFault;
+pub use key::{Key, value_at};
+pub use lists::{are_names, each_once, integers, tables, tables_or, texts};
+pub use numbers::{count, count_or, whole};
+pub use records::records_or;
+pub use strings::{TextKind, group_name, mount_name, name_bytes, text, text_or, user_name};
