@@ -18,8 +18,8 @@ IsHandedOn may_lack worn Memory = IsTrue may_lack
 abbrev pub worn_of : ℕ → ℕ
 worn_of turns = if nat_le (2 ^ 62) turns then turns else 0
 
--- Worn comes exactly from 2 ^ 62 turns on, and with their number; Memory may come before.
+-- Worn comes exactly from 2 ^ 62 turns on, and with their number; Memory never comes.
 abbrev pub IsWornAt : {A : Type 0} → ℕ → Result A TurnFault → Type 0
 IsWornAt given (Ok reply) = given < 2 ^ 62
 IsWornAt given (Err (Worn turns)) = (turns ≡ given) × (2 ^ 62 ≤ given)
-IsWornAt given (Err Memory) = given < 2 ^ 62
+IsWornAt given (Err Memory) = ⊥

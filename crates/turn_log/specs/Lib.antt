@@ -2,6 +2,8 @@ pub mod History
 pub mod Turn
 pub mod Heard
 pub mod Faults
+pub mod Past
+pub mod Desks
 pub mod LockRule
 pub mod LockSteps
 pub mod LockNames

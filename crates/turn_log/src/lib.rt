@@ -2,15 +2,16 @@
 //! place gives turns on it and knows the history of calls so far.
 #![tactic(auto)]
 
-mod journal;
+mod desk;
 mod laws;
 mod lock;
 mod object;
+mod past;
 mod place;
 #[cfg(test)]
 mod tests;
 
-pub use journal::Desk;
+pub use desk::Desk;
 pub use laws::{fact_stays, fits_stays};
 pub use lock::{Note, Pass, Seat, Turn};
 pub use object::Played;

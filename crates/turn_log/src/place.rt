@@ -9,10 +9,11 @@ use thiserror::Error;
 /// Why a place refused a turn. The call was not made: history and room are as before.
 #[derive(Clone, Copy, Debug, PartialEq, Eq, Error)]
 pub enum TurnFault {
-    /// The place gave as many turns as it can count: `turns` of them, at least 2^62.
-    #[error("no turn after {turns} turns")]
+    /// The place is worn by `turns` turns, at least 2^62: those that a desk gave, or those for
+    /// which a ticket was drawn at the lock of a seat, whether they were taken yet or not.
+    #[error("worn by {turns} turns given or drawn for")]
     Worn { turns: u64 },
-    /// No memory for the entry in the place's journal.
+    /// No memory for the turn. Desks and seats take none, and never answer this.
     #[error("out of memory")]
     Memory,
 }
@@ -37,7 +38,8 @@ pub trait Turns<V: Played> {
     /// Nobody else takes turns on the object: all that is in the history came through this place.
     ghost alone: { Self → Bool };
 
-    /// The largest number of turns of 2 ^ 62 or more that the place met, or 0.
+    /// The largest number of turns of 2 ^ 62 or more that the place met, or 0. A desk counts the
+    /// turns that it gave, and a seat the tickets that were drawn at its lock.
     ghost worn: { Self → ℕ };
 
     /// Which object this is: a seat is given back to the object that it came from.

@@ -4,7 +4,9 @@ ghost use Rattle.turn_log.specs.Turn.{SamePlace};
 ghost use Rattle.turn_log.specs.Faults.{IsHandedOn};
 
 use crate::laws::{fact_stays, fits_stays};
+use crate::past::Entry;
 use crate::{Desk, Played, TurnFault, Turns};
+use std::snapshot::Snapshot;
 use std::test::Fail;
 
 /// Hands out ticket numbers from `first` on. A call says how many tickets its caller knows to be
@@ -105,7 +107,7 @@ fn two_at_desk(desk: &mut Desk<Tickets>, me: u32, room: &mut u64) -> Result<(u64
 
 #[test]
 fn a_desk_answers_by_its_history(rt: HostRuntime) -> Result<(), Fail> {
-    let mut desk = Desk::new(rt.alloc(), Tickets { first: 7, given: 0 });
+    let mut desk = Desk::new(Tickets { first: 7, given: 0 });
     let mut missed = 9;
     assert_eq!(rt; two_at_desk(&mut desk, 3, &mut missed)?, (7, 8));
     assert_eq!(rt; missed, 0);
@@ -116,5 +118,18 @@ fn a_desk_answers_by_its_history(rt: HostRuntime) -> Result<(), Fail> {
     assert_eq!(rt; desk.value().given, 5);
     fits_stays::<Tickets>();
     fact_stays::<Tickets>();
+    Ok(())
+}
+
+// A desk is its object, a count and a mark, however many turns it gave: the history has no bytes.
+#[test]
+fn a_long_history_has_no_bytes(rt: HostRuntime) -> Result<(), Fail> {
+    assert_eq!(rt; size_of::<Snapshot<Entry<[u64; 100]>>>(), 0);
+    assert_eq!(rt; size_of::<Desk<Tickets>>(), size_of::<Tickets>() + 16);
+    let mut desk = Desk::new(Tickets { first: 0, given: 0 });
+    let mut missed = 0;
+    take_many(&mut desk, 3, 100_000, &mut missed)?;
+    assert_eq!(rt; missed, 99_999);
+    assert_eq!(rt; desk.value().given, 100_000);
     Ok(())
 }

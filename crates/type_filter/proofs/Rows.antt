@@ -3,6 +3,7 @@ use Rattle.std.proofs.Common.{◌≡◌, ℕ, true, false, List, [], ◌∷◌, 
 use Rattle.rtcm_frame.specs.Transport.{number_of}
 use Rattle.type_filter.specs.declared.selection.FilterFault.TheVariants.{Count, Number}
 use Rattle.type_filter.specs.Faults.{first_fault}
+use Rattle.type_filter.specs.Numbers.{in_order}
 use Rattle.type_filter.specs.Permitted.{All, Listed, permits, count}
 
 -- the shortest frame, and frames whose payloads are the numbers 1005 and 1077 alone
@@ -33,6 +34,9 @@ list_refuses_b = refl
 one_of_four : count (Listed (1005 ∷ [])) (frame_a ∷ frame_b ∷ frame_b ∷ frame_b ∷ []) ≡ 1
 unfolding number_of
 one_of_four = refl
+
+put_in_order : in_order (1077 ∷ 1005 ∷ 4095 ∷ 1077 ∷ 0 ∷ 1005 ∷ []) ≡ 0 ∷ 1005 ∷ 1077 ∷ 4095 ∷ []
+put_in_order = refl
 
 no_number : first_fault [] ≡ Some (Count 0)
 no_number = refl

@@ -2,6 +2,7 @@
 #![tactic(auto)]
 
 mod choices;
+pub mod laws;
 mod selection;
 
 pub use choices::Filters;

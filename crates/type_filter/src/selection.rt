@@ -1,6 +1,7 @@
-ghost use Rattle.std.specs.Prelude.{◌≡◌, ℕ, ◌<◌, ◌≤◌, List, length, IfOk, IsTrue, None, position};
-ghost use Rattle.type_filter.specs.Permitted.{All, Listed, permits};
-ghost use Rattle.type_filter.specs.Numbers.{IsListOf, IsNumberList, is_good_count, is_too_high};
+ghost use Rattle.std.specs.Prelude.{◌≡◌, IfOk, IfSome, IfNone, IsTrue, None, Some, position};
+ghost use Rattle.std.specs.List.Sorted.{IsStrictlyIncreasing};
+ghost use Rattle.type_filter.specs.Permitted.{All, Listed, is_listed, permits};
+ghost use Rattle.type_filter.specs.Numbers.{IsNumberList, in_order, is_good_count, is_too_high};
 
 use rtcm_frame::Frame;
 use std::alloc::{AllocError, Global};
@@ -64,14 +65,11 @@ impl Filter {
         Filter { kind: Kind::Every }
     }
 
-    /// The filter of these message numbers, in any order; repeats are dropped.
+    /// The filter of these message numbers, 1 to 64 from 0 to 4095, given in any order; repeats are
+    /// dropped. Their count is judged first, then each number from the first on.
     pub fn list(alloc: Global, numbers: &[u16]) -> Result<Filter, FilterFault>
         ensures answer { IsAnswer numbers.now result }
-        ensures list { IfOk result (IsListOf numbers.now) }
-
-        // It permits exactly the frames whose number was given.
-        ensures permits { IfOk result (λ filter. (frame : List ℕ)
-            → permits filter frame ≡ permits (Listed numbers.now) frame) }
+        ensures list { IfOk result (λ filter. filter ≡ Listed (in_order numbers.now)) }
     {
         if !has_good_count(numbers) {
             return Err(FilterFault::Count(numbers.len()));
@@ -87,6 +85,19 @@ impl Filter {
         })
     }
 
+    /// The message numbers of its list, in increasing order and each once; `None` where it permits
+    /// every frame.
+    pub fn numbers(&self) -> Option<&[u16]>
+        ensures all { IfNone result (self.now ≡ All) }
+        ensures list { IfSome result (λ numbers. self.now ≡ Listed numbers.now) }
+        ensures valid { IfSome result (λ numbers. IsNumberList numbers.now) }
+    {
+        match &self.kind {
+            Kind::Every => None,
+            Kind::Among(numbers) => Some(numbers.as_slice()),
+        }
+    }
+
     /// Whether the frame may pass.
     pub fn permits(&self, frame: &Frame) -> bool
         ensures { result ≡ permits self.now frame.now }
@@ -94,26 +105,53 @@ impl Filter {
         match &self.kind {
             Kind::Every => true,
             Kind::Among(numbers) => match frame.number() {
-                Some(number) => numbers.contains(&number),
+                Some(number) => is_among(numbers.as_slice(), number),
                 None => false,
             },
         }
     }
 
     /// A filter that permits the same frames.
-    pub fn copy(&self) -> Result<Filter, AllocError>
+    pub fn copy(&self, alloc: Global) -> Result<Filter, AllocError>
         ensures { IfOk result (λ copy. copy ≡ self.now) }
     {
         match &self.kind {
             Kind::Every => Ok(Filter::all()),
             Kind::Among(numbers) => {
-                let copy = Vec::from_slice(*numbers.allocator(), numbers.as_slice())?;
+                let copy = Vec::from_slice(alloc, numbers.as_slice())?;
                 Ok(Filter {
                     kind: Kind::Among(copy),
                 })
             }
         }
     }
+}
+
+impl PartialEq for Filter {
+    ghost use Rattle.std.specs.Cmp.{partial_equiv_from_equiv};
+    ghost use Rattle.type_filter.specs.Codes.{same_filter, same_filter_laws};
+
+    ghost eq = { same_filter };
+
+    ghost laws = { partial_equiv_from_equiv same_filter_laws };
+
+    fn eq(&self, other: &Filter) -> bool {
+        self.numbers() == other.numbers()
+    }
+}
+
+impl Eq for Filter {
+    ghost use Rattle.type_filter.specs.Codes.{same_filter_laws};
+
+    ghost laws = { same_filter_laws };
+}
+
+// The list, which is in order, has the number.
+fn is_among(numbers: &[u16], number: u16) -> bool
+    requires { IsStrictlyIncreasing numbers.now }
+    ensures { result ≡ is_listed numbers.now (Some number) }
+{
+    numbers.binary_search(&number).is_ok()
 }
 
 // There are 1 to 64 numbers.
@@ -134,7 +172,7 @@ fn first_too_high(numbers: &[u16]) -> Option<usize>
 fn in_order(alloc: Global, numbers: &[u16]) -> Result<Vec<u16>, AllocError>
     requires count { IsTrue (is_good_count numbers.now) }
     requires low { position is_too_high numbers.now ≡ None }
-    ensures list { IfOk result (λ kept. IsListOf numbers.now (Listed kept.items)) }
+    ensures list { IfOk result (λ kept. kept.items ≡ in_order numbers.now) }
     ensures valid { IfOk result (λ kept. IsNumberList kept.items) }
 {
     let mut kept = Vec::from_slice(alloc, numbers)?;

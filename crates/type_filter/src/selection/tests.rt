@@ -23,7 +23,7 @@ fn a_list_permits_by_number_and_all_permits_all(rt: HostRuntime) -> Result<(), F
     let mut offered = Vec::new(rt.alloc());
     offered.push(list)?;
     offered.push(Filter::all())?;
-    let filters = Filters::new(offered).copy()?;
+    let filters = Filters::new(offered).copy(rt.alloc())?;
     assert_eq!(rt; filters.len(), 2);
     let all = filters.get(1);
     assert!(rt; all.permits(&z) && all.permits(&a) && all.permits(&b));

@@ -1,12 +1,11 @@
-use Rattle.std.proofs.Common.{◌≤◌, IsPermutation, length, subst, arith}
+use Rattle.std.proofs.Common.{◌≡◌, ◌≤◌, IsPermutation, length, subst, arith}
 use Rattle.type_filter.proofs.NumberLaws.{list_in_order}
-use Rattle.type_filter.specs.Permitted.{Listed}
-use Rattle.type_filter.specs.Numbers.{IsListOf, IsNumberList}
+use Rattle.type_filter.specs.Numbers.{IsNumberList, in_order}
 use Rattle.type_filter.proofs.selection.in_order.Goals as goal
 
--- the sorted numbers without repeats are a list of exactly the given ones
+-- the sorted numbers without repeats are the set of the given ones, in order
 both : (c : goal.After-dedup)
-    → IsNumberList c.dedup.new.self.items × IsListOf c.args.numbers.now (Listed c.dedup.new.self.items)
+    → IsNumberList c.dedup.new.self.items × (c.dedup.new.self.items ≡ in_order c.args.numbers.now)
 both c =
     let shorter : length c.dedup.new.self.items ≤ length c.sort_unstable.new.self.items =
     omega (arith, c.dedup.new.self.ok, c.sort_unstable.new.self.ok) in

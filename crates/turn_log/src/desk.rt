@@ -1,35 +1,42 @@
-ghost use Rattle.std.specs.Prelude.{◌≡◌, ℕ, ◌<◌, ◌≤◌, Bool, true, IsTrue, List, [], ◌∷◌, ◌++◌, length, IfOk, IfErr};
+ghost use Rattle.std.specs.Prelude.{◌≡◌, ℕ, ◌<◌, ◌≤◌, Bool, true, false, IsTrue, List, [], ◌∷◌, ◌++◌, length, IfOk, IfErr};
 ghost use Rattle.turn_log.specs.History.{History, IsLegal};
+ghost use Rattle.turn_log.specs.Past.{so_far};
 
 use crate::object::Played;
+use crate::past::{Entry, and_then};
 use crate::place::{TurnFault, Turns};
-use std::alloc::Global;
+use std::snapshot::Snapshot;
 
 /// How many turns a desk gives.
 const MOST: u64 = 1 << 62;
 
-/// A place of one thread: it keeps the object and a journal of all calls, and speaks for every
-/// caller.
+/// A place of one thread: it keeps the object and counts the calls, and speaks for every caller.
+///
+/// It takes no memory. Its history is there for clauses alone, and has no bytes.
 #[derive(Drop)]
 pub struct Desk<V: Played> {
     value: V,
-    journal: Vec<(u32, V::Call)>,
-    // The object is what the journal's calls leave of a new one.
-    ghost stands: { V.stands value journal.items } by { V.stands_once value journal.items },
+    turns: u64,
+    past: Option<Snapshot<Entry<V::Call>>>,
+    // As many turns were given as the history has calls.
+    ghost counted: { turns ≡ length (so_far past) },
+    // The object is what the calls so far leave of a new one.
+    ghost stands: { V.stands value (so_far past) } by { V.stands_once value (so_far past) },
     // Each call fitted when it was made.
-    ghost legal: { IsLegal (V.fits (V.shape value)) journal.items },
+    ghost legal: { IsLegal (V.fits (V.shape value)) (so_far past) },
 }
 
 impl<V: Played> Desk<V> {
     /// A desk for a new object.
-    pub fn new(alloc: Global, value: V) -> Desk<V>
+    pub fn new(value: V) -> Desk<V>
         requires { V.stands value [] }
         ensures empty { ⟦<Desk<V> as Turns<V>>⟧.seen result ≡ [] }
         ensures shape { ⟦<Desk<V> as Turns<V>>⟧.shape result ≡ V.shape value }
     {
         Desk {
             value,
-            journal: Vec::new(alloc),
+            turns: 0,
+            past: None,
         }
     }
 
@@ -43,21 +50,22 @@ impl<V: Played> Desk<V> {
 }
 
 impl<V: Played> Turns<V> for Desk<V> {
-    ghost use Rattle.std.specs.Prelude.{◌≡◌, ℕ, ◌≤◌, true, IsTrue, [], ◌∷◌, ◌++◌, length, IfOk, IfErr};
+    ghost use Rattle.std.specs.Prelude.{◌≡◌, ℕ, ◌≤◌, true, false, IsTrue, [], ◌∷◌, ◌++◌, length, IfOk, IfErr};
     ghost use Rattle.turn_log.specs.Faults.{IsFault, IsWornAt, worn_of};
+    ghost use Rattle.turn_log.specs.Past.{so_far};
     ghost use base.Stored.{gnil};
 
-    ghost seen = { λ desk. desk.journal.items };
+    ghost seen = { λ desk. so_far desk.past };
 
     ghost shape = { λ desk. V.shape desk.value };
 
     ghost speaks = { λ desk me. true };
 
-    ghost may_lack = { λ desk. true };
+    ghost may_lack = { λ desk. false };
 
     ghost alone = { λ desk. true };
 
-    ghost worn = { λ desk. worn_of (length desk.journal.items) };
+    ghost worn = { λ desk. worn_of (length (so_far desk.past)) };
 
     ghost home = { λ desk. gnil };
 
@@ -78,17 +86,14 @@ impl<V: Played> Turns<V> for Desk<V> {
         ensures err { let desk = ⟦<Desk<V> as Turns<V>>⟧ in
             IfErr result (λ fault.
             (desk.seen self.new ≡ desk.seen self.old) × (room.new ≡ room.old)
-            × IsFault true (desk.worn self.new) fault) }
+            × IsFault false (desk.worn self.new) fault) }
     {
-        let turns = self.journal.len() as u64;
-        if turns >= MOST {
-            return Err(TurnFault::Worn { turns });
+        if self.turns >= MOST {
+            return Err(TurnFault::Worn { turns: self.turns });
         }
-        let Ok(()) = self.journal.reserve(1) else {
-            return Err(TurnFault::Memory);
-        };
         let answer = self.value.play(me, call, room);
-        self.journal.push_reserved((me, call));
+        self.turns += 1;
+        self.past = and_then(self.past.take(), me, call);
         Ok(answer)
     }
 
