@@ -3,3 +3,5 @@ pub mod Rules
 pub mod Texts
 pub mod Lists
 pub mod Records
+pub mod Types
+pub mod Printed
