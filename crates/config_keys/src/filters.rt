@@ -3,7 +3,7 @@
 ghost use Rattle.std.specs.Prelude.{◌≡◌, List, Result, true, None, Ok, [], position, IfOk};
 ghost use Rattle.config_keys.specs.Answers.{Gives, GivesBy, Read};
 ghost use Rattle.config_keys.specs.Lists.{each_of};
-ghost use Rattle.config_keys.specs.Rules.{required, optional, seen};
+ghost use Rattle.config_keys.specs.Rules.{required, seen};
 ghost use Rattle.config_keys.specs.Types.{at_most, both, each_filter, filter_entry, filter_in, filters, first_of, message_number, push, rank, types, with_fault};
 ghost use Rattle.config_keys.specs.Texts.{name};
 ghost use Rattle.config_keys.specs.declared.filters.FilterEntry.{FilterEntry as Entry};
@@ -209,27 +209,14 @@ fn nothing_yet(alloc: Global, values: &[Value], key: Key) -> Result<Vec<FilterEn
     }
 }
 
+/// The filters for single mountpoints of a list, which are tested together: the fault is the one
+/// whose test comes first.
 #[tactic(auto, unfolding(crate::specs::Types::filters))]
-fn filters_of(alloc: Global, value: &Value, key: Key) -> Result<Vec<FilterEntry>, KeyFault>
+pub fn filter_entries(alloc: Global, value: &Value, key: Key) -> Result<Vec<FilterEntry>, KeyFault>
     ensures { GivesBy (λ v. v.items) result (filters key (view value.now)) }
 {
     match value.as_array() {
         Some(values) => each_filter(alloc, values, key),
         None => Err(KeyFault::Wrong(key)),
-    }
-}
-
-/// The filters for single mountpoints that stand at a key; none where the key is not there. Their
-/// elements are tested together: the fault is the one whose test comes first.
-pub fn filters_or(
-    alloc: Global,
-    value: Option<&Value>,
-    key: Key,
-) -> Result<Vec<FilterEntry>, KeyFault>
-    ensures { GivesBy (λ v. v.items) result (optional [] filters key (seen value.entry)) }
-{
-    match value {
-        None => Ok(Vec::new(alloc)),
-        Some(value) => filters_of(alloc, value, key),
     }
 }

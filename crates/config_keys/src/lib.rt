@@ -12,7 +12,7 @@ mod records;
 mod strings;
 
 pub use fault::KeyFault;
-pub use filters::{FilterEntry, filters_or, types};
+pub use filters::{FilterEntry, filter_entries, types};
 pub use key::{Key, value_at};
 pub use lists::{are_names, each_once, integers, tables, tables_or, texts};
 pub use numbers::{count, count_or, whole};

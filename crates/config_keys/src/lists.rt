@@ -1,6 +1,6 @@
 //! Lists.
 
-ghost use Rattle.std.specs.Prelude.{◌≡◌, map};
+ghost use Rattle.std.specs.Prelude.{◌≡◌, ◌≤◌, length, map, IfOk};
 ghost use Rattle.std.specs.List.{list_all};
 ghost use Rattle.cast_text.specs.Name.{is_name};
 ghost use Rattle.config_keys.specs.Answers.{GivesBy};
@@ -98,9 +98,11 @@ fn are_tables(values: &[Value]) -> bool
 
 #[tactic(auto, using(crate::proofs::ListLemmas::item_count_is), unfolding(crate::specs::Lists::tables))]
 fn tables_of(value: &Value, key: Key, least: usize, most: usize) -> Result<&[Value], KeyFault>
-    ensures {
+    ensures read {
         GivesBy (λ v. items_view v.now) result (tables least most key (view value.now))
     }
+    ensures some { IfOk result (λ v. least ≤ length v.now) }
+    ensures few { IfOk result (λ v. length v.now ≤ most) }
 {
     let Some(values) = value.as_array() else {
         return Err(KeyFault::Wrong(key));
@@ -121,10 +123,12 @@ pub fn tables(
     least: usize,
     most: usize,
 ) -> Result<&[Value], KeyFault>
-    ensures {
+    ensures read {
         GivesBy (λ v. items_view v.now) result
         (required (tables least most) key (seen value.entry))
     }
+    ensures some { IfOk result (λ v. least ≤ length v.now) }
+    ensures few { IfOk result (λ v. length v.now ≤ most) }
 {
     match value {
         None => Err(KeyFault::Missing(key)),
@@ -138,10 +142,11 @@ pub fn tables_or(
     key: Key,
     most: usize,
 ) -> Result<&[Value], KeyFault>
-    ensures {
+    ensures read {
         GivesBy (λ v. items_view v.now) result
         (optional no_items (tables 0 most) key (seen value.entry))
     }
+    ensures few { IfOk result (λ v. length v.now ≤ most) }
 {
     match value {
         None => Ok(&[]),
