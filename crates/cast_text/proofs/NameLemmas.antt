@@ -1,8 +1,9 @@
 -- Bytes without a fault are a name.
-use Rattle.std.proofs.Common.{◌≡◌, ℕ, ◌≤◌, Bool, true, false, not, cond, ◌&&◌, eqb, ltb, leb, List, [], ◌∷◌, length, Option, Some, None, refl, arith, inl, inr}
+use Rattle.std.proofs.Common.{◌≡◌, ℕ, ◌≤◌, Bool, true, false, not, cond, ◌&&◌, eqb, ltb, leb, List, [], ◌∷◌, length, Option, Some, None, refl, sym, ◌∙◌, arith, inl, inr}
 use Rattle.std.specs.Prelude.{position, Ok}
 use Rattle.std.specs.List.{list_all, prefix_len}
-use Rattle.std.proofs.lemmas.Bool.{cases_Bool, cases_lt, eqb-false, ltb-false, le-leb, lt-ltb, le-ltb, leb-true, ne_eqb, and_from, and_parts}
+use Rattle.std.specs.Option.{is_none}
+use Rattle.std.proofs.lemmas.Bool.{cases_Bool, cases_lt, false_from_ne_true, false≢true, eqb-false, ltb-false, le-leb, lt-ltb, le-ltb, leb-true, ne_eqb, and_from, and_parts}
 use Rattle.cast_text.specs.declared.fault.NameFault.{NameFault}
 use Rattle.cast_text.specs.Name.{is_name_byte, is_name, name_fault, fault_at, name_unless, name_of}
 
@@ -65,3 +66,19 @@ unless_ok text name (Some fault) ok = absurd cc
 -- what is read as a name is one, and itself
 pub name_of-ok : (text name : List ℕ) → name_of text ≡ Ok name → (text ≡ name) × (is_name text ≡ true)
 name_of-ok text name ok = let h = unless_ok text name (name_fault text) ok in (h.1, is_name_unless text h.0)
+
+fault_unless : (text : List ℕ) (fault : Option NameFault) → name_unless text fault ≡ Ok text → is_none fault ≡ true
+fault_unless text None ok = refl
+fault_unless text (Some fault) ok = absurd cc
+
+no_fault : (fault : Option NameFault) → is_none fault ≡ true → fault ≡ None
+no_fault None none = refl
+no_fault (Some fault) none = absurd cc
+
+-- bytes are a name exactly where nothing is wrong with them
+pub none_is_name : (text : List ℕ) → is_none (name_fault text) ≡ is_name text
+none_is_name text =
+    elim (cases_Bool (is_name text)) [
+      | inl name ↦ rw name (fault_unless text (name_fault text) (name_of-name text name))
+      | inr other ↦ rw other (false_from_ne_true _ (λ none. false≢true (sym other ∙ is_name_unless text (no_fault (name_fault text) none))))
+    ]

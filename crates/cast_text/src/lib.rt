@@ -11,7 +11,7 @@ mod text;
 
 pub use fault::{NameFault, TextFault};
 pub use lines::Lines;
-pub use name::{GroupName, MountName, UserName};
+pub use name::{GroupName, MountName, UserName, is_name};
 pub use number::{push_decimal, push_hex};
 pub use split::{place_of, split_first, split_line};
 pub use text::Text;

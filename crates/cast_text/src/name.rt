@@ -42,6 +42,13 @@ fn fault_of(text: &[u8]) -> Option<NameFault>
     }
 }
 
+/// Whether these bytes are a name: the name of a mountpoint, a user or a group can be made of them.
+pub fn is_name(text: &[u8]) -> bool
+    ensures { result ≡ is_name text.now }
+{
+    fault_of(text).is_none()
+}
+
 /// The name of a mountpoint: 1 to 100 printable ASCII bytes (hexadecimal 21 to 7E) without `;`,
 /// `/`, `?` and `:`. Contracts see it as the list of its bytes.
 #[derive(Debug, Drop)]

@@ -86,3 +86,12 @@ fn lines_above_the_limit_are_dropped_whole(rt: HostRuntime) -> Result<(), Fail> 
     assert_eq!(rt; lines.as_slice(), b"ab||abc|ab\r|".as_slice());
     Ok(())
 }
+
+#[test]
+fn names_are_told_by_a_test(rt: HostRuntime) -> Result<(), Fail> {
+    let long = [b'A'; 101];
+    assert!(rt; is_name(&long[..100]) && !is_name(&long));
+    assert!(rt; is_name(b"!") && !is_name(b""));
+    assert!(rt; is_name(b"ALPHA~!") && !is_name(b"ALPHA:") && !is_name(b"A B"));
+    Ok(())
+}

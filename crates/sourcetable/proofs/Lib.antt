@@ -3,5 +3,6 @@ pub mod RecordLemmas
 pub mod KindLemmas
 pub mod TableLemmas
 pub mod AnswerLemmas
+pub mod FunctionLemmas
 pub mod BackLemmas
 pub mod Rows

@@ -1,6 +1,7 @@
 -- What reading a line or a text may answer.
-use Rattle.std.specs.Prelude.{◌≡◌, ℕ, ◌+◌, ◌<◌, ◌≤◌, true, false, List, ◌∷◌, ◌++◌, length, map, position, Option, None, Some, Result, Ok, Err}
-use Rattle.std.specs.List.{All}
+use Rattle.std.specs.Prelude.{◌≡◌, ℕ, zero, suc, ◌+◌, ◌-◌, ◌<◌, ◌≤◌, true, false, nat_lt, if◌then◌else◌, List, [], ◌∷◌, ◌++◌, length, map, drop, position, Option, None, Some, Result, Ok, Err}
+use Rattle.std.specs.List.{All, count_by}
+use Rattle.sourcetable.specs.declared.record.Kind.{Kind as RecordKind}
 use Rattle.sourcetable.specs.declared.record.Record.{Record}
 use Rattle.sourcetable.specs.declared.record.Table.{Table}
 use Rattle.sourcetable.specs.declared.fault.LineFault.{LineFault}
@@ -9,8 +10,8 @@ use Rattle.sourcetable.specs.declared.fault.RecordFault.{RecordFault}
 use Rattle.sourcetable.specs.declared.fault.RecordFault.TheVariants as records
 use Rattle.sourcetable.specs.declared.fault.TableFault.{TableFault}
 use Rattle.sourcetable.specs.declared.fault.TableFault.TheVariants as tables
-use Rattle.sourcetable.specs.Record.{line_of, is_line_end, IsRecord}
-use Rattle.sourcetable.specs.Table.{fault_of, most_bytes, lines_before_end, has_end}
+use Rattle.sourcetable.specs.Record.{field_count, line_of, is_line_end, is_separator, IsRecord}
+use Rattle.sourcetable.specs.Table.{kind_of, fault_of, most_bytes, lines_before_end, has_end}
 
 -- the same fault of a record alone, and of the table that has it in the line of this number
 abbrev pub record_fault : LineFault → RecordFault
@@ -47,6 +48,49 @@ IsRecordRead line (Err records.Fields) = fault_of line ≡ Some faults.Fields
 IsRecordRead line (Err (records.Byte place)) =
     (fault_of line ≡ None) × (line_end_in line ≡ Some place)
 IsRecordRead line (Err records.Memory) = Unit {0}
+
+-- ---- the same as a function of the line
+
+-- a text in so many fields and one more, at each `;`: the last one takes the rest, and `front` is
+-- what of the first one came before the text
+abbrev pub fields_of : ℕ → List ℕ → List ℕ → List (List ℕ)
+fields_of zero front text = (front ++ text) ∷ []
+fields_of (suc n) front [] = front ∷ []
+fields_of (suc n) front (b ∷ text) =
+    if is_separator b then front ∷ fields_of n [] text else fields_of (suc n) (front ++ b ∷ []) text
+
+-- the record of this kind: its fields follow the letters and the first `;`
+abbrev pub record_of : List ℕ → RecordKind → Record
+record_of line kind =
+    record { kind = kind; fields = fields_of (field_count kind - 1) [] (drop 4 line) }
+
+-- the record unless a CR or LF stands at this place
+abbrev pub record_before : Record → Option ℕ → Result Record RecordFault
+record_before r None = Ok r
+record_before r (Some place) = Err (records.Byte place)
+
+-- the record of a line of this kind, if it is of one, or its first fault
+abbrev pub record_as : List ℕ → Option RecordKind → Result Record RecordFault
+record_as line None = Err records.Kind
+record_as line (Some kind) =
+    if nat_lt (count_by is_separator line) (field_count kind) then Err records.Fields
+    else record_before (record_of line kind) (line_end_in line)
+
+-- the record of a line, or its first fault
+abbrev pub record_read : List ℕ → Result Record RecordFault
+record_read line = record_as line (kind_of line)
+
+-- the call refused for this reason, or for want of memory
+abbrev pub Refuses : RecordFault → Result Record RecordFault → Type 0
+Refuses records.Memory read = Unit {0}
+Refuses why read = read ≡ Err why
+
+-- the call answered this, unless memory ran out
+abbrev pub Gives : Result Record RecordFault → Result Record RecordFault → Type 0
+Gives (Ok r) read = read ≡ Ok r
+Gives (Err why) read = Refuses why read
+
+-- ---- a text
 
 -- of the lines before the end of a table, the one of this number, counted from 1, is the first that
 -- is no record, and this is why

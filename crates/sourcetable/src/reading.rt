@@ -2,7 +2,7 @@
 ghost use Rattle.std.specs.Prelude.{◌≡◌, List, IfOk};
 ghost use Rattle.sourcetable.specs.Record.{field_count};
 ghost use Rattle.sourcetable.specs.Table.{kind_of};
-ghost use Rattle.sourcetable.specs.Reading.{IsRecordRead, IsLineRead, IsTableRead};
+ghost use Rattle.sourcetable.specs.Reading.{Gives, record_read, IsRecordRead, IsLineRead, IsTableRead};
 
 use crate::fault::{LineFault, RecordFault, TableFault};
 use crate::lists::Records;
@@ -60,7 +60,8 @@ fn read_line(alloc: Global, line: &[u8]) -> Result<Record, LineFault>
 /// `NET;`; `Fields` exactly where fields of its kind are missing; `Byte` exactly where a CR or LF
 /// stands in it, with the first such place. `Memory` at any time.
 pub fn read_record(alloc: Global, line: &[u8]) -> Result<Record, RecordFault>
-    ensures { IsRecordRead line.now result }
+    ensures read { IsRecordRead line.now result }
+    ensures gives { Gives result (record_read line.now) }
 {
     let record = read_line(alloc, line)?;
     match line_end_place(line) {

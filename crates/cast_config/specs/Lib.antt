@@ -1,0 +1,5 @@
+pub mod Faults
+pub mod Names
+pub mod Entries
+pub mod Served
+pub mod Document
