@@ -3,16 +3,17 @@ use Rattle.std.proofs.Common.{◌≡◌, ℕ, ◌+◌, ◌-◌, List, [], ◌∷
 use Rattle.std.specs.List.{count_by, list_any}
 use Rattle.std.proofs.lemmas.Bool.{or_parts, lt-ltb, le-ltb, cases_lt}
 use Rattle.std.proofs.lemmas.List.{append-nil}
+use Rattle.cast_text.specs.Split.{HasNone}
 use Rattle.sourcetable.specs.declared.record.Kind.{Kind}
 use Rattle.sourcetable.specs.declared.record.Kind.TheVariants.{Str, Cas, Net}
 use Rattle.sourcetable.specs.declared.record.Record.{Record}
 use Rattle.sourcetable.specs.declared.fault.LineFault.TheVariants as faults
 use Rattle.sourcetable.specs.declared.fault.RecordFault.{RecordFault}
 use Rattle.sourcetable.specs.declared.fault.RecordFault.TheVariants as records
-use Rattle.sourcetable.specs.Record.{letters, field_count, fields_text, is_separator, HasNone, AreFreeButLast}
+use Rattle.sourcetable.specs.Record.{letters, field_count, fields_text, is_separator, AreFreeButLast}
 use Rattle.sourcetable.specs.Table.{kind_of, fault_as}
 use Rattle.sourcetable.specs.Reading.{fields_of, record_of, record_before, record_as, record_read, line_end_in, Gives, IsRecordOf, IsRecordRead}
-use Rattle.sourcetable.proofs.KindLemmas.{kind_of_line, fault_of_record}
+use Rattle.sourcetable.proofs.KindLemmas.{kind_of_line, fault_of_record, make}
 
 -- a field up to its `;`
 fields_first : (n : ℕ) (front field rest : List ℕ) → HasNone is_separator field
@@ -44,9 +45,6 @@ one_less : (kind : Kind) → field_count kind ≡ (field_count kind - 1) + 1
 one_less Str = refl
 one_less Cas = refl
 one_less Net = refl
-
-abbrev make : Kind → List (List ℕ) → Record
-make kind fields = record { kind = kind; fields = fields }
 
 record_is_of : (line : List ℕ) (r : Record) → IsRecordOf line r → record_of line r.kind ≡ r
 record_is_of line r of =

@@ -50,11 +50,6 @@ kind_of_letters Str rest = refl
 kind_of_letters Cas rest = refl
 kind_of_letters Net rest = refl
 
-length_letters : (kind : Kind) → length (letters kind) ≡ 3
-length_letters Str = refl
-length_letters Cas = refl
-length_letters Net = refl
-
 -- ---- how many `;` a line has
 
 count_letters : (kind : Kind) → count_by is_separator (letters kind) ≡ 0
@@ -126,7 +121,7 @@ drop_letters Str rest = refl
 drop_letters Cas rest = refl
 drop_letters Net rest = refl
 
-abbrev make : Kind → List (List ℕ) → Record
+abbrev pub make : Kind → List (List ℕ) → Record
 make kind fields = record { kind = kind; fields = fields }
 
 -- a line has one record

@@ -12,12 +12,6 @@ use Rattle.cast_text.proofs.SplitLemmas.{split_same}
 
 -- ---- one more field
 
-pub text_push : (fields : List (List ℕ)) (field : List ℕ)
-    → fields_text (fields ++ field ∷ []) ≡ fields_text fields ++ 59 ∷ field
-text_push fields field =
-    flat_map-append (λ f. 59 ∷ f) fields (field ∷ [])
-    ∙ ap (λ (t : List ℕ). fields_text fields ++ 59 ∷ t) (append-nil field)
-
 pub free_push : (fields : List (List ℕ)) (last : List ℕ) → All (HasNone is_separator) fields
     → AreFreeButLast (fields ++ last ∷ [])
 free_push [] last free = tt

@@ -13,7 +13,9 @@ returns-in-None c =
 
 pub returns-in-Some : goal.returns-in-Some
 returns-in-Some c =
-    let read : IsRecordRead c.args.line.now (Err (Byte c.in-Some.place)) =
-    (fault_of_record c.args.line.now c.in_ok-record.record c.in_ok-record.ensures, sym c.line_end_place.ensures
-    ∙ c.in-Some.is) in
+    let read : IsRecordRead c.args.line.now (Err (Byte c.in-Some.place)) = (
+      fault_of_record c.args.line.now c.in_ok-record.record c.in_ok-record.ensures,
+      sym c.line_end_place.ensures
+          ∙ c.in-Some.is,
+    ) in
     record { read = read; gives = given_by_function c.args.line.now (Err (Byte c.in-Some.place)) read }
