@@ -5,7 +5,6 @@ use Rattle.mount_ring.specs.declared.Lap.{Lap}
 use Rattle.std.specs.List.{list_all}
 use Rattle.std.proofs.lemmas.Bool.{and_parts}
 use Rattle.std.proofs.lemmas.List.Sums.{fold-append}
-use Rattle.std.proofs.lemmas.List.{length-map}
 use Rattle.turn_log.specs.History.{History, own, GoesOn}
 use Rattle.turn_log.specs.Turn.{Turned}
 use Rattle.turn_log.specs.Heard.{Heard}
@@ -19,7 +18,6 @@ use Rattle.mount_ring.specs.declared.ReadReport.{ReadReport}
 use Rattle.mount_ring.specs.declared.Holder.{Holder}
 use Rattle.mount_ring.specs.declared.RingShape.{RingShape}
 use Rattle.mount_ring.specs.Shapes.{shape_of}
-use Rattle.type_filter.specs.Permitted.{permits}
 use Rattle.mount_ring.specs.Reads.{read_report, read_frames}
 use Rattle.mount_ring.specs.Places.{published_by}
 use Rattle.mount_ring.specs.History.{Shape, State, after, state_of, permits_at, joined, answer, claim_answer, own_answers, answers_from, with_own, fits, filled}

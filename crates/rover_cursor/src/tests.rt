@@ -50,15 +50,14 @@ fn publish_all(desk: &mut Desk<Ring>, frames: &[Frame], out: &mut Outbox) -> Res
     Ok(())
 }
 
-/// Caller 2 joins a ring of this capacity; caller 1 publishes some frames, and caller 2 reads; and
-/// once more. What caller 2 then has of the mountpoint, which it numbers 7, and the frames that it
+/// Caller 2 joins a ring of this capacity; in each round caller 1 publishes some frames, and caller
+/// 2 reads. What caller 2 then has of the mountpoint, which it numbers 7, and the frames that it
 /// took last.
-fn read_twice(
+fn read_rounds(
     alloc: Global,
     capacity: u32,
     filter: Filter,
-    first: &[Frame],
-    second: &[Frame],
+    rounds: &[&[Frame]],
 ) -> Result<(Segment, Outbox), Fail>
     requires { (1 ≤ capacity) × (capacity ≤ 4096) }
 {
@@ -68,10 +67,10 @@ fn read_twice(
         unreachable!();
     };
     let mut segment = Segment::join(alloc, &mut desk, 2, 7, 0)?;
-    publish_all(&mut desk, first, &mut out)?;
-    segment.read(&mut desk, 2, 16, &mut out)?;
-    publish_all(&mut desk, second, &mut out)?;
-    segment.read(&mut desk, 2, 16, &mut out)?;
+    for frames in rounds {
+        publish_all(&mut desk, frames, &mut out)?;
+        segment.read(&mut desk, 2, 16, &mut out)?;
+    }
     Ok((segment, out))
 }
 
@@ -113,7 +112,7 @@ fn segment_to(
 fn a_lapped_rover_counts_its_overrun(rt: HostRuntime) -> Result<(), Fail> {
     let (a, b) = two_frames()?;
     let z = Frame::of(&FRAME_Z).ok_or("no frame")?;
-    let (segment, out) = read_twice(rt.alloc(), 2, Filter::all(), &[a], &[b, a, b, z])?;
+    let (segment, out) = read_rounds(rt.alloc(), 2, Filter::all(), &[&[a], &[b, a, b, z]])?;
     assert_eq!(rt; out.frames(), [b, z].as_slice());
     let lap = Lap {
         from: 1,
@@ -129,7 +128,7 @@ fn a_lapped_rover_counts_its_overrun(rt: HostRuntime) -> Result<(), Fail> {
 fn the_overrun_counts_permitted_frames_alone(rt: HostRuntime) -> Result<(), Fail> {
     let (a, b) = two_frames()?;
     let only = Filter::list(rt.alloc(), &[1005])?;
-    let (segment, out) = read_twice(rt.alloc(), 2, only, &[], &[a, b, b, b])?;
+    let (segment, out) = read_rounds(rt.alloc(), 2, only, &[&[a, b, b, b]])?;
     assert!(rt; out.frames().is_empty());
     let lap = Lap {
         from: 0,
@@ -145,7 +144,7 @@ fn the_overrun_counts_permitted_frames_alone(rt: HostRuntime) -> Result<(), Fail
 fn a_lap_may_lose_nothing(rt: HostRuntime) -> Result<(), Fail> {
     let (_, b) = two_frames()?;
     let only = Filter::list(rt.alloc(), &[1005])?;
-    let (segment, out) = read_twice(rt.alloc(), 2, only, &[], &[b, b, b, b])?;
+    let (segment, out) = read_rounds(rt.alloc(), 2, only, &[&[b, b, b, b]])?;
     assert!(rt; out.frames().is_empty());
     let lap = Lap {
         from: 0,
@@ -160,8 +159,23 @@ fn a_lap_may_lose_nothing(rt: HostRuntime) -> Result<(), Fail> {
 #[test]
 fn a_rover_that_keeps_up_has_no_lap(rt: HostRuntime) -> Result<(), Fail> {
     let (a, b) = two_frames()?;
-    let (segment, _) = read_twice(rt.alloc(), 1, Filter::all(), &[a], &[b])?;
+    let (segment, _) = read_rounds(rt.alloc(), 1, Filter::all(), &[&[a], &[b]])?;
     assert_eq!(rt; segment, segment_to(rt.alloc(), 2, 2, 0, None)?);
+    Ok(())
+}
+
+#[test]
+fn a_rover_may_be_lapped_many_times(rt: HostRuntime) -> Result<(), Fail> {
+    let (a, b) = two_frames()?;
+    let frames = [a, b];
+    let mut rounds = Vec::new(rt.alloc());
+    for _ in 0..1001 {
+        rounds.push(frames.as_slice())?;
+    }
+    let (segment, _) = read_rounds(rt.alloc(), 1, Filter::all(), rounds.as_slice())?;
+    assert_eq!(rt; (segment.from, segment.to), (0, 2002));
+    assert_eq!(rt; (segment.sent, segment.overrun), (1001, 1001));
+    assert_eq!(rt; segment.laps.len(), 1001);
     Ok(())
 }
 
