@@ -96,8 +96,8 @@ impl Mountpoint {
 }
 
 impl Taker for Mountpoint {
-    fn take(&mut self, frame: Frame) {
-        if self.publish(frame).is_ok() {
+    fn take(&mut self, frame: &Frame) {
+        if self.publish(*frame).is_ok() {
             self.unread = self.unread.saturating_add(1);
         }
         if self.unread >= BUDGET {

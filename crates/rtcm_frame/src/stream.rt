@@ -86,6 +86,7 @@ impl Cutter {
 
     /// Takes the stream's next byte. What waits must be nothing or an unfinished frame, as it is
     /// after `next` answered none.
+    #[inline]
     #[tactic(auto, using(crate::proofs::PendingLemmas::waiting_fits))]
     pub fn push(&mut self, byte: u8)
         requires { IsWaiting self.old.bytes }
@@ -122,6 +123,7 @@ impl Cutter {
     /// The next frame of the bytes so far; none exactly where they hold no further whole frame. Of
     /// the bytes that wait those in front of the frame are counted as junk, and none behind it. The
     /// condition on the count of junk holds where fewer than 2^63 bytes were pushed.
+    #[inline(always)]
     pub fn next(&mut self) -> Option<Frame>
         requires { self.old.junk + length self.old.bytes < 2 ^ 64 }
         ensures found { IfSome result (λ frame. Took self.old self.new (frame ∷ [])) }
@@ -133,11 +135,7 @@ impl Cutter {
             → IfNone result (Gave given all self.new × GaveAll given all self.new) }
     {
         match self.find() {
-            Some(count) => {
-                let frame = Frame::held(&self.waiting()[..count]);
-                self.skip(count);
-                Some(frame)
-            }
+            Some(count) => Some(self.take_front(count)),
             None => None,
         }
     }
@@ -226,6 +224,19 @@ impl Cutter {
         self.summed = reach(&mut self.sums, &self.buffer, summed, end);
         let crc = part_crc(&self.sums, self.start, end);
         is_whole_by(&self.waiting()[..count], crc)
+    }
+
+    // Takes the frame of so many bytes in front.
+    fn take_front(&mut self, count: usize) -> Frame
+        requires within { count ≤ length self.old.bytes }
+        requires whole { IsTrue (is_frame (take count self.old.bytes)) }
+        ensures frame { result ≡ take count self.old.bytes }
+        ensures behind { self.new
+            ≡ record { bytes = drop count self.old.bytes; junk = self.old.junk } }
+    {
+        let frame = Frame::held(&self.waiting()[..count]);
+        self.skip(count);
+        frame
     }
 
     // Passes over bytes in front.
