@@ -13,8 +13,8 @@ use crate::sums::{part_crc, reach};
 use std::fmt;
 use std::marker::Model;
 
-// The buffer holds twice the longest frame, so at least a longest frame's length of bytes was passed
-// over each time that what waits is moved to its front.
+// The buffer holds twice the longest frame. So each time that what waits is moved to its front, at
+// least a longest frame's length of bytes was passed over before.
 const ROOM: usize = 2 * LONGEST;
 
 // A sum stands before each byte of the buffer, and one behind the last.

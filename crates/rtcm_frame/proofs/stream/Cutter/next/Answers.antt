@@ -1,4 +1,4 @@
-use Rattle.std.proofs.Common.{◌≡◌, List, [], ◌∷◌, ℕ, subst, append-nil}
+use Rattle.std.proofs.Common.{List, [], ℕ, subst, append-nil}
 use Rattle.rtcm_frame.specs.Pending.{Gave}
 use Rattle.rtcm_frame.proofs.PendingLemmas.{took_found, gave_took, gave_waiting}
 use Rattle.rtcm_frame.proofs.stream.Cutter.next.Goals as goal
