@@ -1,6 +1,7 @@
 //! Threads that take turns on one counter.
-ghost use Rattle.std.specs.Prelude.{◌≡◌, ℕ, ◌<◌, ◌^◌, List, length, IfOk};
-ghost use Rattle.bench_lock.specs.Shares.{AreBounds};
+ghost use Rattle.std.specs.Prelude.{◌≡◌, ℕ, ◌<◌, ◌-◌, ◌^◌, List, length, min, IfOk};
+ghost use Rattle.std.specs.List.{sum};
+ghost use Rattle.bench_lock.specs.Shares.{AreBounds, IsSum};
 ghost use mathlib.Core.Option.{some};
 ghost use lib.ListN.{get_elem?};
 ghost use Rattle.turn_log.specs.Lock.{pass_number, IsPassOf};
@@ -74,7 +75,7 @@ pub fn race<R: Threads + Wait + Sync>(
 ) -> Result<Shares, AllocError>
     requires { 0 < threads }
     ensures { IfOk result (λ shares. (taken : List ℕ) × (length taken ≡ threads)
-        × AreBounds shares taken) }
+        × IsSum shares taken × AreBounds shares taken) }
 {
     let (turn, passes) = Turn::open(alloc, Counter { turns: 0 }, threads)?;
     let lock = &turn;
@@ -91,17 +92,28 @@ pub fn race<R: Threads + Wait + Sync>(
 
 /// The sum, the least and the greatest.
 fn shares_of(taken: &[u64]) -> Shares
-    ensures { AreBounds result taken.now }
+    ensures sum { IsSum result taken.now }
+    ensures bounds { AreBounds result taken.now }
 {
     let mut shares = Shares {
-        turns: 0,
+        turns: total(taken),
         fewest: u64::MAX,
         most: 0,
     };
     for count in taken {
-        shares.turns = shares.turns.saturating_add(*count);
         shares.fewest = shares.fewest.min(*count);
         shares.most = shares.most.max(*count);
     }
     shares
+}
+
+/// The sum, as far as 64 bits count.
+fn total(taken: &[u64]) -> u64
+    ensures { result ≡ min (sum taken.now) (2 ^ 64 - 1) }
+{
+    let mut total: u64 = 0;
+    for count in taken {
+        total = total.saturating_add(*count);
+    }
+    total
 }

@@ -305,27 +305,6 @@ caps_opened list index accounts more last more_is cap low before =
 
 -- ---- who may leave
 
-among_entered : (cap account : ℕ) (callers : List ℕ) (me by entered : ℕ) → is_among me callers ≡ true →
-    is_among me (goes cap account callers by (Enter entered)) ≡ true
-among_entered cap account callers me by entered mine = by_tests (entered == account) (length callers == cap) where
-  by_tests : (b c : Bool) → is_among me (if b then if c then callers else by ∷ callers else callers) ≡ true
-  by_tests true true = mine
-  by_tests true false = by_test (by == me) where
-    by_test : (b : Bool) → (if b then true else is_among me callers) ≡ true
-    by_test true = refl
-    by_test false = mine
-  by_tests false c = mine
-
--- an Enter takes from nobody what it may leave
-pub enter_keeps : (caps : List ℕ) (h now : List (ℕ × BookCall)) (me by account entered : ℕ) → now ≡ h ++ (by, Enter entered) ∷ [] →
-    may_leave caps h me account ≡ true → may_leave caps now me account ≡ true
-enter_keeps caps h now me by account entered is may =
-    let parts = and_parts (nat_lt account (length caps)) _ may in
-    and_from _ _ parts.0
-    (ap (λ (l : List (ℕ × BookCall)). is_among me (callers_in (cap_at caps account) account l)) is
-    ∙ ap (is_among me) (callers_after (cap_at caps account) account h by (Enter entered))
-    ∙ among_entered (cap_at caps account) account (callers_in (cap_at caps account) account h) me by entered parts.1)
-
 -- who was answered Entered may leave
 pub entered_may : (caps : List ℕ) (h now : List (ℕ × BookCall)) (me account : ℕ) → now ≡ h ++ (me, Enter account) ∷ [] →
     nat_lt account (length caps) ≡ true → answer caps h (Enter account) ≡ Entered → may_leave caps now me account ≡ true
@@ -347,7 +326,7 @@ entered_may caps h now me account is low answered =
 pub leave_stays : (caps later : List ℕ) (h now : List (ℕ × BookCall)) (me account sent overrun by place : ℕ)
     (result : Result BookAnswer TurnFault) (before after : Unit {0}) → later ≡ caps →
     IfOk result (λ reply. (now ≡ h ++ (me, Leave account sent overrun) ∷ []) × (reply ≡ Left) × (after ≡ before)) →
-    IfErr result (λ fault. (now ≡ h) × (after ≡ before) × IsFault true (worn_of (length now)) fault) → may_leave caps h me account ≡ true → by ≢ me →
+    IfErr result (λ fault. (now ≡ h) × (after ≡ before) × IsFault false (worn_of (length now)) fault) → may_leave caps h me account ≡ true → by ≢ me →
     may_leave caps h by place ≡ true → may_leave later now by place ≡ true
 leave_stays caps later h now me account sent overrun by place (Ok reply) before after same ok err leaves apart may =
     ap (λ (l : List ℕ). may_leave l now by place) same

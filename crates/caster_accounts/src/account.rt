@@ -4,7 +4,7 @@ ghost use Rattle.caster_accounts.specs.Kept.{entered, entry_answer, left};
 use crate::call::BookAnswer;
 
 /// What the sessions of one account were, added up as they end.
-#[derive(Clone, Copy, Debug, PartialEq, Eq)]
+#[derive(Clone, Copy, Debug, Default, PartialEq, Eq)]
 pub struct Sum {
     /// How many sessions ended.
     pub sessions: u64,
@@ -15,7 +15,7 @@ pub struct Sum {
 }
 
 /// What the book keeps of one account.
-#[derive(Drop)]
+#[derive(Clone, Copy, Debug, PartialEq, Eq)]
 pub(crate) struct Account {
     /// How many sessions may be open at once.
     pub(crate) cap: u32,
@@ -35,11 +35,7 @@ impl Account {
         Account {
             cap,
             busy: 0,
-            sum: Sum {
-                sessions: 0,
-                sent: 0,
-                overrun: 0,
-            },
+            sum: Sum::default(),
         }
     }
 

@@ -11,7 +11,7 @@ use turn_log::Played;
 /// It is `Played`: sessions call it by `BookCall`, with the room `()`. Its shape is the list of
 /// caps: how many sessions of each account may be open at once. A call takes no memory, and its
 /// time does not depend on how many accounts or calls there are.
-#[derive(Drop)]
+#[derive(Debug, Drop, PartialEq, Eq)]
 pub struct Book {
     accounts: Vec<Account>,
 }

@@ -15,4 +15,6 @@ pub use book::Book;
 pub use call::{BookAnswer, BookCall};
 
 #[cfg(test)]
+mod lock_tests;
+#[cfg(test)]
 mod tests;

@@ -50,7 +50,7 @@ fn leave(
 
 #[test]
 fn an_account_of_cap_0_is_always_full(rt: HostRuntime) -> Result<(), Fail> {
-    let mut desk = Desk::new(rt.alloc(), Book::new(rt.alloc(), &[0])?);
+    let mut desk = Desk::new(Book::new(rt.alloc(), &[0])?);
     let full = BookAnswer::Full { busy: 0, cap: 0 };
     assert_eq!(rt; enter(&mut desk, 1, 0)?, full);
     assert_eq!(rt; enter(&mut desk, 1, 0)?, full);
@@ -68,7 +68,7 @@ fn sum(sessions: u64, sent: u128, overrun: u128) -> Sum {
 
 #[test]
 fn who_leaves_makes_room(rt: HostRuntime) -> Result<(), Fail> {
-    let mut desk = Desk::new(rt.alloc(), Book::new(rt.alloc(), &[1])?);
+    let mut desk = Desk::new(Book::new(rt.alloc(), &[1])?);
     let BookAnswer::Entered = enter(&mut desk, 1, 0)? else {
         return Err(Fail::from("the account is full"));
     };
@@ -88,7 +88,7 @@ fn who_leaves_makes_room(rt: HostRuntime) -> Result<(), Fail> {
 
 #[test]
 fn accounts_do_not_touch_each_other(rt: HostRuntime) -> Result<(), Fail> {
-    let mut desk = Desk::new(rt.alloc(), Book::new(rt.alloc(), &[1, 2])?);
+    let mut desk = Desk::new(Book::new(rt.alloc(), &[1, 2])?);
     let BookAnswer::Entered = enter(&mut desk, 1, 1)? else {
         return Err(Fail::from("the account is full"));
     };
@@ -114,7 +114,7 @@ fn accounts_do_not_touch_each_other(rt: HostRuntime) -> Result<(), Fail> {
 
 #[test]
 fn sums_are_of_all_callers(rt: HostRuntime) -> Result<(), Fail> {
-    let mut desk = Desk::new(rt.alloc(), Book::new(rt.alloc(), &[2])?);
+    let mut desk = Desk::new(Book::new(rt.alloc(), &[2])?);
     let BookAnswer::Entered = enter(&mut desk, 1, 0)? else {
         return Err(Fail::from("the account is full"));
     };
@@ -130,7 +130,7 @@ fn sums_are_of_all_callers(rt: HostRuntime) -> Result<(), Fail> {
 #[test]
 fn many_accounts_are_kept(rt: HostRuntime) -> Result<(), Fail> {
     let caps = [1; 1024];
-    let mut desk = Desk::new(rt.alloc(), Book::new(rt.alloc(), &caps)?);
+    let mut desk = Desk::new(Book::new(rt.alloc(), &caps)?);
     for account in 0..1024 {
         assert_eq!(rt; enter(&mut desk, 7, account)?, BookAnswer::Entered);
     }

@@ -19,7 +19,8 @@ use Rattle.caster_replay.specs.declared.ending.Ending.{Ending}
 use Rattle.caster_replay.specs.declared.session.Session.{Session}
 use Rattle.caster_replay.specs.declared.session.Work.{Work}
 use Rattle.caster_replay.specs.declared.session.Work.TheVariants.{Rover}
-use Rattle.caster_replay.specs.World.{Setting, Connection, Happening, bare, entries_of, entries_owed, owed, source_calls, rover_calls, given_claim, refusal, is_known, answers_of, goes_on, changed}
+use Rattle.turn_log.specs.History.{entries_of}
+use Rattle.caster_replay.specs.World.{Setting, Connection, Happening, bare, entries_owed, owed, source_calls, rover_calls, given_claim, refusal, is_known, answers_of, goes_on, changed}
 use Rattle.caster_replay.specs.Receipt.{ended_last}
 use Rattle.caster_replay.specs.Recorded.{desk_of}
 use Rattle.caster_replay.specs.Steps.{session_after, calls_made}

@@ -10,7 +10,8 @@ use Rattle.mount_ring.specs.Reads.{read_report}
 use Rattle.mount_ring.specs.History.{State, state_of, is_holder, joined, permits_at}
 use Rattle.mount_ring.specs.StillFits.{one_more}
 use Rattle.rover_cursor.specs.Told.{report_in}
-use Rattle.caster_replay.specs.World.{entries_of, publishes}
+use Rattle.turn_log.specs.History.{entries_of}
+use Rattle.caster_replay.specs.World.{publishes}
 use Rattle.caster_replay.specs.Recorded.{DeskValue, shape_at, state_at, after_one, after_calls, with_published, IsHolding}
 use Rattle.caster_replay.proofs.EntriesLemmas.{state_of-publishes}
 

@@ -5,10 +5,11 @@ use Rattle.std.proofs.lemmas.List.{append-nil}
 use Rattle.std.proofs.lemmas.Bool.{eq-eqb, ne_eqb}
 use Rattle.mount_ring.specs.declared.RingCall.{RingCall}
 use Rattle.mount_ring.specs.declared.RingAnswer.{RingAnswer}
-use Rattle.mount_ring.specs.declared.RingAnswer.TheVariants.{Given, Taken, Released, At, Joined, Read as Reported}
+use Rattle.mount_ring.specs.declared.RingAnswer.TheVariants.{Given, Taken, Released, At, Joined, Looked, Read as Reported}
 use Rattle.mount_ring.specs.History.{Shape, State, after, state_of, answer, answers_from, own_answers, with_own, has_none_of}
 use Rattle.mount_ring.proofs.HistoryLemmas.{own_answers-append, state_of-append}
-use Rattle.caster_replay.specs.World.{entries_of, publishes, given_claim, taken_by, refusal}
+use Rattle.turn_log.specs.History.{entries_of}
+use Rattle.caster_replay.specs.World.{publishes, given_claim, taken_by, refusal}
 
 -- one caller's entries hold none of another's
 pub entries_none : (other me : ℕ) (calls : List RingCall) → (me ≡ other → ⊥) → has_none_of other (entries_of me calls) ≡ true
@@ -48,6 +49,7 @@ given_claim-first Released later more = refl
 given_claim-first (At place) later more = refl
 given_claim-first (Joined cursor) later more = refl
 given_claim-first (Reported report) later more = refl
+given_claim-first (Looked claim) later more = refl
 
 taken_by-first : (first : RingAnswer) (later more : List RingAnswer) → taken_by ((first ∷ later) ++ more) ≡ taken_by (first ∷ later)
 taken_by-first (Given claim) later more = refl
@@ -56,6 +58,7 @@ taken_by-first Released later more = refl
 taken_by-first (At place) later more = refl
 taken_by-first (Joined cursor) later more = refl
 taken_by-first (Reported report) later more = refl
+taken_by-first (Looked claim) later more = refl
 
 pub refusal-first : (known : Bool) (first : RingAnswer) (later more : List RingAnswer) → refusal known ((first ∷ later) ++ more) ≡ refusal known (first ∷ later)
 refusal-first false first later more = refl

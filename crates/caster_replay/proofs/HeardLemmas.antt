@@ -26,7 +26,8 @@ use Rattle.caster_replay.specs.declared.ending.Ending.{Ending}
 use Rattle.caster_replay.specs.declared.session.Session.{Session}
 use Rattle.caster_replay.specs.declared.session.Work.{Work}
 use Rattle.caster_replay.specs.declared.session.Work.TheVariants.{Source, Rover}
-use Rattle.caster_replay.specs.World.{Setting, Connection, Happening, arrives, takes_turn, ends, bare, entries_of, publishes, completed, source_calls, rover_calls, given_claim, refusal, is_known, changed}
+use Rattle.turn_log.specs.History.{entries_of}
+use Rattle.caster_replay.specs.World.{Setting, Connection, Happening, arrives, takes_turn, ends, bare, publishes, completed, source_calls, rover_calls, given_claim, refusal, is_known, changed}
 use Rattle.caster_replay.specs.Receipt.{ended_last}
 use Rattle.caster_replay.specs.Recorded.{DeskValue, desk_of}
 use Rattle.caster_replay.specs.Steps.{after_cut, with_bytes, session_after, calls_made, ended_source, ended_rover}

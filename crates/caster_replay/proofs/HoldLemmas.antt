@@ -15,7 +15,8 @@ use Rattle.rover_cursor.specs.Segments.{newest_segments}
 use Rattle.caster_replay.specs.declared.ending.Role.{Role}
 use Rattle.caster_replay.specs.declared.ending.Role.TheVariants as roles
 use Rattle.caster_replay.specs.declared.ending.Last.{Last}
-use Rattle.caster_replay.specs.World.{Setting, Connection, Happening, arrives, takes_turn, ends, entries_of, entries_owed, owed, publishes, completed, source_calls, rover_calls, opening_calls, given_claim, refusal, is_known, answers_of, changed, opened}
+use Rattle.turn_log.specs.History.{entries_of}
+use Rattle.caster_replay.specs.World.{Setting, Connection, Happening, arrives, takes_turn, ends, entries_owed, owed, publishes, completed, source_calls, rover_calls, opening_calls, given_claim, refusal, is_known, answers_of, changed, opened}
 use Rattle.caster_replay.specs.Well.{HoldsBy, HoldsClaim}
 use Rattle.caster_replay.proofs.EntriesLemmas.{own_answers-call, state_of-publishes, given_claim-more}
 use Rattle.caster_replay.proofs.ConnectionLemmas.{entries_heard, connection_heard}

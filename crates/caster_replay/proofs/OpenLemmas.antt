@@ -24,7 +24,8 @@ use Rattle.caster_replay.specs.declared.ending.Role.{Role}
 use Rattle.caster_replay.specs.declared.ending.Role.TheVariants as roles
 use Rattle.caster_replay.specs.declared.session.Session.{Session}
 use Rattle.caster_replay.specs.declared.session.Work.TheVariants.{Rover, Source}
-use Rattle.caster_replay.specs.World.{Setting, Connection, World, bare, refusal, given_claim, entries_of, opening_calls, opened, opens, is_opened, placed}
+use Rattle.turn_log.specs.History.{entries_of}
+use Rattle.caster_replay.specs.World.{Setting, Connection, World, bare, refusal, given_claim, opening_calls, opened, opens, is_opened, placed}
 use Rattle.caster_replay.specs.Steps.{session_opened, opened_source, place_of_number}
 use Rattle.caster_replay.specs.Live.{work_by, ending_by, session_by, session_of, cutter_at, Stands}
 use Rattle.caster_replay.specs.Well.{IsWell}
@@ -32,7 +33,7 @@ use Rattle.caster_replay.proofs.ListLemmas.{map_same}
 use Rattle.caster_replay.proofs.EntriesLemmas.{own_answers-call, entries_none}
 use Rattle.caster_replay.proofs.ConnectionLemmas.{session_stays}
 use Rattle.caster_replay.proofs.HeardLemmas.{session}
-use Rattle.caster_replay.proofs.StandsLemmas.{InOrder, any_false, run}
+use Rattle.caster_replay.proofs.StandsLemmas.{InOrder, any_false, run, order_tail}
 
 -- ---- places among connections
 
@@ -61,9 +62,6 @@ map_insert f cs i c =
     map-append f (take i cs) (c ∷ drop i cs)
     ∙ ap (λ l. l ++ f c ∷ map f (drop i cs)) (sym (take-map f i cs))
     ∙ ap (λ l. take i (map f cs) ++ f c ∷ l) (sym (drop-map f i cs))
-
-order_tail : (c : Connection) (cs : List Connection) → InOrder (c ∷ cs) → InOrder cs
-order_tail c cs order i j d less below = order (suc i) (suc j) d (omega (arith, less)) (omega (arith, below))
 
 none_later : (number : ℕ) (c : Connection) (cs : List Connection) → InOrder (c ∷ cs) → number < c.number → list_any (λ (x : Connection). x.number == number) cs ≡ false
 none_later number c cs order above =

@@ -13,7 +13,9 @@ use Rattle.session_script.specs.Script.{input_length}
 use Rattle.caster_replay.specs.declared.ending.Role.{Role}
 use Rattle.caster_replay.specs.declared.ending.Role.TheVariants as roles
 use Rattle.caster_replay.specs.declared.ending.Last.TheVariants as lasts
-use Rattle.caster_replay.specs.World.{Setting, Connection, World, Happening, arrives, takes_turn, ends, nothing_yet, entries_of, opening_calls, is_concerned, changed, happens, is_opened, opened, opens, placed, after_event, after_events}
+use Rattle.caster_replay.proofs.StandsLemmas.{All-placed}
+use Rattle.turn_log.specs.History.{entries_of}
+use Rattle.caster_replay.specs.World.{Setting, Connection, World, Happening, arrives, takes_turn, ends, nothing_yet, opening_calls, is_concerned, changed, happens, is_opened, opened, opens, placed, after_event, after_events}
 use Rattle.caster_replay.specs.Room.{HasTextRoom}
 
 -- ---- bytes
@@ -45,14 +47,6 @@ mapped_within test what n (c ∷ cs) few =
 within_happens : (setting : Setting) (w : World) (number : ℕ) (what : Happening) (n : ℕ) → Within w n → Within (happens setting w number what) (n + added what)
 within_happens setting w number what n few = mapped_within (is_concerned setting w.history number) what n w.connections few
 
-placed_within : (P : Connection → Type 0) (c : Connection) (cs : List Connection) → P c → All P cs → All P (placed c cs)
-placed_within P c [] here others = All-cons P c [] here others
-placed_within P c (d ∷ ds) here others =
-    elim (nat_lt d.number c.number) as (λ b. All P (cond b (d ∷ placed c ds) (c ∷ d ∷ ds))) [
-      | true ↦ All-cons P d (placed c ds) (All-head P d ds others) (placed_within P c ds here (All-tail P d ds others))
-      | false ↦ All-cons P c (d ∷ ds) here others
-    ]
-
 within_opens : (setting : Setting) (w : World) (number : ℕ) (role : Role) (mount : List ℕ) (n : ℕ) → Within w n → Within (opens setting w number role mount) n
 within_opens setting w number role mount n few =
     elim (is_opened number w.connections) as (λ b. Within (cond b w (record {
@@ -60,7 +54,7 @@ within_opens setting w number role mount n few =
       history = w.history ++ entries_of number (opening_calls role (bytes_eq mount setting.mount));
     })) n) [
       | true ↦ few
-      | false ↦ placed_within (λ (c : Connection). length c.text ≤ n) (opened number role mount) w.connections (omega arith) few
+      | false ↦ All-placed (λ (c : Connection). length c.text ≤ n) (opened number role mount) w.connections (omega arith) few
     ]
 
 more_within : (w : World) (n m : ℕ) → n ≤ m → Within w n → Within w m

@@ -1,15 +1,16 @@
 -- What the run keeps stands for the run after each event.
 use Rattle.std.proofs.Common.{◌≡◌, ℕ, zero, suc, ◌<◌, Bool, true, false, cond, List, [], ◌∷◌, ◌++◌, length, get_or, set, refl, ap, subst, ◌∙◌, sym, arith, inl, inr}
-use Rattle.std.specs.Prelude.{◌==◌, ◌&&◌, ◌||◌}
-use Rattle.std.specs.List.{AllPairs, flat_map, list_any}
+use Rattle.std.specs.Prelude.{◌==◌, ◌&&◌, ◌||◌, nat_lt}
+use Rattle.std.specs.List.{All, AllPairs, flat_map, list_any}
 use Rattle.std.proofs.lemmas.List.{append-nil, get_or-map, get_or_default}
+use Rattle.std.proofs.lemmas.List.Elements.{All-cons, All-head, All-tail}
 use Rattle.std.proofs.lemmas.Bool.{eq-eqb, ne_eqb, cases_lt}
 use Rattle.mount_ring.specs.declared.RingCall.{RingCall}
 use Rattle.caster_replay.specs.Recorded.{DeskValue, desk_of}
 use Rattle.caster_replay.proofs.DeskLemmas.{after_calls_is}
 use Rattle.mount_ring.specs.History.{has_none_of}
 use Rattle.caster_replay.specs.declared.session.Session.{Session}
-use Rattle.caster_replay.specs.World.{Setting, Connection, World, Happening, bare, entries_owed, owed, is_concerned, goes_on, changed, happens, is_opened, answers_of}
+use Rattle.caster_replay.specs.World.{Setting, Connection, World, Happening, bare, entries_owed, owed, is_concerned, goes_on, changed, happens, is_opened, answers_of, placed}
 use Rattle.caster_replay.specs.Steps.{session_after, calls_made, desk_after}
 use Rattle.caster_replay.specs.Live.{session_of, Stands}
 use Rattle.caster_replay.specs.Well.{IsWell}
@@ -90,7 +91,7 @@ happens_nowhere setting w number what none =
     ∙ ap (run w.connections) (append-nil w.history)
 
 -- a connection's own entries are none of another's
-heard_none : (setting : Setting) (history : List (ℕ × RingCall)) (what : Happening) (c : Connection) (other : ℕ) → (c.number ≡ other → ⊥) →
+pub heard_none : (setting : Setting) (history : List (ℕ × RingCall)) (what : Happening) (c : Connection) (other : ℕ) → (c.number ≡ other → ⊥) →
     has_none_of other (entries_heard setting history what c) ≡ true
 heard_none setting history what c other apart =
     elim (goes_on setting history c) as (λ b. has_none_of other (cond b (entries_owed setting history what c) []) ≡ true) [
@@ -142,3 +143,16 @@ pub stands_unheard : (capacity : ℕ) (w : World) (sessions : List Session) (des
     Stands capacity (happens (bare capacity) w number what) sessions desk
 stands_unheard capacity w sessions desk number what stands none =
     subst (λ (v : World). Stands capacity v sessions desk) (sym (happens_nowhere (bare capacity) w number what none)) stands
+
+-- a fact of a connection, and of the others among which it is placed
+pub All-placed : (P : Connection → Type 0) (c : Connection) (cs : List Connection) → P c → All P cs → All P (placed c cs)
+All-placed P c [] here others = All-cons P c [] here others
+All-placed P c (d ∷ ds) here others =
+    elim (nat_lt d.number c.number) as (λ b. All P (cond b (d ∷ placed c ds) (c ∷ d ∷ ds))) [
+      | true ↦ All-cons P d (placed c ds) (All-head P d ds others) (All-placed P c ds here (All-tail P d ds others))
+      | false ↦ All-cons P c (d ∷ ds) here others
+    ]
+
+-- without the first connection the others stand in order
+pub order_tail : (c : Connection) (cs : List Connection) → InOrder (c ∷ cs) → InOrder cs
+order_tail c cs order i j d less below = order (suc i) (suc j) d (omega (arith, less)) (omega (arith, below))

@@ -30,13 +30,14 @@ use Rattle.caster_replay.specs.declared.ending.Role.TheVariants as roles
 use Rattle.caster_replay.specs.declared.ending.Last.{Last}
 use Rattle.caster_replay.specs.declared.ending.Last.TheVariants as lasts
 use Rattle.caster_replay.specs.declared.ending.Ending.{Ending}
-use Rattle.caster_replay.specs.World.{Setting, Connection, World, Happening, arrives, takes_turn, ends, nothing_yet, entries_of, entries_owed, owed, publishes, completed, source_calls, rover_calls, opening_calls, given_claim, refusal, is_known, answers_of, goes_on, changed, happens, is_opened, opened, opens, placed, after_event, after_events, closes, world}
+use Rattle.turn_log.specs.History.{entries_of}
+use Rattle.caster_replay.specs.World.{Setting, Connection, World, Happening, arrives, takes_turn, ends, nothing_yet, entries_owed, owed, publishes, completed, source_calls, rover_calls, opening_calls, given_claim, refusal, is_known, answers_of, goes_on, changed, happens, is_opened, opened, opens, placed, after_event, after_events, closes, world}
 use Rattle.caster_replay.specs.Well.{IsWell, IsWellConnection, IsWellSegment, IsReceived, HoldsClaim}
 use Rattle.caster_replay.proofs.HoldLemmas.{holds_heard, holds_beside, holds_before, opened_holds}
 use Rattle.caster_replay.proofs.EntriesLemmas.{entries_none, own_answers-call, given_claim-more, refusal-more}
 use Rattle.caster_replay.proofs.ConnectionLemmas.{entries_heard, connection_heard}
 use Rattle.caster_replay.proofs.HeardLemmas.{connection, newest_segments-more}
-use Rattle.caster_replay.proofs.StandsLemmas.{InOrder, run, numbers_apart, any_false, happens_here, happens_nowhere}
+use Rattle.caster_replay.proofs.StandsLemmas.{InOrder, run, numbers_apart, any_false, happens_here, happens_nowhere, heard_none, All-placed, order_tail}
 use Rattle.caster_replay.proofs.RunLemmas.{nobody}
 
 -- ---- a connection stays well when others act
@@ -328,15 +329,6 @@ opened_kept number [] at c within same = refl
 opened_kept number (x ∷ cs) zero c within same = ap (λ (n : ℕ). (n == number) || is_opened number cs) same
 opened_kept number (x ∷ cs) (suc at) c within same = ap (λ b. (x.number == number) || b) (opened_kept number cs at c (omega (arith, within)) same)
 
--- the entries of a connection are none of a number that was not opened
-heard_none : (setting : Setting) (history : List (ℕ × RingCall)) (what : Happening) (c : Connection) (other : ℕ) → (c.number ≡ other → ⊥) →
-    has_none_of other (entries_heard setting history what c) ≡ true
-heard_none setting history what c other apart =
-    elim (goes_on setting history c) as (λ b. has_none_of other (cond b (entries_owed setting history what c) []) ≡ true) [
-      | true ↦ entries_none other c.number (owed c.role (answers_of setting history c) c.text what) apart
-      | false ↦ refl
-    ]
-
 well_here : (setting : Setting) (w : World) (number : ℕ) (what : Happening) (at : ℕ) → IsWell setting w → at < length w.connections →
     (get_or w.connections at nobody).number ≡ number →
     IsWell setting (run (set w.connections at (connection_heard setting w.history what (get_or w.connections at nobody)))
@@ -399,17 +391,6 @@ pub IsWell-happens : (setting : Setting) (w : World) (number : ℕ) (what : Happ
 IsWell-happens setting w number what well = well_happens_by setting w number what (is_opened number w.connections) refl well
 
 -- ---- a connection opens
-
-All-placed : (P : Connection → Type 0) (c : Connection) (cs : List Connection) → P c → All P cs → All P (placed c cs)
-All-placed P c [] here others = All-cons P c [] here others
-All-placed P c (d ∷ ds) here others =
-    elim (nat_lt d.number c.number) as (λ b. All P (cond b (d ∷ placed c ds) (c ∷ d ∷ ds))) [
-      | true ↦ All-cons P d (placed c ds) (All-head P d ds others) (All-placed P c ds here (All-tail P d ds others))
-      | false ↦ All-cons P c (d ∷ ds) here others
-    ]
-
-order_tail : (c : Connection) (cs : List Connection) → InOrder (c ∷ cs) → InOrder cs
-order_tail c cs order i j d less below = order (suc i) (suc j) d (omega (arith, less)) (omega (arith, below))
 
 order_head : (c : Connection) (cs : List Connection) → InOrder (c ∷ cs) → All (λ (x : Connection). c.number < x.number) cs
 order_head c cs order j d below = order 0 (suc j) d (omega arith) (omega (arith, below))

@@ -3,16 +3,13 @@ use Rattle.std.specs.Prelude.{◌≡◌, ℕ, ◌+◌, Bool, List, []}
 use Rattle.std.specs.List.{All, count_by}
 use Rattle.rtcm_frame.specs.Cut.{cut}
 use Rattle.mount_ring.specs.declared.RingCall.{RingCall}
-use Rattle.mount_ring.specs.History.{state_of, permits_at}
+use Rattle.mount_ring.specs.History.{permits_at}
 use Rattle.rover_cursor.specs.declared.Segment.{Segment}
 use Rattle.rover_cursor.specs.Sound.{IsSound, between}
+use Rattle.rover_cursor.specs.Told.{published_in}
 use Rattle.session_script.specs.declared.Event.{Event}
 use Rattle.caster_replay.specs.World.{Setting, Connection, world}
 use Rattle.caster_replay.specs.Receipt.{segments_of, sent_frames, bytes_of}
-
--- all frames that a history published
-abbrev pub published_in : List (ℕ × RingCall) → List (List ℕ)
-published_in history = (state_of history).published
 
 -- the test of a segment's filter
 abbrev pub permits_of : Setting → Segment → List ℕ → Bool

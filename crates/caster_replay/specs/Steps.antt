@@ -38,6 +38,7 @@ opened_source number answers.Released = refused number NoMount
 opened_source number (answers.At place) = refused number NoMount
 opened_source number (answers.Joined cursor) = refused number NoMount
 opened_source number (answers.Read report) = refused number NoMount
+opened_source number (answers.Looked claim) = refused number NoMount
 
 -- a rover that joined at this desk
 abbrev pub opened_rover : ℕ → DeskValue → Session

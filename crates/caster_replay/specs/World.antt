@@ -5,6 +5,7 @@ use Rattle.std.specs.Prelude.{ℕ, ◌==◌, ◌&&◌, nat_lt, Bool, true, false
 use Rattle.std.specs.List.{flat_map, list_any}
 use Rattle.std.specs.Str.{bytes_eq}
 use Rattle.rtcm_frame.specs.Cut.{cut}
+use Rattle.turn_log.specs.History.{entries_of}
 use Rattle.mount_ring.specs.declared.RingCall.{RingCall}
 use Rattle.mount_ring.specs.declared.RingCall.TheVariants.{Claim, Release, Publish, Join, Read}
 use Rattle.mount_ring.specs.declared.RingAnswer.{RingAnswer}
@@ -52,10 +53,6 @@ pub record World : Type 0 where
 abbrev pub nothing_yet : World
 nothing_yet = record { connections = []; history = [] }
 
--- the entries of one caller's calls
-abbrev pub entries_of : ℕ → List RingCall → List (ℕ × RingCall)
-entries_of me calls = map (λ call. (me, call)) calls
-
 -- ---- what a connection's answers say
 
 -- the claim that a source was given: its first answer says
@@ -67,6 +64,7 @@ given_claim (answers.Released ∷ later) = None
 given_claim (answers.At place ∷ later) = None
 given_claim (answers.Joined cursor ∷ later) = None
 given_claim (answers.Read report ∷ later) = None
+given_claim (answers.Looked claim ∷ later) = None
 
 -- how a claim that was not given ended the connection
 abbrev pub taken_by : List RingAnswer → Option Ending
@@ -77,6 +75,7 @@ taken_by (answers.Released ∷ later) = None
 taken_by (answers.At place ∷ later) = None
 taken_by (answers.Joined cursor ∷ later) = None
 taken_by (answers.Read report ∷ later) = None
+taken_by (answers.Looked claim ∷ later) = None
 
 -- how a connection ended by itself, if it did: it asked for no mountpoint of the run, or for one
 -- that was held

@@ -46,13 +46,14 @@ impl RingDesk {
         let filters = Filters::new(list);
         let ring = Ring::new(alloc, capacity, &filters)?;
         Ok(RingDesk {
-            desk: Desk::new(alloc, ring),
+            desk: Desk::new(ring),
             outbox: Outbox::new(),
         })
     }
 
     /// One turn of the caller `me`: its call comes behind all calls so far, and is answered there.
-    /// A refusal of whatever cause is told as want of memory; nothing was called then.
+    /// The one refusal there is, after 2^62 turns, is told as want of memory; nothing was called
+    /// then.
     pub fn turn(&mut self, me: u32, call: RingCall) -> Result<RingAnswer, AllocError>
         requires { IsTrue (fits (shape_at self.old) (state_at self.old) me call) }
         ensures heard { OnOk result (self.new ≡ after_calls me (call ∷ []) self.old) }

@@ -18,14 +18,17 @@ use Rattle.mount_ring.proofs.ReadLemmas.{read_ends}
 use Rattle.mount_ring.specs.History.{Shape, State, start, after, after_call, after_claim, state_of, answer, answers_from, own_answers, with_own, has_none_of, is_holder, fits, is_readable, permits_at, joined, live_claim, claim_answer}
 
 -- the state after more entries
-pub state_of-append : (history more : List (ℕ × RingCall)) → state_of (history ++ more) ≡ fold after (state_of history) more
+pub state_of-append : (history more : List (ℕ × RingCall)) → state_of (history ++ more)
+    ≡ fold after (state_of history) more
 state_of-append history more = fold-append after start history more
 
-published-claim : (state : State) (me : ℕ) (holder : Option Holder) → (after_claim state me holder).published ≡ state.published
+published-claim : (state : State) (me : ℕ) (holder : Option Holder) → (after_claim state me holder).published
+    ≡ state.published
 published-claim state me None = refl
 published-claim state me (Some holder) = refl
 
-published-call : (state : State) (me : ℕ) (call : RingCall) → (after_call state me call).published ≡ state.published ++ frames_of call
+published-call : (state : State) (me : ℕ) (call : RingCall) → (after_call state me call).published
+    ≡ state.published ++ frames_of call
 published-call state me Claim = published-claim state me state.holder ∙ sym (append-nil state.published)
 published-call state me (Release claim) = sym (append-nil state.published)
 published-call state me (Publish claim frame) = refl
@@ -34,48 +37,59 @@ published-call state me Look = sym (append-nil state.published)
 published-call state me (Read cursor budget) = sym (append-nil state.published)
 
 -- entries only add to what was published
-pub published-entries : (state : State) (entries : List (ℕ × RingCall)) → (fold after state entries).published ≡ state.published ++ published_by entries
+pub published-entries : (state : State) (entries : List (ℕ × RingCall)) → (fold after state entries).published
+    ≡ state.published ++ published_by entries
 published-entries state [] = sym (append-nil state.published)
 published-entries state (entry ∷ entries) =
     published-entries (after state entry) entries
     ∙ ap (λ l. l ++ published_by entries) (published-call state entry.0 entry.1)
     ∙ append_assoc state.published (frames_of entry.1) (published_by entries)
 
-pub published-append : (history more : List (ℕ × RingCall)) → (state_of (history ++ more)).published ≡ (state_of history).published ++ published_by more
+pub published-append : (history more : List (ℕ × RingCall)) → (state_of (history ++ more)).published
+    ≡ (state_of history).published ++ published_by more
 published-append history more =
     ap (λ (s : State). s.published) (state_of-append history more) ∙ published-entries (state_of history) more
 
 -- a frame stands at the place behind those that were published before
-pub last_published : (published : List (List ℕ)) (frame : List ℕ) → slice_get (published ++ frame ∷ []) (length published) ≡ Some frame
+pub last_published : (published : List (List ℕ)) (frame : List ℕ)
+    → slice_get (published ++ frame ∷ []) (length published) ≡ Some frame
 last_published [] frame = refl
 last_published (first ∷ published) frame = last_published published frame
 
 -- ---- answers
 
-with_own-append : (own : Bool) (a : RingAnswer) (later more : List RingAnswer) → with_own own a (later ++ more) ≡ with_own own a later ++ more
+with_own-append : (own : Bool) (a : RingAnswer) (later more : List RingAnswer) → with_own own a (later ++ more)
+    ≡ with_own own a later ++ more
 with_own-append true a later more = refl
 with_own-append false a later more = refl
 
 pub answers_from-append : (shape : Shape) (me : ℕ) (state : State) (before more : List (ℕ × RingCall)) →
-    answers_from shape me state (before ++ more) ≡ answers_from shape me state before ++ answers_from shape me (fold after state before) more
+    answers_from shape me state (before ++ more)
+    ≡ answers_from shape me state before ++ answers_from shape me (fold after state before) more
 answers_from-append shape me state [] more = refl
 answers_from-append shape me state (entry ∷ before) more =
-    ap (with_own (entry.0 == me) (answer shape state entry.1)) (answers_from-append shape me (after state entry) before more)
-    ∙ with_own-append (entry.0 == me) (answer shape state entry.1) (answers_from shape me (after state entry) before) (answers_from shape me (fold after (after state entry) before) more)
+    ap (with_own (entry.0 == me) (answer shape state entry.1))
+    (answers_from-append shape me (after state entry) before more)
+    ∙ with_own-append (entry.0 == me) (answer shape state entry.1) (answers_from shape me (after state entry) before)
+    (answers_from shape me (fold after (after state entry) before) more)
 
 pub own_answers-append : (shape : Shape) (me : ℕ) (history more : List (ℕ × RingCall)) →
-    own_answers shape me (history ++ more) ≡ own_answers shape me history ++ answers_from shape me (state_of history) more
+    own_answers shape me (history ++ more)
+    ≡ own_answers shape me history ++ answers_from shape me (state_of history) more
 own_answers-append shape me history more = answers_from-append shape me start history more
 
-none_by : (own : Bool) (a : RingAnswer) (later : List RingAnswer) (others : Bool) → cond own false others ≡ true → (others ≡ true → later ≡ []) → with_own own a later ≡ []
+none_by : (own : Bool) (a : RingAnswer) (later : List RingAnswer) (others : Bool) → cond own false others ≡ true
+    → (others ≡ true → later ≡ []) → with_own own a later ≡ []
 none_by true a later others h rest = absurd cc
 none_by false a later others h rest = rest h
 
 -- a caller without an entry has no answer
-pub answers_from-none : (shape : Shape) (me : ℕ) (state : State) (entries : List (ℕ × RingCall)) → has_none_of me entries ≡ true → answers_from shape me state entries ≡ []
+pub answers_from-none : (shape : Shape) (me : ℕ) (state : State) (entries : List (ℕ × RingCall))
+    → has_none_of me entries ≡ true → answers_from shape me state entries ≡ []
 answers_from-none shape me state [] h = refl
 answers_from-none shape me state (entry ∷ entries) h =
-    none_by (entry.0 == me) (answer shape state entry.1) (answers_from shape me (after state entry) entries) (has_none_of me entries) h
+    none_by (entry.0 == me) (answer shape state entry.1) (answers_from shape me (after state entry) entries)
+    (has_none_of me entries) h
     (λ rest. answers_from-none shape me (after state entry) entries rest)
 
 -- entries of other callers leave a caller's answers as they were
@@ -86,12 +100,15 @@ own_answers-others shape me history more none =
     ∙ ap (λ l. own_answers shape me history ++ l) (answers_from-none shape me (state_of history) more none)
     ∙ append-nil (own_answers shape me history)
 
-pub has_none_of-append : (me : ℕ) (a b : List (ℕ × RingCall)) → has_none_of me a ≡ true → has_none_of me b ≡ true → has_none_of me (a ++ b) ≡ true
+pub has_none_of-append : (me : ℕ) (a b : List (ℕ × RingCall)) → has_none_of me a ≡ true → has_none_of me b ≡ true
+    → has_none_of me (a ++ b) ≡ true
 has_none_of-append me [] b first second = second
-has_none_of-append me (entry ∷ a) b first second = none_more (entry.0 == me) (has_none_of me a) first (λ rest. has_none_of-append me a b rest second) where
-  none_more : (own others : Bool) → cond own false others ≡ true → (others ≡ true → has_none_of me (a ++ b) ≡ true) → cond own false (has_none_of me (a ++ b)) ≡ true
-  none_more true others h rest = absurd cc
-  none_more false others h rest = rest h
+has_none_of-append me (entry ∷ a) b first second = none_more (entry.0 == me) (has_none_of me a) first
+    (λ rest. has_none_of-append me a b rest second) where
+      none_more : (own others : Bool) → cond own false others ≡ true → (others ≡ true → has_none_of me (a ++ b) ≡ true)
+          → cond own false (has_none_of me (a ++ b)) ≡ true
+      none_more true others h rest = absurd cc
+      none_more false others h rest = rest h
 
 -- ---- claims and the holder
 
@@ -116,16 +133,19 @@ claims-entries shape state [] = omega arith
 claims-entries shape state (entry ∷ entries) =
     omega (arith, claims-entries shape (after state entry) entries, claims-call shape state entry.0 entry.1)
 
-claims_of : (shape : Shape) (history : List (ℕ × RingCall)) → (state_of history).claims ≡ claims_given shape start history
+claims_of : (shape : Shape) (history : List (ℕ × RingCall))
+    → (state_of history).claims ≡ claims_given shape start history
 claims_of shape history = omega (arith, claims-entries shape start history)
 
 pub claim_given : (shape : Shape) (history : List (ℕ × RingCall)) → (state_of history).holder ≡ None →
     answer shape (state_of history) Claim ≡ Given (claims_given shape start history + 1)
 claim_given shape history free =
-    ap (λ (o : Option Holder). claim_answer (state_of history) o) free ∙ ap (λ (n : ℕ). Given (n + 1)) (claims_of shape history)
+    ap (λ (o : Option Holder). claim_answer (state_of history) o) free
+    ∙ ap (λ (n : ℕ). Given (n + 1)) (claims_of shape history)
 
 pub claim_held : (shape : Shape) (history : List (ℕ × RingCall)) (me : ℕ) → (state_of history).holder ≡ None →
-    (after_call (state_of history) me Claim).holder ≡ Some (record { caller = me; claim = claims_given shape start history + 1 })
+    (after_call (state_of history) me Claim).holder
+    ≡ Some (record { caller = me; claim = claims_given shape start history + 1 })
 claim_held shape history me free =
     let holder : ℕ → Option Holder = λ n. Some (record { caller = me; claim = n + 1 }) in
     ap (λ (o : Option Holder). (after_claim (state_of history) me o).holder) free ∙ ap holder (claims_of shape history)
@@ -134,7 +154,8 @@ claim_held shape history me free =
 abbrev pub IsLatest : State → Type 0
 IsLatest state = IfSome state.holder (λ holder. holder.claim ≡ state.claims)
 
-latest-claim : (state : State) (me : ℕ) (holder : Option Holder) → IsLatest state → IsLatest (after_claim state me holder)
+latest-claim : (state : State) (me : ℕ) (holder : Option Holder) → IsLatest state
+    → IsLatest (after_claim state me holder)
 latest-claim state me None h = refl
 latest-claim state me (Some holder) h = h
 
@@ -146,17 +167,23 @@ latest-call state me (Join filter) h = h
 latest-call state me Look h = h
 latest-call state me (Read cursor budget) h = h
 
-pub latest-entries : (state : State) (entries : List (ℕ × RingCall)) → IsLatest state → IsLatest (fold after state entries)
+pub latest-entries : (state : State) (entries : List (ℕ × RingCall)) → IsLatest state
+    → IsLatest (fold after state entries)
 latest-entries state [] h = h
-latest-entries state (entry ∷ entries) h = latest-entries (after state entry) entries (latest-call state entry.0 entry.1 h)
+latest-entries state (entry ∷ entries) h = latest-entries (after state entry) entries
+    (latest-call state entry.0 entry.1 h)
 
-pub one_holder : (holder : Option Holder) (me by claim other : ℕ) → is_holder holder me claim ≡ true → is_holder holder by other ≡ true →
+pub one_holder : (holder : Option Holder) (me by claim other : ℕ) → is_holder holder me claim ≡ true
+    → is_holder holder by other ≡ true →
     (me ≡ by) × (claim ≡ other)
 one_holder None me by claim other mine theirs = absurd cc
 one_holder (Some holder) me by claim other mine theirs =
     let a : ((holder.caller == me) ≡ true) × ((holder.claim == claim) ≡ true) = and_parts _ _ mine in
-    let b : ((holder.caller == by) ≡ true) × ((holder.claim == other) ≡ true) = and_parts _ _ theirs in
-    (sym (eqb-true holder.caller me a.0) ∙ eqb-true holder.caller by b.0, sym (eqb-true holder.claim claim a.1) ∙ eqb-true holder.claim other b.1)
+    let b : ((holder.caller == by) ≡ true) × ((holder.claim == other) ≡ true) = and_parts _ _ theirs in (
+      sym (eqb-true holder.caller me a.0) ∙ eqb-true holder.caller by b.0,
+      sym (eqb-true holder.claim claim a.1)
+          ∙ eqb-true holder.claim other b.1,
+    )
 
 live_held : (holder : Option Holder) (by claim : ℕ) → is_holder holder by claim ≡ true → live_claim holder ≡ Some claim
 live_held None by claim held = absurd cc
@@ -169,12 +196,14 @@ look_held shape state by claim held = ap (λ (o : Option ℕ). Looked o) (live_h
 pub look_free : (shape : Shape) (state : State) → state.holder ≡ None → answer shape state Look ≡ Looked None
 look_free shape state free = ap (λ (o : Option Holder). Looked (live_claim o)) free
 
-held-claim : (state : State) (by me claim : ℕ) (holder : Option Holder) → state.holder ≡ holder → is_holder holder me claim ≡ true →
+held-claim : (state : State) (by me claim : ℕ) (holder : Option Holder) → state.holder ≡ holder
+    → is_holder holder me claim ≡ true →
     is_holder (after_claim state by holder).holder me claim ≡ true
 held-claim state by me claim None at h = absurd cc
 held-claim state by me claim (Some holder) at h = ap (λ (o : Option Holder). is_holder o me claim) at ∙ h
 
-held-call : (shape : Shape) (state : State) (by me claim : ℕ) (call : RingCall) → (by == me) ≡ false → is_holder state.holder me claim ≡ true →
+held-call : (shape : Shape) (state : State) (by me claim : ℕ) (call : RingCall) → (by == me) ≡ false
+    → is_holder state.holder me claim ≡ true →
     fits shape state by call ≡ true → is_holder (after_call state by call).holder me claim ≡ true
 held-call shape state by me claim Claim other h may = held-claim state by me claim state.holder refl h
 held-call shape state by me claim (Release given) other h may =
@@ -189,16 +218,22 @@ other_by true others h = absurd cc
 other_by false others h = (refl, h)
 
 -- a holder goes on to hold over fitting calls of others
-pub held-entries : (shape : Shape) (state : State) (me claim : ℕ) (entries : List (ℕ × RingCall)) → is_holder state.holder me claim ≡ true →
-    are_fit shape state entries ≡ true → has_none_of me entries ≡ true → is_holder (fold after state entries).holder me claim ≡ true
+pub held-entries : (shape : Shape) (state : State) (me claim : ℕ) (entries : List (ℕ × RingCall))
+    → is_holder state.holder me claim ≡ true →
+    are_fit shape state entries ≡ true → has_none_of me entries ≡ true
+    → is_holder (fold after state entries).holder me claim ≡ true
 held-entries shape state me claim [] h may none = h
 held-entries shape state me claim (entry ∷ entries) h may none =
-    let fit : (fits shape state entry.0 entry.1 ≡ true) × (are_fit shape (after state entry) entries ≡ true) = and_parts _ _ may in
+    let fit : (fits shape state entry.0 entry.1 ≡ true) × (are_fit shape (after state entry) entries ≡ true) =
+    and_parts _ _ may in
     let other : ((entry.0 == me) ≡ false) × (has_none_of me entries ≡ true) = other_by _ _ none in
-    held-entries shape (after state entry) me claim entries (held-call shape state entry.0 me claim entry.1 other.0 h fit.0) fit.1 other.1
+    held-entries shape (after state entry) me claim entries
+    (held-call shape state entry.0 me claim entry.1 other.0 h fit.0) fit.1 other.1
 
-pub held-append : (shape : Shape) (history more : List (ℕ × RingCall)) (me claim : ℕ) → is_holder (state_of history).holder me claim ≡ true →
-    are_fit shape (state_of history) more ≡ true → has_none_of me more ≡ true → is_holder (state_of (history ++ more)).holder me claim ≡ true
+pub held-append : (shape : Shape) (history more : List (ℕ × RingCall)) (me claim : ℕ)
+    → is_holder (state_of history).holder me claim ≡ true →
+    are_fit shape (state_of history) more ≡ true → has_none_of me more ≡ true
+    → is_holder (state_of (history ++ more)).holder me claim ≡ true
 held-append shape history more me claim h may none =
     ap (λ (s : State). is_holder s.holder me claim) (state_of-append history more)
     ∙ held-entries shape (state_of history) me claim more h may none
@@ -211,24 +246,30 @@ Readable shape state cursor =
     (cursor.next ≤ length state.published) × (nat_lt cursor.filter (length shape.filters) ≡ true)
     × (cursor.passed ≡ count_by (permits_at shape cursor.filter) (take cursor.next state.published))
 
-pub readable_parts : (shape : Shape) (state : State) (cursor : Cursor) → is_readable shape state cursor ≡ true → Readable shape state cursor
+pub readable_parts : (shape : Shape) (state : State) (cursor : Cursor) → is_readable shape state cursor ≡ true
+    → Readable shape state cursor
 readable_parts shape state cursor h =
     let a : (nat_le cursor.next (length state.published) ≡ true)
-    × ((nat_lt cursor.filter (length shape.filters) && (cursor.passed == count_by (permits_at shape cursor.filter) (take cursor.next state.published))) ≡ true) =
+    × ((nat_lt cursor.filter
+    (length shape.filters)
+    && (cursor.passed == count_by (permits_at shape cursor.filter) (take cursor.next state.published))) ≡ true) =
     and_parts _ _ h in
     let b : (nat_lt cursor.filter (length shape.filters) ≡ true)
     × ((cursor.passed == count_by (permits_at shape cursor.filter) (take cursor.next state.published)) ≡ true) =
     and_parts _ _ a.1 in
     (leb-true cursor.next (length state.published) a.0, b.0, eqb-true cursor.passed _ b.1)
 
-pub readable_from : (shape : Shape) (state : State) (cursor : Cursor) → Readable shape state cursor → is_readable shape state cursor ≡ true
+pub readable_from : (shape : Shape) (state : State) (cursor : Cursor) → Readable shape state cursor
+    → is_readable shape state cursor ≡ true
 readable_from shape state cursor h =
     and_from (nat_le cursor.next (length state.published)) _ (le-leb cursor.next (length state.published) h.0)
-    (and_from (nat_lt cursor.filter (length shape.filters)) (cursor.passed == count_by (permits_at shape cursor.filter) (take cursor.next state.published))
+    (and_from (nat_lt cursor.filter (length shape.filters))
+    (cursor.passed == count_by (permits_at shape cursor.filter) (take cursor.next state.published))
     h.1 (eq-eqb cursor.passed _ h.2))
 
 -- it may be read as well when more was published
-pub readable-more : (shape : Shape) (state later : State) (more : List (List ℕ)) (cursor : Cursor) → later.published ≡ state.published ++ more →
+pub readable-more : (shape : Shape) (state later : State) (more : List (List ℕ)) (cursor : Cursor)
+    → later.published ≡ state.published ++ more →
     is_readable shape state cursor ≡ true → is_readable shape later cursor ≡ true
 readable-more shape state later more cursor goes h =
     let now : Readable shape state cursor = readable_parts shape state cursor h in
@@ -238,10 +279,12 @@ readable-more shape state later more cursor goes h =
     ap (λ l. take cursor.next l) goes ∙ take-append-le cursor.next state.published more now.0 in
     readable_from shape later cursor (longer, now.1, now.2 ∙ ap (count_by (permits_at shape cursor.filter)) (sym front))
 
-pub readable-append : (shape : Shape) (history more : List (ℕ × RingCall)) (cursor : Cursor) → is_readable shape (state_of history) cursor ≡ true →
+pub readable-append : (shape : Shape) (history more : List (ℕ × RingCall)) (cursor : Cursor)
+    → is_readable shape (state_of history) cursor ≡ true →
     is_readable shape (state_of (history ++ more)) cursor ≡ true
 readable-append shape history more cursor h =
-    readable-more shape (state_of history) (state_of (history ++ more)) (published_by more) cursor (published-append history more) h
+    readable-more shape (state_of history) (state_of (history ++ more)) (published_by more) cursor
+    (published-append history more) h
 
 -- one who joined may read
 pub readable-joined : (shape : Shape) (state : State) (filter : ℕ) → nat_lt filter (length shape.filters) ≡ true →
@@ -251,9 +294,12 @@ readable-joined shape state filter known =
     (omega arith, known, ap (count_by (permits_at shape filter)) (sym (take-length state.published)))
 
 -- the cursor of a read may be read
-pub readable-read : (shape : Shape) (state : State) (cursor : Cursor) (budget : ℕ) → is_readable shape state cursor ≡ true →
-    is_readable shape state (read_report (permits_at shape cursor.filter) shape.capacity state.published cursor budget).cursor ≡ true
+pub readable-read : (shape : Shape) (state : State) (cursor : Cursor) (budget : ℕ) → is_readable shape state cursor
+    ≡ true →
+    is_readable shape state
+    (read_report (permits_at shape cursor.filter) shape.capacity state.published cursor budget).cursor ≡ true
 readable-read shape state cursor budget h =
     let now : Readable shape state cursor = readable_parts shape state cursor h in
-    readable_from shape state (read_report (permits_at shape cursor.filter) shape.capacity state.published cursor budget).cursor
+    readable_from shape state
+    (read_report (permits_at shape cursor.filter) shape.capacity state.published cursor budget).cursor
     ((read_ends (permits_at shape cursor.filter) shape.capacity state.published cursor budget now.0).1, now.1, refl)

@@ -1,5 +1,5 @@
 -- What a caller may go on to do at any place once it was given a claim, and once it joined.
-use Rattle.std.proofs.Common.{◌≡◌, ℕ, ◌+◌, ◌<◌, true, List, [], ◌∷◌, ◌++◌, length, refl, ap, ◌∙◌, sym, subst, eq-eqb, Option, None, Some}
+use Rattle.std.proofs.Common.{◌≡◌, ℕ, ◌+◌, ◌<◌, true, [], ◌∷◌, ◌++◌, length, refl, ap, ◌∙◌, sym, subst, eq-eqb, Option, None, Some}
 use Rattle.std.specs.Prelude.{◌==◌, IsTrue}
 use Rattle.std.proofs.lemmas.Bool.{and_from, lt-ltb}
 use Rattle.std.proofs.lemmas.List.{length-map}
@@ -44,11 +44,13 @@ held_joined shape h others now me claim number held none is legal =
     (legal_front (λ h. fits shape (state_of h)) (h ++ others) ((me, Join number) ∷ []) whole) none
 
 -- a filter that the shape has by its number has a test there
-pub known_filter : (shape : RingShape) (number : ℕ) → number < length shape.filters → number < length (shape_of shape).filters
+pub known_filter : (shape : RingShape) (number : ℕ) → number < length shape.filters
+    → number < length (shape_of shape).filters
 known_filter shape number known = subst (λ n. number < n) (sym (length-map shape.filters permits)) known
 
 -- who joined may read, now and once more was called
-pub joined_reads : (shape later : RingShape) (h now others last : History RingCall) (me number : ℕ) (entry : ℕ × RingCall)
+pub joined_reads : (shape later : RingShape) (h now others last : History RingCall) (me number : ℕ)
+    (entry : ℕ × RingCall)
     (cursor : Cursor) → number < length shape.filters → later ≡ shape → now ≡ h ++ (me, Join number) ∷ [] →
     Joined cursor ≡ answer (shape_of shape) (state_of h) (Join number) → last ≡ (now ++ others) ++ entry ∷ [] →
     IsTrue (is_readable (shape_of later) (state_of last) cursor)

@@ -20,7 +20,8 @@ pub between-append : (from to : ℕ) (frames more : List (List ℕ)) → from �
 between-append from to frames more ordered within =
     let before : from ≤ length frames = omega arith in
     let short : to - from ≤ length (drop from frames) = omega (arith, length-drop from frames) in
-    ap (take (to - from)) (drop-append-le from frames more before) ∙ take-append-le (to - from) (drop from frames) more short
+    ap (take (to - from)) (drop-append-le from frames more before)
+    ∙ take-append-le (to - from) (drop from frames) more short
 
 pub between-between : (from mid to : ℕ) (frames : List (List ℕ)) → from ≤ mid → mid ≤ to →
     between from mid frames ++ between mid to frames ≡ between from to frames
@@ -33,18 +34,23 @@ between-between from mid to frames low high =
     ∙ sym (take-add (mid - from) (to - mid) (drop from frames))
     ∙ ap (λ (n : ℕ). take n (drop from frames)) count
 
-pub length-between : (from to : ℕ) (frames : List (List ℕ)) → from ≤ to → to ≤ length frames → length (between from to frames) ≡ to - from
-length-between from to frames ordered within = length-take (to - from) (drop from frames) ∙ omega (arith, length-drop from frames)
+pub length-between : (from to : ℕ) (frames : List (List ℕ)) → from ≤ to → to ≤ length frames
+    → length (between from to frames) ≡ to - from
+length-between from to frames ordered within = length-take (to - from) (drop from frames)
+    ∙ omega (arith, length-drop from frames)
 
-pub count_by-append : (permits : List ℕ → Bool) (xs ys : List (List ℕ)) → count_by permits (xs ++ ys) ≡ count_by permits xs + count_by permits ys
+pub count_by-append : (permits : List ℕ → Bool) (xs ys : List (List ℕ)) → count_by permits (xs ++ ys)
+    ≡ count_by permits xs + count_by permits ys
 count_by-append permits xs ys = sum_by-append (λ x. cond (permits x) 1 0) xs ys
 
 -- ---- how far a read looks
 
-pub looked-le : (permits : List ℕ → Bool) (budget : ℕ) (frames : List (List ℕ)) → looked permits budget frames ≤ length frames
+pub looked-le : (permits : List ℕ → Bool) (budget : ℕ) (frames : List (List ℕ))
+    → looked permits budget frames ≤ length frames
 looked-le permits zero frames = omega arith
 looked-le permits (suc budget) [] = omega arith
-looked-le permits (suc budget) (frame ∷ frames) = omega (arith, looked-le permits (cond (permits frame) budget (suc budget)) frames)
+looked-le permits (suc budget) (frame ∷ frames) =
+    omega (arith, looked-le permits (cond (permits frame) budget (suc budget)) frames)
 
 -- what a read takes is what the filter permits of the frames that it looks at
 pub filter-looked : (permits : List ℕ → Bool) (budget : ℕ) (frames : List (List ℕ)) →
@@ -52,7 +58,10 @@ pub filter-looked : (permits : List ℕ → Bool) (budget : ℕ) (frames : List 
 filter-looked permits zero frames = refl
 filter-looked permits (suc budget) [] = refl
 filter-looked permits (suc budget) (frame ∷ frames) =
-    elim (permits frame) as (λ b. cond b (frame ∷ filter permits (take (looked permits (cond b budget (suc budget)) frames) frames)) (filter permits (take (looked permits (cond b budget (suc budget)) frames) frames)) ≡ take (suc budget) (cond b (frame ∷ filter permits frames) (filter permits frames))) [
+    elim (permits frame) as (λ b. cond b
+    (frame ∷ filter permits (take (looked permits (cond b budget (suc budget)) frames) frames))
+    (filter permits (take (looked permits (cond b budget (suc budget)) frames) frames))
+    ≡ take (suc budget) (cond b (frame ∷ filter permits frames) (filter permits frames))) [
       | true ↦ ap (λ l. frame ∷ l) (filter-looked permits budget frames)
       | false ↦ filter-looked permits (suc budget) frames
     ]
@@ -82,13 +91,17 @@ read_begins_by permits capacity frames cursor false is within =
     let above : oldest capacity frames ≤ cursor.next = omega (arith, ltb-false, is) in
     omega (arith, above)
 
-pub read_begins : (permits : List ℕ → Bool) (capacity : ℕ) (frames : List (List ℕ)) (cursor : Cursor) → cursor.next ≤ length frames →
-    Begins permits capacity frames cursor.next (read_lap permits capacity frames cursor) (read_start capacity frames cursor)
+pub read_begins : (permits : List ℕ → Bool) (capacity : ℕ) (frames : List (List ℕ)) (cursor : Cursor)
+    → cursor.next ≤ length frames →
+    Begins permits capacity frames cursor.next (read_lap permits capacity frames cursor)
+    (read_start capacity frames cursor)
 read_begins permits capacity frames cursor within =
     read_begins_by permits capacity frames cursor (nat_lt cursor.next (oldest capacity frames)) refl within
 
-pub read_ends : (permits : List ℕ → Bool) (capacity : ℕ) (frames : List (List ℕ)) (cursor : Cursor) (budget : ℕ) → cursor.next ≤ length frames →
-    (read_start capacity frames cursor ≤ read_end permits capacity frames cursor budget) × (read_end permits capacity frames cursor budget ≤ length frames)
+pub read_ends : (permits : List ℕ → Bool) (capacity : ℕ) (frames : List (List ℕ)) (cursor : Cursor) (budget : ℕ)
+    → cursor.next ≤ length frames →
+    (read_start capacity frames cursor ≤ read_end permits capacity frames cursor budget)
+    × (read_end permits capacity frames cursor budget ≤ length frames)
 read_ends permits capacity frames cursor budget within =
     let start : ℕ = read_start capacity frames cursor in
     let bound : looked permits (min budget most_taken) (drop start frames) ≤ length frames - start =
@@ -97,13 +110,16 @@ read_ends permits capacity frames cursor budget within =
     (omega arith, omega (arith, bound, low))
 
 -- what a read takes is what the filter permits of the frames from where it begins to where it ends
-pub read_frames_between : (permits : List ℕ → Bool) (capacity : ℕ) (frames : List (List ℕ)) (cursor : Cursor) (budget : ℕ) →
+pub read_frames_between : (permits : List ℕ → Bool) (capacity : ℕ) (frames : List (List ℕ)) (cursor : Cursor)
+    (budget : ℕ) →
     filter permits (between (read_start capacity frames cursor) (read_end permits capacity frames cursor budget) frames)
     ≡ read_frames permits capacity frames cursor budget
 read_frames_between permits capacity frames cursor budget =
     let start : ℕ = read_start capacity frames cursor in
-    let count : read_end permits capacity frames cursor budget - start ≡ looked permits (min budget most_taken) (drop start frames) = omega arith in
-    ap (λ (n : ℕ). filter permits (take n (drop start frames))) count ∙ filter-looked permits (min budget most_taken) (drop start frames)
+    let count : read_end permits capacity frames cursor budget - start
+    ≡ looked permits (min budget most_taken) (drop start frames) = omega arith in
+    ap (λ (n : ℕ). filter permits (take n (drop start frames))) count
+    ∙ filter-looked permits (min budget most_taken) (drop start frames)
 
 -- a read that takes fewer than its budget looks at all
 pub looked_all : (permits : List ℕ → Bool) (budget : ℕ) (frames : List (List ℕ)) →
@@ -111,7 +127,9 @@ pub looked_all : (permits : List ℕ → Bool) (budget : ℕ) (frames : List (Li
 looked_all permits zero frames few = absurd (let e : ⊥ = omega (arith, few) in e)
 looked_all permits (suc budget) [] few = refl
 looked_all permits (suc budget) (frame ∷ frames) few =
-    elim (permits frame) as (λ b. length (take (suc budget) (cond b (frame ∷ filter permits frames) (filter permits frames))) < suc budget → suc (looked permits (cond b budget (suc budget)) frames) ≡ length (frame ∷ frames)) [
+    elim (permits frame) as (λ b. length
+    (take (suc budget) (cond b (frame ∷ filter permits frames) (filter permits frames))) < suc budget
+    → suc (looked permits (cond b budget (suc budget)) frames) ≡ length (frame ∷ frames)) [
       | true ↦ λ h. ap (λ (n : ℕ). suc n) (looked_all permits budget frames (omega (arith, h)))
       | false ↦ λ h. ap (λ (n : ℕ). suc n) (looked_all permits (suc budget) frames h)
     ] few
@@ -123,26 +141,30 @@ looked_least permits zero frames place before = absurd (let e : ⊥ = omega (ari
 looked_least permits (suc budget) [] place before = absurd (let e : ⊥ = omega (arith, before) in e)
 looked_least permits (suc budget) (frame ∷ frames) zero before = omega arith
 looked_least permits (suc budget) (frame ∷ frames) (suc place) before =
-    elim (permits frame) as (λ b. suc place < suc (looked permits (cond b budget (suc budget)) frames) → length (cond b (frame ∷ filter permits (take place frames)) (filter permits (take place frames))) < suc budget) [
+    elim (permits frame) as (λ b. suc place < suc (looked permits (cond b budget (suc budget)) frames)
+    → length (cond b (frame ∷ filter permits (take place frames)) (filter permits (take place frames))) < suc budget) [
       | true ↦ λ h. omega (arith, looked_least permits budget frames place (omega (arith, h)))
       | false ↦ λ h. omega (arith, looked_least permits (suc budget) frames place (omega (arith, h)))
     ] before
 
 -- ---- the laws of a read
 
-behind_begins : (permits : List ℕ → Bool) (capacity : ℕ) (frames : List (List ℕ)) (place : ℕ) (lapped : Option Lap) (from : ℕ) →
+behind_begins : (permits : List ℕ → Bool) (capacity : ℕ) (frames : List (List ℕ)) (place : ℕ) (lapped : Option Lap)
+    (from : ℕ) →
     Begins permits capacity frames place lapped from → behind_lap place lapped ≡ from
 behind_begins permits capacity frames place None from begins = sym begins
 behind_begins permits capacity frames place (Some lap) from begins = sym begins.5
 
 pub reading_begins : (r : Reading) →
-    Begins r.permits r.capacity r.published r.cursor.next (report_of r).lapped (read_start r.capacity r.published r.cursor)
+    Begins r.permits r.capacity r.published r.cursor.next (report_of r).lapped
+    (read_start r.capacity r.published r.cursor)
 reading_begins r = read_begins r.permits r.capacity r.published r.cursor r.within
 
 pub begin_is : (r : Reading) → begin_of r ≡ read_start r.capacity r.published r.cursor
 begin_is r = behind_begins r.permits r.capacity r.published r.cursor.next (report_of r).lapped _ (reading_begins r)
 
-pub reading_ordered : (r : Reading) → (r.cursor.next ≤ begin_of r) × (begin_of r ≤ end_of r) × (end_of r ≤ length r.published)
+pub reading_ordered : (r : Reading) → (r.cursor.next ≤ begin_of r) × (begin_of r ≤ end_of r)
+    × (end_of r ≤ length r.published)
 reading_ordered r =
     let ends : (read_start r.capacity r.published r.cursor ≤ end_of r) × (end_of r ≤ length r.published) =
     read_ends r.permits r.capacity r.published r.cursor r.budget r.within in
@@ -152,7 +174,12 @@ pub reading_all : (r : Reading) → (report_of r).taken < min r.budget 16 → en
 reading_all r few =
     let start : ℕ = read_start r.capacity r.published r.cursor in
     let low : start ≤ length r.published = omega (arith, r.within) in
-    omega (arith, looked_all r.permits (min r.budget 16) (drop start r.published) few, length-drop start r.published, low)
+    omega (
+      arith,
+      looked_all r.permits (min r.budget 16) (drop start r.published) few,
+      length-drop start r.published,
+      low,
+    )
 
 pub reading_least : (r : Reading) (place : ℕ) → begin_of r ≤ place → place < end_of r →
     count_by r.permits (between (begin_of r) place r.published) < min r.budget 16
@@ -162,7 +189,8 @@ reading_least r place behind before =
     omega (
       arith,
       length-filter r.permits (between start place r.published),
-      looked_least r.permits (min r.budget 16) (drop start r.published) (place - start) (omega (arith, begin_is r, behind, before)),
+      looked_least r.permits (min r.budget 16) (drop start r.published) (place - start)
+          (omega (arith, begin_is r, behind, before)),
     ) in
     subst (λ (n : ℕ). count_by r.permits (between n place r.published) < min r.budget 16) (sym (begin_is r)) least
 
@@ -175,13 +203,17 @@ reading_takes r =
 pub reading_in_order : (r : Reading) → filter r.permits (between r.cursor.next (end_of r) r.published)
     ≡ filter r.permits (between r.cursor.next (begin_of r) r.published) ++ taken_by r
 reading_in_order r =
-    let places : (r.cursor.next ≤ begin_of r) × (begin_of r ≤ end_of r) × (end_of r ≤ length r.published) = reading_ordered r in
+    let places : (r.cursor.next ≤ begin_of r) × (begin_of r ≤ end_of r)
+    × (end_of r ≤ length r.published) = reading_ordered r in
     ap (filter r.permits) (sym (between-between r.cursor.next (begin_of r) (end_of r) r.published places.0 places.1))
-    ∙ filter-append r.permits (between r.cursor.next (begin_of r) r.published) (between (begin_of r) (end_of r) r.published)
+    ∙ filter-append r.permits (between r.cursor.next (begin_of r) r.published)
+    (between (begin_of r) (end_of r) r.published)
     ∙ ap (λ l. filter r.permits (between r.cursor.next (begin_of r) r.published) ++ l) (sym (reading_takes r))
 
-overrun_begins : (permits : List ℕ → Bool) (capacity : ℕ) (frames : List (List ℕ)) (place : ℕ) (lapped : Option Lap) (from : ℕ) →
-    Begins permits capacity frames place lapped from → lap_overrun lapped ≡ count_by permits (between place (behind_lap place lapped) frames)
+overrun_begins : (permits : List ℕ → Bool) (capacity : ℕ) (frames : List (List ℕ)) (place : ℕ) (lapped : Option Lap)
+    (from : ℕ) →
+    Begins permits capacity frames place lapped from
+    → lap_overrun lapped ≡ count_by permits (between place (behind_lap place lapped) frames)
 overrun_begins permits capacity frames place None from begins =
     let none : place - place ≡ 0 = omega arith in
     sym (ap (λ (n : ℕ). count_by permits (take n (drop place frames))) none)
@@ -195,9 +227,12 @@ reading_counted r =
     overrun_begins r.permits r.capacity r.published r.cursor.next (report_of r).lapped _ (reading_begins r) in
     let took : (report_of r).taken ≡ count_by r.permits (between (begin_of r) (end_of r) r.published) =
     ap length (reading_takes r) ∙ length-filter r.permits (between (begin_of r) (end_of r) r.published) in
-    let places : (r.cursor.next ≤ begin_of r) × (begin_of r ≤ end_of r) × (end_of r ≤ length r.published) = reading_ordered r in
+    let places : (r.cursor.next ≤ begin_of r) × (begin_of r ≤ end_of r)
+    × (end_of r ≤ length r.published) = reading_ordered r in
     let both : count_by r.permits (between r.cursor.next (end_of r) r.published)
-    ≡ count_by r.permits (between r.cursor.next (begin_of r) r.published) + count_by r.permits (between (begin_of r) (end_of r) r.published) =
+    ≡ count_by r.permits (between r.cursor.next (begin_of r) r.published) + count_by r.permits
+    (between (begin_of r) (end_of r) r.published) =
     ap (count_by r.permits) (sym (between-between r.cursor.next (begin_of r) (end_of r) r.published places.0 places.1))
-    ∙ count_by-append r.permits (between r.cursor.next (begin_of r) r.published) (between (begin_of r) (end_of r) r.published) in
+    ∙ count_by-append r.permits (between r.cursor.next (begin_of r) r.published)
+    (between (begin_of r) (end_of r) r.published) in
     omega (arith, over, took, both)

@@ -23,7 +23,8 @@ lapped : read_report every_frame 2 (frame_a ∷ frame_b ∷ frame_a ∷ frame_b 
     }
 lapped = refl
 
-lapped_frames : read_frames every_frame 2 (frame_a ∷ frame_b ∷ frame_a ∷ frame_b ∷ frame_z ∷ []) first 16 ≡ frame_b ∷ frame_z ∷ []
+lapped_frames : read_frames every_frame 2 (frame_a ∷ frame_b ∷ frame_a ∷ frame_b ∷ frame_z ∷ []) first 16
+    ≡ frame_b ∷ frame_z ∷ []
 lapped_frames = refl
 
 -- the smallest ring laps nobody who reads after each frame
@@ -31,7 +32,8 @@ smallest : read_report every_frame 1 (frame_a ∷ frame_b ∷ []) (record { next
     ≡ record { cursor = record { next = 2; passed = 2; filter = 0 }; lapped = None; taken = 1 }
 smallest = refl
 
-smallest_frames : read_frames every_frame 1 (frame_a ∷ frame_b ∷ []) (record { next = 1; passed = 1; filter = 0 }) 16 ≡ frame_b ∷ []
+smallest_frames : read_frames every_frame 1 (frame_a ∷ frame_b ∷ []) (record { next = 1; passed = 1; filter = 0 }) 16
+    ≡ frame_b ∷ []
 smallest_frames = refl
 
 -- a ring that is just full laps nobody
@@ -78,7 +80,8 @@ four = record { capacity = 4; filters = every_frame ∷ [] }
 
 abbrev pub two_callers : List (ℕ × RingCall)
 two_callers =
-    (1, Claim) ∷ (2, Claim) ∷ (2, Join 0) ∷ (1, Publish 1 frame_a) ∷ (1, Release 1) ∷ (2, Claim) ∷ (2, Publish 2 frame_b) ∷ (2, Read first 16) ∷ []
+    (1, Claim) ∷ (2, Claim) ∷ (2, Join 0) ∷ (1, Publish 1 frame_a) ∷ (1, Release 1) ∷ (2, Claim)
+    ∷ (2, Publish 2 frame_b) ∷ (2, Read first 16) ∷ []
 
 -- a look before the first claim, while the claim is held, by anyone, and behind its release
 looks : own_answers four 3 ((3, Look) ∷ (1, Claim) ∷ (3, Look) ∷ (1, Look) ∷ (1, Release 1) ∷ (3, Look) ∷ [])

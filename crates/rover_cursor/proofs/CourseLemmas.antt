@@ -28,11 +28,14 @@ each_lap permits capacity frames from (lap ∷ laps) to h (suc k) d below =
     each_lap permits capacity frames lap.to laps to h.5 k d (omega (arith, below)) in
     (omega (arith, h.0, h.1, later.0), later.1, later.2, later.3, later.4, later.5)
 
-pub sound_lap : (permits : List ℕ → Bool) (capacity : ℕ) (frames : List (List ℕ)) (segment : Segment) → IsSound permits capacity frames segment →
+pub sound_lap : (permits : List ℕ → Bool) (capacity : ℕ) (frames : List (List ℕ)) (segment : Segment)
+    → IsSound permits capacity frames segment →
     All (IsLapBetween permits capacity frames segment.from segment.to) segment.laps
-sound_lap permits capacity frames segment sound = each_lap permits capacity frames segment.from segment.laps segment.to sound.laps
+sound_lap permits capacity frames segment sound = each_lap permits capacity frames segment.from segment.laps
+    segment.to sound.laps
 
-pub laps_ordered : (permits : List ℕ → Bool) (capacity : ℕ) (frames : List (List ℕ)) (from : ℕ) (laps : List Lap) (to : ℕ) →
+pub laps_ordered : (permits : List ℕ → Bool) (capacity : ℕ) (frames : List (List ℕ)) (from : ℕ) (laps : List Lap)
+    (to : ℕ) →
     LapsBetween permits capacity frames from laps to → AllPairs (λ (earlier later : Lap). earlier.to ≤ later.from) laps
 laps_ordered permits capacity frames from [] to h = λ i j d before below. absurd (let e : ⊥ = omega (arith, below) in e)
 laps_ordered permits capacity frames from (lap ∷ laps) to h =
@@ -62,24 +65,34 @@ owed_round permits capacity from course round owed =
     )
 
 owed_rounds : (permits : List ℕ → Bool) (capacity from : ℕ) (course : Course) (rounds : List Round) →
-    IsOwed permits capacity from course → IsOwed permits capacity from (fold (after_round permits capacity) course rounds)
+    IsOwed permits capacity from course
+    → IsOwed permits capacity from (fold (after_round permits capacity) course rounds)
 owed_rounds permits capacity from course [] owed = owed
 owed_rounds permits capacity from course (round ∷ rounds) owed =
-    owed_rounds permits capacity from (after_round permits capacity course round) rounds (owed_round permits capacity from course round owed)
+    owed_rounds permits capacity from (after_round permits capacity course round) rounds
+    (owed_round permits capacity from course round owed)
 
 pub owed : (shape : Shape) (state : State) (mount number : ℕ) (rounds : List Round) →
     IsOwed (permits_at shape number) shape.capacity (length state.published) (course_of shape state mount number rounds)
 owed shape state mount number rounds =
-    owed_rounds (permits_at shape number) shape.capacity (length state.published) (course_begun shape state mount number) rounds
-    (IsSound-begun _ _ _ mount _ refl refl, refl, sym (kept-begun (permits_at shape number) state.published mount (joined shape state number)))
+    owed_rounds (permits_at shape number) shape.capacity (length state.published)
+    (course_begun shape state mount number) rounds (
+      IsSound-begun _ _ _ mount _ refl refl,
+      refl,
+      sym
+          (kept-begun (permits_at shape number) state.published mount (joined shape state number)),
+    )
 
 pub owed_counts : (shape : Shape) (state : State) (mount number : ℕ) (rounds : List Round) →
-    length (course_of shape state mount number rounds).taken + (course_of shape state mount number rounds).segment.overrun
+    length (course_of shape state mount number rounds).taken
+    + (course_of shape state mount number rounds).segment.overrun
     ≡ count_by (permits_at shape number)
-    (between (length state.published) (course_of shape state mount number rounds).segment.to (course_of shape state mount number rounds).published)
+    (between (length state.published) (course_of shape state mount number rounds).segment.to
+    (course_of shape state mount number rounds).published)
 owed_counts shape state mount number rounds =
     let course : Course = course_of shape state mount number rounds in
-    let is : IsOwed (permits_at shape number) shape.capacity (length state.published) course = owed shape state mount number rounds in
+    let is : IsOwed (permits_at shape number) shape.capacity (length state.published) course =
+    owed shape state mount number rounds in
     ap (λ (n : ℕ). n + course.segment.overrun) (ap length is.2 ∙ sym is.0.sent)
     ∙ sound_counts (permits_at shape number) shape.capacity course.published course.segment is.0
     ∙ ap (λ (n : ℕ). count_by (permits_at shape number) (between n course.segment.to course.published)) is.1

@@ -19,48 +19,67 @@ use Rattle.rover_cursor.specs.Sound.{between, outside, kept, LapsBetween, IsSoun
 -- ---- laps
 
 -- the laps lie where they lay when the place after them moves on
-pub LapsBetween-longer : (permits : List ℕ → Bool) (capacity : ℕ) (frames : List (List ℕ)) (from : ℕ) (laps : List Lap) (to later : ℕ) →
+pub LapsBetween-longer : (permits : List ℕ → Bool) (capacity : ℕ) (frames : List (List ℕ)) (from : ℕ)
+    (laps : List Lap) (to later : ℕ) →
     LapsBetween permits capacity frames from laps to → to ≤ later → LapsBetween permits capacity frames from laps later
 LapsBetween-longer permits capacity frames from [] to later laps_are further = omega arith
 LapsBetween-longer permits capacity frames from (lap ∷ laps) to later h further =
     (h.0, h.1, h.2, h.3, h.4, LapsBetween-longer permits capacity frames lap.to laps to later h.5 further)
 
-pub outside-longer : (permits : List ℕ → Bool) (capacity : ℕ) (frames : List (List ℕ)) (from : ℕ) (laps : List Lap) (to later : ℕ) →
+pub outside-longer : (permits : List ℕ → Bool) (capacity : ℕ) (frames : List (List ℕ)) (from : ℕ) (laps : List Lap)
+    (to later : ℕ) →
     LapsBetween permits capacity frames from laps to → to ≤ later →
     outside from laps later frames ≡ outside from laps to frames ++ between to later frames
-outside-longer permits capacity frames from [] to later laps_are further = sym (between-between from to later frames laps_are further)
+outside-longer permits capacity frames from [] to later laps_are further =
+    sym (between-between from to later frames laps_are further)
 outside-longer permits capacity frames from (lap ∷ laps) to later h further =
-    ap (λ l. between from lap.from frames ++ l) (outside-longer permits capacity frames lap.to laps to later h.5 further)
+    ap (λ l. between from lap.from frames ++ l)
+    (outside-longer permits capacity frames lap.to laps to later h.5 further)
     ∙ sym (append_assoc (between from lap.from frames) (outside lap.to laps to frames) (between to later frames))
 
 -- the laps begin before they end
-pub LapsBetween-le : (permits : List ℕ → Bool) (capacity : ℕ) (frames : List (List ℕ)) (from : ℕ) (laps : List Lap) (to : ℕ) →
+pub LapsBetween-le : (permits : List ℕ → Bool) (capacity : ℕ) (frames : List (List ℕ)) (from : ℕ) (laps : List Lap)
+    (to : ℕ) →
     LapsBetween permits capacity frames from laps to → from ≤ to
 LapsBetween-le permits capacity frames from [] to h = h
 LapsBetween-le permits capacity frames from (lap ∷ laps) to h =
     let after : lap.to ≤ to = LapsBetween-le permits capacity frames lap.to laps to h.5 in omega (arith, h.0, h.1)
 
 -- one more lap, from where they end
-pub LapsBetween-lapped : (permits : List ℕ → Bool) (capacity : ℕ) (frames : List (List ℕ)) (from : ℕ) (laps : List Lap) (to : ℕ) (lap : Lap) (later : ℕ) →
-    LapsBetween permits capacity frames from laps to → lap.from ≡ to → lap.from < lap.to → lap.to + capacity ≡ lap.published →
+pub LapsBetween-lapped : (permits : List ℕ → Bool) (capacity : ℕ) (frames : List (List ℕ)) (from : ℕ)
+    (laps : List Lap) (to : ℕ) (lap : Lap) (later : ℕ) →
+    LapsBetween permits capacity frames from laps to → lap.from ≡ to → lap.from < lap.to
+    → lap.to + capacity ≡ lap.published →
     lap.published ≤ length frames → lap.overrun ≡ count_by permits (between lap.from lap.to frames) → lap.to ≤ later →
     LapsBetween permits capacity frames from (laps ++ lap ∷ []) later
 LapsBetween-lapped permits capacity frames from [] to lap later h at some over kept counted further =
     (omega (arith, h, at), some, over, kept, counted, further)
-LapsBetween-lapped permits capacity frames from (first ∷ laps) to lap later h at some over kept counted further =
-    (h.0, h.1, h.2, h.3, h.4, LapsBetween-lapped permits capacity frames first.to laps to lap later h.5 at some over kept counted further)
+LapsBetween-lapped permits capacity frames from (first ∷ laps) to lap later h at some over kept counted further = (
+  h.0,
+  h.1,
+  h.2,
+  h.3,
+  h.4,
+  LapsBetween-lapped permits capacity frames first.to laps to lap later h.5 at some over
+      kept counted further,
+)
 
-pub outside-lapped : (permits : List ℕ → Bool) (capacity : ℕ) (frames : List (List ℕ)) (from : ℕ) (laps : List Lap) (to : ℕ) (lap : Lap) (later : ℕ) →
+pub outside-lapped : (permits : List ℕ → Bool) (capacity : ℕ) (frames : List (List ℕ)) (from : ℕ) (laps : List Lap)
+    (to : ℕ) (lap : Lap) (later : ℕ) →
     LapsBetween permits capacity frames from laps to → lap.from ≡ to →
     outside from (laps ++ lap ∷ []) later frames ≡ outside from laps to frames ++ between lap.to later frames
-outside-lapped permits capacity frames from [] to lap later h at = ap (λ (n : ℕ). between from n frames ++ between lap.to later frames) at
+outside-lapped permits capacity frames from [] to lap later h at =
+    ap (λ (n : ℕ). between from n frames ++ between lap.to later frames) at
 outside-lapped permits capacity frames from (first ∷ laps) to lap later h at =
-    ap (λ l. between from first.from frames ++ l) (outside-lapped permits capacity frames first.to laps to lap later h.5 at)
-    ∙ sym (append_assoc (between from first.from frames) (outside first.to laps to frames) (between lap.to later frames))
+    ap (λ l. between from first.from frames ++ l)
+    (outside-lapped permits capacity frames first.to laps to lap later h.5 at)
+    ∙ sym (append_assoc (between from first.from frames) (outside first.to laps to frames)
+    (between lap.to later frames))
 
 -- ---- more frames
 
-pub LapsBetween-append : (permits : List ℕ → Bool) (capacity : ℕ) (frames more : List (List ℕ)) (from : ℕ) (laps : List Lap) (to : ℕ) →
+pub LapsBetween-append : (permits : List ℕ → Bool) (capacity : ℕ) (frames more : List (List ℕ)) (from : ℕ)
+    (laps : List Lap) (to : ℕ) →
     LapsBetween permits capacity frames from laps to → LapsBetween permits capacity (frames ++ more) from laps to
 LapsBetween-append permits capacity frames more from [] to h = h
 LapsBetween-append permits capacity frames more from (lap ∷ laps) to h =
@@ -75,20 +94,23 @@ LapsBetween-append permits capacity frames more from (lap ∷ laps) to h =
       LapsBetween-append permits capacity frames more lap.to laps to h.5,
     )
 
-pub outside-append : (permits : List ℕ → Bool) (capacity : ℕ) (frames more : List (List ℕ)) (from : ℕ) (laps : List Lap) (to : ℕ) →
+pub outside-append : (permits : List ℕ → Bool) (capacity : ℕ) (frames more : List (List ℕ)) (from : ℕ)
+    (laps : List Lap) (to : ℕ) →
     LapsBetween permits capacity frames from laps to → to ≤ length frames →
     outside from laps to (frames ++ more) ≡ outside from laps to frames
 outside-append permits capacity frames more from [] to h within = between-append from to frames more h within
 outside-append permits capacity frames more from (lap ∷ laps) to h within =
     let inside : lap.from ≤ length frames = omega (arith, h.1, h.2, h.3) in
     ap (λ l. l ++ outside lap.to laps to (frames ++ more)) (between-append from lap.from frames more h.0 inside)
-    ∙ ap (λ l. between from lap.from frames ++ l) (outside-append permits capacity frames more lap.to laps to h.5 within)
+    ∙ ap (λ l. between from lap.from frames ++ l)
+    (outside-append permits capacity frames more lap.to laps to h.5 within)
 
 -- what a segment was sent stays what it is when more is published
 pub kept-append : (permits : List ℕ → Bool) (capacity : ℕ) (frames more : List (List ℕ)) (segment : Segment) →
     IsSound permits capacity frames segment → kept permits (frames ++ more) segment ≡ kept permits frames segment
 kept-append permits capacity frames more segment sound =
-    ap (filter permits) (outside-append permits capacity frames more segment.from segment.laps segment.to sound.laps sound.within)
+    ap (filter permits)
+    (outside-append permits capacity frames more segment.from segment.laps segment.to sound.laps sound.within)
 
 -- a sound segment stays sound when more is published
 pub IsSound-append : (permits : List ℕ → Bool) (capacity : ℕ) (frames more : List (List ℕ)) (segment : Segment) →
@@ -111,7 +133,8 @@ kept-begun permits frames mount cursor =
     ap (λ (n : ℕ). filter permits (take n (drop cursor.next frames))) none
 
 pub IsSound-begun : (permits : List ℕ → Bool) (capacity : ℕ) (frames : List (List ℕ)) (mount : ℕ) (cursor : Cursor) →
-    cursor.next ≡ length frames → cursor.passed ≡ count_by permits frames → IsSound permits capacity frames (begun mount cursor)
+    cursor.next ≡ length frames → cursor.passed ≡ count_by permits frames
+    → IsSound permits capacity frames (begun mount cursor)
 IsSound-begun permits capacity frames mount cursor next passed = record {
   within = omega (arith, next);
   laps = omega arith;
@@ -123,17 +146,20 @@ IsSound-begun permits capacity frames mount cursor next passed = record {
 
 -- ---- a read
 
-pub laps_read : (permits : List ℕ → Bool) (capacity : ℕ) (frames : List (List ℕ)) (from : ℕ) (laps : List Lap) (at : ℕ) (lapped : Option Lap) (begin to : ℕ) →
+pub laps_read : (permits : List ℕ → Bool) (capacity : ℕ) (frames : List (List ℕ)) (from : ℕ) (laps : List Lap)
+    (at : ℕ) (lapped : Option Lap) (begin to : ℕ) →
     LapsBetween permits capacity frames from laps at → Begins permits capacity frames at lapped begin → begin ≤ to →
     LapsBetween permits capacity frames from (laps ++ option_to_list lapped) to
 laps_read permits capacity frames from laps at None begin to h begins further =
     subst (λ (l : List Lap). LapsBetween permits capacity frames from l to) (sym (append-nil laps))
     (LapsBetween-longer permits capacity frames from laps at to h (omega (arith, begins, further)))
 laps_read permits capacity frames from laps at (Some lap) begin to h begins further =
-    LapsBetween-lapped permits capacity frames from laps at lap to h begins.0 begins.1 begins.2 (omega (arith, begins.3)) begins.4 (omega (arith, begins.5, further))
+    LapsBetween-lapped permits capacity frames from laps at lap to h begins.0 begins.1 begins.2
+    (omega (arith, begins.3)) begins.4 (omega (arith, begins.5, further))
 
 -- the frames outside of them
-pub outside_read : (permits : List ℕ → Bool) (capacity : ℕ) (frames : List (List ℕ)) (from : ℕ) (laps : List Lap) (at : ℕ) (lapped : Option Lap) (begin to : ℕ) →
+pub outside_read : (permits : List ℕ → Bool) (capacity : ℕ) (frames : List (List ℕ)) (from : ℕ) (laps : List Lap)
+    (at : ℕ) (lapped : Option Lap) (begin to : ℕ) →
     LapsBetween permits capacity frames from laps at → Begins permits capacity frames at lapped begin → begin ≤ to →
     outside from (laps ++ option_to_list lapped) to frames ≡ outside from laps at frames ++ between begin to frames
 outside_read permits capacity frames from laps at None begin to h begins further =
@@ -146,9 +172,16 @@ outside_read permits capacity frames from laps at (Some lap) begin to h begins f
 
 -- the overrun after a read
 overrun_read : (laps : List Lap) (lapped : Option Lap) →
-    sum_by (λ (lap : Lap). lap.overrun) laps + lap_overrun lapped ≡ sum_by (λ (lap : Lap). lap.overrun) (laps ++ option_to_list lapped)
+    sum_by (λ (lap : Lap). lap.overrun) laps + lap_overrun lapped
+    ≡ sum_by (λ (lap : Lap). lap.overrun) (laps ++ option_to_list lapped)
 overrun_read laps None = omega (arith, ap (sum_by (λ (lap : Lap). lap.overrun)) (append-nil laps))
-overrun_read laps (Some lap) = omega (arith, sum_by-append (λ (lap : Lap). lap.overrun) laps (lap ∷ []), sum_by-cons (λ (lap : Lap). lap.overrun) lap [])
+overrun_read laps (Some lap) =
+    omega (
+      arith,
+      sum_by-append (λ (lap : Lap). lap.overrun) laps (lap ∷ []),
+      sum_by-cons (λ (lap : Lap). lap.overrun)
+          lap [],
+    )
 
 -- what a segment was sent grows by what the read takes
 pub kept-read : (permits : List ℕ → Bool) (capacity : ℕ) (frames : List (List ℕ)) (segment : Segment) (budget : ℕ) →
@@ -165,8 +198,10 @@ kept-read permits capacity frames segment budget sound =
     (read_begins permits capacity frames segment.cursor within)
     (read_ends permits capacity frames segment.cursor budget within).0)
     ∙ filter-append permits (outside segment.from segment.laps segment.cursor.next frames) _
-    ∙ ap (λ l. filter permits (outside segment.from segment.laps segment.cursor.next frames) ++ l) (read_frames_between permits capacity frames segment.cursor budget)
-    ∙ ap (λ (n : ℕ). filter permits (outside segment.from segment.laps n frames) ++ read_frames permits capacity frames segment.cursor budget) sound.next
+    ∙ ap (λ l. filter permits (outside segment.from segment.laps segment.cursor.next frames) ++ l)
+    (read_frames_between permits capacity frames segment.cursor budget)
+    ∙ ap (λ (n : ℕ). filter permits (outside segment.from segment.laps n frames) ++ read_frames permits capacity
+    frames segment.cursor budget) sound.next
 
 -- a sound segment stays sound over a read
 pub IsSound-read : (permits : List ℕ → Bool) (capacity : ℕ) (frames : List (List ℕ)) (segment : Segment) (budget : ℕ) →
@@ -184,7 +219,8 @@ IsSound-read permits capacity frames segment budget sound =
           (read_begins permits capacity frames segment.cursor within)
           (read_ends permits capacity frames segment.cursor budget within).0;
       sent = ap (λ (n : ℕ). n + length (read_frames permits capacity frames segment.cursor budget)) sound.sent
-          ∙ sym (length-append (kept permits frames segment) (read_frames permits capacity frames segment.cursor budget))
+          ∙ sym (length-append (kept permits frames segment)
+          (read_frames permits capacity frames segment.cursor budget))
           ∙ ap length (sym (kept-read permits capacity frames segment budget sound));
       overrun = ap (λ (n : ℕ). n + lap_overrun (read_lap permits capacity frames segment.cursor)) sound.overrun
           ∙ overrun_read segment.laps (read_lap permits capacity frames segment.cursor);
@@ -194,24 +230,31 @@ IsSound-read permits capacity frames segment budget sound =
 
 -- ---- the promise of a segment
 
-outside_counts : (permits : List ℕ → Bool) (capacity : ℕ) (frames : List (List ℕ)) (from : ℕ) (laps : List Lap) (to : ℕ) →
+outside_counts : (permits : List ℕ → Bool) (capacity : ℕ) (frames : List (List ℕ)) (from : ℕ) (laps : List Lap)
+    (to : ℕ) →
     LapsBetween permits capacity frames from laps to →
-    count_by permits (outside from laps to frames) + sum_by (λ (lap : Lap). lap.overrun) laps ≡ count_by permits (between from to frames)
+    count_by permits (outside from laps to frames) + sum_by (λ (lap : Lap). lap.overrun) laps
+    ≡ count_by permits (between from to frames)
 outside_counts permits capacity frames from [] to h = omega arith
 outside_counts permits capacity frames from (lap ∷ laps) to h =
     let later : lap.to ≤ to = LapsBetween-le permits capacity frames lap.to laps to h.5 in
-    let whole : count_by permits (between from lap.from frames) + count_by permits (between lap.from to frames) ≡ count_by permits (between from to frames) =
+    let whole : count_by permits (between from lap.from frames) + count_by permits (between lap.from to frames)
+    ≡ count_by permits (between from to frames) =
     sym (count_by-append permits (between from lap.from frames) (between lap.from to frames))
     ∙ ap (count_by permits) (between-between from lap.from to frames h.0 (omega (arith, h.1, later))) in
-    let behind : count_by permits (between lap.from lap.to frames) + count_by permits (between lap.to to frames) ≡ count_by permits (between lap.from to frames) =
+    let behind : count_by permits (between lap.from lap.to frames) + count_by permits (between lap.to to frames)
+    ≡ count_by permits (between lap.from to frames) =
     sym (count_by-append permits (between lap.from lap.to frames) (between lap.to to frames))
     ∙ ap (count_by permits) (between-between lap.from lap.to to frames (omega (arith, h.1)) later) in
-    let rest : count_by permits (outside lap.to laps to frames) + sum_by (λ (lap : Lap). lap.overrun) laps ≡ count_by permits (between lap.to to frames) =
+    let rest : count_by permits (outside lap.to laps to frames) + sum_by (λ (lap : Lap). lap.overrun) laps
+    ≡ count_by permits (between lap.to to frames) =
     outside_counts permits capacity frames lap.to laps to h.5 in
     let first : lap.overrun ≡ count_by permits (between lap.from lap.to frames) = h.4 in
-    let split : count_by permits (between from lap.from frames ++ outside lap.to laps to frames) ≡ count_by permits (between from lap.from frames) + count_by permits (outside lap.to laps to frames) =
+    let split : count_by permits (between from lap.from frames ++ outside lap.to laps to frames)
+    ≡ count_by permits (between from lap.from frames) + count_by permits (outside lap.to laps to frames) =
     count_by-append permits (between from lap.from frames) (outside lap.to laps to frames) in
-    let total : sum_by (λ (lap : Lap). lap.overrun) (lap ∷ laps) ≡ lap.overrun + sum_by (λ (lap : Lap). lap.overrun) laps =
+    let total : sum_by (λ (lap : Lap). lap.overrun) (lap ∷ laps)
+    ≡ lap.overrun + sum_by (λ (lap : Lap). lap.overrun) laps =
     sum_by-cons (λ (lap : Lap). lap.overrun) lap laps in
     omega (arith, whole, behind, rest, first, split, total)
 
@@ -223,13 +266,20 @@ pub sound_counts : (permits : List ℕ → Bool) (capacity : ℕ) (frames : List
 sound_counts permits capacity frames segment sound =
     let sent : segment.sent ≡ count_by permits (outside segment.from segment.laps segment.to frames) =
     sound.sent ∙ length-filter permits (outside segment.from segment.laps segment.to frames) in
-    omega (arith, sent, sound.overrun, outside_counts permits capacity frames segment.from segment.laps segment.to sound.laps)
+    omega (
+      arith,
+      sent,
+      sound.overrun,
+      outside_counts permits capacity frames segment.from segment.laps segment.to
+          sound.laps,
+    )
 
 -- so they are no more than the places from the first frame on
 pub sound_few : (permits : List ℕ → Bool) (capacity : ℕ) (frames : List (List ℕ)) (segment : Segment) →
     IsSound permits capacity frames segment → segment.sent + segment.overrun ≤ segment.to
 sound_few permits capacity frames segment sound =
-    let order : segment.from ≤ segment.to = LapsBetween-le permits capacity frames segment.from segment.laps segment.to sound.laps in
+    let order : segment.from ≤ segment.to = LapsBetween-le permits capacity frames segment.from segment.laps
+    segment.to sound.laps in
     omega (
       arith,
       order,
@@ -239,11 +289,14 @@ sound_few permits capacity frames segment sound =
     )
 
 -- and the segment's cursor may be read
-pub sound_readable : (shape : Shape) (state : State) (segment : Segment) → segment.cursor.filter < length shape.filters →
-    IsSound (permits_at shape segment.cursor.filter) shape.capacity state.published segment → is_readable shape state segment.cursor ≡ true
+pub sound_readable : (shape : Shape) (state : State) (segment : Segment)
+    → segment.cursor.filter < length shape.filters →
+    IsSound (permits_at shape segment.cursor.filter) shape.capacity state.published segment
+    → is_readable shape state segment.cursor ≡ true
 sound_readable shape state segment known sound =
     readable_from shape state segment.cursor (
       omega (arith, sound.next, sound.within),
       lt-ltb segment.cursor.filter (length shape.filters) known,
-      sound.passed ∙ ap (λ (n : ℕ). count_by (permits_at shape segment.cursor.filter) (take n state.published)) (sym sound.next),
+      sound.passed
+          ∙ ap (λ (n : ℕ). count_by (permits_at shape segment.cursor.filter) (take n state.published)) (sym sound.next),
     )

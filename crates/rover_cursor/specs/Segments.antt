@@ -4,7 +4,7 @@ use Rattle.std.specs.Prelude.{ℕ, ◌+◌, List, [], ◌∷◌, ◌++◌, fold,
 use Rattle.mount_ring.specs.declared.Cursor.{Cursor}
 use Rattle.mount_ring.specs.declared.ReadReport.{ReadReport}
 use Rattle.mount_ring.specs.declared.RingAnswer.{RingAnswer}
-use Rattle.mount_ring.specs.declared.RingAnswer.TheVariants.{Given, Taken, Released, At, Joined, Read}
+use Rattle.mount_ring.specs.declared.RingAnswer.TheVariants.{Given, Taken, Released, At, Joined, Looked, Read}
 pub use Rattle.mount_ring.specs.Places.{lap_overrun}
 use Rattle.rover_cursor.specs.declared.segment.Segment.{Segment}
 
@@ -44,6 +44,7 @@ after_answer mount segments (Taken caller claim) = segments
 after_answer mount segments Released = segments
 after_answer mount segments (At place) = segments
 after_answer mount segments (Joined cursor) = begun mount cursor ∷ segments
+after_answer mount segments (Looked claim) = segments
 after_answer mount segments (Read report) = newest_read_on report segments
 
 -- the segments of all answers to one caller at this mountpoint, the newest first

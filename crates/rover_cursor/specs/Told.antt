@@ -6,7 +6,7 @@ use Rattle.turn_log.specs.History.{History, own}
 use Rattle.mount_ring.specs.declared.Cursor.{Cursor}
 use Rattle.mount_ring.specs.declared.ReadReport.{ReadReport}
 use Rattle.mount_ring.specs.declared.RingCall.{RingCall}
-use Rattle.mount_ring.specs.declared.RingCall.TheVariants.{Claim, Release, Publish, Join, Read}
+use Rattle.mount_ring.specs.declared.RingCall.TheVariants.{Claim, Release, Publish, Join, Look, Read}
 use Rattle.mount_ring.specs.Reads.{read_report, read_frames}
 use Rattle.mount_ring.specs.History.{Shape, state_of, permits_at, own_answers}
 use Rattle.rover_cursor.specs.declared.segment.Segment.{Segment}
@@ -48,6 +48,7 @@ is_quiet Claim = true
 is_quiet (Release claim) = true
 is_quiet (Publish claim frame) = true
 is_quiet (Join filter) = false
+is_quiet Look = true
 is_quiet (Read cursor budget) = false
 
 -- the history went on, and this caller neither joined nor read since

@@ -7,7 +7,7 @@ pub enum SegFault {
     /// The mountpoint gave as many turns as it can count: `turns` of them, at least 2^62.
     #[error("no turn after {turns} turns")]
     Worn { turns: u64 },
-    /// No memory for a lap, or for the place's journal.
+    /// No memory for a lap, or for the turn at a place that takes some.
     #[error("out of memory")]
     Memory,
 }

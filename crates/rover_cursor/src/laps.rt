@@ -1,7 +1,6 @@
-ghost use Rattle.std.specs.Prelude.{◌≡◌, ◌+◌, ◌<◌, ◌≤◌, [], ◌∷◌, ◌++◌, OnOk, OnErr, length};
+ghost use Rattle.std.specs.Prelude.{◌≡◌, ◌==◌, length};
 
 use mount_ring::Lap;
-use std::alloc::{AllocError, Global};
 use std::marker::Model;
 
 /// The laps of a segment, in the order in which they happened. Contracts see the list of them.
@@ -20,22 +19,25 @@ impl Model for Laps {
 }
 
 impl Laps {
-    /// No laps. Takes no memory yet.
-    pub fn new(alloc: Global) -> Self
-        ensures { result ≡ [] }
+    /// These laps, in this order. Takes no memory.
+    pub fn new(list: Vec<Lap>) -> Laps
+        ensures { result ≡ list.items }
     {
-        Laps {
-            items: Vec::new(alloc),
-        }
+        Laps { items: list }
     }
 
-    /// Adds a lap at the end. Where there is no memory nothing changes.
-    pub fn push(&mut self, lap: Lap) -> Result<(), AllocError>
-        ensures ok { OnOk result (self.new ≡ self.old ++ lap ∷ []) }
-        ensures err { OnErr result (self.new ≡ self.old) }
+    /// How many laps there are.
+    pub fn len(&self) -> usize
+        ensures { result ≡ length self.now }
     {
-        self.items.push(lap)?;
-        Ok(())
+        self.items.len()
+    }
+
+    /// Whether there is none.
+    pub fn is_empty(&self) -> bool
+        ensures { result ≡ (length self.now == 0) }
+    {
+        self.items.is_empty()
     }
 
     /// The laps in order.
@@ -44,4 +46,33 @@ impl Laps {
     {
         &self.items
     }
+
+    /// The list of the laps, given back. Takes no memory.
+    pub fn into_vec(self) -> Vec<Lap>
+        ensures { result.items ≡ self }
+    {
+        self.items
+    }
+}
+
+impl PartialEq for Laps {
+    ghost use Rattle.std.proofs.Common.{rules};
+    ghost use Rattle.std.specs.Cmp.Rules.{comparing};
+    ghost use Rattle.std.specs.Cmp.Lexicographic.{pointwise, lists_per};
+
+    ghost eq = { pointwise ⟦<Lap as PartialEq>⟧.eq };
+
+    ghost laws = { lists_per (Prim.search (comparing, rules)) };
+
+    fn eq(&self, other: &Laps) -> bool {
+        self.as_slice() == other.as_slice()
+    }
+}
+
+impl Eq for Laps {
+    ghost use Rattle.std.proofs.Common.{rules};
+    ghost use Rattle.std.specs.Cmp.Rules.{comparing};
+    ghost use Rattle.std.specs.Cmp.Lexicographic.{lists_equiv};
+
+    ghost laws = { lists_equiv (Prim.search (comparing, rules)) };
 }

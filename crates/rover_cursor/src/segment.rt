@@ -13,7 +13,7 @@ use turn_log::{Played, Turns};
 /// `from` up to, not including, `to`: `sent` of them were sent, `overrun` counts the permitted ones
 /// that the ring had overwritten, and each of those lies in one of `laps`. `cursor` is where the
 /// next read begins.
-#[derive(Debug, Drop)]
+#[derive(Debug, Drop, PartialEq, Eq)]
 pub struct Segment {
     pub mount: u32,
     pub from: u64,
@@ -151,7 +151,7 @@ impl Segment {
             to: cursor.next,
             sent: 0,
             overrun: 0,
-            laps: Laps::new(alloc),
+            laps: Laps::new(Vec::new(alloc)),
             cursor,
         }
     }

@@ -3,7 +3,7 @@ ghost use Rattle.std.specs.Prelude.{◌≡◌, ℕ, ◌≤◌, IsTrue, [], ◌�
 ghost use Rattle.turn_log.specs.History.{GoesOn};
 ghost use Rattle.mount_ring.specs.History as history;
 
-use crate::{SegFault, Segment};
+use crate::{Laps, Segment};
 use mount_ring::{Cursor, Lap, Outbox, Ring, RingAnswer, RingCall};
 use rtcm_frame::Frame;
 use std::alloc::Global;
@@ -30,7 +30,7 @@ fn desk_of(alloc: Global, capacity: u32, filter: Filter) -> Result<Desk<Ring>, F
     let mut list = Vec::new(alloc);
     list.push(filter)?;
     let filters = Filters::new(list);
-    Ok(Desk::new(alloc, Ring::new(alloc, capacity, &filters)?))
+    Ok(Desk::new(Ring::new(alloc, capacity, &filters)?))
 }
 
 /// Caller 1 publishes these frames under claim 1.
@@ -75,64 +75,107 @@ fn read_twice(
     Ok((segment, out))
 }
 
-#[test]
-fn a_lapped_rover_counts_its_overrun(rt: HostRuntime) -> Result<(), Fail> {
+// The frames of the numbers 1005 and 1077.
+fn two_frames() -> Result<(Frame, Frame), Fail> {
     let a = Frame::of(&FRAME_A).ok_or("no frame")?;
     let b = Frame::of(&FRAME_B).ok_or("no frame")?;
+    Ok((a, b))
+}
+
+// A segment of the mountpoint 7 from place 0 on, by filter 0, with at most one lap.
+fn segment_to(
+    alloc: Global,
+    to: u64,
+    sent: u64,
+    overrun: u64,
+    lapped: Option<Lap>,
+) -> Result<Segment, Fail> {
+    let mut laps = Vec::new(alloc);
+    if let Some(lap) = lapped {
+        laps.push(lap)?;
+    }
+    Ok(Segment {
+        mount: 7,
+        from: 0,
+        to,
+        sent,
+        overrun,
+        laps: Laps::new(laps),
+        cursor: Cursor {
+            next: to,
+            passed: sent.saturating_add(overrun),
+            filter: 0,
+        },
+    })
+}
+
+#[test]
+fn a_lapped_rover_counts_its_overrun(rt: HostRuntime) -> Result<(), Fail> {
+    let (a, b) = two_frames()?;
     let z = Frame::of(&FRAME_Z).ok_or("no frame")?;
     let (segment, out) = read_twice(rt.alloc(), 2, Filter::all(), &[a], &[b, a, b, z])?;
-    assert_eq!(rt; out.frames().len(), 2);
-    assert_eq!(rt; out.frames()[0].bytes(), FRAME_B.as_slice());
-    assert_eq!(rt; out.frames()[1].bytes(), FRAME_Z.as_slice());
-    assert_eq!(rt; (segment.mount, segment.from, segment.to), (7, 0, 5));
-    assert_eq!(rt; (segment.sent, segment.overrun), (3, 2));
+    assert_eq!(rt; out.frames(), [b, z].as_slice());
     let lap = Lap {
         from: 1,
         to: 3,
         published: 5,
         overrun: 2,
     };
-    assert_eq!(rt; segment.laps.as_slice(), [lap].as_slice());
-    let cursor = Cursor {
-        next: 5,
-        passed: 5,
-        filter: 0,
-    };
-    assert_eq!(rt; segment.cursor, cursor);
+    assert_eq!(rt; segment, segment_to(rt.alloc(), 5, 3, 2, Some(lap))?);
     Ok(())
 }
 
 #[test]
 fn the_overrun_counts_permitted_frames_alone(rt: HostRuntime) -> Result<(), Fail> {
-    let a = Frame::of(&FRAME_A).ok_or("no frame")?;
-    let b = Frame::of(&FRAME_B).ok_or("no frame")?;
+    let (a, b) = two_frames()?;
     let only = Filter::list(rt.alloc(), &[1005])?;
     let (segment, out) = read_twice(rt.alloc(), 2, only, &[], &[a, b, b, b])?;
-    assert_eq!(rt; out.frames().len(), 0);
-    assert_eq!(rt; (segment.sent, segment.overrun), (0, 1));
+    assert!(rt; out.frames().is_empty());
     let lap = Lap {
         from: 0,
         to: 2,
         published: 4,
         overrun: 1,
     };
-    assert_eq!(rt; segment.laps.as_slice(), [lap].as_slice());
-    let cursor = Cursor {
-        next: 4,
-        passed: 1,
-        filter: 0,
+    assert_eq!(rt; segment, segment_to(rt.alloc(), 4, 0, 1, Some(lap))?);
+    Ok(())
+}
+
+#[test]
+fn a_lap_may_lose_nothing(rt: HostRuntime) -> Result<(), Fail> {
+    let (_, b) = two_frames()?;
+    let only = Filter::list(rt.alloc(), &[1005])?;
+    let (segment, out) = read_twice(rt.alloc(), 2, only, &[], &[b, b, b, b])?;
+    assert!(rt; out.frames().is_empty());
+    let lap = Lap {
+        from: 0,
+        to: 2,
+        published: 4,
+        overrun: 0,
     };
-    assert_eq!(rt; segment.cursor, cursor);
+    assert_eq!(rt; segment, segment_to(rt.alloc(), 4, 0, 0, Some(lap))?);
     Ok(())
 }
 
 #[test]
 fn a_rover_that_keeps_up_has_no_lap(rt: HostRuntime) -> Result<(), Fail> {
-    let a = Frame::of(&FRAME_A).ok_or("no frame")?;
-    let b = Frame::of(&FRAME_B).ok_or("no frame")?;
+    let (a, b) = two_frames()?;
     let (segment, _) = read_twice(rt.alloc(), 1, Filter::all(), &[a], &[b])?;
-    assert_eq!(rt; (segment.from, segment.to), (0, 2));
-    assert_eq!(rt; (segment.sent, segment.overrun), (2, 0));
-    assert!(rt; segment.laps.as_slice().is_empty());
+    assert_eq!(rt; segment, segment_to(rt.alloc(), 2, 2, 0, None)?);
+    Ok(())
+}
+
+#[test]
+fn laps_give_their_list_back(rt: HostRuntime) -> Result<(), Fail> {
+    let lap = Lap {
+        from: 0,
+        to: 2,
+        published: 4,
+        overrun: 1,
+    };
+    let segment = segment_to(rt.alloc(), 4, 0, 1, Some(lap))?;
+    assert_eq!(rt; segment.laps.len(), 1);
+    assert!(rt; !segment.laps.is_empty());
+    assert_eq!(rt; segment.laps.into_vec().as_slice(), [lap].as_slice());
     Ok(())
 }

@@ -1,11 +1,11 @@
 -- Lists of numbers and sums over lists, for the rule of the lock.
-use Rattle.std.proofs.Common.{◌≡◌, ◌≢◌, ℕ, zero, suc, ◌+◌, ◌<◌, ◌≤◌, ◌⊎◌, inl, inr, ⊎_elim, Bool, cond, List, [], ◌∷◌, ◌++◌, length, get_or, set, take, drop, refl, sym, ◌∙◌, ap, subst, arith, sum_by, eqb, eq-eqb, ne_eqb, take-append-drop}
+use Rattle.std.proofs.Common.{◌≡◌, ◌≢◌, ℕ, zero, suc, ◌+◌, ◌<◌, ◌≤◌, ◌⊎◌, inl, inr, ⊎_elim, Bool, cond, List, [], ◌∷◌, ◌++◌, length, get_or, set, take, drop, refl, sym, ◌∙◌, ap, subst, arith, sum_by, eqb, eq-eqb, ne_eqb, take-append-drop, length-append}
 use Rattle.std.proofs.lemmas.List.Sums.{sum_by-cons, sum_by-append, sum_by-set}
 use mathlib.Core.Option.{some, some-injective, some-ne-none}
 use mathlib.Core.Logic.{dite}
 use native.Mathlib.Decide.{ℕ_discrete}
 use lib.ListN.{get_elem?}
-use Rattle.atomic_table.proofs.Lists.{at_set}
+use Rattle.atomic_table.proofs.Lists.{at_set, at_longer, at_last}
 use Rattle.turn_log.specs.LockRule.{times, from}
 
 -- one index has one element
@@ -129,3 +129,21 @@ at_cut (x ∷ xs) a b rest (suc j) e le =
 pub one_more : (n : ℕ) → 0 < n → (m : ℕ) × (n ≡ suc m)
 one_more zero stands = absurd (omega (arith, stands))
 one_more (suc m) stands = (m, refl)
+
+-- the two elements of a list, as they are taken from its end
+pub at_two : {A : Type 0} (xs ys zs : List A) (a b : A) → xs ≡ ys ++ b ∷ [] → ys ≡ zs ++ a ∷ [] → length xs ≡ 2
+    → (get_elem? xs 0 ≡ some a) × (get_elem? xs 1 ≡ some b)
+at_two {A} xs ys zs a b cut_b cut_a long =
+    let n : length zs ≡ 0 = omega (
+      arith,
+      long,
+      ap length cut_b,
+      ap length cut_a,
+      length-append ys (b ∷ []),
+      length-append zs (a ∷ []),
+    ) in
+    let m : length ys ≡ 1 = omega (arith, n, ap length cut_a, length-append zs (a ∷ [])) in (
+      ap (λ (l : List A). get_elem? l 0) (cut_b ∙ ap (λ (l : List A). l ++ b ∷ []) cut_a)
+          ∙ at_longer (zs ++ a ∷ []) (b ∷ []) 0 a (at_last zs a 0 n),
+      ap (λ (l : List A). get_elem? l 1) cut_b ∙ at_last ys b 1 m,
+    )

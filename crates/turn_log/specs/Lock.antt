@@ -1,11 +1,12 @@
 -- What callers say of a lock, its passes and its notes.
-use Rattle.std.specs.Prelude.{◌≡◌, ℕ, Some}
+use Rattle.std.specs.Prelude.{◌≡◌, ℕ, Some, unwrap_or}
 use base.Stored.{Gv}
 use Rattle.atomic_table.specs.Seated.{table_id_coded}
 use Rattle.turn_log.specs.declared.object.Played.{Ghosts}
 use Rattle.turn_log.specs.declared.lock.parts.Turn.{Turn}
 use Rattle.turn_log.specs.declared.lock.parts.Pass.{Pass}
 use Rattle.turn_log.specs.declared.lock.parts.Note.{Note}
+use Rattle.turn_log.specs.declared.lock.parts.Seat.{Seat}
 use Rattle.turn_log.specs.History.{History}
 
 module _ {V C A R S : Type 0} where
@@ -60,3 +61,16 @@ module _ {V C A R S : Type 0} {g : Ghosts V C A R S} where
   -- the note was written by a pass of this lock
   abbrev pub IsNoteOf : Note V C A R S g → Turn V C A R S → Type 0
   IsNoteOf note turn = table_id_coded.code note.token.table_id ≡ turn_home turn
+
+module _ {V P C A R S : Type 0} {g : Ghosts V C A R S} where
+  -- the history as the seat has seen it
+  abbrev pub seat_seen : Seat V P C A R S g → History C
+  seat_seen seat = pass_seen seat.pass
+
+  -- what no call changes of the object behind the lock
+  abbrev pub seat_shape : Seat V P C A R S g → S
+  seat_shape seat = g.shape (unwrap_or seat.pass.token.me.0.about (turn_value seat.turn.now))
+
+  -- which lock the seat is at
+  abbrev pub seat_home : Seat V P C A R S g → Gv
+  seat_home seat = pass_home seat.pass

@@ -1,4 +1,4 @@
-//! The bounded ring at a desk, by its public calls.
+//! The ring at a desk, by its public calls.
 ghost use Rattle.std.specs.Prelude.{◌≤◌, IsTrue};
 ghost use Rattle.mount_ring.specs.History as history;
 ghost use Rattle.mount_ring.specs.Shapes.{shape_of};
@@ -211,9 +211,18 @@ fn claims_are_numbered_and_looks_tell_them(rt: HostRuntime) -> Result<(), Fail> 
     list.push(Filter::all())?;
     let mut desk = Desk::new(Ring::new(rt.alloc(), 4, &Filters::new(list))?);
     let mut out = Outbox::new();
-    assert_eq!(rt; desk.turn(3, RingCall::Look, &mut out)?, RingAnswer::Looked(None));
-    assert_eq!(rt; desk.turn(1, RingCall::Claim, &mut out)?, RingAnswer::Given(1));
-    assert_eq!(rt; desk.turn(3, RingCall::Look, &mut out)?, RingAnswer::Looked(Some(1)));
+    assert_eq!(rt;
+        desk.turn(3, RingCall::Look, &mut out)?,
+        RingAnswer::Looked(None)
+    );
+    assert_eq!(rt;
+        desk.turn(1, RingCall::Claim, &mut out)?,
+        RingAnswer::Given(1)
+    );
+    assert_eq!(rt;
+        desk.turn(3, RingCall::Look, &mut out)?,
+        RingAnswer::Looked(Some(1))
+    );
     let taken = RingAnswer::Taken {
         caller: 1,
         claim: 1,
@@ -227,9 +236,33 @@ fn claims_are_numbered_and_looks_tell_them(rt: HostRuntime) -> Result<(), Fail> 
 fn a_claim_that_was_given_back_is_given_anew(rt: HostRuntime) -> Result<(), Fail> {
     let mut desk = Round::new(rt.alloc(), 4, Filter::all())?.release()?;
     let mut out = Outbox::new();
-    assert_eq!(rt; desk.turn(3, RingCall::Look, &mut out)?, RingAnswer::Looked(None));
-    assert_eq!(rt; desk.turn(2, RingCall::Claim, &mut out)?, RingAnswer::Given(2));
+    assert_eq!(rt;
+        desk.turn(3, RingCall::Look, &mut out)?,
+        RingAnswer::Looked(None)
+    );
+    assert_eq!(rt;
+        desk.turn(2, RingCall::Claim, &mut out)?,
+        RingAnswer::Given(2)
+    );
     assert_eq!(rt; desk.value().claims(), 2);
+    Ok(())
+}
+
+#[test]
+fn the_largest_ring_is_made(rt: HostRuntime) -> Result<(), Fail> {
+    let mut list = Vec::new(rt.alloc());
+    for _ in 0..64 {
+        list.push(Filter::all())?;
+    }
+    assert!(rt; list.len() == 64);
+    let mut desk = Desk::new(Ring::new(rt.alloc(), 4096, &Filters::new(list))?);
+    let cursor = Cursor {
+        next: 0,
+        passed: 0,
+        filter: 63,
+    };
+    let answer = desk.turn(1, RingCall::Join(63), &mut Outbox::new())?;
+    assert_eq!(rt; answer, RingAnswer::Joined(cursor));
     Ok(())
 }
 

@@ -11,4 +11,5 @@ loop-watch-preserved c =
     omega (arith, c.loop-watch-test.true, ap length c.deref_mut-watch-items.ensures.value) in
     let written : c.count_frame.new.self ≡ f c.watch-item.result = c.count_frame.ensures ∙ ap f (sym c.watch-item.is) in
     ap (λ (w : Watch). set c.loop-watch.watch-items c.loop-watch.watch-index w) written
-    ∙ map_over_more f c.args.watches.now.items c.loop-watch.watch-items c.loop-watch.watch-index c.watch-item.result inside c.loop-watch.invariant c.watch-item.is
+    ∙ map_over_more f c.args.watches.now.items c.loop-watch.watch-items c.loop-watch.watch-index c.watch-item.result
+    inside c.loop-watch.invariant c.watch-item.is

@@ -5,4 +5,5 @@ pub returns-clause-counted : goal.returns-clause-counted
 returns-clause-counted c = sound_counts
 
 pub returns-clause-ordered : goal.returns-clause-ordered
-returns-clause-ordered c = λ permits capacity published segment sound. (LapsBetween-le _ _ _ _ _ _ sound.laps, sound.within)
+returns-clause-ordered c = λ permits capacity published segment sound.
+    (LapsBetween-le _ _ _ _ _ _ sound.laps, sound.within)

@@ -21,7 +21,8 @@ returns c = λ s keeps.
     let inside : c.args.filter < length ring.watches.items =
     omega (arith, c.requires, length-map ring.watches.items (λ (w : Watch). w.filter)) in
     let counts : watch ≡ watch_of ring.frames.capacity s.published watch.filter =
-    watch_kept ring.frames.capacity s.published ring.watches.items c.args.filter watch keeps.watches inside c.index.ensures in
+    watch_kept ring.frames.capacity s.published ring.watches.items c.args.filter watch keeps.watches inside
+    c.index.ensures in
     let test : permits_at (shape_of (ring_shape ring)) c.args.filter ≡ permits watch.filter =
     permits_watched ring.frames.capacity ring.watches.items c.args.filter watch inside c.index.ensures in
     ap (λ (n : ℕ). joined_at c.args.filter n watch.permitted) keeps.published

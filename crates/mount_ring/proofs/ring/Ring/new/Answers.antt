@@ -14,7 +14,8 @@ use Rattle.mount_ring.proofs.ring.Ring.new.Goals as goal
 pub loop-number-preserved : goal.loop-number-preserved
 loop-number-preserved c =
     let filters : List FilterValue = c.args.filters.now in
-    let inside : c.loop-number.number < length filters = slice_get_within filters c.loop-number.number c.get.result.now c.get.ensures in
+    let inside : c.loop-number.number < length filters =
+    slice_get_within filters c.loop-number.number c.get.result.now c.get.ensures in
     let here : get_or filters c.loop-number.number c.get.result.now ≡ c.get.result.now =
     get_or_from_slice_get filters c.loop-number.number c.get.result.now c.get.result.now c.get.ensures in
     let added : c.new.result ≡ unseen (get_or filters c.loop-number.number c.get.result.now) =
@@ -28,7 +29,8 @@ loop-number-preserved c =
     }
 
 -- every filter is watched in the end
-whole : (watches : List Watch) (filters : List FilterValue) (number end : ℕ) → watches ≡ map unseen (take number filters) →
+whole : (watches : List Watch) (filters : List FilterValue) (number end : ℕ)
+    → watches ≡ map unseen (take number filters) →
     end ≡ length filters → number ≤ end → end ≤ number → watches ≡ map unseen filters
 whole watches filters number end made end_is low high =
     let count : number ≡ length filters = omega arith in
@@ -40,15 +42,18 @@ make_shape capacity filters = record { capacity = capacity; filters = filters }
 pub returns-clause-shape : goal.returns-clause-shape
 returns-clause-shape c =
     let made : c.loop-number.watches.items ≡ map unseen c.args.filters.now =
-    whole c.loop-number.watches.items c.args.filters.now c.loop-number.number c.len-number-end.result c.loop-number.invariant.made
+    whole c.loop-number.watches.items c.args.filters.now c.loop-number.number c.len-number-end.result
+    c.loop-number.invariant.made
     c.loop-number.invariant.end c.loop-number.auto.number-end c.loop-number-test.false in
-    ap (λ (b : Buffer (List ℕ)). make_shape b.capacity (filters_of c.loop-number.watches.items)) c.in_ok-with_capacity.ensures
+    ap (λ (b : Buffer (List ℕ)). make_shape b.capacity (filters_of c.loop-number.watches.items))
+    c.in_ok-with_capacity.ensures
     ∙ ap (make_shape c.args.capacity) (ap filters_of made ∙ filters_of-unseen c.args.filters.now)
 
 pub returns-clause-stands : goal.returns-clause-stands
 returns-clause-stands c =
     let made : c.loop-number.watches.items ≡ map unseen c.args.filters.now =
-    whole c.loop-number.watches.items c.args.filters.now c.loop-number.number c.len-number-end.result c.loop-number.invariant.made
+    whole c.loop-number.watches.items c.args.filters.now c.loop-number.number c.len-number-end.result
+    c.loop-number.invariant.made
     c.loop-number.invariant.end c.loop-number.auto.number-end c.loop-number-test.false in
     record {
       frames = ap (λ (b : Buffer (List ℕ)). b.items) c.in_ok-with_capacity.ensures

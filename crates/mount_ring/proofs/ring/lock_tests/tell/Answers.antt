@@ -6,9 +6,11 @@ use Rattle.mount_ring.proofs.ring.lock_tests.tell.Goals as goal
 
 pub note-note-requires : goal.note-note-requires
 note-note-requires g c =
-    let same = c.read_own_back.ensures.same in
-    (c.leave-first.ensures.home ∙ same.4 ∙ c.seat-seat.ensures.home,
-    subst (λ (s : RingShape). HasShape c.leave-first.result s) (same.0 ∙ c.seat-seat.ensures.shape) c.leave-first.ensures.shape)
+    let same = c.read_own_back.ensures.same in (
+      c.leave-first.ensures.home ∙ same.4 ∙ c.seat-seat.ensures.home,
+      subst (λ (s : RingShape). HasShape c.leave-first.result s) (same.0 ∙ c.seat-seat.ensures.shape)
+          c.leave-first.ensures.shape,
+    )
 
 pub seat-seat-requires-2-after_bounds : goal.seat-seat-requires-2-after_bounds
 seat-seat-requires-2-after_bounds g c κs within =

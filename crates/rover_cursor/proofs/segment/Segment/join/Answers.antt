@@ -13,5 +13,7 @@ returns-clause-heard g c =
 pub returns-clause-segment : goal.returns-clause-segment
 returns-clause-segment g c =
     segment_joined_by (g.T.Turns.shape c.args.place.now) c.args.mount c.args.me c.args.filter
-    (g.T.Turns.seen c.args.place.now ++ c.in_ok-cursor.ensures.ok.others) (g.T.Turns.seen c.turn.new.self) c.in-Joined.cursor c.begin.result
-    c.requires.filter c.in_ok-cursor.ensures.ok.seen (sym c.in-Joined.is ∙ c.in_ok-cursor.ensures.ok.answered) c.begin.ensures
+    (g.T.Turns.seen c.args.place.now ++ c.in_ok-cursor.ensures.ok.others) (g.T.Turns.seen c.turn.new.self)
+    c.in-Joined.cursor c.begin.result
+    c.requires.filter c.in_ok-cursor.ensures.ok.seen (sym c.in-Joined.is ∙ c.in_ok-cursor.ensures.ok.answered)
+    c.begin.ensures

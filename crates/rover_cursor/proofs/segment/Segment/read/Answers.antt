@@ -13,14 +13,17 @@ use Rattle.rover_cursor.proofs.segment.Segment.read.Goals as goal
 
 pub turn-requires-clause-fits : goal.turn-requires-clause-fits
 turn-requires-clause-fits g c =
-    next_fits (shape_of (g.T.Turns.shape c.args.place.now)) c.args.me c.args.budget c.requires.resumes.0 (g.T.Turns.seen c.args.place.now) _
+    next_fits (shape_of (g.T.Turns.shape c.args.place.now)) c.args.me c.args.budget c.requires.resumes.0
+    (g.T.Turns.seen c.args.place.now) _
     c.args.self.now (ap (λ (s : Segment). s.cursor) c.self.view_is) c.requires.resumes.1 c.requires.resumes.2
 
 pub move_on-requires : goal.move_on-requires
 move_on-requires g c =
-    sums_after (shape_of (g.T.Turns.shape c.args.place.now)) c.args.me (g.T.Turns.seen c.turn.new.self) c.args.self.now c.in-Read.report _ _
+    sums_after (shape_of (g.T.Turns.shape c.args.place.now)) c.args.me (g.T.Turns.seen c.turn.new.self)
+    c.args.self.now c.in-Read.report _ _
     (ap (λ (s : Segment). s.sent) c.self.view_is) (ap (λ (s : Segment). s.overrun) c.self.view_is)
-    (after_read (shape_of (g.T.Turns.shape c.args.place.now)) c.args.me c.args.budget c.requires.resumes.0 (g.T.Turns.seen c.args.place.now)
+    (after_read (shape_of (g.T.Turns.shape c.args.place.now)) c.args.me c.args.budget c.requires.resumes.0
+    (g.T.Turns.seen c.args.place.now)
     c.in_ok-report.ensures.ok.others (g.T.Turns.seen c.turn.new.self) _ c.args.self.now c.in-Read.report
     (ap (λ (s : Segment). s.cursor) c.self.view_is)
     c.requires.resumes.1 c.requires.resumes.2 c.in_ok-report.ensures.ok.none_of_mine c.in_ok-report.ensures.ok.seen
@@ -28,10 +31,14 @@ move_on-requires g c =
 
 -- the segment after the read, and what the read answered
 read_is : (g : Rattle.rover_cursor.proofs.segment.Segment.read.Given.Over) (c : goal.After-move_on g) →
-    IsSegment (shape_of (g.T.Turns.shape c.args.place.now)) c.args.me (g.T.Turns.seen c.turn.new.self) (read_on c.in-Read.report c.args.self.now)
-    × (c.in-Read.report ≡ report_in (shape_of (g.T.Turns.shape c.args.place.now)) (g.T.Turns.seen c.turn.new.self) c.args.self.now.cursor c.args.budget)
+    IsSegment (shape_of (g.T.Turns.shape c.args.place.now)) c.args.me (g.T.Turns.seen c.turn.new.self)
+    (read_on c.in-Read.report c.args.self.now)
+    × (c.in-Read.report
+    ≡ report_in (shape_of (g.T.Turns.shape c.args.place.now)) (g.T.Turns.seen c.turn.new.self) c.args.self.now.cursor
+    c.args.budget)
 read_is g c =
-    after_read (shape_of (g.T.Turns.shape c.args.place.now)) c.args.me c.args.budget c.requires.resumes.0 (g.T.Turns.seen c.args.place.now)
+    after_read (shape_of (g.T.Turns.shape c.args.place.now)) c.args.me c.args.budget c.requires.resumes.0
+    (g.T.Turns.seen c.args.place.now)
     c.in_ok-report.ensures.ok.others (g.T.Turns.seen c.turn.new.self) _ c.args.self.now c.in-Read.report
     (ap (λ (s : Segment). s.cursor) c.self.view_is)
     c.requires.resumes.1 c.requires.resumes.2 c.in_ok-report.ensures.ok.none_of_mine c.in_ok-report.ensures.ok.seen
@@ -45,24 +52,28 @@ kept_is g c =
     (ap (λ (s : Segment). s.mount) c.self.view_is) (ap (λ (s : Segment). s.from) c.self.view_is)
     (ap (λ (s : Segment). s.sent) c.self.view_is) (ap (λ (s : Segment). s.overrun) c.self.view_is)
     (c.note_lap.ensures
-    ∙ ap (λ (l : List Lap). l ++ option_to_list c.in-Read.report.lapped) (c.reserve.ensures.items ∙ ap (λ (s : Segment). s.laps) c.self.view_is))
+    ∙ ap (λ (l : List Lap). l ++ option_to_list c.in-Read.report.lapped) (c.reserve.ensures.items
+    ∙ ap (λ (s : Segment). s.laps) c.self.view_is))
     c.move_on.ensures
 
 pub returns-clause-heard : goal.returns-clause-heard
 returns-clause-heard g c =
     heard_as c.in_ok-report.ensures.ok (calls.Read c.args.self.now.cursor c.args.budget) (answers.Read _)
-    (ap (λ (s : Segment). calls.Read s.cursor c.args.budget) c.self.view_is) (c.in-Read.is ∙ ap answers.Read (read_is g c).1)
+    (ap (λ (s : Segment). calls.Read s.cursor c.args.budget) c.self.view_is)
+    (c.in-Read.is ∙ ap answers.Read (read_is g c).1)
 
 pub returns-clause-followed : goal.returns-clause-followed
 returns-clause-followed g c = kept_is g c ∙ ap (λ (r : ReadReport). read_on r c.args.self.now) (read_is g c).1
 
 pub returns-clause-segment : goal.returns-clause-segment
 returns-clause-segment g c =
-    subst (λ (s : Segment). IsSegment (shape_of (g.T.Turns.shape c.args.place.now)) c.args.me (g.T.Turns.seen c.turn.new.self) s)
+    subst (λ (s : Segment). IsSegment (shape_of (g.T.Turns.shape c.args.place.now)) c.args.me
+    (g.T.Turns.seen c.turn.new.self) s)
     (sym (kept_is g c)) (read_is g c).0
 
 pub returns-clause-taken : goal.returns-clause-taken
 returns-clause-taken g c =
-    taken_by (shape_of (g.T.Turns.shape c.args.place.now)) c.args.me c.args.budget (g.T.Turns.seen c.args.place.now ++ c.in_ok-report.ensures.ok.others)
+    taken_by (shape_of (g.T.Turns.shape c.args.place.now)) c.args.me c.args.budget
+    (g.T.Turns.seen c.args.place.now ++ c.in_ok-report.ensures.ok.others)
     (g.T.Turns.seen c.turn.new.self) _ c.args.self.now.cursor c.args.out.now c.turn.new.room
     (ap (λ (s : Segment). s.cursor) c.self.view_is) c.in_ok-report.ensures.ok.seen c.in_ok-report.ensures.ok.room

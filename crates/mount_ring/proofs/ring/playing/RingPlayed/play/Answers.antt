@@ -26,7 +26,8 @@ pub returns-in-Publish-clause-played : goal.returns-in-Publish-clause-played
 returns-in-Publish-clause-played c = λ h stands few fits.
     let room : length (state_of h).published < 2 ^ 63 = omega (arith, published_few h, few) in
     rw c.in-Publish.is (
-      subst (λ (s : State). Keeps c.publish.new.self s) (sym (one_more h (c.args.me, Publish c.in-Publish.field-0 c.in-Publish.frame)))
+      subst (λ (s : State). Keeps c.publish.new.self s)
+          (sym (one_more h (c.args.me, Publish c.in-Publish.field-0 c.in-Publish.frame)))
           (c.publish.ensures.state (state_of h) room stands),
       ap (λ (n : ℕ). At n) (c.publish.ensures.place (state_of h) stands),
       refl,
