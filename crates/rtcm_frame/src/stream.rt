@@ -26,8 +26,10 @@ const SUMS: usize = ROOM + 1;
 /// With the frames given so far and all bytes taken so far a cutter stands in the relation `Gave`;
 /// each call says what it makes of that. So the frames given are always a prefix of the frames of
 /// these bytes, and all of them once `next` answers none.
-/// No stream makes a byte pay twice: where a candidate's checksum fails, running sums are made over
-/// its bytes, and every later candidate that begins among them is judged by these in constant time.
+///
+/// Where a candidate's checksum fails, running sums are made over its bytes, and every later
+/// candidate that begins among them is judged by these in constant time. So a stream of false
+/// preambles is no slower to cut than its sums are to make; no clause speaks of time.
 #[derive(Drop)]
 pub struct Cutter {
     buffer: [u8; ROOM],
@@ -102,8 +104,9 @@ impl Cutter {
         self.len += 1;
     }
 
-    /// Takes the stream's next bytes, as many as there is room for, and answers how many. Where
-    /// `next` has answered none since the last call it takes at least one.
+    /// Takes the stream's next bytes from the front of these, and answers how many it took: at least
+    /// one of them where `next` has answered none since the last call. Those that are left are given
+    /// to the next call.
     pub fn feed(&mut self, bytes: &[u8]) -> usize
         ensures within { result ≤ length bytes.now }
         ensures some { IsWaiting self.old.bytes → 0 < length bytes.now → 0 < result }
