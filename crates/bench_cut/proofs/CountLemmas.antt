@@ -63,7 +63,7 @@ fed_size old mid more count before within is =
 pub fed_more : (all piece : List ℕ) (place count before frames : ℕ) (old mid new : Pending)
     → GaveSoMany (all ++ take place piece) before old
     → ((given : List (List ℕ)) (so_far : List ℕ) → Gave given so_far old
-        → Gave given (so_far ++ take count (take (length piece - place) (drop place piece))) mid)
+    → Gave given (so_far ++ take count (take (length piece - place) (drop place piece))) mid)
     → ((so_far : List ℕ) → GaveSoMany so_far before mid → GaveSoMany so_far frames new)
     → GaveSoMany (all ++ take (place + count) piece) frames new
 fed_more all piece place count before frames old mid new so_many fed ready =

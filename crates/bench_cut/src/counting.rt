@@ -138,7 +138,7 @@ fn take_ready<T: Taker>(cutter: &mut Cutter, before: u64, taker: &mut T) -> u64
 {
     let mut frames = before;
     while let Some(frame) = cutter.next() {
-        taker.take(frame);
+        taker.take(&frame);
         frames += 1;
     }
     frames

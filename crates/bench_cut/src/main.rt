@@ -6,6 +6,7 @@
 //! let each frame go; `ring`, the default, feeds blocks, publishes each frame at a mountpoint that
 //! keeps 256 and has one rover read it.
 #![tactic(auto)]
+
 ghost use Rattle.std.specs.Prelude.{◌<◌, length};
 
 mod counting;
@@ -61,6 +62,9 @@ fn main(rt: HostRuntime) -> io::Result<()> {
         Job::Cut(way) => cut(&mut rt.reader(), piece.as_mut_slice(), way)?,
         Job::Serve => serve(rt.alloc(), &mut rt.reader(), piece.as_mut_slice())?,
     };
-    println!(rt; "frames {} junk {} read {}", counts.frames, counts.junk, read)?;
+    println!(rt;
+        "frames {} junk {} read {}",
+        counts.frames, counts.junk, read
+    )?;
     Ok(())
 }

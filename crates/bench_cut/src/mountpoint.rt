@@ -39,7 +39,7 @@ pub struct Mountpoint {
 
 impl Mountpoint {
     /// A mountpoint with its source and its rover.
-    pub fn new(alloc: Global) -> io::Result<Mountpoint> {
+    pub(crate) fn new(alloc: Global) -> io::Result<Mountpoint> {
         let mut list = Vec::new(alloc);
         list.push(Filter::all())?;
         let mut desk = Desk::new(Ring::new(alloc, KEPT, &Filters::new(list))?);
@@ -60,7 +60,7 @@ impl Mountpoint {
     }
 
     /// Has the rover read what is left, and answers how many frames it read in all.
-    pub fn finish(mut self) -> u64 {
+    pub(crate) fn finish(mut self) -> u64 {
         self.catch_up();
         self.read
     }
@@ -96,8 +96,8 @@ impl Mountpoint {
 }
 
 impl Taker for Mountpoint {
-    fn take(&mut self, frame: Frame) {
-        if self.publish(frame).is_ok() {
+    fn take(&mut self, frame: &Frame) {
+        if self.publish(*frame).is_ok() {
             self.unread = self.unread.saturating_add(1);
         }
         if self.unread >= BUDGET {

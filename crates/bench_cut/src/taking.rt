@@ -4,7 +4,7 @@ use rtcm_frame::Frame;
 /// One who takes each frame of a stream, in order.
 pub trait Taker {
     /// Takes the next frame.
-    fn take(&mut self, frame: Frame);
+    fn take(&mut self, frame: &Frame);
 }
 
 /// Lets each frame go.
@@ -12,7 +12,5 @@ pub trait Taker {
 pub struct Nobody;
 
 impl Taker for Nobody {
-    fn take(&mut self, frame: Frame) {
-        let _frame = frame;
-    }
+    fn take(&mut self, _frame: &Frame) {}
 }

@@ -1,7 +1,6 @@
 -- Running checksums over a buffer: how they grow, and what the checksum of a part is.
-use Rattle.std.proofs.Common.{◌≡◌, ℕ, zero, suc, inl, inr, ◌+◌, ◌-◌, ◌^◌, ◌≤◌, ◌<◌, bit_xor, List, length, take, drop, set, get_or, ap, ap₂, ◌∙◌, sym, subst, arith, length-drop, length-take-le}
-use Rattle.std.proofs.lemmas.Bool.{cases_lt}
-use Rattle.std.proofs.lemmas.List.{get_or-set_same, get_or-set_other, get_or-drop}
+use Rattle.std.proofs.Common.{◌≡◌, ℕ, zero, suc, ◌+◌, ◌-◌, ◌≤◌, bit_xor, List, length, take, drop, get_or, ap, ap₂, ◌∙◌, sym, arith, length-drop, length-take-le}
+use Rattle.std.proofs.lemmas.List.{get_or-drop}
 use Rattle.rtcm_frame.specs.Crc.{crc24q_of}
 use Rattle.rtcm_frame.specs.Bytewise.{after_byte, crc_on, moved}
 use Rattle.rtcm_frame.specs.Sums.{Chained, AreSums}

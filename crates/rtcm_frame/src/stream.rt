@@ -13,8 +13,8 @@ use crate::sums::{part_crc, reach};
 use std::fmt;
 use std::marker::Model;
 
-// The buffer holds twice the longest frame, so at least a longest frame's length of bytes was passed
-// over each time that what waits is moved to its front.
+// The buffer holds twice the longest frame. So each time that what waits is moved to its front, at
+// least a longest frame's length of bytes was passed over before.
 const ROOM: usize = 2 * LONGEST;
 
 // A sum stands before each byte of the buffer, and one behind the last.
@@ -26,8 +26,10 @@ const SUMS: usize = ROOM + 1;
 /// With the frames given so far and all bytes taken so far a cutter stands in the relation `Gave`;
 /// each call says what it makes of that. So the frames given are always a prefix of the frames of
 /// these bytes, and all of them once `next` answers none.
-/// No stream makes a byte pay twice: where a candidate's checksum fails, running sums are made over
-/// its bytes, and every later candidate that begins among them is judged by these in constant time.
+///
+/// Where a candidate's checksum fails, running sums are made over its bytes, and every later
+/// candidate that begins among them is judged by these in constant time. So a stream of false
+/// preambles is no slower to cut than its sums are to make; no clause speaks of time.
 #[derive(Drop)]
 pub struct Cutter {
     buffer: [u8; ROOM],
@@ -86,6 +88,7 @@ impl Cutter {
 
     /// Takes the stream's next byte. What waits must be nothing or an unfinished frame, as it is
     /// after `next` answered none.
+    #[inline]
     #[tactic(auto, using(crate::proofs::PendingLemmas::waiting_fits))]
     pub fn push(&mut self, byte: u8)
         requires { IsWaiting self.old.bytes }
@@ -101,8 +104,9 @@ impl Cutter {
         self.len += 1;
     }
 
-    /// Takes the stream's next bytes, as many as there is room for, and answers how many. Where
-    /// `next` has answered none since the last call it takes at least one.
+    /// Takes the stream's next bytes from the front of these, and answers how many it took: at least
+    /// one of them where `next` has answered none since the last call. Those that are left are given
+    /// to the next call.
     pub fn feed(&mut self, bytes: &[u8]) -> usize
         ensures within { result ≤ length bytes.now }
         ensures some { IsWaiting self.old.bytes → 0 < length bytes.now → 0 < result }
@@ -122,6 +126,7 @@ impl Cutter {
     /// The next frame of the bytes so far; none exactly where they hold no further whole frame. Of
     /// the bytes that wait those in front of the frame are counted as junk, and none behind it. The
     /// condition on the count of junk holds where fewer than 2^63 bytes were pushed.
+    #[inline(always)]
     pub fn next(&mut self) -> Option<Frame>
         requires { self.old.junk + length self.old.bytes < 2 ^ 64 }
         ensures found { IfSome result (λ frame. Took self.old self.new (frame ∷ [])) }
@@ -133,11 +138,7 @@ impl Cutter {
             → IfNone result (Gave given all self.new × GaveAll given all self.new) }
     {
         match self.find() {
-            Some(count) => {
-                let frame = Frame::held(&self.waiting()[..count]);
-                self.skip(count);
-                Some(frame)
-            }
+            Some(count) => Some(self.take_front(count)),
             None => None,
         }
     }
@@ -226,6 +227,19 @@ impl Cutter {
         self.summed = reach(&mut self.sums, &self.buffer, summed, end);
         let crc = part_crc(&self.sums, self.start, end);
         is_whole_by(&self.waiting()[..count], crc)
+    }
+
+    // Takes the frame of so many bytes in front.
+    fn take_front(&mut self, count: usize) -> Frame
+        requires within { count ≤ length self.old.bytes }
+        requires whole { IsTrue (is_frame (take count self.old.bytes)) }
+        ensures frame { result ≡ take count self.old.bytes }
+        ensures behind { self.new
+            ≡ record { bytes = drop count self.old.bytes; junk = self.old.junk } }
+    {
+        let frame = Frame::held(&self.waiting()[..count]);
+        self.skip(count);
+        frame
     }
 
     // Passes over bytes in front.

@@ -1,4 +1,4 @@
-use Rattle.std.proofs.Common.{◌+◌, ◌-◌, ◌≤◌, length, take}
+use Rattle.std.proofs.Common.{◌-◌, ◌≤◌, length, take}
 use Rattle.rtcm_frame.specs.Cut.{IsWaiting, cut}
 use Rattle.rtcm_frame.specs.Pending.{Gave}
 use Rattle.rtcm_frame.proofs.tests.cut_by_blocks.Given as goal

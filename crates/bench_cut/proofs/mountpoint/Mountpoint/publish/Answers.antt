@@ -12,4 +12,4 @@ invariant_of-self c =
     c.args.frame old.cursor c.turn.result old.out c.turn.new.room c.turn.ensures.shape c.turn.ensures.ok c.turn.ensures.err
     old.held old.joined
     in
-    record { held = both.0; joined = both.1; }
+    record { held = both.0; joined = both.1 }
