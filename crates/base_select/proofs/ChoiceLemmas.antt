@@ -1,7 +1,5 @@
 -- The best place so far.
-use Rattle.std.proofs.Common.{◌≡◌, ℕ, ◌+◌, ◌<◌, ◌≤◌, List, length, get_or, subst, arith, inl, inr}
-use Rattle.std.proofs.lemmas.Bool.{cases_lt}
-use Rattle.base_select.specs.Choice.{IsNearest}
+use Rattle.std.proofs.Common.{ℕ, ◌<◌, ◌≤◌, List, get_or}
 
 -- n is the place of the least of the first i
 pub record IsBest (all : List ℕ) (i n : ℕ) : Type 0 where

@@ -31,13 +31,6 @@ piece_torn a b c text at n within p torn =
           (subst (λ (l : List ℕ). Appends b c l) (take-take torn.0 n (drop at text) first) torn.2),
     )
 
--- nothing more
-pub Appends-keeps : (a b c : Option (List ℕ)) (xs : List ℕ) → Appends a b xs → Keeps b c → Appends a c xs
-Appends-keeps None b c xs p q = tt
-Appends-keeps (Some a) None c xs p q = absurd p
-Appends-keeps (Some a) (Some b) None xs p q = absurd q
-Appends-keeps (Some a) (Some b) (Some c) xs p q = q ∙ p
-
 -- one more part of the rest
 pub part_written : (a b c : Option (List ℕ)) (text : List ℕ) (at n k : ℕ) → n ≤ k → Appends a b (take at text)
     → Appends b c (take n (take k (drop at text))) → Appends a c (take (at + n) text)

@@ -1,10 +1,9 @@
 -- How a line begins, and whether it is some record's.
-use Rattle.std.proofs.Common.{◌≡◌, ℕ, ◌+◌, ◌-◌, ◌<◌, ◌≤◌, true, false, List, [], ◌∷◌, ◌++◌, length, take, drop, Some, None, refl, sym, ap, subst, ◌∙◌, arith, inl, inr, length-append}
+use Rattle.std.proofs.Common.{◌≡◌, ℕ, ◌+◌, ◌<◌, ◌≤◌, true, false, List, [], ◌∷◌, ◌++◌, length, drop, Some, None, refl, sym, ap, subst, ◌∙◌, arith, inl, inr}
 use Rattle.std.specs.Prelude.{nat_eq}
 use Rattle.std.specs.List.{count_by}
 use Rattle.std.proofs.lemmas.Bool.{cases_Bool, le-ltb, lt-ltb}
 use Rattle.std.proofs.lemmas.Bool.Decides.{Decides-eqb}
-use Rattle.std.proofs.lemmas.List.{take_rest}
 use Rattle.std.proofs.lemmas.Slice.Eq.{starts_is}
 use Rattle.sourcetable.specs.declared.record.Kind.{Kind}
 use Rattle.sourcetable.specs.declared.record.Kind.TheVariants.{Str, Cas, Net}
@@ -13,7 +12,7 @@ use Rattle.sourcetable.specs.declared.fault.LineFault.TheVariants as faults
 use Rattle.sourcetable.specs.Record.{letters, field_count, fields_text, line_of, is_separator, IsRecord}
 use Rattle.sourcetable.specs.Table.{begins_as, kind_of, fault_as, fault_of, is_end}
 use Rattle.sourcetable.specs.Reading.{IsRecordOf}
-use Rattle.sourcetable.proofs.RecordLemmas.{count-append, count_behind, count_fields_least, fields_same}
+use Rattle.sourcetable.proofs.RecordLemmas.{count-append, count_fields_least, fields_same}
 
 -- ---- the beginning of a line
 

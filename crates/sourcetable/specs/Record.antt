@@ -1,7 +1,7 @@
 -- One record of a sourcetable (NTRIP 1.0, RTCM 10410.0; NTRIP 2.0, RTCM 10410.1): a kind and its
 -- fields, which are one line.
-use Rattle.std.specs.Prelude.{◌≡◌, ℕ, ◌==◌, ◌||◌, Bool, false, codes, List, [], ◌∷◌, ◌++◌, length}
-use Rattle.std.specs.List.{All, flat_map, list_any}
+use Rattle.std.specs.Prelude.{◌≡◌, ℕ, ◌==◌, ◌||◌, Bool, codes, List, [], ◌∷◌, ◌++◌, length}
+use Rattle.std.specs.List.{All, flat_map}
 use Rattle.cast_text.specs.Split.{HasNone}
 use Rattle.sourcetable.specs.declared.record.Kind.{Kind}
 use Rattle.sourcetable.specs.declared.record.Kind.TheVariants.{Str, Cas, Net}

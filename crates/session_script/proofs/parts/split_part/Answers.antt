@@ -1,4 +1,4 @@
-use Rattle.std.proofs.Common.{◌∷◌, eqb, ap, ◌∙◌, refl}
+use Rattle.std.proofs.Common.{eqb, ap, ◌∙◌, refl}
 use Rattle.std.specs.List.{slice_split}
 use Rattle.cast_text.proofs.SplitLemmas.{split_alone, split_front}
 use Rattle.session_script.proofs.parts.split_part.Goals as goal

@@ -1,5 +1,5 @@
 -- Where room was reserved for the whole line, there is room for each part of it.
-use Rattle.std.proofs.Common.{◌≤◌, ◌+◌, ◌++◌, length, take, ap, ◌∙◌, arith}
+use Rattle.std.proofs.Common.{◌++◌, length, take, ap, ◌∙◌, arith}
 use Rattle.std.proofs.lemmas.Bool.{false≢true}
 use Rattle.std.proofs.lemmas.List.{length-append}
 use Rattle.sourcetable.specs.Record.{letters, fields_text}

@@ -1,9 +1,9 @@
 -- Where room was reserved for all lines, there is room for each of them.
-use Rattle.std.proofs.Common.{◌≤◌, ◌+◌, ◌++◌, length, take, ap, arith}
+use Rattle.std.proofs.Common.{length, take, ap, arith}
 use Rattle.std.proofs.lemmas.Bool.{false≢true}
 use Rattle.std.proofs.lemmas.List.{length-append}
 use Rattle.sourcetable.specs.Record.{line_of}
-use Rattle.sourcetable.specs.Table.{cr_lf, lines_text}
+use Rattle.sourcetable.specs.Table.{lines_text}
 use Rattle.sourcetable.proofs.RoomLemmas.{line_within}
 use Rattle.sourcetable.proofs.writing.push_records.Goals as goal
 
