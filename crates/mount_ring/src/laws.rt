@@ -2,7 +2,7 @@
 //! and sources may count on, for any filter, any capacity and any frames that were published.
 ghost use Rattle.std.specs.Prelude.{◌≡◌, ℕ, ◌+◌, ◌-◌, ◌<◌, ◌≤◌, ◌↔◌, min, List, [], ◌∷◌, ◌++◌, length, take, IsTrue, IfSome, slice_get};
 ghost use Rattle.std.specs.List.{filter, count_by};
-ghost use Rattle.mount_ring.specs.Reads.{read_report};
+ghost use Rattle.mount_ring.specs.Reads.{most_taken, read_report};
 ghost use Rattle.mount_ring.specs.History.{Shape, State, start, after, after_call, state_of, permits_at, is_holder, fits, is_readable, joined, answer, own_answers, answers_from, has_none_of};
 ghost use Rattle.mount_ring.specs.Places.{between, Reading, report_of, taken_by, begin_of, end_of, lap_overrun, published_by, claims_given, are_fit};
 
@@ -15,11 +15,11 @@ use crate::cursor::Cursor;
 pub fn read_goes_on()
     ensures forward { (r : Reading) → (r.cursor.next ≤ begin_of r) × (begin_of r ≤ end_of r) }
     ensures within { (r : Reading) → end_of r ≤ length r.published }
-    ensures few { (r : Reading) → (report_of r).taken ≤ min r.budget 16 }
-    ensures to_the_end { (r : Reading) → (report_of r).taken < min r.budget 16
+    ensures few { (r : Reading) → (report_of r).taken ≤ min r.budget most_taken }
+    ensures to_the_end { (r : Reading) → (report_of r).taken < min r.budget most_taken
         → end_of r ≡ length r.published }
     ensures no_further { (r : Reading) (place : ℕ) → begin_of r ≤ place → place < end_of r
-        → count_by r.permits (between (begin_of r) place r.published) < min r.budget 16 }
+        → count_by r.permits (between (begin_of r) place r.published) < min r.budget most_taken }
     ensures no_budget { (r : Reading) → r.budget ≡ 0 → end_of r ≡ begin_of r }
 {}
 

@@ -1,4 +1,5 @@
 ghost use Rattle.std.specs.Prelude.{◌≡◌, ℕ, ◌+◌, ◌<◌, ◌≤◌, List, [], ◌∷◌, ◌++◌, length};
+ghost use Rattle.mount_ring.specs.Reads.{most_taken};
 
 use rtcm_frame::Frame;
 use std::fmt;
@@ -23,7 +24,9 @@ impl Model for Outbox {
 
     ghost view = { λ o. take o.len o.frames };
 
-    ghost invariant = { λ o. o.len ≤ 16 };
+    ghost use Rattle.mount_ring.specs.Reads.{most_taken};
+
+    ghost invariant = { λ o. o.len ≤ most_taken };
 }
 
 impl Outbox {
@@ -40,7 +43,7 @@ impl Outbox {
     /// The frames, in the order in which they were taken.
     pub fn frames(&self) -> &[Frame]
         ensures frames { result.now ≡ self.now }
-        ensures few { length result.now ≤ 16 }
+        ensures few { length result.now ≤ most_taken }
     {
         &self.frames[..self.len]
     }
@@ -54,7 +57,7 @@ impl Outbox {
 
     /// Adds a frame at the end.
     pub(crate) fn push(&mut self, frame: Frame)
-        requires { length self.old < 16 }
+        requires { length self.old < most_taken }
         ensures { self.new ≡ self.old ++ frame ∷ [] }
     {
         self.frames[self.len] = frame;

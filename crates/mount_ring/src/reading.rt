@@ -1,7 +1,7 @@
 ghost use Rattle.std.specs.Prelude.{◌≡◌, ◌-◌, ◌<◌, ◌≤◌, length, take, drop};
 ghost use Rattle.std.specs.List.{filter as permitted_of};
 ghost use Rattle.type_filter.specs.Permitted.{permits};
-ghost use Rattle.mount_ring.specs.Reads.{looked};
+ghost use Rattle.mount_ring.specs.Reads.{looked, most_taken};
 
 use crate::cursor::{Cursor, Lap};
 use crate::outbox::Outbox;
@@ -57,7 +57,7 @@ pub(crate) fn take_frames(
     budget: usize,
     out: &mut Outbox,
 ) -> usize
-    requires few { budget ≤ 16 }
+    requires few { budget ≤ most_taken }
     requires within { from ≤ length frames.now.items }
     ensures looked { result ≡ looked (permits filter.now) budget (drop from frames.now.items) }
     ensures out { out.new
