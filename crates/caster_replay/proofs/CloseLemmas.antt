@@ -1,8 +1,7 @@
 -- Closing all connections in order.
 use Rattle.std.proofs.Common.{◌≡◌, ℕ, ◌+◌, ◌<◌, Bool, true, false, cond, List, [], ◌∷◌, length, map, take, get_or, set, refl, ap, subst, ◌∙◌, sym, arith, inl, inr, Option, None, Some}
 use Rattle.std.specs.Prelude.{IsSome}
-use Rattle.std.specs.List.{All}
-use Rattle.std.proofs.lemmas.List.{take_more, take_all, length-map, get_or-map, get_or-set_same, get_or-set_other}
+use Rattle.std.proofs.lemmas.List.{take_more, length-map, get_or-map, get_or-set_same, get_or-set_other}
 use Rattle.std.proofs.lemmas.List.Sums.{fold-append}
 use Rattle.std.proofs.lemmas.Bool.{cases_eq}
 use Rattle.mount_ring.specs.declared.RingCall.{RingCall}
@@ -76,9 +75,6 @@ pub record ClosedSoFar (capacity : ℕ) (w : World) (i : ℕ) (sessions : List S
   pub stands : Stands capacity (closes (bare capacity) w (take i (numbers_of w))) sessions desk
   pub ended : (j : ℕ) (d : Session) → j < i → IsSome (get_or sessions j d).ending
 
-pub closed_none : (capacity : ℕ) (w : World) (sessions : List Session) (desk : DeskValue) → Stands capacity w sessions desk → ClosedSoFar capacity w 0 sessions desk
-closed_none capacity w sessions desk stands = record { stands = stands; ended = λ j d below. absurd (omega (arith, below)) }
-
 count_kept : (capacity : ℕ) (w : World) (numbers : List ℕ) (sessions : List Session) (desk : DeskValue) → Stands capacity (closes (bare capacity) w numbers) sessions desk → length sessions ≡ length (numbers_of w)
 count_kept capacity w numbers sessions desk stands =
     let v : World = closes (bare capacity) w numbers in
@@ -130,12 +126,3 @@ closed_more capacity w i sessions desk x next desk_next well so_far below is nex
                 subst (λ (s : Session). IsSome s.ending) (sym (get_or-set_other sessions i j next d other)) (so_far.ended j d (omega (arith, j_below, other)))
           ];
     }
-
--- at the end all are closed
-pub closed_all : (capacity : ℕ) (w : World) (sessions : List Session) (desk : DeskValue) → ClosedSoFar capacity w (length sessions) sessions desk →
-    Stands capacity (closes (bare capacity) w (numbers_of w)) sessions desk × All (λ (s : Session). IsSome s.ending) sessions
-closed_all capacity w sessions desk so_far =
-    let count : length sessions ≡ length (numbers_of w) = count_kept capacity w (take (length sessions) (numbers_of w)) sessions desk so_far.stands in (
-      subst (λ (l : List ℕ). Stands capacity (closes (bare capacity) w l) sessions desk) (take_all (length sessions) (numbers_of w) (omega (arith, count))) so_far.stands,
-      λ j d below. so_far.ended j d below,
-    )

@@ -1,11 +1,10 @@
 -- A source's cutter over its bytes.
-use Rattle.std.proofs.Common.{◌≡◌, ℕ, ◌+◌, ◌^◌, ◌<◌, ◌≤◌, List, [], ◌∷◌, ◌++◌, length, take, get_or, refl, ap, ◌∙◌, sym, arith, append_assoc, length-append}
+use Rattle.std.proofs.Common.{◌≡◌, ℕ, ◌+◌, ◌^◌, ◌<◌, ◌≤◌, List, [], ◌∷◌, ◌++◌, length, take, get_or, ap, ◌∙◌, sym, arith, append_assoc, length-append}
 use Rattle.std.proofs.lemmas.List.{append-nil, take_more, length-take-le}
 use Rattle.std.proofs.lemmas.List.Sums.{sum_by-append}
 use Rattle.rtcm_frame.specs.Cut.{cut, Parts, IsWaiting, followed_by, only_rest}
 use Rattle.rtcm_frame.specs.Pending.{Pending, Took}
 use Rattle.rtcm_frame.proofs.CutLemmas.{cut-append, cut_waiting, cut_counted}
-use Rattle.rtcm_frame.proofs.PendingLemmas.{took_none}
 use Rattle.mount_ring.specs.declared.RingCall.TheVariants.{Publish}
 use Rattle.caster_replay.specs.Recorded.{DeskValue, after_calls, with_published}
 use Rattle.caster_replay.specs.Steps.{after_cut, with_bytes}
@@ -19,9 +18,6 @@ pub record PublishedSoFar (me claim : ℕ) (old now : Pending) (desk_old desk_no
   pub frames : List (List ℕ)
   pub took : Took old now frames
   pub desk : desk_now ≡ with_published me claim frames desk_old
-
-pub published_none : (me claim : ℕ) (cutter : Pending) (desk : DeskValue) → PublishedSoFar me claim cutter cutter desk desk
-published_none me claim cutter desk = record { frames = []; took = took_none cutter; desk = refl }
 
 -- given first these frames and then those
 took_then : (a b c : Pending) (xs ys : List (List ℕ)) → Took a b xs → Took b c ys → Took a c (xs ++ ys)
@@ -42,10 +38,6 @@ published_more me claim old now next desk_old desk_now desk_next frame so_far to
   took = took_then old now next so_far.frames (frame ∷ []) so_far.took took;
   desk = desk ∙ ap (with_published me claim (frame ∷ [])) so_far.desk ∙ published_then me claim so_far.frames (frame ∷ []) desk_old;
 }
-
--- one frame fewer is left to give
-pub one_fewer : (now next : Pending) (frame : List ℕ) → Took now next (frame ∷ []) → length (cut next.bytes).frames < length (cut now.bytes).frames
-one_fewer now next frame took = omega (arith, ap length took.in_order)
 
 -- where what is left only waits, the cutter has given all that its bytes hold
 pub took_settles : (old now : Pending) (frames : List (List ℕ)) → Took old now frames → IsWaiting now.bytes →

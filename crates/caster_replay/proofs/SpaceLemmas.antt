@@ -1,6 +1,6 @@
 -- No connection has more bytes than all that came in.
 use Rattle.std.proofs.Common.{◌≡◌, ℕ, ◌+◌, ◌^◌, ◌<◌, ◌≤◌, Bool, true, false, cond, List, [], ◌∷◌, ◌++◌, length, map, take, drop, get_or, ap, ◌∙◌, sym, arith}
-use Rattle.std.specs.Prelude.{nat_lt, fold}
+use Rattle.std.specs.Prelude.{fold}
 use Rattle.std.specs.List.{All, sum_by}
 use Rattle.std.specs.Str.{bytes_eq}
 use Rattle.std.proofs.lemmas.List.{take_more}
