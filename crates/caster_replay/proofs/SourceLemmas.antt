@@ -1,9 +1,10 @@
 -- A source's cutter over its bytes.
-use Rattle.std.proofs.Common.{◌≡◌, ℕ, ◌+◌, ◌^◌, ◌<◌, ◌≤◌, List, [], ◌∷◌, ◌++◌, length, take, get_or, ap, ◌∙◌, sym, arith, append_assoc, length-append}
-use Rattle.std.proofs.lemmas.List.{append-nil, take_more, length-take-le}
+use Rattle.std.proofs.Common.{◌≡◌, ℕ, ◌+◌, ◌-◌, ◌^◌, ◌<◌, ◌≤◌, List, [], ◌∷◌, ◌++◌, length, take, drop, ap, ◌∙◌, sym, arith, append_assoc, length-append, length-drop}
+use Rattle.std.proofs.lemmas.List.{append-nil, take_rest, length-take-le}
 use Rattle.std.proofs.lemmas.List.Sums.{sum_by-append}
 use Rattle.rtcm_frame.specs.Cut.{cut, Parts, IsWaiting, followed_by, only_rest}
 use Rattle.rtcm_frame.specs.Pending.{Pending, Took}
+use Rattle.rtcm_frame.proofs.PendingLemmas.{fed_front}
 use Rattle.rtcm_frame.proofs.CutLemmas.{cut-append, cut_waiting, cut_counted}
 use Rattle.mount_ring.specs.declared.RingCall.TheVariants.{Publish}
 use Rattle.caster_replay.specs.Recorded.{DeskValue, after_calls, with_published}
@@ -81,38 +82,42 @@ pub no_more_published : (me claim : ℕ) (cutter : Pending) (desk : DeskValue) �
 no_more_published me claim cutter desk waits =
     ap (λ (fs : List (List ℕ)). with_published me claim fs desk) (sym (no_frames cutter waits))
 
--- one more byte
-bytes_more : (before bytes : List ℕ) (i byte : ℕ) → i < length bytes → byte ≡ get_or bytes i 0 → before ++ take (i + 1) bytes ≡ (before ++ take i bytes) ++ byte ∷ []
-bytes_more before bytes i byte within is =
-    ap (λ l. before ++ l) (take_more bytes i 0 within ∙ ap (λ (b : ℕ). take i bytes ++ b ∷ []) (sym is))
-    ∙ sym (append_assoc before (take i bytes) (byte ∷ []))
+-- so many bytes of those that are left
+abbrev pub block : List ℕ → ℕ → ℕ → List ℕ
+block bytes i n = take n (take (length bytes - i) (drop i bytes))
 
-cut_more : (before bytes : List ℕ) (i byte : ℕ) → i < length bytes → byte ≡ get_or bytes i 0 →
-    cut (before ++ take (i + 1) bytes) ≡ followed_by (cut (before ++ take i bytes)) (cut ((cut (before ++ take i bytes)).rest ++ byte ∷ []))
-cut_more before bytes i byte within is =
-    ap cut (bytes_more before bytes i byte within is) ∙ cut-append (before ++ take i bytes) (byte ∷ [])
+-- one more block
+bytes_more : (before bytes : List ℕ) (i n : ℕ) → before ++ take (i + n) bytes ≡ (before ++ take i bytes) ++ block bytes i n
+bytes_more before bytes i n =
+    ap (λ (l : List ℕ). before ++ l) (sym (fed_front bytes i n)) ∙ sym (append_assoc before (take i bytes) (block bytes i n))
 
-pub settled_more : (start now : Pending) (bytes : List ℕ) (i byte : ℕ) → i < length bytes → byte ≡ get_or bytes i 0 →
-    now ≡ after_cut (with_bytes start (take i bytes)) →
-    after_cut (with_bytes now (byte ∷ [])) ≡ after_cut (with_bytes start (take (i + 1) bytes))
-settled_more start now bytes i byte within is so_far =
+cut_more : (before bytes : List ℕ) (i n : ℕ)
+    → cut (before ++ take (i + n) bytes)
+    ≡ followed_by (cut (before ++ take i bytes)) (cut ((cut (before ++ take i bytes)).rest ++ block bytes i n))
+cut_more before bytes i n =
+    ap cut (bytes_more before bytes i n) ∙ cut-append (before ++ take i bytes) (block bytes i n)
+
+pub settled_more : (start now : Pending) (bytes : List ℕ) (i n : ℕ) → now ≡ after_cut (with_bytes start (take i bytes))
+    → after_cut (with_bytes now (block bytes i n)) ≡ after_cut (with_bytes start (take (i + n) bytes))
+settled_more start now bytes i n so_far =
     let before : Parts = cut (start.bytes ++ take i bytes) in
-    let next : Parts = cut (before.rest ++ byte ∷ []) in
-    ap (λ (p : Pending). after_cut (with_bytes p (byte ∷ []))) so_far
+    let next : Parts = cut (before.rest ++ block bytes i n) in
+    ap (λ (p : Pending). after_cut (with_bytes p (block bytes i n))) so_far
     ∙ ap (λ (n : ℕ). pending next.rest n) (omega arith)
-    ∙ ap (λ (p : Parts). pending p.rest (start.junk + p.junk)) (sym (cut_more start.bytes bytes i byte within is))
+    ∙ ap (λ (p : Parts). pending p.rest (start.junk + p.junk)) (sym (cut_more start.bytes bytes i n))
 
-pub published_by_more : (me claim : ℕ) (start now : Pending) (desk_start desk_now : DeskValue) (bytes : List ℕ) (i byte : ℕ) → i < length bytes → byte ≡ get_or bytes i 0 →
-    now ≡ after_cut (with_bytes start (take i bytes)) →
-    desk_now ≡ with_published me claim (cut (start.bytes ++ take i bytes)).frames desk_start →
-    with_published me claim (cut (now.bytes ++ byte ∷ [])).frames desk_now ≡ with_published me claim (cut (start.bytes ++ take (i + 1) bytes)).frames desk_start
-published_by_more me claim start now desk_start desk_now bytes i byte within is so_far desk =
+pub published_by_more : (me claim : ℕ) (start now : Pending) (desk_start desk_now : DeskValue) (bytes : List ℕ) (i n : ℕ)
+    → now ≡ after_cut (with_bytes start (take i bytes))
+    → desk_now ≡ with_published me claim (cut (start.bytes ++ take i bytes)).frames desk_start
+    → with_published me claim (cut (now.bytes ++ block bytes i n)).frames desk_now
+    ≡ with_published me claim (cut (start.bytes ++ take (i + n) bytes)).frames desk_start
+published_by_more me claim start now desk_start desk_now bytes i n so_far desk =
     let before : Parts = cut (start.bytes ++ take i bytes) in
-    let given : List (List ℕ) = (cut (now.bytes ++ byte ∷ [])).frames in
-    let frames : given ≡ (cut (before.rest ++ byte ∷ [])).frames =
-    ap (λ (p : Pending). (cut (p.bytes ++ byte ∷ [])).frames) so_far in
-    let all : before.frames ++ (cut (before.rest ++ byte ∷ [])).frames ≡ (cut (start.bytes ++ take (i + 1) bytes)).frames =
-    ap (λ (p : Parts). p.frames) (sym (cut_more start.bytes bytes i byte within is)) in
+    let given : List (List ℕ) = (cut (now.bytes ++ block bytes i n)).frames in
+    let frames : given ≡ (cut (before.rest ++ block bytes i n)).frames =
+    ap (λ (p : Pending). (cut (p.bytes ++ block bytes i n)).frames) so_far in
+    let all : before.frames ++ (cut (before.rest ++ block bytes i n)).frames ≡ (cut (start.bytes ++ take (i + n) bytes)).frames =
+    ap (λ (p : Parts). p.frames) (sym (cut_more start.bytes bytes i n)) in
     ap (with_published me claim given) desk
     ∙ published_then me claim before.frames given desk_start
     ∙ ap (λ (fs : List (List ℕ)). with_published me claim fs desk_start) (ap (λ (fs : List (List ℕ)). before.frames ++ fs) frames ∙ all)
@@ -128,12 +133,21 @@ settled_few start now bytes i within so_far =
     length-append start.bytes (take i bytes) ∙ ap (λ (n : ℕ). length start.bytes + n) (length-take-le i bytes within) in
     omega (arith, junk, waits, count, cut_counted text)
 
--- so there is room to count as junk what waits with one more byte
-pub push_few : (start now pushed : Pending) (bytes : List ℕ) (i byte : ℕ) → i < length bytes →
-    now ≡ after_cut (with_bytes start (take i bytes)) → pushed ≡ with_bytes now (byte ∷ []) →
-    start.junk + length start.bytes + length bytes < 2 ^ 63 → pushed.junk + length pushed.bytes < 2 ^ 64
-push_few start now pushed bytes i byte within so_far behind few =
-    let bound : now.junk + length now.bytes ≤ start.junk + length start.bytes + i = settled_few start now bytes i (omega arith) so_far in
-    let junk : pushed.junk ≡ now.junk = ap (λ (p : Pending). p.junk) behind in
-    let size : length pushed.bytes ≡ length now.bytes + 1 = ap (λ (p : Pending). length p.bytes) behind ∙ length-append now.bytes (byte ∷ []) in
-    omega (arith, bound, junk, size, few)
+-- a block that was fed is one of those that are left
+pub block_length : (bytes : List ℕ) (i n : ℕ) → n ≤ length (take (length bytes - i) (drop i bytes))
+    → (length (block bytes i n) ≡ n) × (n ≤ length bytes - i)
+block_length bytes i n fits =
+    (length-take-le n (take (length bytes - i) (drop i bytes)) fits, omega (arith, fits, ap length (take_rest bytes i), length-drop i bytes))
+
+-- so there is room to count as junk what waits with one more block
+pub feed_few : (start now fed : Pending) (bytes : List ℕ) (i n : ℕ) → i ≤ length bytes
+    → n ≤ length (take (length bytes - i) (drop i bytes)) → now ≡ after_cut (with_bytes start (take i bytes))
+    → fed ≡ with_bytes now (block bytes i n) → start.junk + length start.bytes + length bytes < 2 ^ 63
+    → fed.junk + length fed.bytes < 2 ^ 64
+feed_few start now fed bytes i n within fits so_far behind few =
+    let bound : now.junk + length now.bytes ≤ start.junk + length start.bytes + i = settled_few start now bytes i within so_far in
+    let junk : fed.junk ≡ now.junk = ap (λ (p : Pending). p.junk) behind in
+    let long = block_length bytes i n fits in
+    let size : length fed.bytes ≡ length now.bytes + length (block bytes i n) =
+    ap (λ (p : Pending). length p.bytes) behind ∙ length-append now.bytes (block bytes i n) in
+    omega (arith, bound, junk, size, long.0, long.1, few)

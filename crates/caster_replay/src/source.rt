@@ -44,9 +44,11 @@ pub fn publish_bytes(
     ensures desk { OnOk result (desk.new
         ≡ with_published me claim (cut (cutter.old.bytes ++ bytes.now)).frames desk.old) }
 {
-    for byte in bytes {
-        cutter.push(*byte);
+    let mut at = 0;
+    while at < bytes.len() {
+        let count = cutter.feed(&bytes[at..]);
         publish_ready(cutter, desk, me, claim)?;
+        at += count;
     }
     Ok(())
 }
