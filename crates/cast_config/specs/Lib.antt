@@ -1,5 +1,0 @@
-pub mod Faults
-pub mod Names
-pub mod Entries
-pub mod Served
-pub mod Document

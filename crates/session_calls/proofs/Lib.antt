@@ -1,0 +1,3 @@
+pub mod PlanLemmas
+pub mod PlaceLemmas
+pub mod WentLemmas

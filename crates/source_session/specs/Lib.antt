@@ -1,0 +1,4 @@
+pub mod Body
+pub mod Calls
+pub mod Standing
+pub mod Refusals
