@@ -9,7 +9,7 @@ use Rattle.base_select.specs.declared.Base.{Base}
 use Rattle.base_select.specs.Measure.{measure_of}
 use Rattle.base_select.specs.Choice.{measures, mounts, IsNearest, place_of, chosen, IsChoice}
 
-nearest_unique : (all : List ℕ) (m n : ℕ) → IsNearest all m → IsNearest all n → m ≡ n
+pub nearest_unique : (all : List ℕ) (m n : ℕ) → IsNearest all m → IsNearest all n → m ≡ n
 nearest_unique all m n a b =
     elim (cases_lt m n) [
       | inl lt ↦ absurd (omega (arith, b.first m lt, a.least n b.within))

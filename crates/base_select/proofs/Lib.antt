@@ -1,2 +1,3 @@
 pub mod ChoiceLemmas
 pub mod LawLemmas
+pub mod NearestLemmas

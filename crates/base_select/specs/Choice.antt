@@ -1,5 +1,5 @@
 -- The choice of a base, of all bases at once.
-use Rattle.std.specs.Prelude.{◌≡◌, ℕ, ◌-◌, ◌*◌, ◌<◌, ◌≤◌, ◌==◌, nat_lt, if◌then◌else◌, List, length, map, slice_index, position, Option, Some, None}
+use Rattle.std.specs.Prelude.{◌≡◌, ℕ, ◌+◌, ◌-◌, ◌*◌, ◌<◌, ◌≤◌, ◌==◌, nat_lt, if◌then◌else◌, List, [], ◌∷◌, length, map, slice_index, position, Option, Some, None}
 use Rattle.gga_read.specs.declared.Position.{Position}
 use Rattle.base_select.specs.declared.Base.{Base}
 use Rattle.base_select.specs.Measure.{measure_of}
@@ -17,6 +17,18 @@ pub record IsNearest (all : List ℕ) (n : ℕ) : Type 0 where
   pub within : n < length all
   pub least : (k : ℕ) → k < length all → slice_index all n ≤ slice_index all k
   pub first : (k : ℕ) → k < n → slice_index all n < slice_index all k
+
+-- the same as a function. Of the measures from this place on, the place of one that is below the
+-- least so far, the last such one; the best place so far where none is
+abbrev pub nearest_from : ℕ → ℕ → ℕ → List ℕ → ℕ
+nearest_from best least place [] = best
+nearest_from best least place (measure ∷ more) =
+    if nat_lt measure least then nearest_from place measure (place + 1) more
+    else nearest_from best least (place + 1) more
+
+abbrev pub nearest_of : List ℕ → ℕ
+nearest_of [] = 0
+nearest_of (measure ∷ more) = nearest_from 0 measure 1 more
 
 -- the place of the rover's present base, if it has one that is in the list
 abbrev pub place_of : Option ℕ → List Base → Option ℕ
@@ -39,3 +51,11 @@ pub record IsChoice (current : Option ℕ) (rover : Position) (bases : List Base
   pub is_nearest : IsNearest (measures rover bases) nearest
   pub is_chosen : mount ≡ slice_index (mounts bases)
       (chosen (measures rover bases) h nearest (place_of current bases))
+
+-- the same as a function: none where there are no bases
+abbrev pub choice_of : Option ℕ → Position → List Base → ℕ → Option ℕ
+choice_of current rover [] h = None
+choice_of current rover (base ∷ bases) h =
+    let all = measures rover (base ∷ bases) in
+    Some (slice_index (mounts (base ∷ bases))
+    (chosen all h (nearest_of all) (place_of current (base ∷ bases))))

@@ -4,6 +4,7 @@ use Rattle.std.specs.List.{count_by, list_any}
 use Rattle.std.proofs.lemmas.Bool.{or_parts, lt-ltb, le-ltb, cases_lt}
 use Rattle.std.proofs.lemmas.List.{append-nil}
 use Rattle.cast_text.specs.Split.{HasNone}
+use Rattle.std.proofs.Common.{subst, sym}
 use Rattle.sourcetable.specs.declared.record.Kind.{Kind}
 use Rattle.sourcetable.specs.declared.record.Kind.TheVariants.{Str, Cas, Net}
 use Rattle.sourcetable.specs.declared.record.Record.{Record}
@@ -14,6 +15,7 @@ use Rattle.sourcetable.specs.Record.{letters, field_count, fields_text, is_separ
 use Rattle.sourcetable.specs.Table.{kind_of, fault_as}
 use Rattle.sourcetable.specs.Reading.{fields_of, record_of, record_before, record_as, record_read, line_end_in, Gives, IsRecordOf, IsRecordRead}
 use Rattle.sourcetable.proofs.KindLemmas.{kind_of_line, fault_of_record, make}
+use Rattle.sourcetable.proofs.BackLemmas.{record_exists}
 
 -- a field up to its `;`
 fields_first : (n : ℕ) (front field rest : List ℕ) → HasNone is_separator field
@@ -100,3 +102,37 @@ given_by_function line (Err records.Kind) of = no_kind line (kind_of line) of
 given_by_function line (Err records.Fields) of = too_few line (kind_of line) of
 given_by_function line (Err (records.Byte place)) of = end_at line (kind_of line) place of.0 of.1
 given_by_function line (Err records.Memory) of = tt
+
+-- ---- what the function gives is a record of the line
+
+faultless : (line : List ℕ) (kind : Option Kind) (r : Record) → record_as line kind ≡ Ok r → fault_as line kind ≡ None
+faultless line None r e = absurd cc
+faultless line (Some kind) r e =
+    elim (cases_lt (count_by is_separator line) (field_count kind)) [
+      | inl few ↦ absurd (let h = rw (lt-ltb _ _ few) at e in cc)
+      | inr enough ↦ rw (le-ltb _ _ enough) refl
+    ]
+
+no_place : (found r : Record) (place : Option ℕ) → record_before found place ≡ Ok r → place ≡ None
+no_place found r None e = refl
+no_place found r (Some place) e = absurd cc
+
+endless : (line : List ℕ) (kind : Option Kind) (r : Record) → record_as line kind ≡ Ok r → line_end_in line ≡ None
+endless line None r e = absurd cc
+endless line (Some kind) r e =
+    elim (cases_lt (count_by is_separator line) (field_count kind)) [
+      | inl few ↦ absurd (let h = rw (lt-ltb _ _ few) at e in cc)
+      | inr enough ↦ no_place (record_of line kind) r (line_end_in line) (rw (le-ltb _ _ enough) at e)
+    ]
+
+abbrev read : Record → Result Record RecordFault
+read r = Ok r
+
+read_same : (r s : Record) → read r ≡ read s → r ≡ s
+read_same r s e = cc
+
+pub read_is : (line : List ℕ) (r : Record) → record_read line ≡ Ok r → IsRecordOf line r
+read_is line r e =
+    let found = record_exists line (faultless line (kind_of line) r e) in
+    let none = endless line (kind_of line) r e in
+    subst (IsRecordOf line) (read_same found.0 r (sym (given_by_function line (Ok found.0) (found.1, none)) ∙ e)) found.1

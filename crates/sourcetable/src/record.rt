@@ -1,4 +1,7 @@
-use crate::lists::{Fields, Records};
+ghost use Rattle.std.specs.Prelude.{◌≡◌, IfOk};
+
+use crate::lists::{Field, Fields, Records};
+use std::alloc::{AllocError, Global};
 
 /// What a record of a sourcetable describes.
 #[derive(Clone, Copy, Debug, PartialEq, Eq)]
@@ -21,6 +24,23 @@ pub enum Kind {
 pub struct Record {
     pub kind: Kind,
     pub fields: Fields,
+}
+
+impl Record {
+    /// The same record once more.
+    pub fn copy(&self, alloc: Global) -> Result<Record, AllocError>
+        ensures { IfOk result (λ r. r ≡ self.now) }
+    {
+        let mut fields = Vec::new(alloc);
+        for field in self.fields.as_slice() {
+            let field = Field::new(Vec::from_slice(alloc, field.bytes())?);
+            fields.push(field)?;
+        }
+        Ok(Record {
+            kind: self.kind,
+            fields: Fields::new(fields),
+        })
+    }
 }
 
 /// A sourcetable: its records, in order.

@@ -1,0 +1,13 @@
+//! Who may enter: which account a rover has and what its group may hear, and which mountpoint a
+//! source feeds.
+#![tactic(auto)]
+
+mod admission;
+mod numbers;
+mod party;
+
+pub use admission::{Admission, Denial, SourceDenial, admit, admit_source};
+pub use numbers::Bases;
+
+#[cfg(test)]
+mod tests;

@@ -1,0 +1,63 @@
+//! Who a rover is, by its credentials.
+
+ghost use Rattle.std.specs.Prelude.{◌≡◌, ◌≤◌, length};
+ghost use Rattle.access_groups.specs.Admission.{anonymous_party, named_party, party_of};
+
+use crate::admission::Denial;
+use cast_config::{Account, Anonymous, Config, place_named};
+use ntrip_head::Auth;
+
+/// An account and its group, by their numbers. Named accounts are numbered from 1; 0 is the account
+/// of all who give no credentials.
+#[derive(Clone, Copy, Debug, PartialEq, Eq)]
+pub(crate) struct Party {
+    pub(crate) account: u32,
+    pub(crate) group: u32,
+}
+
+fn anonymous_party(anonymous: Option<Anonymous>) -> Result<Party, Denial>
+    ensures { result ≡ anonymous_party anonymous }
+{
+    match anonymous {
+        None => Err(Denial::NoAccount),
+        Some(anonymous) => Ok(Party {
+            account: 0,
+            group: anonymous.group,
+        }),
+    }
+}
+
+fn named_party(accounts: &[Account], user: &[u8], password: &[u8]) -> Result<Party, Denial>
+    requires { length accounts.now ≤ 1024 }
+    ensures { result ≡ named_party accounts.now user.now password.now }
+{
+    match place_named(accounts, user) {
+        None => Err(Denial::NoAccount),
+        Some(place) => {
+            let number = place as u32 + 1;
+            let account = &accounts[place];
+            if account.password.bytes() == password {
+                Ok(Party {
+                    account: number,
+                    group: account.group,
+                })
+            } else {
+                Err(Denial::Password { account: number })
+            }
+        }
+    }
+}
+
+/// Who it is, or why it is nobody.
+pub(crate) fn party_of(config: &Config, auth: &Auth) -> Result<Party, Denial>
+    requires { length config.now.account ≤ 1024 }
+    ensures { result ≡ party_of config.now auth.now }
+{
+    match auth {
+        Auth::Unread => Err(Denial::NoAccount),
+        Auth::None => anonymous_party(config.anonymous),
+        Auth::Basic { user, password } => {
+            named_party(config.account.as_slice(), user.bytes(), password.bytes())
+        }
+    }
+}

@@ -1,0 +1,128 @@
+//! A whole configuration, read from a document.
+
+ghost use Rattle.std.specs.Prelude.{◌≡◌, ◌≤◌, length, IfOk};
+ghost use Rattle.config_keys.specs.Answers.{Gives};
+ghost use Rattle.cast_config.specs.Document.{config_of, heard_of, parties_of, IsRead};
+ghost use Rattle.cast_config.specs.Kept.{KeepsRules};
+ghost use Rattle.toml.specs.View.{table_view};
+
+use crate::config::{Anonymous, Config, Group, Mount};
+use crate::entries::anonymous_or_none;
+use crate::fault::ConfigFault;
+use crate::lists::{Accounts, FilterTable, Groups, Mounts, Nears, Relays};
+use crate::reading::{accounts, groups, mounts, nears, relays, top};
+use crate::served::all_filters;
+use config_keys::{KeyFault, count, count_or, records_or, value_at};
+use sourcetable::Records;
+use std::alloc::Global;
+use toml::Table;
+
+/// What rovers may hear: the mountpoints, the near mountpoints, the groups that list them, and
+/// which frames are given.
+#[derive(Debug, Drop)]
+struct Heard {
+    mount: Mounts,
+    near: Nears,
+    group: Groups,
+    permits: FilterTable,
+}
+
+#[tactic(auto, unfolding(crate::specs::Document::heard_of))]
+fn heard_in(alloc: Global, version: u32, table: &Table) -> Result<Heard, KeyFault>
+    ensures read { Gives result (heard_of version (table_view table.now)) }
+    ensures mounts { IfOk result (λ heard. length heard.mount ≤ 64) }
+    ensures groups { IfOk result (λ heard. length heard.group ≤ 64) }
+{
+    let mount = mounts(alloc, value_at(table, "mount"))?;
+    let near = nears(alloc, value_at(table, "near"), mount.as_slice())?;
+    let group = value_at(table, "group");
+    let group = groups(alloc, group, version, mount.as_slice(), near.as_slice())?;
+    let permits = all_filters(alloc, mount.as_slice(), group.as_slice())?;
+    Ok(Heard {
+        mount,
+        near,
+        group,
+        permits,
+    })
+}
+
+/// The accounts, the relays and who has no account.
+#[derive(Debug, Drop)]
+struct Parties {
+    account: Accounts,
+    relay: Relays,
+    anonymous: Option<Anonymous>,
+}
+
+#[tactic(auto, unfolding(crate::specs::Document::parties_of))]
+fn parties_in(
+    alloc: Global,
+    mounts: &[Mount],
+    groups: &[Group],
+    table: &Table,
+) -> Result<Parties, KeyFault>
+    requires mounts { length mounts.now ≤ 64 }
+    requires groups { length groups.now ≤ 64 }
+    ensures { Gives result (parties_of mounts.now groups.now (table_view table.now)) }
+{
+    let account = accounts(alloc, value_at(table, "account"), groups)?;
+    let relay = relays(alloc, value_at(table, "relay"), mounts)?;
+    let anonymous = anonymous_or_none(value_at(table, "anonymous"), top(10), groups)?;
+    Ok(Parties {
+        account,
+        relay,
+        anonymous,
+    })
+}
+
+#[tactic(auto, unfolding(crate::specs::Document::config_of))]
+fn config_in(alloc: Global, table: &Table) -> Result<Config, KeyFault>
+    ensures { Gives result (config_of (table_view table.now)) }
+{
+    let version = count(value_at(table, "version"), top(1), 1, 2)?;
+    let workers = count_or(value_at(table, "workers"), top(2), 1, 256, 4)?;
+    let hysteresis = count_or(value_at(table, "hysteresis"), top(3), 0, 50, 10)?;
+    let records = records_or(alloc, value_at(table, "records"), top(4))?;
+    let heard = heard_in(alloc, version, table)?;
+    let parties = parties_in(alloc, heard.mount.as_slice(), heard.group.as_slice(), table)?;
+    Ok(Config {
+        workers,
+        hysteresis,
+        records: Records::new(records),
+        mount: heard.mount,
+        near: heard.near,
+        group: heard.group,
+        account: parties.account,
+        relay: parties.relay,
+        anonymous: parties.anonymous,
+        permits: heard.permits,
+    })
+}
+
+/// The configuration that a document says, in TOML 1.0. Versions 1 and 2 of the file are read; in
+/// version 2 a group may have filters for single mountpoints, and there may be 64 groups in place
+/// of 16.
+///
+/// # Errors
+/// `Toml` exactly where the bytes are no document. Otherwise the first rule that it breaks, with
+/// its key, in the order that `config_of` has. `Memory` at any time.
+pub fn read_config(alloc: Global, bytes: &[u8]) -> Result<Config, ConfigFault>
+    ensures read { IsRead bytes.now result }
+
+    // Names differ, numbers of mountpoints and groups are in range, texts are UTF-8, and so on.
+    ensures keeps { IfOk result (KeepsRules 1000000) }
+{
+    match toml::table_from_slice(alloc, bytes) {
+        Ok(table) => match config_in(alloc, &table) {
+            Ok(config) => Ok(config),
+            Err(fault) => Err(ConfigFault::from(fault)),
+        },
+        Err(fault) => {
+            if fault.is_memory() {
+                Err(ConfigFault::Memory)
+            } else {
+                Err(ConfigFault::Toml)
+            }
+        }
+    }
+}

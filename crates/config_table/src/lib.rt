@@ -1,0 +1,10 @@
+//! The sourcetable that a caster offers, made from its configuration.
+#![tactic(auto)]
+
+mod degrees;
+mod table;
+
+pub use table::table_of;
+
+#[cfg(test)]
+mod tests;
