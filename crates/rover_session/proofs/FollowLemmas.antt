@@ -1,5 +1,5 @@
 -- More reports go on with what was owed.
-use Rattle.std.proofs.Common.{◌≡◌, ℕ, Bool, true, false, List, [], ◌∷◌, ◌++◌, length, Option, None, Some, option_to_list, refl, sym, ap, subst, ◌∙◌, append_assoc, cond, leb, eqb}
+use Rattle.std.proofs.Common.{◌≡◌, ℕ, Bool, true, false, List, [], ◌∷◌, ◌++◌, length, Option, None, Some, option_to_list, refl, sym, ap, subst, ◌∙◌, append_assoc, cond, leb, eqb, inl, inr}
 use Rattle.std.specs.Prelude.{◌==◌, filter_map}
 use Rattle.std.proofs.lemmas.Bool.{eqb-true, cases_Bool}
 use Rattle.std.proofs.lemmas.List.{append-nil}

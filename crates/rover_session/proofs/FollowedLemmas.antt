@@ -1,7 +1,8 @@
 -- What a rover called for some reports, and then for some more.
-use Rattle.std.proofs.Common.{◌≡◌, ℕ, ◌<◌, Bool, true, false, List, [], ◌∷◌, ◌++◌, length, Option, None, Some, refl, sym, ap, subst, ◌∙◌}
+use Rattle.std.proofs.Common.{◌≡◌, ℕ, ◌<◌, Bool, true, false, List, [], ◌∷◌, ◌++◌, length, Option, None, Some, Result, Err, refl, sym, ap, subst, ◌∙◌}
+use Rattle.std.specs.Result.{result_err}
 use Rattle.std.specs.Prelude.{reverse}
-use Rattle.std.proofs.lemmas.List.{append-nil, map-append}
+use Rattle.std.proofs.lemmas.List.{append-nil, map-append, reverse-append}
 use Rattle.turn_log.specs.History.{History}
 use Rattle.gga_read.specs.declared.Position.{Position}
 use Rattle.base_select.specs.declared.Base.{Base}
@@ -20,10 +21,10 @@ use Rattle.session_calls.proofs.PlanLemmas.{begun_longer}
 use Rattle.session_calls.proofs.WentLemmas.{went_none, went_both}
 use Rattle.rover_session.specs.Owed.{Terms, chooses, changed, joins, follows, heeds, looks}
 use Rattle.rover_session.specs.Made.{base_after, bases_joined, mounts_of, present_base, segments_after, owed_among, IsMadeUntil}
-use Rattle.rover_session.specs.Standing.{looked, held_in, AskedEach, AskedFirst, IsResumable, Followed}
+use Rattle.rover_session.specs.Standing.{looked, held_in, AskedEach, AskedFirst, IsResumable, frames_sent, Followed}
 use Rattle.rover_session.proofs.FollowLemmas.{heeds_begin, heeds_left}
 use Rattle.rover_session.proofs.MadeLemmas.{base-append, segments-append, owed_both, until_both, owed_looked, base_looked, joined_looked, mounts_both, segments_looked, bases_in, looks_until, looks_cut}
-use Rattle.rover_session.proofs.SegmentLemmas.{went_extends, resumable_stays, looks_resume, resumable_joined}
+use Rattle.rover_session.proofs.SegmentLemmas.{went_extends, all_sound, resumable_stays, looks_resume, resumable_joined, sent_later, sent_begun}
 
 -- nothing was called
 pub followed_none : (shapes : List RingShape) (alone : Bool) (histories : List (History RingCall)) (me : ℕ)
@@ -38,6 +39,7 @@ followed_none shapes alone histories me plan refused segments made = record {
   segments = refl;
   mounts = refl;
   resumable = λ is. is;
+  sent = λ is. refl;
 }
 
 -- the same of histories and segments that are known by equations
@@ -71,6 +73,11 @@ followed_joined shapes alone old now me mount filter segment before after within
           (resumable_joined shapes me old now before segment (went_extends shapes alone old now me (step ∷ []) went)
           (subst (λ m. m < length shapes) (sym here) within)
           (subst (λ m. IsSegment (shape_at shapes m) me (history_at now m) segment) (sym here) is) resumable);
+      sent = λ resumable.
+          ap (frames_sent shapes now) (added ∙ ap (λ (s : Segment). s ∷ before) begins)
+          ∙ sent_begun shapes now mount segment.cursor before
+          ∙ sent_later shapes old now before (went_extends shapes alone old now me (step ∷ []) went)
+          (all_sound shapes me old before resumable);
     }
 
 mounts_looked : (lives : List (Base × Option ℕ)) (mounts : List ℕ)
@@ -105,6 +112,11 @@ followed_after shapes alone old mid now me terms present rover held refused befo
       resumable = λ is.
           x.resumable (resumable_stays shapes me old mid (looks_resume shapes alone old mid me asked.lives asked.went)
           before is);
+      sent = λ is.
+          x.sent (resumable_stays shapes me old mid (looks_resume shapes alone old mid me asked.lives asked.went) before
+          is)
+          ∙ sent_later shapes old mid before (went_extends shapes alone old mid me looks_made asked.went)
+          (all_sound shapes me old before is);
     }
 
 -- looks that were broken off
@@ -125,6 +137,9 @@ followed_first shapes alone old now me terms present rover fault before (first, 
       mounts = mounts_looked asked.lives (mounts_of before);
       resumable = λ is.
           resumable_stays shapes me old now (looks_resume shapes alone old now me asked.lives asked.went) before is;
+      sent = λ is.
+          sent_later shapes old now before (went_extends shapes alone old now me (looked asked.lives) asked.went)
+          (all_sound shapes me old before is);
     }
 
 -- some reports, and then some more
@@ -149,6 +164,7 @@ followed_both shapes alone old mid now me near terms told new refused a b c x y 
       ∙ sym (segments-append a x.steps y.steps);
   mounts = mounts_both x.steps y.steps (mounts_of a) (mounts_of b) (mounts_of c) x.mounts y.mounts;
   resumable = λ is. y.resumable (x.resumable is);
+  sent = λ is. y.sent (x.resumable is) ∙ x.sent is;
 }
 
 -- what was broken off at some reports is broken off at more
@@ -166,6 +182,7 @@ followed_longer shapes alone old now me near terms told new fault a b x = record
   segments = x.segments;
   mounts = x.mounts;
   resumable = x.resumable;
+  sent = x.sent;
 }
 
 -- the same by other names of equal things
@@ -181,3 +198,34 @@ followed_as shapes shapes_too alone alone_too old now me plan refused before aft
 pub heeds_none : (near : Bool) (terms : Terms) (present : Option ℕ) → heeds near terms present [] ≡ done
 heeds_none false terms present = refl
 heeds_none true terms present = refl
+
+-- ---- small steps of the code
+
+-- what holds of a refusal holds of the result that hands it on
+pub err_at : {T : Type 0} (P : Option SegFault → Type 0) (r : Result T SegFault) (fault : SegFault) → r ≡ Err fault
+    → P (Some fault) → P (result_err r)
+err_at P r fault is such = subst P (sym (ap result_err is)) such
+
+-- a segment at the end of the list stands in front of the newest ones
+pub pushed : (old mid new : List Segment) (segment : Segment) → mid ≡ old → new ≡ mid ++ segment ∷ []
+    → reverse new ≡ segment ∷ reverse old
+pushed old mid new segment same is =
+    ap reverse (is ∙ ap (λ (l : List Segment). l ++ segment ∷ []) same) ∙ reverse-append old (segment ∷ [])
+
+-- the mountpoint that is to be joined, by other names of equal things
+pub changed_named : (h : ℕ) (to present also : Option ℕ) (rover : Position) (held list : List Base)
+    → to ≡ changed also (chooses h also rover list) → also ≡ present → list ≡ held
+    → changed present (chooses h present rover held) ≡ to
+changed_named h to present also rover held list is same_present same_held =
+    sym (is
+    ∙ ap (λ (o : Option ℕ). changed o (chooses h o rover list)) same_present
+    ∙ ap (λ (l : List Base). changed present (chooses h present rover l)) same_held)
+
+-- a rover that heeds no report makes nothing
+pub heeds_far : (near : Bool) (terms : Terms) (present : Option ℕ) (told : List Position) → near ≡ false
+    → IsMade (heeds near terms present told) []
+heeds_far near terms present told far =
+    subst (λ (b : Bool). IsMade (heeds b terms present told) []) (sym far) refl
+
+pub heeds_nothing : (near : Bool) (terms : Terms) (present : Option ℕ) → IsMade (heeds near terms present []) []
+heeds_nothing near terms present = subst (λ (plan : Plan). IsMade plan []) (sym (heeds_none near terms present)) refl

@@ -1,11 +1,13 @@
 -- What follows for a rover: a Join is made only where the base changes, and its body reads as the
 -- frames that it was sent.
-use Rattle.std.proofs.Common.{◌≡◌, ◌≢◌, ℕ, ◌≤◌, Bool, true, false, IsTrue, List, [], ◌∷◌, ◌++◌, length, map, cond, Option, None, Some, option_to_list, refl, sym, ap, subst, ◌∙◌, arith}
+use Rattle.std.proofs.Common.{◌≡◌, ◌≢◌, ℕ, ◌≤◌, Bool, true, false, IsTrue, List, [], ◌∷◌, ◌++◌, ◌+◌, ◌<◌, length, map, take, get_or, min, cond, Option, None, Some, option_to_list, refl, sym, ap, subst, ◌∙◌, arith}
 use Rattle.std.specs.Prelude.{◌==◌, reverse}
-use Rattle.std.specs.List.{concat, All}
+use Rattle.std.specs.List.{concat, All, sum_by}
+use Rattle.std.proofs.Math.Seq.{take-length}
+use Rattle.std.proofs.lemmas.List.Sorted.{sum_by-IsPermutation, IsPermutation-reverse}
 use Rattle.std.proofs.lemmas.Bool.{eqb-true, eqb-false}
-use Rattle.std.proofs.lemmas.List.{length-map, length-reverse}
-use Rattle.std.proofs.lemmas.List.Elements.{All-head, All-tail}
+use Rattle.std.proofs.lemmas.List.{append-nil, length-map, length-reverse, take_more}
+use Rattle.std.proofs.lemmas.List.Elements.{All-nil, All-cons, All-head, All-tail, All-append}
 use Rattle.std.proofs.lemmas.List.Concat.{flat_map-append}
 use Rattle.rtcm_frame.specs.Transport.{is_frame}
 use Rattle.gga_read.specs.declared.Position.{Position}
@@ -165,3 +167,33 @@ body_plain (frame ∷ frames) = ap (λ (l : List ℕ). frame ++ l) (body_plain f
 pub body-append : (version : Version) (first second : List (List ℕ))
     → body_of version (first ++ second) ≡ body_of version first ++ body_of version second
 body-append version first second = flat_map-append (frame_sent version) first second
+
+-- ---- sums
+
+pub sum_reversed : (f : Segment → ℕ) (segments : List Segment)
+    → sum_by f (reverse segments) ≡ sum_by f segments
+sum_reversed f segments =
+    sum_by-IsPermutation f segments (reverse segments) (IsPermutation-reverse segments)
+
+pub sum_all : (f : Segment → ℕ) (segments : List Segment) (most : ℕ)
+    → min (sum_by f (take (length segments) segments)) most ≡ min (sum_by f (reverse segments)) most
+sum_all f segments most =
+    ap (λ (l : List Segment). min (sum_by f l) most) (take-length segments)
+    ∙ ap (λ (n : ℕ). min n most) (sym (sum_reversed f segments))
+
+-- ---- one frame more
+
+pub body_more : (version : Version) (frames : List (List ℕ)) (i : ℕ) (frame : List ℕ) → i < length frames
+    → frame ≡ get_or frames i frame
+    → body_of version (take (i + 1) frames) ≡ body_of version (take i frames) ++ frame_sent version frame
+body_more version frames i frame within is =
+    ap (body_of version) (take_more frames i frame within
+    ∙ ap (λ (f : List ℕ). take i frames ++ f ∷ []) (sym is))
+    ∙ body-append version (take i frames) (frame ∷ [])
+    ∙ ap (λ (l : List ℕ). body_of version (take i frames) ++ l) (append-nil (frame_sent version frame))
+
+pub all_more : {X : Type 0} (P : X → Type 0) (xs : List X) (i : ℕ) (x : X) → i < length xs → x ≡ get_or xs i x
+    → All P (take i xs) → P x → All P (take (i + 1) xs)
+all_more P xs i x within is all here =
+    subst (All P) (sym (take_more xs i x within))
+    (All-append P (take i xs) (get_or xs i x ∷ []) all (All-cons P (get_or xs i x) [] (subst P is here) (All-nil P)))

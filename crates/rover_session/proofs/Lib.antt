@@ -6,3 +6,5 @@ pub mod FollowedLemmas
 pub mod AtLemmas
 pub mod StandsLemmas
 pub mod LawLemmas
+pub mod BaseLemmas
+pub mod HeededLemmas

@@ -67,7 +67,7 @@ there_and_back =
 
 there_and_back_owed : IsMade (follows terms None (south ∷ north ∷ south ∷ [])) (owed_among there_and_back)
 unfolding measure_of
-there_and_back_owed = (refl, refl, refl, refl, refl, refl, refl, refl, refl, refl)
+there_and_back_owed = (refl, (refl, (refl, (refl, (refl, (refl, (refl, (refl, (refl, refl)))))))))
 
 there_and_back_segments : segments_after [] there_and_back
     ≡ segment 0 3 4 1 ∷ segment 1 1 2 1 ∷ segment 0 1 2 1 ∷ []
@@ -84,7 +84,7 @@ base_comes_and_goes =
 
 comes_and_goes_owed : IsMade (follows terms None (north ∷ north ∷ north ∷ north ∷ [])) (owed_among base_comes_and_goes)
 unfolding measure_of
-comes_and_goes_owed = (refl, refl, refl, refl, refl, refl, refl, refl, refl, refl, refl, refl)
+comes_and_goes_owed = (refl, (refl, (refl, (refl, (refl, (refl, (refl, (refl, (refl, (refl, (refl, refl)))))))))))
 
 comes_and_goes_segments : segments_after [] base_comes_and_goes
     ≡ segment 0 1 1 0 ∷ segment 1 1 2 1 ∷ segment 0 0 1 1 ∷ []
@@ -93,7 +93,7 @@ comes_and_goes_segments = refl
 -- nobody holds a base
 unheld_owed : IsMade (follows terms None (north ∷ [])) (looked 0 None ∷ looked 1 None ∷ [])
 unfolding measure_of
-unheld_owed = (refl, refl, refl)
+unheld_owed = (refl, (refl, refl))
 
 unheld_segments : segments_after [] (looked 0 None ∷ looked 1 None ∷ []) ≡ []
 unheld_segments = refl

@@ -15,7 +15,7 @@ use Rattle.mount_ring.specs.declared.shape.RingShape.{RingShape}
 use Rattle.mount_ring.specs.History.{Shape, permits_at}
 use Rattle.rover_cursor.specs.declared.segment.Segment.{Segment}
 use Rattle.rover_cursor.specs.declared.fault.SegFault.{SegFault}
-use Rattle.rover_cursor.specs.Sound.{IsSound}
+use Rattle.rover_cursor.specs.Sound.{IsSound, kept}
 use Rattle.mount_ring.specs.declared.cursor.ReadReport.{ReadReport}
 use Rattle.rover_cursor.specs.Told.{IsSegment, published_in, report_in, frames_in}
 use Rattle.session_calls.specs.Steps.{Step, at_ring}
@@ -119,6 +119,18 @@ WasResumable shapes me now segments =
     (earlier : List (History RingCall)) × IsResumable shapes me earlier segments
     × WentOn earlier now me
 
+-- the frames that a segment was sent, of those that were published at its mountpoint
+abbrev pub frames_of : List RingShape → List (History RingCall) → Segment → List (List ℕ)
+frames_of shapes histories segment =
+    kept (permits_at (shape_at shapes segment.mount) segment.cursor.filter)
+    (published_in (history_at histories segment.mount)) segment
+
+-- and all of these segments, in the order in which they were sent
+abbrev pub frames_sent : List RingShape → List (History RingCall) → List Segment → List (List ℕ)
+frames_sent shapes histories [] = []
+frames_sent shapes histories (segment ∷ older) =
+    frames_sent shapes histories older ++ frames_of shapes histories segment
+
 -- what a read from where a segment stands is answered, as the histories after it tell
 abbrev pub report_at : List RingShape → List (History RingCall) → ℕ → Segment → ReadReport
 report_at shapes histories budget segment =
@@ -153,6 +165,9 @@ pub record Followed (shapes : List RingShape) (alone : Bool) (old now : List (Hi
   -- one segment more for each Join
   pub mounts : mounts_of after ≡ reverse (bases_joined steps) ++ mounts_of before
   pub resumable : IsResumable shapes me old before → IsResumable shapes me now after
+  -- and no frame more
+  pub sent : IsResumable shapes me old before
+      → frames_sent shapes now after ≡ frames_sent shapes old before
 
 -- The session was told this report of its head, if any, and then these bytes, and these are all its
 -- steps so far: those that are no reads are all that is owed for what it was told, or once it is

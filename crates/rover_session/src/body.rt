@@ -1,5 +1,6 @@
 //! The bytes that a rover is sent.
-ghost use Rattle.std.specs.Prelude.{◌≡◌, ◌+◌, ◌*◌, ◌≤◌, ◌++◌, length, vec_len};
+ghost use Rattle.std.specs.Prelude.{◌≡◌, ◌+◌, ◌*◌, ◌≤◌, ◌++◌, length, All, IsTrue, vec_len};
+ghost use Rattle.rtcm_frame.specs.Transport.{is_frame};
 ghost use Rattle.std.specs.Vec.{vec_capacity};
 ghost use Rattle.rover_session.specs.Body.{frame_sent, body_of};
 
@@ -19,6 +20,7 @@ fn append_frame(version: Version, frame: &Frame, out: &mut Vec<u8>)
     ensures items { out.new.items ≡ out.old.items ++ frame_sent version frame.now }
     ensures len { vec_len out.new ≤ vec_len out.old + MOST_OF_FRAME }
     ensures capacity { vec_capacity out.old ≤ vec_capacity out.new }
+    ensures valid { IsTrue (is_frame frame.now) }
 {
     let bytes = frame.bytes();
     match version {
@@ -39,6 +41,7 @@ fn append_frame(version: Version, frame: &Frame, out: &mut Vec<u8>)
 pub(crate) fn append_frames(version: Version, frames: &[Frame], out: &mut Vec<u8>)
     requires room { vec_len out.old + MOST_OF_FRAME * length frames.now ≤ vec_capacity out.old }
     ensures items { out.new.items ≡ out.old.items ++ body_of version frames.now }
+    ensures valid { All (λ frame. IsTrue (is_frame frame)) frames.now }
 {
     for frame in frames {
         append_frame(version, frame, out);

@@ -1,12 +1,11 @@
 //! Following a rover's reports: which base it takes, and a segment for each base.
 
-ghost use Rattle.std.specs.Prelude.{◌≡◌, ℕ, ◌<◌, ◌≤◌, List, [], ◌∷◌, ◌++◌, length, map, reverse, All, Contains, IfSome, OnOk, Some, option_to_list};
+ghost use Rattle.std.specs.Prelude.{◌≡◌, ℕ, ◌<◌, ◌≤◌, List, [], ◌∷◌, ◌++◌, length, map, reverse, All, IfSome, IfErr, OnOk, Some, option_to_list};
 ghost use Rattle.std.specs.Result.{result_err};
 ghost use Rattle.cast_text.specs.Lines as lines;
 ghost use Rattle.gga_read.specs.declared.Position.{Position};
 ghost use Rattle.gga_read.specs.Report.{reports};
 ghost use Rattle.base_select.specs.Measure.{IsOnEarth};
-ghost use Rattle.base_select.specs.Choice.{mounts};
 ghost use Rattle.session_calls.specs.Plans.{done};
 ghost use Rattle.session_calls.specs.Rings.{SamePlaces, AllSpeak, AllLater, all_alone};
 ghost use Rattle.rover_session.specs.Owed.{chooses, changed, joins, follows, heeds};
@@ -56,11 +55,28 @@ fn next_base(present: Option<u32>, rover: Position, held: &[Base], h: u32) -> Op
     requires bases { All (λ base. IsOnEarth base.at) held.now }
     requires percent { h ≤ 50 }
     ensures choice { result ≡ changed present (chooses h present rover held.now) }
-    ensures among { IfSome result (λ mount. Contains (mounts held.now) mount) }
+    ensures within { (count : ℕ) → AreWithin count held.now
+        → IfSome result (λ mount. mount < count) }
 {
     match select(present, rover, held, h) {
-        Some(mount) if present != Some(mount) => Some(mount),
-        _ => None,
+        Some(mount) => unless_present(present, mount),
+        None => None,
+    }
+}
+
+/// The mountpoint, where it is not the present one.
+fn unless_present(present: Option<u32>, mount: u32) -> Option<u32>
+    ensures { result ≡ changed present (Some mount) }
+{
+    match present {
+        Some(base) => {
+            if base == mount {
+                None
+            } else {
+                Some(mount)
+            }
+        }
+        None => Some(mount),
     }
 }
 

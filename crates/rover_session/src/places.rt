@@ -1,10 +1,12 @@
 //! A rover's turns at several mountpoints.
 
-ghost use Rattle.std.specs.Prelude.{◌≡◌, ◌<◌, [], ◌∷◌, length, map, IfOk, OnOk, IfErr, OnErr};
+ghost use Rattle.std.specs.Prelude.{◌≡◌, ◌+◌, ◌<◌, ◌≤◌, [], ◌∷◌, ◌++◌, length, map, IfOk, OnOk, IfErr, OnErr, vec_len};
+ghost use Rattle.std.specs.Vec.{vec_capacity};
 ghost use Rattle.rover_cursor.specs.Segments.{begun, read_on};
 ghost use Rattle.rover_cursor.specs.Told.{IsSegment};
 ghost use Rattle.session_calls.specs.Steps.{at_ring};
 ghost use Rattle.session_calls.specs.Rings.{Went, SamePlaces, AllSpeak, AllLater, all_alone, history_at, shape_at};
+ghost use Rattle.rover_session.specs.Owed.{if_live};
 ghost use Rattle.rover_session.specs.Made.{IsRefusedBy};
 ghost use Rattle.rover_session.specs.Standing.{KnowsFilter, AreWithin, AskedEach, AskedFirst, report_at, frames_at};
 
@@ -65,11 +67,22 @@ pub(crate) fn held_among<T: Turns<Ring>>(
         return Err(SegFault::Memory);
     };
     for base in bases {
-        if look(places, me, base.mount)?.is_some() {
-            held.push_reserved(*base);
-        }
+        let live = look(places, me, base.mount)?;
+        push_live(&mut held, *base, live);
     }
     Ok(held)
+}
+
+/// Adds the base where it is held under a claim. There is room for it.
+fn push_live(held: &mut Vec<Base>, base: Base, live: Option<u64>)
+    requires room { vec_len held.old < vec_capacity held.old }
+    ensures items { held.new.items ≡ held.old.items ++ if_live base live }
+    ensures len { vec_len held.new ≤ vec_len held.old + 1 }
+    ensures capacity { vec_capacity held.new ≡ vec_capacity held.old }
+{
+    if live.is_some() {
+        held.push_reserved(base);
+    }
 }
 
 /// Reads on in a segment, at its mountpoint. Gives the number of frames taken.

@@ -1,13 +1,14 @@
 //! A rover's session over the mountpoints that it is admitted to.
-ghost use Rattle.std.specs.Prelude.{◌≡◌, ℕ, ◌≤◌, false, List, [], ◌++◌, length, map, reverse, All, OnOk, OnErr, IfOk, IfErr, IfSome, IfNone, Option, Err};
+ghost use Rattle.std.specs.Prelude.{◌≡◌, ℕ, ◌≤◌, false, List, [], ◌++◌, length, map, reverse, All, OnOk, OnErr, IfOk, IfErr, IfSome, IfNone, IsTrue, Option, Err};
 ghost use Rattle.std.specs.Result.{result_err};
+ghost use Rattle.rtcm_frame.specs.Transport.{is_frame};
 ghost use Rattle.gga_read.specs.declared.Position.{Position};
 ghost use Rattle.base_select.specs.Measure.{IsOnEarth};
 ghost use Rattle.session_calls.specs.Steps.{Step};
 ghost use Rattle.session_calls.specs.Rings.{SamePlaces, AllSpeak, AllLater, all_alone};
 ghost use Rattle.rover_session.specs.Made.{IsRefusedBy, sent_in, overrun_in};
 ghost use Rattle.rover_session.specs.Body.{body_of};
-ghost use Rattle.rover_session.specs.Standing.{rover_of, KnowsFilter, AreWithin, IsResumable, WasResumable, frames_read, Stands, Told, ReadOn, SameAdmission, IsNew};
+ghost use Rattle.rover_session.specs.Standing.{rover_of, KnowsFilter, AreWithin, IsResumable, WasResumable, frames_sent, frames_read, Stands, Told, ReadOn, SameAdmission, IsNew};
 
 use crate::admitted::Admitted;
 use crate::body::{MOST_OF_TURN, append_frames};
@@ -107,6 +108,8 @@ impl RoverSession {
             (map T.seen places.old) (map T.seen places.new) (rover_of self.new) first [] [] }
         ensures resumable { IsResumable (map T.shape places.old) (rover_of self.old).me
             (map T.seen places.new) (rover_of self.new).segments }
+        ensures sent { frames_sent (map T.shape places.old) (map T.seen places.new)
+            (rover_of self.new).segments ≡ [] }
         ensures halt { (rover_of self.new).halt ≡ result_err result }
         ensures cause { IfErr result (IsRefusedBy (map T.worn places.new)) }
     {
@@ -144,6 +147,9 @@ impl RoverSession {
             (before ++ bytes.now) steps }
         ensures resumable { IsResumable (map T.shape places.old) (rover_of self.old).me
             (map T.seen places.new) (rover_of self.new).segments }
+        ensures sent { frames_sent (map T.shape places.old) (map T.seen places.new)
+            (rover_of self.new).segments ≡ frames_sent (map T.shape places.old)
+            (map T.seen places.old) (rover_of self.old).segments }
         ensures halt { (rover_of self.new).halt ≡ result_err result }
         ensures halted { IfSome (rover_of self.old).halt (λ fault. (result ≡ Err fault)
             × (rover_of self.new ≡ rover_of self.old) × (places.new ≡ places.old)) }
@@ -200,6 +206,14 @@ impl RoverSession {
             (map T.seen places.new) budget (rover_of self.old).segments)) }
         ensures resumable { IsResumable (map T.shape places.old) (rover_of self.old).me
             (map T.seen places.new) (rover_of self.new).segments }
+        ensures sent { OnOk result (frames_sent (map T.shape places.old) (map T.seen places.new)
+            (rover_of self.new).segments ≡ frames_sent (map T.shape places.old)
+            (map T.seen places.old) (rover_of self.old).segments
+            ++ frames_read (map T.shape places.old) (map T.seen places.new) budget
+            (rover_of self.old).segments) }
+        ensures valid { OnOk result (All (λ frame. IsTrue (is_frame frame))
+            (frames_read (map T.shape places.old) (map T.seen places.new) budget
+            (rover_of self.old).segments)) }
         ensures err { OnErr result ((rover_of self.new ≡ rover_of self.old)
             × (map T.seen places.new ≡ map T.seen places.old) × (out.new.items ≡ out.old.items)) }
         ensures halted { IfSome (rover_of self.old).halt (λ fault. (result ≡ Err fault)
