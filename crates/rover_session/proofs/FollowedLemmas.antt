@@ -1,5 +1,5 @@
 -- What a rover called for some reports, and then for some more.
-use Rattle.std.proofs.Common.{◌≡◌, ℕ, ◌<◌, Bool, true, false, List, [], ◌∷◌, ◌++◌, length, Option, None, Some, Result, Err, refl, sym, ap, subst, ◌∙◌}
+use Rattle.std.proofs.Common.{◌≡◌, ℕ, ◌<◌, Bool, true, false, List, [], ◌∷◌, ◌++◌, length, Option, None, Some, option_to_list, Result, Err, refl, sym, ap, subst, ◌∙◌}
 use Rattle.std.specs.Result.{result_err}
 use Rattle.std.specs.Prelude.{reverse}
 use Rattle.std.proofs.lemmas.List.{append-nil, map-append, reverse-append}
@@ -21,10 +21,28 @@ use Rattle.session_calls.proofs.PlanLemmas.{begun_longer}
 use Rattle.session_calls.proofs.WentLemmas.{went_none, went_both}
 use Rattle.rover_session.specs.Owed.{Terms, chooses, changed, joins, follows, heeds, looks}
 use Rattle.rover_session.specs.Made.{base_after, bases_joined, mounts_of, present_base, segments_after, owed_among, IsMadeUntil}
-use Rattle.rover_session.specs.Standing.{looked, held_in, AskedEach, AskedFirst, IsResumable, frames_sent, Followed}
+use Rattle.rover_session.specs.Standing.{looked, held_in, AskedEach, AskedFirst, IsResumable, KeepsSegments, frames_sent, Followed}
 use Rattle.rover_session.proofs.FollowLemmas.{heeds_begin, heeds_left}
 use Rattle.rover_session.proofs.MadeLemmas.{base-append, segments-append, owed_both, until_both, owed_looked, base_looked, joined_looked, mounts_both, segments_looked, bases_in, looks_until, looks_cut}
 use Rattle.rover_session.proofs.SegmentLemmas.{went_extends, all_sound, resumable_stays, looks_resume, resumable_joined, sent_later, sent_begun}
+
+-- segments that were kept, and then kept again
+pub keeps_both : (shapes : List RingShape) (me : ℕ) (old mid now : List (History RingCall)) (a b c : List Segment)
+    → KeepsSegments shapes me old mid a b → KeepsSegments shapes me mid now b c → KeepsSegments shapes me old now a c
+keeps_both shapes me old mid now a b c x y is =
+    let first : IsResumable shapes me mid b × (frames_sent shapes mid b ≡ frames_sent shapes old a) = x is in
+    let second : IsResumable shapes me now c × (frames_sent shapes now c ≡ frames_sent shapes mid b) = y first.0 in
+    (second.0, second.1 ∙ first.1)
+
+-- looks keep them
+keeps_looks : (shapes : List RingShape) (alone : Bool) (old now : List (History RingCall)) (me : ℕ)
+    (lives : List (Base × Option ℕ)) (segments : List Segment) → Went shapes alone old now me (looked lives)
+    → KeepsSegments shapes me old now segments segments
+keeps_looks shapes alone old now me lives segments went is = (
+  resumable_stays shapes me old now (looks_resume shapes alone old now me lives went) segments is,
+  sent_later shapes old now segments (went_extends shapes alone old now me (looked lives) went)
+      (all_sound shapes me old segments is),
+)
 
 -- nothing was called
 pub followed_none : (shapes : List RingShape) (alone : Bool) (histories : List (History RingCall)) (me : ℕ)
@@ -38,8 +56,7 @@ followed_none shapes alone histories me plan refused segments made = record {
   base = refl;
   segments = refl;
   mounts = refl;
-  resumable = λ is. is;
-  sent = λ is. refl;
+  keeps = λ is. (is, refl);
 }
 
 -- the same of histories and segments that are known by equations
@@ -68,16 +85,16 @@ followed_joined shapes alone old now me mount filter segment before after within
       base = ap Some (sym here) ∙ ap present_base (sym added);
       segments = added ∙ ap (λ (s : Segment). s ∷ before) begins;
       mounts = ap mounts_of added ∙ ap (λ (m : ℕ). m ∷ mounts_of before) here;
-      resumable = λ resumable.
-          subst (IsResumable shapes me now) (sym added)
-          (resumable_joined shapes me old now before segment (went_extends shapes alone old now me (step ∷ []) went)
-          (subst (λ m. m < length shapes) (sym here) within)
-          (subst (λ m. IsSegment (shape_at shapes m) me (history_at now m) segment) (sym here) is) resumable);
-      sent = λ resumable.
-          ap (frames_sent shapes now) (added ∙ ap (λ (s : Segment). s ∷ before) begins)
-          ∙ sent_begun shapes now mount segment.cursor before
-          ∙ sent_later shapes old now before (went_extends shapes alone old now me (step ∷ []) went)
-          (all_sound shapes me old before resumable);
+      keeps = λ resumable. (
+        subst (IsResumable shapes me now) (sym added)
+            (resumable_joined shapes me old now before segment (went_extends shapes alone old now me (step ∷ []) went)
+            (subst (λ m. m < length shapes) (sym here) within)
+            (subst (λ m. IsSegment (shape_at shapes m) me (history_at now m) segment) (sym here) is) resumable),
+        ap (frames_sent shapes now) (added ∙ ap (λ (s : Segment). s ∷ before) begins)
+        ∙ sent_begun shapes now mount segment.cursor before
+        ∙ sent_later shapes old now before (went_extends shapes alone old now me (step ∷ []) went)
+        (all_sound shapes me old before resumable),
+      );
     }
 
 mounts_looked : (lives : List (Base × Option ℕ)) (mounts : List ℕ)
@@ -109,14 +126,8 @@ followed_after shapes alone old mid now me terms present rover held refused befo
           ∙ sym (segments-append before looks_made x.steps);
       mounts = mounts_both looks_made x.steps (mounts_of before) (mounts_of before) (mounts_of after)
           (mounts_looked asked.lives (mounts_of before)) x.mounts;
-      resumable = λ is.
-          x.resumable (resumable_stays shapes me old mid (looks_resume shapes alone old mid me asked.lives asked.went)
-          before is);
-      sent = λ is.
-          x.sent (resumable_stays shapes me old mid (looks_resume shapes alone old mid me asked.lives asked.went) before
-          is)
-          ∙ sent_later shapes old mid before (went_extends shapes alone old mid me looks_made asked.went)
-          (all_sound shapes me old before is);
+      keeps = keeps_both shapes me old mid now before before after
+          (keeps_looks shapes alone old mid me asked.lives before asked.went) x.keeps;
     }
 
 -- looks that were broken off
@@ -135,11 +146,7 @@ followed_first shapes alone old now me terms present rover fault before (first, 
       base = base_looked (present_base before) asked.lives;
       segments = sym (segments_looked before asked.lives);
       mounts = mounts_looked asked.lives (mounts_of before);
-      resumable = λ is.
-          resumable_stays shapes me old now (looks_resume shapes alone old now me asked.lives asked.went) before is;
-      sent = λ is.
-          sent_later shapes old now before (went_extends shapes alone old now me (looked asked.lives) asked.went)
-          (all_sound shapes me old before is);
+      keeps = keeps_looks shapes alone old now me asked.lives before asked.went;
     }
 
 -- some reports, and then some more
@@ -163,8 +170,7 @@ followed_both shapes alone old mid now me near terms told new refused a b c x y 
       ∙ ap (λ (s : List Segment). segments_after s y.steps) x.segments
       ∙ sym (segments-append a x.steps y.steps);
   mounts = mounts_both x.steps y.steps (mounts_of a) (mounts_of b) (mounts_of c) x.mounts y.mounts;
-  resumable = λ is. y.resumable (x.resumable is);
-  sent = λ is. y.sent (x.resumable is) ∙ x.sent is;
+  keeps = keeps_both shapes me old mid now a b c x.keeps y.keeps;
 }
 
 -- what was broken off at some reports is broken off at more
@@ -181,8 +187,7 @@ followed_longer shapes alone old now me near terms told new fault a b x = record
   base = x.base;
   segments = x.segments;
   mounts = x.mounts;
-  resumable = x.resumable;
-  sent = x.sent;
+  keeps = x.keeps;
 }
 
 -- the same by other names of equal things
@@ -227,5 +232,9 @@ pub heeds_far : (near : Bool) (terms : Terms) (present : Option ℕ) (told : Lis
 heeds_far near terms present told far =
     subst (λ (b : Bool). IsMade (heeds b terms present told) []) (sym far) refl
 
-pub heeds_nothing : (near : Bool) (terms : Terms) (present : Option ℕ) → IsMade (heeds near terms present []) []
-heeds_nothing near terms present = subst (λ (plan : Plan). IsMade plan []) (sym (heeds_none near terms present)) refl
+pub heeds_nothing : (near : Bool) (terms : Terms) (present : Option ℕ) (report : Option Position) → report ≡ None
+    → IsMade (heeds near terms present (option_to_list report)) []
+heeds_nothing near terms present report none =
+    subst (λ (plan : Plan). IsMade plan [])
+    (sym (ap (λ (o : Option Position). heeds near terms present (option_to_list o)) none ∙ heeds_none near terms present))
+    refl

@@ -39,7 +39,7 @@ module _ (shapes : List RingShape) (alone : Bool) (old : List (History RingCall)
     new = [];
     told = ap reports (append-nil before) ∙ sym (append-nil (reports before));
     followed = followed_none shapes alone old me (heeds near terms (present_base a) []) None a
-        (heeds_nothing near terms (present_base a));
+        (heeds_nothing near terms (present_base a) None refl);
   }
 
   pub heeded_more : (mid now : List (History RingCall)) (reader next : LineState) (before bytes : List ℕ) (byte : ℕ)

@@ -131,6 +131,14 @@ frames_sent shapes histories [] = []
 frames_sent shapes histories (segment ∷ older) =
     frames_sent shapes histories older ++ frames_of shapes histories segment
 
+-- Segments that could be read on can be, whatever became of them, and were sent no frame more.
+abbrev pub KeepsSegments : List RingShape → ℕ → List (History RingCall) → List (History RingCall)
+    → List Segment → List Segment → Type 0
+KeepsSegments shapes me old now before after =
+    IsResumable shapes me old before
+    → IsResumable shapes me now after
+    × (frames_sent shapes now after ≡ frames_sent shapes old before)
+
 -- what a read from where a segment stands is answered, as the histories after it tell
 abbrev pub report_at : List RingShape → List (History RingCall) → ℕ → Segment → ReadReport
 report_at shapes histories budget segment =
@@ -164,10 +172,7 @@ pub record Followed (shapes : List RingShape) (alone : Bool) (old now : List (Hi
   pub segments : after ≡ segments_after before steps
   -- one segment more for each Join
   pub mounts : mounts_of after ≡ reverse (bases_joined steps) ++ mounts_of before
-  pub resumable : IsResumable shapes me old before → IsResumable shapes me now after
-  -- and no frame more
-  pub sent : IsResumable shapes me old before
-      → frames_sent shapes now after ≡ frames_sent shapes old before
+  pub keeps : KeepsSegments shapes me old now before after
 
 -- The session was told this report of its head, if any, and then these bytes, and these are all its
 -- steps so far: those that are no reads are all that is owed for what it was told, or once it is

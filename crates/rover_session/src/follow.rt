@@ -10,7 +10,7 @@ ghost use Rattle.session_calls.specs.Plans.{done};
 ghost use Rattle.session_calls.specs.Rings.{SamePlaces, AllSpeak, AllLater, all_alone};
 ghost use Rattle.rover_session.specs.Owed.{chooses, changed, joins, follows, heeds};
 ghost use Rattle.rover_session.specs.Made.{present_base, IsRefusedBy};
-ghost use Rattle.rover_session.specs.Standing.{KnowsFilter, AreWithin, Followed, terms_of};
+ghost use Rattle.rover_session.specs.Standing.{KnowsFilter, AreWithin, KeepsSegments, Followed, terms_of};
 
 use crate::admitted::Admitted;
 use crate::places::{held_among, join_at};
@@ -174,6 +174,9 @@ pub(crate) fn heed_all<T: Turns<Ring>>(
         (heeds admitted.now.near (terms_of admitted.now)
         (present_base (reverse segments.old.items)) new)
         (result_err result) (reverse segments.old.items) (reverse segments.new.items) }
+    ensures keeps { KeepsSegments (map T.shape places.old) admitted.now.me
+        (map T.seen places.old) (map T.seen places.new)
+        (reverse segments.old.items) (reverse segments.new.items) }
     ensures cause { IfErr result (IsRefusedBy (map T.worn places.new)) }
 {
     for byte in bytes {
