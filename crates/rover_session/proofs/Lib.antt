@@ -8,3 +8,4 @@ pub mod StandsLemmas
 pub mod LawLemmas
 pub mod BaseLemmas
 pub mod HeededLemmas
+pub mod TurnLemmas

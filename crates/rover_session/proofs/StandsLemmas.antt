@@ -1,6 +1,7 @@
 -- What a session stands for, after each of its calls.
-use Rattle.std.proofs.Common.{◌≡◌, ℕ, zero, suc, ◌+◌, ◌<◌, Bool, true, false, List, [], ◌∷◌, ◌++◌, length, get_or, set, Option, None, Some, option_to_list, refl, sym, ap, subst, ◌∙◌, arith}
-use Rattle.std.specs.Prelude.{reverse}
+use Rattle.std.proofs.Common.{◌≡◌, ℕ, zero, suc, ◌+◌, ◌<◌, Bool, true, false, List, [], ◌∷◌, ◌++◌, length, get_or, set, Option, None, Some, option_to_list, Result, Ok, Err, refl, sym, ap, subst, ◌∙◌, arith}
+use Rattle.std.specs.Prelude.{reverse, OnOk}
+use Rattle.std.specs.Result.{result_err}
 use Rattle.std.specs.List.{All}
 use Rattle.std.proofs.lemmas.List.{append-nil, reverse-append}
 use Rattle.cast_text.specs.Lines.{LineState}
@@ -202,15 +203,23 @@ resumable_read shapes alone me old now steps segment next older went same is bef
 )
 
 -- the newest segment is the last one
-pub newest_is : (items : List Segment) (n : ℕ) (d new : Segment) → length items ≡ n + 1
-    → (older : List Segment) × (reverse items ≡ get_or items n d ∷ older) × (reverse (set items n new) ≡ new ∷ older)
-newest_is [] n d new long = absurd (omega arith)
-newest_is (x ∷ []) zero d new long = ([], refl, refl)
-newest_is (x ∷ []) (suc n) d new long = absurd (omega arith)
-newest_is (x ∷ y ∷ more) zero d new long = absurd (omega arith)
-newest_is (x ∷ y ∷ more) (suc n) d new long =
-    let rest = newest_is (y ∷ more) n d new (omega arith) in (
+pub newest_is : (items : List Segment) (n : ℕ) (d : Segment) → length items ≡ n + 1
+    → (older : List Segment) × (reverse items ≡ get_or items n d ∷ older)
+    × ((new : Segment) → reverse (set items n new) ≡ new ∷ older)
+newest_is [] n d long = absurd (omega arith)
+newest_is (x ∷ []) zero d long = ([], refl, λ new. refl)
+newest_is (x ∷ []) (suc n) d long = absurd (omega arith)
+newest_is (x ∷ y ∷ more) zero d long = absurd (omega arith)
+newest_is (x ∷ y ∷ more) (suc n) d long =
+    let rest = newest_is (y ∷ more) n d (omega arith) in (
       rest.0 ++ x ∷ [],
       reverse-append (x ∷ []) (y ∷ more) ∙ ap (λ (l : List Segment). l ++ x ∷ []) rest.1,
-      reverse-append (x ∷ []) (set (y ∷ more) n new) ∙ ap (λ (l : List Segment). l ++ x ∷ []) rest.2,
+      λ new. reverse-append (x ∷ []) (set (y ∷ more) n new) ∙ ap (λ (l : List Segment). l ++ x ∷ []) (rest.2 new),
     )
+
+-- ---- results
+
+pub none_of_err : {T : Type 0} (P : Type 0) (r : Result T SegFault) (halt : Option SegFault) → halt ≡ result_err r
+    → OnOk r P → halt ≡ None → P
+none_of_err P (Ok x) halt is holds none = holds
+none_of_err P (Err fault) halt is holds none = let clash : Some fault ≡ None = sym is ∙ none in absurd cc

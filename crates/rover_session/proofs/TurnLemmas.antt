@@ -1,6 +1,7 @@
 -- A turn's read of the last of the segments, as the code keeps them.
-use Rattle.std.proofs.Common.{◌≡◌, ℕ, ◌+◌, ◌<◌, Bool, List, [], ◌∷◌, ◌++◌, length, get_or, set, Option, refl, sym, ap, subst, ◌∙◌}
-use Rattle.std.specs.Prelude.{reverse}
+use Rattle.std.proofs.Common.{◌≡◌, ℕ, ◌+◌, ◌<◌, ◌≤◌, Bool, List, [], ◌∷◌, ◌++◌, length, get_or, set, Option, Result, Ok, Err, refl, sym, ap, subst, ◌∙◌, arith}
+use Rattle.std.specs.Prelude.{reverse, OnErr}
+use Rattle.std.proofs.lemmas.List.{set-get_or}
 use Rattle.turn_log.specs.History.{History}
 use Rattle.gga_read.specs.declared.Position.{Position}
 use Rattle.mount_ring.specs.declared.call.RingCall.{RingCall}
@@ -19,15 +20,15 @@ use Rattle.rover_session.proofs.StandsLemmas.{newest_is, read_newest, resumable_
 
 -- These are the segments, the oldest first, the last one stands at this place, and the read makes
 -- the next one of it.
-module _ (shapes : List RingShape) (items : List Segment) (n : ℕ) (segment : Segment) (long : length items ≡ n + 1)
-    (here : segment ≡ get_or items n segment) where
+module _ (shapes : List RingShape) (items : List Segment) (n : ℕ) (d segment : Segment) (long : length items ≡ n + 1)
+    (here : segment ≡ get_or items n d) where
   older : List Segment
-  older = (newest_is items n segment segment long).0
+  older = (newest_is items n d long).0
 
   -- the newest stands first
   newest : reverse items ≡ segment ∷ older
   unfolding older
-  newest = (newest_is items n segment segment long).1 ∙ ap (λ (s : Segment). s ∷ older) (sym here)
+  newest = (newest_is items n d long).1 ∙ ap (λ (s : Segment). s ∷ older) (sym here)
 
   pub segment_within : (me : ℕ) (histories : List (History RingCall)) → IsResumable shapes me histories (reverse items)
       → segment.mount < length shapes
@@ -54,9 +55,7 @@ module _ (shapes : List RingShape) (items : List Segment) (n : ℕ) (segment : S
     -- the segments after it
     read_newest_is : reverse (set items n next) ≡ next ∷ older
     unfolding older
-    read_newest_is =
-        let same : (newest_is items n segment next long).0 ≡ older = refl in
-        (newest_is items n segment next long).2
+    read_newest_is = (newest_is items n d long).2 next
 
     pub turn_read : (rover : Rover) (first : Option Position) (bytes : List ℕ) (steps : List Step) → rover.me ≡ me
         → rover.segments ≡ reverse items → Stands rover first bytes steps
@@ -89,3 +88,17 @@ module _ (shapes : List RingShape) (items : List Segment) (n : ℕ) (segment : S
         ∙ ap (λ (l : List (List ℕ)). l ++ frames_at shapes now budget segment)
         (ap (frames_sent shapes old) (sym newest))
         ∙ ap (λ (l : List (List ℕ)). frames_sent shapes old (reverse items) ++ l) (sym (read_here now budget))
+
+  -- a segment that stays leaves all as they are
+  pub same_items : (next : Segment) → next ≡ segment → set items n next ≡ items
+  same_items next same = ap (set items n) (same ∙ here) ∙ set-get_or items n d
+
+-- no segment
+pub no_items : (items : List Segment) → (1 ≤ length items → ⊥) → items ≡ []
+no_items [] none = refl
+no_items (segment ∷ items) none = absurd (none (omega arith))
+
+-- what stands at a refusal
+pub on_err_all : {T E : Type 0} (P : Type 0) (r : Result T E) → P → OnErr r P
+on_err_all P (Ok x) is = tt
+on_err_all P (Err fault) is = is
