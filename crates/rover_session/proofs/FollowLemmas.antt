@@ -35,7 +35,7 @@ lines_one limit bytes byte =
           let fits : Bool = leb (length line) limit in (
             cond fits (line ∷ []) [],
             ap (λ (b : ℕ). whole_lines limit (bytes ++ b ∷ [])) (eqb-true byte 10 is)
-            ∙ lines_ended (coming limit bytes) fits line bytes refl refl refl refl,
+                ∙ lines_ended (coming limit bytes) fits line bytes refl refl refl refl,
           )
       | inr other ↦ ([], lines_kept (no_line limit) byte bytes other)
     ]
@@ -48,9 +48,9 @@ lines_more limit bytes (byte ∷ more) =
     let rest : HasMore limit (bytes ++ byte ∷ []) more = lines_more limit (bytes ++ byte ∷ []) more in (
       first.0 ++ rest.0,
       ap (whole_lines limit) (sym (append_assoc bytes (byte ∷ []) more))
-      ∙ rest.1
-      ∙ ap (λ (lines : List (List ℕ)). lines ++ rest.0) first.1
-      ∙ append_assoc (whole_lines limit bytes) first.0 rest.0,
+          ∙ rest.1
+          ∙ ap (λ (lines : List (List ℕ)). lines ++ rest.0) first.1
+          ∙ append_assoc (whole_lines limit bytes) first.0 rest.0,
     )
 
 -- the reports of more bytes are further reports

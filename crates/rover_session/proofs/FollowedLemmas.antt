@@ -91,9 +91,9 @@ followed_joined shapes alone old now me mount filter segment before after within
             (subst (λ m. m < length shapes) (sym here) within)
             (subst (λ m. IsSegment (shape_at shapes m) me (history_at now m) segment) (sym here) is) resumable),
         ap (frames_sent shapes now) (added ∙ ap (λ (s : Segment). s ∷ before) begins)
-        ∙ sent_begun shapes now mount segment.cursor before
-        ∙ sent_later shapes old now before (went_extends shapes alone old now me (step ∷ []) went)
-        (all_sound shapes me old before resumable),
+            ∙ sent_begun shapes now mount segment.cursor before
+            ∙ sent_later shapes old now before (went_extends shapes alone old now me (step ∷ []) went)
+            (all_sound shapes me old before resumable),
       );
     }
 

@@ -106,11 +106,11 @@ module _ (shapes : List RingShape) (alone : Bool) (old : List (History RingCall)
       ∙ append_assoc (reports before) x.new (option_to_list report) in (
         told ++ rest.0,
         ap (λ (l : List ℕ). reports (before ++ l)) (sym (take-append-drop (i + 1) bytes))
-        ∙ ap reports (sym (append_assoc before front (drop (i + 1) bytes)))
-        ∙ rest.1
-        ∙ ap (λ (l : List Position). l ++ rest.0) at_front
-        ∙ append_assoc (reports before) told rest.0,
+            ∙ ap reports (sym (append_assoc before front (drop (i + 1) bytes)))
+            ∙ rest.1
+            ∙ ap (λ (l : List Position). l ++ rest.0) at_front
+            ∙ append_assoc (reports before) told rest.0,
         followed_longer shapes alone old now me near terms told rest.0 fault a c
-        (followed_both shapes alone old mid now me near terms x.new (option_to_list report) (Some fault) a b c
-        x.followed y),
+            (followed_both shapes alone old mid now me near terms x.new (option_to_list report) (Some fault) a b c
+            x.followed y),
       )

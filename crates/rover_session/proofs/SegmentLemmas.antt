@@ -94,7 +94,7 @@ looks_resume shapes alone old now me lives went mount = (
   (went.rings mount).seen,
   ap (list_all is_quiet) (sym (calls_told (answer_at shapes mount) me (history_at old mount) (went.rings mount).more)
       ∙ ap calls_in (went.rings mount).mine)
-  ∙ quiet_looks mount lives,
+      ∙ quiet_looks mount lives,
 )
 
 -- and so do other callers

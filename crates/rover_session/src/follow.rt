@@ -69,14 +69,8 @@ fn unless_present(present: Option<u32>, mount: u32) -> Option<u32>
     ensures { result ≡ changed present (Some mount) }
 {
     match present {
-        Some(base) => {
-            if base == mount {
-                None
-            } else {
-                Some(mount)
-            }
-        }
-        None => Some(mount),
+        Some(base) if base == mount => None,
+        _ => Some(mount),
     }
 }
 

@@ -114,11 +114,23 @@ impl RoverSession {
         ensures cause { IfErr result (IsRefusedBy (map T.worn places.new)) }
     {
         let begun = if self.admitted.near {
-            heed(self.alloc, &self.admitted, &mut self.segments, first, places)
+            heed(
+                self.alloc,
+                &self.admitted,
+                &mut self.segments,
+                first,
+                places,
+            )
         } else {
             let mount = self.admitted.bases[0].mount;
-            let Admitted { me, filter, .. } = self.admitted;
-            begin_segment(self.alloc, &mut self.segments, me, mount, filter, places)
+            begin_segment(
+                self.alloc,
+                &mut self.segments,
+                self.admitted.me,
+                mount,
+                self.admitted.filter,
+                places,
+            )
         };
         self.halt = begun.err();
         begun
