@@ -1,14 +1,12 @@
 -- The first line of some bytes.
-use Rattle.std.proofs.Common.{◌≡◌, ◌≢◌, ◌∙◌, ℕ, Bool, true, false, ◌||◌, ◌==◌, List, [], ◌∷◌, ◌++◌, take, drop, append_assoc, refl, sym, ap, subst, inl, inr, arith}
-use Rattle.std.specs.List.{list_any}
-use Rattle.std.proofs.lemmas.Bool.{cases_Bool, or_cases, or_left, or_right, false≢true}
+use Rattle.std.proofs.Common.{◌≡◌, ◌∙◌, ℕ, Bool, true, false, ◌||◌, ◌==◌, List, [], ◌∷◌, ◌++◌, take, drop, append_assoc, refl, sym, ap, subst, inl, inr}
+use Rattle.std.proofs.lemmas.Bool.{cases_Bool, or_left, or_right, false≢true}
 use Rattle.std.proofs.lemmas.List.{take-append-drop}
 use Rattle.std.proofs.lemmas.List.Folds.{list_any-append}
 use Rattle.httparse.specs.Grammar.{LineEnd, crlf, lf, print_end}
 use Rattle.ntrip_head.specs.Head.{ends_with_empty_line}
 use Rattle.ntrip_head.proofs.EmptyLineLemmas.{to_line_end}
-use Rattle.ntrip_client.specs.declared.first_line.FirstLine.TheVariants.{Http}
-use Rattle.ntrip_client.specs.FirstLine.{has_line, IsFirstLine, kind_of, SpeaksHttp}
+use Rattle.ntrip_client.specs.FirstLine.{has_line, IsFirstLine, SpeaksHttp}
 
 -- ---- whether a line has ended
 

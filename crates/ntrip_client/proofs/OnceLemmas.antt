@@ -1,8 +1,8 @@
 -- Some bytes say one thing, and more bytes say it still.
-use Rattle.std.proofs.Common.{◌≡◌, ◌≢◌, ◌∙◌, ◌≤◌, ◌<◌, ℕ, Bool, true, false, ◌⊎◌, List, [], ◌∷◌, ◌++◌, length, take, drop, length-append, length-take-le, refl, sym, ap, subst, inl, inr, arith, Option, None, Some, Result, Ok, Err}
+use Rattle.std.proofs.Common.{◌≡◌, ◌≢◌, ◌∙◌, ◌≤◌, ℕ, true, false, ◌⊎◌, List, [], ◌∷◌, ◌++◌, length, take, drop, length-append, length-take-le, refl, sym, ap, subst, inl, inr, arith, Some, Ok, Err}
 use Rattle.std.proofs.lemmas.Bool.{false≢true}
 use Rattle.std.proofs.lemmas.List.{take-take, take-append-le, take-append-drop}
-use Rattle.ntrip_head.specs.Head.{ends_with_empty_line, IsOpen, IsHead, IsLong}
+use Rattle.ntrip_head.specs.Head.{ends_with_empty_line, IsLong}
 use Rattle.ntrip_head.specs.Upstream.{UpstreamAnswer}
 use Rattle.ntrip_head.proofs.AnswerLemmas.{upstream_once}
 use Rattle.ntrip_head.proofs.EmptyLineLemmas.{one_head}

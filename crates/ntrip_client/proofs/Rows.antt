@@ -1,5 +1,5 @@
 -- Worked rows, which the definitions compute.
-use Rattle.std.proofs.Common.{◌≡◌, ◌≤◌, ◌⊎◌, ℕ, List, [], ◌∷◌, ◌++◌, length, take, refl, inl, inr, arith, false, true, None, Some, Ok, Err}
+use Rattle.std.proofs.Common.{◌≡◌, [], refl, inl, arith, false, None, Some}
 use Rattle.std.specs.Prelude.{codes}
 use Rattle.base64.specs.Rfc4648.{encode_symbols}
 use Rattle.ntrip_head.specs.declared.request.Version.TheVariants.{One, Two}

@@ -1,7 +1,7 @@
 -- What a head says, and what one byte more makes of it.
-use Rattle.std.proofs.Common.{◌≡◌, ◌≢◌, ◌∙◌, ◌≤◌, ◌<◌, ◌+◌, ◌-◌, ◌==◌, ◌||◌, ℕ, Bool, true, false, List, [], ◌∷◌, ◌++◌, length, take, length-append, refl, sym, ap, subst, inl, inr, arith, Option, Some, Result, Ok, Err}
+use Rattle.std.proofs.Common.{◌≡◌, ◌∙◌, ◌≤◌, ◌-◌, ◌==◌, ◌||◌, ℕ, Bool, true, false, List, [], ◌∷◌, ◌++◌, length, take, length-append, refl, sym, ap, subst, inl, inr, arith, Some, Result, Ok, Err}
 use Rattle.std.proofs.lemmas.Bool.{false≢true, false_from_ne_true, eqb-true}
-use Rattle.std.proofs.lemmas.List.{take_all, append-nil, take-append-le}
+use Rattle.std.proofs.lemmas.List.{take_all, take-append-le}
 use Rattle.ntrip_head.specs.declared.fault.HeadFault.{HeadFault}
 use Rattle.ntrip_head.specs.declared.upstream.Upstream.{Upstream}
 use Rattle.ntrip_head.specs.declared.buffer.HeadStep.{HeadStep}
@@ -9,11 +9,10 @@ use Rattle.ntrip_head.specs.declared.buffer.HeadStep.TheVariants.{More, Done, Lo
 use Rattle.ntrip_head.specs.Head.{IsOpen, IsHead, IsLong}
 use Rattle.ntrip_head.specs.Upstream.{UpstreamAnswer}
 use Rattle.ntrip_client.specs.declared.answer.Refusal.TheVariants.{Status}
-use Rattle.ntrip_client.specs.declared.first_line.FirstLine.TheVariants.{Http}
 use Rattle.ntrip_client.specs.FirstLine.{has_line, kind_of, SpeaksHttp}
 use Rattle.ntrip_client.specs.Answer.{Said, said_by_line, said_by_response, IsLineHead, IsResponse, HasHead, GoesOn, IsTooLong}
 use Rattle.ntrip_client.specs.Steps.{IsStep}
-use Rattle.ntrip_client.proofs.LineLemmas.{none_front, none_both, none_empty, line_there, http_more}
+use Rattle.ntrip_client.proofs.LineLemmas.{none_front, none_both, none_empty, http_more}
 
 -- ---- a whole head
 

@@ -1,4 +1,4 @@
-use Rattle.std.proofs.Common.{List, ℕ, sym, ◌∙◌, ◌∷◌, [], ◌++◌, subst}
+use Rattle.std.proofs.Common.{List, ℕ, sym, ◌∙◌, subst}
 use Rattle.ntrip_client.specs.FirstLine.{SpeaksHttp}
 use Rattle.ntrip_client.proofs.SayingLemmas.{open_head, http_on}
 use Rattle.ntrip_client.proofs.head.add.Goals as goal
