@@ -1,3 +1,9 @@
 pub mod Causes
 pub mod Pieces
 pub mod Fakes
+pub mod Told
+pub mod Links
+pub mod FakeLinks
+pub mod Doors
+pub mod FakeDoors
+pub mod Streets

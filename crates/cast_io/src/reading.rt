@@ -4,7 +4,7 @@ ghost use Rattle.std.specs.Io.KnownBytes.{Consumes, IsAtEnd};
 ghost use Rattle.cast_io.specs.Causes.{Rose};
 ghost use Rattle.cast_io.specs.Pieces.{Loses};
 
-use crate::ends::Source;
+use crate::source::Source;
 use std::alloc::Global;
 use thiserror::Error;
 
