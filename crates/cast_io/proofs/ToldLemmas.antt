@@ -1,5 +1,5 @@
--- What a link and a door in memory tell after a call.
-use Rattle.std.proofs.Common.{◌≡◌, ◌≤◌, ◌++◌, List, [], ◌∷◌, map, Bool, true, false, IsTrue, None, Some, option_map, unwrap_or, is_some, if◌then◌else◌, refl, sym, ap, subst, ◌∙◌, true≢false, arith}
+-- What links, doors and streets tell after a call.
+use Rattle.std.proofs.Common.{◌≡◌, ◌≤◌, ◌++◌, List, [], ◌∷◌, map, IsTrue, Option, None, Some, option_map, unwrap_or, refl, sym, ap, subst, ◌∙◌, append_assoc, append-nil, arith}
 use Rattle.std.proofs.lemmas.List.{map-append}
 use Rattle.cast_io.specs.declared.link.Got.{Got}
 use Rattle.cast_io.specs.Causes.{Rose}
@@ -30,13 +30,26 @@ link_read old mid new result buf takes taken is later rose same grew more = reco
 }
 
 -- a list that is told has one more, seen through what each item tells
-pub kept_grew : {X Y : Type 0} (f : X → Y) (tells : Bool) (items more : List X) (x : X)
-    → more ≡ items ++ x ∷ []
-    → Grew (option_map (map f) (if tells then Some items else None))
-    (option_map (map f) (if tells then Some more else None)) (f x ∷ [])
-kept_grew f false items more x is now told = absurd (true≢false (sym (ap is_some told)))
-kept_grew f true items more x is now told = (
-  map f items,
-  refl,
-  ap (λ list. unwrap_or list []) (sym told) ∙ ap (map f) is ∙ map-append f items (x ∷ []),
+pub told_grew : {X Y : Type 0} (f : X → Y) (old new : Option (List X)) (x : X)
+    → Grew old new (x ∷ []) → Grew (option_map (map f) old) (option_map (map f) new) (f x ∷ [])
+told_grew f old None x grew list told = cc
+told_grew f old (Some now) x grew list told = let from = grew now refl in (
+  map f from.0,
+  ap (option_map (map f)) from.1,
+  ap (λ items. unwrap_or items []) (sym told) ∙ ap (map f) from.2 ∙ map-append f from.0 (x ∷ []),
 )
+
+-- a list that did not change
+pub grew_none : {X : Type 0} (told : Option (List X)) → Grew told told []
+grew_none told now is = (now, is, sym (append-nil now))
+
+-- a list that grew twice
+pub grew_both : {X : Type 0} (a b c : Option (List X)) (xs ys : List X) → Grew a b xs
+    → Grew b c ys → Grew a c (xs ++ ys)
+grew_both a b c xs ys first second now is =
+    let later = second now is in
+    let before = first later.0 later.1 in (
+      before.0,
+      before.1,
+      later.2 ∙ ap (λ list. list ++ ys) before.2 ∙ append_assoc before.0 xs ys,
+    )

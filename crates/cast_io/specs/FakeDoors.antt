@@ -1,10 +1,11 @@
 -- What contracts see of a door in memory.
-use Rattle.std.specs.Prelude.{ℕ, ◌≡◌, ◌==◌, ◌+◌, ◌-◌, ◌&&◌, if◌then◌else◌, List, [], ◌∷◌, ◌++◌, map, Bool, true, false, Option, None, Some, option_map}
+use Rattle.std.specs.Prelude.{ℕ, ◌≡◌, ◌==◌, ◌+◌, ◌-◌, ◌&&◌, if◌then◌else◌, List, [], ◌∷◌, map, Bool, true, false, Option, None, Some, option_map}
 use Rattle.cast_io.specs.declared.door.Arrived.{Arrived}
 use Rattle.cast_io.specs.declared.door.Arrived.TheVariants as arrived
 use Rattle.cast_io.specs.Causes.{next_count}
 use Rattle.cast_io.specs.Told.{DoorTold}
 use Rattle.cast_io.specs.Doors.{accept_failed}
+use Rattle.cast_io.specs.Returns.{with_return}
 use Rattle.cast_io.specs.FakeLinks.{LinkState, link_told, is_new_link}
 
 -- a door in memory: the arrivals to come, where `None` is an idle one, the links that came back
@@ -64,12 +65,11 @@ pub record IsAccepted {L : Type 0} (old new : DoorState) (result : Arrived L) : 
   pub calls : new.calls ≡ next_count old.calls
   pub faults : new.faults ≡ (if accept_failed result then next_count old.faults else old.faults)
 
--- A link came back: it is the last of them. Where the door gave none that did not come back yet,
--- they are told no longer.
+-- a link came back, and nothing else changed
 pub record IsLinkBack (old new : DoorState) (link : LinkState) : Type 0 where
-  pub back : new.back ≡ (if old.owed == 0 then None
-      else option_map (λ links. links ++ link ∷ []) old.back)
+  pub back : new.back ≡ with_return old.owed old.back link
   pub owed : new.owed ≡ old.owed - 1
   pub left : new.left ≡ old.left
   pub fails : new.fails ≡ old.fails
   pub calls : new.calls ≡ old.calls
+  pub faults : new.faults ≡ old.faults

@@ -4,6 +4,11 @@ pub mod Fakes
 pub mod Told
 pub mod Links
 pub mod FakeLinks
+pub mod Returns
 pub mod Doors
 pub mod FakeDoors
 pub mod Streets
+pub mod FakeStreets
+pub mod Stores
+pub mod FakeStores
+pub mod Copying

@@ -1,5 +1,6 @@
--- What a link, a door and a street tell of themselves, as plain data: `None` where they do not.
-use Rattle.std.specs.Prelude.{ℕ, ◌≡◌, ◌++◌, List, Option, Some}
+-- What a link, a door, a street and a store tell of themselves, as plain data: `None` where they do
+-- not.
+use Rattle.std.specs.Prelude.{ℕ, ◌≡◌, ◌++◌, List, Option, None, Some}
 use Rattle.cast_io.specs.declared.steps.LinkStep.{LinkStep}
 use Rattle.cast_io.specs.declared.steps.Step.{Step}
 use Rattle.cast_io.specs.declared.steps.Asked.{Asked}
@@ -28,6 +29,16 @@ pub record StreetTold : Type 0 where
   pub links : Option (List LinkTold)
   pub faults : ℕ
   pub link_faults : ℕ
+
+-- a store: the paths that it was asked for, and its files as pairs of path and content, of which
+-- the first of a path counts
+pub record StoreTold : Type 0 where
+  pub asked : Option (List (List ℕ))
+  pub files : Option (List (List ℕ × List ℕ))
+
+-- nothing is told of a store
+abbrev pub no_store : StoreTold
+no_store = record { asked = None; files = None }
 
 -- where this is still told after a call, it was told before, and went from there to here so
 abbrev pub StillTold : {X : Type 0} → (X → X → Type 0) → Option X → Option X → Type 0

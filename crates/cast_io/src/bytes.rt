@@ -37,6 +37,14 @@ impl ByteString {
         })
     }
 
+    /// The bytes as a `Vec`. Takes no memory.
+    pub fn into_vec(self) -> Vec<u8>
+        ensures { result.items ≡ self }
+    {
+        let ByteString { bytes } = self;
+        bytes
+    }
+
     /// The bytes in order.
     pub fn as_slice(&self) -> &[u8]
         ensures { result.now ≡ self.now }

@@ -1,5 +1,5 @@
 //! What the fakes share: which call is to fail, and what fits into a buffer.
-ghost use Rattle.std.specs.Prelude.{◌≡◌, ◌==◌, ◌≤◌, ℕ, length, take, drop, min, is_some, IfSome};
+ghost use Rattle.std.specs.Prelude.{◌≡◌, ◌==◌, ◌≤◌, ℕ, [], length, take, drop, min, is_some, IfSome};
 ghost use Rattle.std.specs.List.{list_any};
 ghost use Rattle.cast_io.specs.Fakes.{torn_at, write_fails, write_takes};
 
@@ -49,6 +49,7 @@ fn front_of(piece: &[u8], most: u64) -> &[u8]
 }
 
 // What a write takes of the piece, where it is to fail after so many calls and writes.
+#[tactic(auto, using(crate::proofs::TornLemmas::torn_none))]
 pub(crate) fn torn_front<'a>(
     fails: &[u64],
     torn: &[(u64, u64)],
@@ -61,6 +62,7 @@ pub(crate) fn torn_front<'a>(
         × (front.now ≡ take n piece.now)) }
     ensures takes { IfSome result (λ front. front.now
         ≡ write_takes calls writes fails.now torn.now piece.now) }
+    ensures none { torn.now ≡ [] → IfSome result (λ front. front.now ≡ []) }
 {
     if is_told(fails, calls.saturating_add(1)) {
         return Some(&piece[..0]);

@@ -8,6 +8,8 @@
 
 mod bytes;
 mod calls;
+#[cfg(test)]
+mod copy_tests;
 mod door;
 mod fault;
 mod link;
@@ -17,12 +19,20 @@ mod mem_door;
 mod mem_link;
 mod mem_sink;
 mod mem_source;
+mod mem_store;
+mod mem_street;
 mod notes;
 mod reading;
+mod returned;
 mod sink;
 mod source;
 mod steps;
+mod store;
+#[cfg(test)]
+mod store_tests;
 mod street;
+#[cfg(test)]
+mod street_tests;
 #[cfg(test)]
 mod tests;
 
@@ -34,8 +44,11 @@ pub use mem_door::MemDoor;
 pub use mem_link::MemLink;
 pub use mem_sink::MemSink;
 pub use mem_source::MemSource;
+pub use mem_store::MemStore;
+pub use mem_street::MemStreet;
 pub use reading::{ReadAllFault, read_all};
 pub use sink::Sink;
 pub use source::Source;
 pub use steps::{Asked, LinkStep, Step};
+pub use store::Store;
 pub use street::{Street, StreetFault};

@@ -3,12 +3,12 @@ ghost use Rattle.std.specs.Prelude.{◌≡◌, IfOk, IsTrue};
 ghost use Rattle.std.specs.List.{list_all};
 ghost use Rattle.cast_io.specs.FakeLinks.{has_bytes};
 
-use crate::{ByteString, Failed, Got, Link, LinkStep, MemLink, MemSink, Sink};
+use crate::{ByteString, Failed, Got, Link, LinkStep, MemLink, MemSink, Sink, Step};
 use std::alloc::Global;
 use std::test::Fail;
 
 // A peer that sends `abcd`, is idle, sends `ef` and ends.
-fn steps(alloc: Global) -> Result<Vec<LinkStep>, Fail>
+pub(crate) fn steps(alloc: Global) -> Result<Vec<LinkStep>, Fail>
     ensures { IfOk result (λ steps. IsTrue (list_all has_bytes steps.items)) }
 {
     let mut steps = Vec::new(alloc);
@@ -55,6 +55,12 @@ fn calls_fail_by_their_number(rt: HostRuntime) -> Result<(), Fail> {
     );
     assert_eq!(rt; link.write(b"three"), Ok(()));
     assert_eq!(rt; link.bytes(), b"onethree".as_slice());
+    assert_eq!(rt; link.faults(), 2);
+    let taken = link.taken().ok_or("told no longer")?;
+    assert_eq!(rt; taken.len(), 3, "each read, and the write that failed");
+    assert!(rt; taken[0] == Step::ReadFailed);
+    assert!(rt; taken[1] == Step::WriteFailed);
+    assert!(rt; taken[2] == Step::Bytes(ByteString::copy_of(alloc, b"abcd")?));
     Ok(())
 }
 

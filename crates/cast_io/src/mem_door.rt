@@ -1,7 +1,6 @@
 //! A door in memory at which links arrive in order, and that fails at the calls that it is told to.
-ghost use Rattle.std.specs.Prelude.{◌≡◌, ◌++◌, ◌-◌, [], ◌∷◌, IsTrue, IfOk, None, Some, option_map, if◌then◌else◌, ◌==◌};
+ghost use Rattle.std.specs.Prelude.{◌≡◌, IsTrue, IfOk, option_map};
 ghost use Rattle.std.specs.List.{list_all};
-ghost use Rattle.cast_io.specs.Causes.{next_count};
 ghost use Rattle.cast_io.specs.Fakes.{fails_next};
 ghost use Rattle.cast_io.specs.FakeLinks.{link_told};
 ghost use Rattle.cast_io.specs.FakeDoors.{door_told, is_new_arrival};
@@ -9,6 +8,7 @@ ghost use Rattle.cast_io.specs.FakeDoors.{door_told, is_new_arrival};
 use crate::calls::is_told;
 use crate::door::{Arrived, Door};
 use crate::mem_link::MemLink;
+use crate::returned::Returned;
 use std::alloc::{AllocError, Global};
 use std::collections::VecDeque;
 use std::marker::Model;
@@ -17,16 +17,14 @@ use std::marker::Model;
 #[derive(Drop)]
 pub struct MemDoor {
     left: VecDeque<Option<MemLink>>,
-    back: Vec<MemLink>,
-    tells: bool,
-    owed: usize,
+    back: Returned<MemLink>,
     fails: Vec<u64>,
     calls: u64,
     faults: u64,
 }
 
 impl Model for MemDoor {
-    ghost use Rattle.std.specs.Prelude.{◌≤◌, ◌+◌, IsTrue, Some, None, if◌then◌else◌, length, vec_capacity};
+    ghost use Rattle.std.specs.Prelude.{◌≤◌, IsTrue, length};
     ghost use Rattle.std.specs.List.{list_all};
     ghost use Rattle.cast_io.specs.FakeDoors.{DoorState, is_new_arrival};
 
@@ -34,15 +32,15 @@ impl Model for MemDoor {
 
     ghost view = { λ d. record {
       left = d.left.items;
-      back = if d.tells then Some d.back.items else None;
-      owed = d.owed;
+      back = d.back.items;
+      owed = d.back.owed;
       fails = d.fails.items;
       calls = d.calls;
       faults = d.faults;
     } };
 
     ghost invariant = { λ d. IsTrue (list_all is_new_arrival d.left.items)
-        × (length d.left.items + d.owed + length d.back.items ≤ vec_capacity d.back) };
+        × (length d.left.items ≤ d.back.spare) };
 }
 
 impl MemDoor {
@@ -59,14 +57,27 @@ impl MemDoor {
         ensures made { IfOk result (λ door. IsDoorOf door arrivals.items fails.items) }
     {
         Ok(MemDoor {
-            back: Vec::with_capacity(alloc, arrivals.len())?,
+            back: Returned::with_room(alloc, arrivals.len())?,
             left: VecDeque::from(arrivals),
-            tells: true,
-            owed: 0,
             fails,
             calls: 0,
             faults: 0,
         })
+    }
+
+    /// The links that came back so far, in order, as they were then. `None` once the door was
+    /// handed more links than it gave.
+    pub fn back(&self) -> Option<&[MemLink]>
+        ensures { option_map (λ links. links.now) result ≡ self.now.back }
+    {
+        self.back.items()
+    }
+
+    /// How often the door failed so far.
+    pub fn faults(&self) -> u64
+        ensures { result ≡ self.now.faults }
+    {
+        self.faults
     }
 }
 
@@ -90,7 +101,7 @@ impl Door for MemDoor {
         }
         match self.left.pop_front() {
             Some(Some(link)) => {
-                self.owed += 1;
+                self.back.give(1);
                 Arrived::Link(link)
             }
             Some(None) | None => Arrived::Idle,
@@ -106,11 +117,6 @@ impl Door for MemDoor {
         ensures left { HasHungUp (link_told link) (door_told self.old) (door_told self.new) }
         ensures kept { IsLinkBack self.old self.new link }
     {
-        if self.owed == 0 {
-            self.tells = false;
-            return;
-        }
-        self.owed -= 1;
-        self.back.push_reserved(link);
+        self.back.take_back(link);
     }
 }

@@ -1,5 +1,5 @@
 //! A link in memory that takes its steps in order, and fails at the calls that it is told to.
-ghost use Rattle.std.specs.Prelude.{◌≡◌, ◌<◌, ◌≤◌, ◌+◌, ◌++◌, ◌↔◌, ◌⊎◌, [], ◌∷◌, length, Some, MatchOption, drop, IsTrue, IsSome, IsOk, IsErr, IfOk, OnOk, OnErr};
+ghost use Rattle.std.specs.Prelude.{◌≡◌, ◌<◌, ◌≤◌, ◌+◌, ◌++◌, ◌↔◌, ◌⊎◌, [], ◌∷◌, length, Some, MatchOption, option_map, drop, false, IsTrue, IsSome, IsOk, IsErr, IfOk, OnOk, OnErr};
 ghost use Rattle.std.specs.List.{list_all};
 ghost use Rattle.cast_io.specs.Causes.{next_count, Rose};
 ghost use Rattle.cast_io.specs.Fakes.{fails_next};
@@ -111,6 +111,21 @@ impl MemLink {
         ensures { result.now ≡ self.now.bytes }
     {
         &self.bytes
+    }
+
+    /// The steps that the link took so far, in order: the answer of each read, and each write that
+    /// failed. `None` once there was no memory for one.
+    pub fn taken(&self) -> Option<&[Step]>
+        ensures { option_map (λ steps. steps.now) result ≡ self.now.taken }
+    {
+        self.taken.items()
+    }
+
+    /// How often the link failed so far.
+    pub fn faults(&self) -> u64
+        ensures { result ≡ self.now.faults }
+    {
+        self.faults
     }
 
     // Takes what the next read gives from the steps to come.
@@ -230,6 +245,7 @@ impl MemLink {
             ⊎ (self.new.bytes ≡ self.old.bytes ++ front.now) }
         ensures exact { length self.old.bytes + length front.now ≤ self.old.room
             → self.new.bytes ≡ self.old.bytes ++ front.now }
+        ensures none { front.now ≡ [] → self.new.bytes ≡ self.old.bytes }
         ensures later { self.old.faults ≤ self.new.faults }
         ensures rose { Rose self.old.faults self.new.faults }
     {
@@ -267,6 +283,14 @@ impl Link for MemLink {
             → (IsErr result ↔ IsTrue (link_fails self.old)) }
         ensures takes { length self.old.bytes + length piece.now ≤ self.old.room
             → self.new.bytes ≡ self.old.bytes ++ link_takes self.old piece.now }
+
+        // A failed write takes what is listed for it, or nothing: where none is listed, where it is
+        // not to fail, and where there was no memory.
+        ensures listed { OnErr result ((self.new.bytes ≡ self.old.bytes)
+            ⊎ (self.new.bytes ≡ self.old.bytes ++ link_takes self.old piece.now)) }
+        ensures unlisted { self.old.torn ≡ [] → OnErr result (self.new.bytes ≡ self.old.bytes) }
+        ensures untold { link_fails self.old ≡ false
+            → OnErr result (self.new.bytes ≡ self.old.bytes) }
         ensures same { IsWriteOf self.old self.new }
     {
         if let Some(front) = torn_front(&self.fails, &self.torn, self.calls, self.writes, piece) {

@@ -1,5 +1,5 @@
 //! A sink in memory that fails at the calls that it is told to.
-ghost use Rattle.std.specs.Prelude.{◌≡◌, ◌≤◌, ◌+◌, ◌++◌, ◌↔◌, ◌⊎◌, [], length, Some, IsTrue, IsOk, IsErr, OnOk, OnErr};
+ghost use Rattle.std.specs.Prelude.{◌≡◌, ◌≤◌, ◌+◌, ◌++◌, ◌↔◌, ◌⊎◌, [], length, Some, false, IsTrue, IsOk, IsErr, OnOk, OnErr};
 ghost use Rattle.cast_io.specs.Causes.{HasCause, Rose, next_count};
 ghost use Rattle.cast_io.specs.Pieces.{AppendsPrefix};
 ghost use Rattle.cast_io.specs.Fakes.{sink_fails, sink_takes};
@@ -108,6 +108,7 @@ impl MemSink {
             ⊎ (self.new.bytes ≡ self.old.bytes ++ front.now) }
         ensures exact { length self.old.bytes + length front.now ≤ self.old.room
             → self.new.bytes ≡ self.old.bytes ++ front.now }
+        ensures none { front.now ≡ [] → self.new.bytes ≡ self.old.bytes }
         ensures later { self.old.faults ≤ self.new.faults }
         ensures rose { Rose self.old.faults self.new.faults }
         ensures same { self.new ≡ record self.old {
@@ -131,6 +132,14 @@ impl Sink for MemSink {
         ensures whole { OnOk result (self.new.bytes ≡ self.old.bytes ++ piece.now) }
         ensures torn { OnErr result
             (AppendsPrefix (Some self.old.bytes) (Some self.new.bytes) piece.now) }
+
+        // A failed write takes what is listed for it, or nothing: where none is listed, where it is
+        // not to fail, and where there was no memory.
+        ensures listed { OnErr result ((self.new.bytes ≡ self.old.bytes)
+            ⊎ (self.new.bytes ≡ self.old.bytes ++ sink_takes self.old piece.now)) }
+        ensures unlisted { self.old.torn ≡ [] → OnErr result (self.new.bytes ≡ self.old.bytes) }
+        ensures untold { sink_fails self.old ≡ false
+            → OnErr result (self.new.bytes ≡ self.old.bytes) }
         ensures takes { length self.old.bytes + length piece.now ≤ self.old.room
             → self.new.bytes ≡ self.old.bytes ++ sink_takes self.old piece.now }
         ensures cause { HasCause self.old.faults self.new.faults result }
