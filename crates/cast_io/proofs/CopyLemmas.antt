@@ -39,7 +39,7 @@ read_bytes (got.Bytes n) buf old new takes =
     ∙ ap (λ list. list ++ (drop n bytes ++ bytes_ahead more)) (sym takes.4) in
     ap bytes_ahead takes.2 ∙ front
     ∙ ap (λ list. take n buf ++ list)
-        (sym (bytes_ahead-ahead (drop n bytes) more) ∙ sym (ap bytes_ahead takes.5))
+    (sym (bytes_ahead-ahead (drop n bytes) more) ∙ sym (ap bytes_ahead takes.5))
     ∙ ap (λ list. list ++ bytes_ahead new) (sym (append-nil (take n buf)))
 read_bytes got.Idle buf old new takes = ap bytes_ahead takes
 read_bytes got.End buf old new (inl takes) = ap bytes_ahead takes
@@ -117,9 +117,9 @@ pub copied_read : (a b c : LinkTold) (taken : List Step) (result : Got) (buf : L
 copied_read a b c taken result buf so_far read none =
     let step = step_of result buf ∷ [] in
     subst (Exchanged a c (taken ++ step))
-        (sym (bytes_given-append taken step ∙ ap (λ list. bytes_given taken ++ list) none))
-        (exchanged_more a b c taken step (bytes_given taken) [] so_far
-            (exchanged_read b c result buf read))
+    (sym (bytes_given-append taken step ∙ ap (λ list. bytes_given taken ++ list) none))
+    (exchanged_more a b c taken step (bytes_given taken) [] so_far
+    (exchanged_read b c result buf read))
 
 -- bytes were read and written
 pub copied_bytes : {T E : Type 0} (a b c d : LinkTold) (taken : List Step) (n : ℕ) (buf : List ℕ)
@@ -130,11 +130,11 @@ copied_bytes a b c d taken n buf answer so_far read written =
     let step = took.Bytes (take n buf) ∷ [] in
     let both : Exchanged b d step (take n buf) =
     exchanged_more b c d step [] [] (take n buf) (exchanged_read b c (got.Bytes n) buf read)
-        (exchanged_write c d answer (take n buf) written) in
+    (exchanged_write c d answer (take n buf) written) in
     subst (Exchanged a d (taken ++ step))
-        (ap (λ list. bytes_given taken ++ list) (sym (append-nil (take n buf)))
-        ∙ sym (bytes_given-append taken step))
-        (exchanged_more a b d taken step (bytes_given taken) (take n buf) so_far both)
+    (ap (λ list. bytes_given taken ++ list) (sym (append-nil (take n buf)))
+    ∙ sym (bytes_given-append taken step))
+    (exchanged_more a b d taken step (bytes_given taken) (take n buf) so_far both)
 
 -- bytes were read, and some first ones of them written
 pub copied_torn : {T E : Type 0} (a b c d : LinkTold) (taken : List Step) (n : ℕ) (buf : List ℕ)
@@ -149,20 +149,20 @@ copied_torn a b c d taken n buf fault so_far read written =
     let count = written.torn.0 in
     let first : Exchanged a c (taken ++ step) (bytes_given taken ++ []) =
     exchanged_more a b c taken step (bytes_given taken) [] so_far
-        (exchanged_read b c (got.Bytes n) buf read) in
+    (exchanged_read b c (got.Bytes n) buf read) in
     let all : Exchanged a d (taken ++ step ++ took.WriteFailed ∷ [])
-        (bytes_given taken ++ [] ++ take count piece) =
+    (bytes_given taken ++ [] ++ take count piece) =
     exchanged_more a c d (taken ++ step) (took.WriteFailed ∷ []) (bytes_given taken ++ [])
-        (take count piece) first (exchanged_torn c d fault piece written) in (
+    (take count piece) first (exchanged_torn c d fault piece written) in (
       bytes_given taken ++ [] ++ take count piece,
       all,
       (
         drop count piece,
         bytes_given-append taken step
-        ∙ ap (λ list. bytes_given taken ++ list)
+            ∙ ap (λ list. bytes_given taken ++ list)
             (append-nil piece ∙ sym (take-append-drop count piece))
-        ∙ sym (append_assoc (bytes_given taken) (take count piece) (drop count piece))
-        ∙ ap (λ list. list ++ take count piece ++ drop count piece)
+            ∙ sym (append_assoc (bytes_given taken) (take count piece) (drop count piece))
+            ∙ ap (λ list. list ++ take count piece ++ drop count piece)
             (sym (append-nil (bytes_given taken))),
       ),
     )

@@ -26,8 +26,8 @@ found_from : (files : List (List ℕ × List ℕ)) (path : List ℕ) (first : �
 found_from [] path first = refl
 found_from (file ∷ files) path first =
     found_by (bytes_eq file.0 path) file files first (find (λ f. bytes_eq f.0 path) files)
-        (position_from (λ f. bytes_eq f.0 path) (first + 1) files)
-        (found_from files path (first + 1))
+    (position_from (λ f. bytes_eq f.0 path) (first + 1) files)
+    (found_from files path (first + 1))
 
 from_zero : (files : List (List ℕ × List ℕ)) (content : Option (List ℕ)) (place : Option ℕ)
     → IsFoundIn files 0 content place
@@ -42,6 +42,6 @@ pub found_at : (files : List (List ℕ × List ℕ)) (path : List ℕ) (place : 
     (λ at. content_of files path ≡ Some (content_at files (Some at)))
 found_at files path place is =
     from_zero files (content_of files path) place
-        (subst (IsFoundIn files 0 (content_of files path))
-            (sym (is ∙ position_from-zero (λ file. bytes_eq file.0 path) files))
-            (found_from files path 0))
+    (subst (IsFoundIn files 0 (content_of files path))
+    (sym (is ∙ position_from-zero (λ file. bytes_eq file.0 path) files))
+    (found_from files path 0))

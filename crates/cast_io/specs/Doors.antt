@@ -13,9 +13,9 @@ accept_failed arrived.Idle = false
 accept_failed arrived.Failed = true
 
 -- An accept takes the first arrival to come, a link or an idle one. With none to come it finds
--- nothing, and a failed one takes nothing.
-abbrev pub TakesArrival : {L : Type 0} → (L → LinkTold) → Arrived L → List (Option LinkTold)
-    → List (Option LinkTold) → Type 0
+-- nothing, and a failed one takes nothing. Links are seen through what they tell.
+abbrev pub TakesArrival : {L X : Type 0} → (L → X) → Arrived L → List (Option X)
+    → List (Option X) → Type 0
 TakesArrival told (arrived.Link link) old new = old ≡ Some (told link) ∷ new
 TakesArrival told arrived.Idle old new = (old ≡ None ∷ new) ⊎ ((old ≡ []) × (new ≡ []))
 TakesArrival told arrived.Failed old new = new ≡ old

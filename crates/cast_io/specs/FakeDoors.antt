@@ -4,7 +4,7 @@ use Rattle.cast_io.specs.declared.door.Arrived.{Arrived}
 use Rattle.cast_io.specs.declared.door.Arrived.TheVariants as arrived
 use Rattle.cast_io.specs.Causes.{next_count}
 use Rattle.cast_io.specs.Told.{DoorTold}
-use Rattle.cast_io.specs.Doors.{accept_failed}
+use Rattle.cast_io.specs.Doors.{accept_failed, TakesArrival}
 use Rattle.cast_io.specs.Returns.{with_return}
 use Rattle.cast_io.specs.FakeLinks.{LinkState, link_told, is_new_link}
 
@@ -58,8 +58,11 @@ links_given (arrived.Link link) = 1
 links_given arrived.Idle = 0
 links_given arrived.Failed = 0
 
--- an accept counted one call, the link that it gave, and its fault where it failed
-pub record IsAccepted {L : Type 0} (old new : DoorState) (result : Arrived L) : Type 0 where
+-- an accept took an arrival, and counted one call, the link that it gave, and its fault where it
+-- failed
+pub record IsAccepted (old new : DoorState) (result : Arrived LinkState) : Type 0 where
+  pub left : TakesArrival (λ link. link) result old.left new.left
+  pub back : new.back ≡ old.back
   pub owed : new.owed ≡ old.owed + links_given result
   pub fails : new.fails ≡ old.fails
   pub calls : new.calls ≡ next_count old.calls

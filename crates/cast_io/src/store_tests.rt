@@ -32,7 +32,11 @@ fn the_file_opened_last_is_read_from_its_first_byte(rt: HostRuntime) -> Result<(
     assert_eq!(rt; buf, *b"xyc", "the front alone is written");
     assert_eq!(rt; store.open("a"), Ok(()));
     let all = read_all(rt.alloc(), &mut store, 9)?;
-    assert_eq!(rt; all.as_slice(), b"abcde".as_slice(), "the first of this path");
+    assert_eq!(rt;
+        all.as_slice(),
+        b"abcde".as_slice(),
+        "the first of this path"
+    );
     assert_eq!(rt; store.open("b"), Ok(()));
     assert_eq!(rt; store.open("c"), Err(Failed), "not there");
     assert_eq!(rt; store.read(&mut buf), Ok(0), "nothing is left");

@@ -4,8 +4,9 @@ ghost use Rattle.std.specs.List.{list_all};
 ghost use Rattle.cast_io.specs.FakeLinks.{is_new_link};
 ghost use Rattle.cast_io.specs.FakeDoors.{is_new_arrival, is_new_door};
 
-use crate::{Arrived, Asked, ByteString, Door, Got, Link, MemDoor, MemLink, MemStreet};
-use crate::{Street, StreetFault};
+use crate::{
+    Arrived, Asked, ByteString, Door, Got, Link, MemDoor, MemLink, MemStreet, Street, StreetFault,
+};
 use std::alloc::Global;
 use std::test::Fail;
 
@@ -45,6 +46,13 @@ fn street_of(alloc: Global, fails: &[u64]) -> Result<MemStreet, Fail> {
     Ok(MemStreet::new(alloc, doors, two_links(alloc)?, fails.to_vec(alloc)?)?)
 }
 
+// The same value, which may go to another thread.
+fn sent<T: Send>(value: T) -> T
+    ensures { result ≡ value }
+{
+    value
+}
+
 // The link that arrived.
 fn arrived(door: &mut MemDoor) -> Result<MemLink, Fail> {
     match door.accept() {
@@ -73,10 +81,16 @@ fn dial_of(alloc: Global, addr: &[u8]) -> Result<Asked, Fail> {
 
 #[test]
 fn a_door_gives_what_arrives(rt: HostRuntime) -> Result<(), Fail> {
-    let mut door = door_of(rt.alloc(), &[2])?;
-    let mut first = arrived(&mut door)?;
-    assert!(rt; matches!(door.accept(), Arrived::Failed), "the second accept");
-    assert!(rt; matches!(door.accept(), Arrived::Idle), "which took nothing");
+    let mut door = sent(door_of(rt.alloc(), &[2])?);
+    let mut first = sent(arrived(&mut door)?);
+    assert!(rt;
+        matches!(door.accept(), Arrived::Failed),
+        "the second accept"
+    );
+    assert!(rt;
+        matches!(door.accept(), Arrived::Idle),
+        "which took nothing"
+    );
     let mut second = arrived(&mut door)?;
     assert!(rt; matches!(door.accept(), Arrived::Idle), "none is to come");
     assert_eq!(rt; door.faults(), 1);
@@ -97,8 +111,16 @@ fn a_door_gives_what_arrives(rt: HostRuntime) -> Result<(), Fail> {
 fn a_street_gives_what_it_has_and_no_more(rt: HostRuntime) -> Result<(), Fail> {
     let alloc = rt.alloc();
     let mut street = street_of(alloc, &[])?;
-    assert_eq!(rt; street.open("here", 3).err(), Some(StreetFault::Failed), "it has two");
-    assert_eq!(rt; street.open("here", 2)?.len(), 2, "a refused call took nothing");
+    assert_eq!(rt;
+        street.open("here", 3).err(),
+        Some(StreetFault::Failed),
+        "it has two"
+    );
+    assert_eq!(rt;
+        street.open("here", 2)?.len(),
+        2,
+        "a refused call took nothing"
+    );
     assert_eq!(rt; street.open("there", 1).err(), Some(StreetFault::Failed));
     let _first = street.dial("a")?;
     let _second = street.dial("b")?;
@@ -111,7 +133,10 @@ fn a_street_gives_what_it_has_and_no_more(rt: HostRuntime) -> Result<(), Fail> {
     wanted.push(dial_of(alloc, b"a")?)?;
     wanted.push(dial_of(alloc, b"b")?)?;
     wanted.push(dial_of(alloc, b"c")?)?;
-    assert!(rt; street.asked() == Some(wanted.as_slice()), "refused calls too");
+    assert!(rt;
+        street.asked() == Some(wanted.as_slice()),
+        "refused calls too"
+    );
     Ok(())
 }
 
@@ -119,8 +144,16 @@ fn a_street_gives_what_it_has_and_no_more(rt: HostRuntime) -> Result<(), Fail> {
 fn calls_of_a_street_fail_by_their_number(rt: HostRuntime) -> Result<(), Fail> {
     let mut street = street_of(rt.alloc(), &[2, 3])?;
     assert_eq!(rt; street.open("here", 1)?.len(), 1);
-    assert_eq!(rt; street.dial("a").err(), Some(StreetFault::Failed), "the second call");
-    assert_eq!(rt; street.open("here", 1).err(), Some(StreetFault::Failed), "the third");
+    assert_eq!(rt;
+        street.dial("a").err(),
+        Some(StreetFault::Failed),
+        "the second call"
+    );
+    assert_eq!(rt;
+        street.open("here", 1).err(),
+        Some(StreetFault::Failed),
+        "the third"
+    );
     assert_eq!(rt; street.open("here", 1)?.len(), 1);
     let _link = street.dial("a")?;
     assert_eq!(rt; street.faults(), 2);

@@ -23,6 +23,6 @@ returns-clause-left c =
           RisesWith c.args.link.faults c.args.self.now.link_faults street.link_faults)
           (sym c.self.view_is)
           (subst (λ n. RisesWith n c.args.self.now.link_faults
-              c.count_link_faults.new.self.link_faults)
-              c.faults.ensures counted.rises);
+          c.count_link_faults.new.self.link_faults)
+          c.faults.ensures counted.rises);
     }

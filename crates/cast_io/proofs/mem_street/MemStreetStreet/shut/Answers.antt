@@ -22,7 +22,7 @@ returns-clause-shut c =
           RisesWith c.args.door.faults c.args.self.now.faults street.faults)
           (sym c.self.view_is)
           (subst (λ n. RisesWith n c.args.self.now.faults
-              c.count_door_faults.new.self.faults)
-              c.faults.ensures counted.rises);
+          c.count_door_faults.new.self.faults)
+          c.faults.ensures counted.rises);
       link_faults = grind (arith, common_steps);
     }
