@@ -110,6 +110,16 @@ exchanged_torn a b fault piece written = record {
   later = written.later;
 }
 
+-- a read after which nothing was written yet
+pub exchanged_next : (a b c : LinkTold) (taken : List Step) (result : Got) (buf : List ℕ)
+    → Copied a b taken → HasRead b c result buf
+    → Exchanged a c (taken ++ step_of result buf ∷ []) (bytes_given taken)
+exchanged_next a b c taken result buf so_far read =
+    let step = step_of result buf ∷ [] in
+    subst (Exchanged a c (taken ++ step)) (append-nil (bytes_given taken))
+    (exchanged_more a b c taken step (bytes_given taken) [] so_far
+    (exchanged_read b c result buf read))
+
 -- a read that gave no bytes
 pub copied_read : (a b c : LinkTold) (taken : List Step) (result : Got) (buf : List ℕ)
     → Copied a b taken → HasRead b c result buf → bytes_given (step_of result buf ∷ []) ≡ []
@@ -117,9 +127,9 @@ pub copied_read : (a b c : LinkTold) (taken : List Step) (result : Got) (buf : L
 copied_read a b c taken result buf so_far read none =
     let step = step_of result buf ∷ [] in
     subst (Exchanged a c (taken ++ step))
-    (sym (bytes_given-append taken step ∙ ap (λ list. bytes_given taken ++ list) none))
-    (exchanged_more a b c taken step (bytes_given taken) [] so_far
-    (exchanged_read b c result buf read))
+    (sym (bytes_given-append taken step ∙ ap (λ list. bytes_given taken ++ list) none
+    ∙ append-nil (bytes_given taken)))
+    (exchanged_next a b c taken result buf so_far read)
 
 -- bytes were read and written
 pub copied_bytes : {T E : Type 0} (a b c d : LinkTold) (taken : List Step) (n : ℕ) (buf : List ℕ)

@@ -24,6 +24,8 @@ mod mem_street;
 mod notes;
 mod reading;
 mod returned;
+#[cfg(test)]
+mod sending;
 mod sink;
 mod source;
 mod steps;
