@@ -43,7 +43,7 @@ use Rattle.cast_config.proofs.NameKeeps.{given_some}
 use Rattle.cast_config.proofs.EntryKeeps.{mount_is, near_is, group_is, account_is, relay_is, IsAnonymous, optional_anonymous}
 use Rattle.cast_config.proofs.ListKeeps.{AreKept, listed_kept, listed_or_none_kept, listed_differ, listed_or_none_differ}
 
-within : (least most n : ℕ) → is_within least most n ≡ true → (least ≤ n) × (n ≤ most)
+pub within : (least most n : ℕ) → is_within least most n ≡ true → (least ≤ n) × (n ≤ most)
 within least most n h =
     let parts = and_parts (leb least n) (leb n most) h in
     (leb-true least n parts.0, leb-true n most parts.1)
@@ -242,7 +242,7 @@ keeps_parties mounts groups ms p e =
       anonymous = keeps_anonymous groups v3 (optional_anonymous groups (top 10) (get_member (codes "anonymous") ms) v3 f3);
     }))))
 
-abbrev made : ℕ → ℕ → List Record → Heard → Parties → Config
+abbrev pub made : ℕ → ℕ → List Record → Heard → Parties → Config
 made workers hysteresis records heard parties = record {
   workers = workers;
   hysteresis = hysteresis;

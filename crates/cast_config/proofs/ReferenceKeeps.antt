@@ -137,7 +137,7 @@ pub record IsFiltered (names : List (List ℕ)) (key : Key) (fs : List GroupFilt
 pub none_filtered : (names : List (List ℕ)) (key : Key) → IsFiltered names key []
 none_filtered names key = record { numbers = record { within = All-nil (λ n. n < length names); once = refl }; few = omega arith }
 
-joined_ok : {A B C : Type 0} (make : A → B → C) (a : Read A) (b : Read B) (c : C) → both make a b ≡ Ok c → (x : A) × (y : B) × (a ≡ Ok x) × (b ≡ Ok y) × (make x y ≡ c)
+pub joined_ok : {A B C : Type 0} (make : A → B → C) (a : Read A) (b : Read B) (c : C) → both make a b ≡ Ok c → (x : A) × (y : B) × (a ≡ Ok x) × (b ≡ Ok y) × (make x y ≡ c)
 joined_ok make (Ok x) (Ok y) c e = (x, y, refl, refl, value_is (make x y) c e)
 joined_ok make (Ok x) (Err g) c e = absurd cc
 joined_ok make (Err f) (Ok y) c e = absurd cc

@@ -6,15 +6,17 @@ ghost use Rattle.cast_text.specs.Name.{is_name};
 ghost use Rattle.config_keys.specs.Answers.{Gives, GivesBy};
 ghost use Rattle.config_keys.specs.Lists.{each_of};
 ghost use Rattle.config_keys.specs.Rules.{required, optional, seen};
-ghost use Rattle.config_keys.specs.Texts.{name};
+ghost use Rattle.config_keys.specs.Texts.{name, text};
+ghost use Rattle.config_keys.specs.declared.strings.TextKind.TheVariants.{Plain};
 ghost use Rattle.cast_config.specs.Names.{mount_names, group_names, user_names, heard_names, new_name, named, all_named, entries_once, filters_at, filter_at, some_of};
 ghost use Rattle.cast_config.specs.Entries.{place, position_of, mount_of, near_of, group_of, account_of, relay_of, anonymous_in, anonymous_of, filters_by};
+ghost use Rattle.toml.specs.Data.{get_member};
 ghost use Rattle.toml.specs.View.{view, table_view};
 
 use crate::config::{Account, Anonymous, Group, GroupFilter, Mount, Near, Relay};
 use crate::known::{differ, has_name, heard_numbers, is_heard, names, number_of, numbers_of};
 use crate::lists::{GroupFilters, Numbers};
-use cast_text::{GroupName, MountName, UserName};
+use cast_text::{GroupName, MountName, Text, UserName};
 use config_keys::{
     FilterEntry, Key, KeyFault, TextKind, count, count_or, filter_entries, group_name, mount_name,
     name_bytes, text, text_or, types, user_name, value_at, whole,
@@ -163,6 +165,21 @@ fn position_in(table: &Table, n: u32) -> Result<Position, KeyFault>
     Ok(Position { lat, lon })
 }
 
+/// The plain text that a table has at a key, and this one where the key is not there.
+fn plain_or(
+    alloc: Global,
+    table: &Table,
+    name: &str,
+    key: Key,
+    default: &[u8],
+) -> Result<Text, KeyFault>
+    requires { length default.now ≤ 100 }
+    ensures { Gives result
+        (optional default.now (text Plain) key (get_member name.now (table_view table.now))) }
+{
+    text_or(alloc, value_at(table, name), key, TextKind::Plain, default)
+}
+
 /// The mountpoint of number `n`, from 1, of a table that stands behind these.
 #[tactic(auto, unfolding(crate::specs::Entries::mount_of))]
 pub(crate) fn mount_in(
@@ -173,58 +190,21 @@ pub(crate) fn mount_in(
 ) -> Result<Mount, KeyFault>
     ensures { Gives result (mount_of n before.now (table_view table.now)) }
 {
-    let plain = TextKind::Plain;
     let name = new_mount_name(alloc, value_at(table, "name"), place(5, n, 1), before)?;
-    let password = text(alloc, value_at(table, "password"), place(5, n, 2), plain)?;
+    let password = value_at(table, "password");
+    let password = text(alloc, password, place(5, n, 2), TextKind::Plain)?;
     let ring = count(value_at(table, "ring"), place(5, n, 3), 1, 4096)?;
     let at = position_in(table, n)?;
-    let field = value_at(table, "identifier");
-    let identifier = text_or(alloc, field, place(5, n, 6), plain, name.bytes())?;
-    let details = text_or(
-        alloc,
-        value_at(table, "details"),
-        place(5, n, 7),
-        plain,
-        b"",
-    )?;
-    let carrier = text_or(
-        alloc,
-        value_at(table, "carrier"),
-        place(5, n, 8),
-        plain,
-        b"2",
-    )?;
-    let field = value_at(table, "navigation");
-    let navigation = text_or(alloc, field, place(5, n, 9), plain, b"GPS")?;
-    let network = text_or(
-        alloc,
-        value_at(table, "network"),
-        place(5, n, 10),
-        plain,
-        b"",
-    )?;
-    let country = text_or(
-        alloc,
-        value_at(table, "country"),
-        place(5, n, 11),
-        plain,
-        b"",
-    )?;
-    let generator = text_or(
-        alloc,
-        value_at(table, "generator"),
-        place(5, n, 12),
-        plain,
-        b"",
-    )?;
-    let bitrate = count_or(
-        value_at(table, "bitrate"),
-        place(5, n, 13),
-        0,
-        1_000_000_000,
-        0,
-    )?;
-    let misc = text_or(alloc, value_at(table, "misc"), place(5, n, 14), plain, b"")?;
+    let identifier = plain_or(alloc, table, "identifier", place(5, n, 6), name.bytes())?;
+    let details = plain_or(alloc, table, "details", place(5, n, 7), b"")?;
+    let carrier = plain_or(alloc, table, "carrier", place(5, n, 8), b"2")?;
+    let navigation = plain_or(alloc, table, "navigation", place(5, n, 9), b"GPS")?;
+    let network = plain_or(alloc, table, "network", place(5, n, 10), b"")?;
+    let country = plain_or(alloc, table, "country", place(5, n, 11), b"")?;
+    let generator = plain_or(alloc, table, "generator", place(5, n, 12), b"")?;
+    let bitrate = value_at(table, "bitrate");
+    let bitrate = count_or(bitrate, place(5, n, 13), 0, 1_000_000_000, 0)?;
+    let misc = plain_or(alloc, table, "misc", place(5, n, 14), b"")?;
     Ok(Mount {
         name,
         password,

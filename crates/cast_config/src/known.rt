@@ -213,7 +213,8 @@ pub(crate) fn heard_numbers(
     requires mounts { length mounts.now ≤ 64 }
     requires nears { length nears.now ≤ 64 }
     ensures { GivesBy (λ v. v.items) result
-        (each_of (place_at key (heard_names mounts.now nears.now)) [] (map (λ t. t.now) names.now)) }
+        (each_of (place_at key (heard_names mounts.now nears.now)) []
+        (map (λ t. t.now) names.now)) }
 {
     let mut numbers = Vec::new(alloc);
     for name in names {

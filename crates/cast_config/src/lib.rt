@@ -22,6 +22,8 @@ pub use known::{Named, place_heard, place_named};
 pub use lists::{Accounts, FilterTable, GroupFilters, Groups, Mounts, Nears, Numbers, Relays};
 
 #[cfg(test)]
+mod examples;
+#[cfg(test)]
 mod limits;
 #[cfg(test)]
 mod tests;

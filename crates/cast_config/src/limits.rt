@@ -3,6 +3,7 @@
 ghost use Rattle.cast_config.specs.Served.{GivesItsFilters};
 
 use super::*;
+use crate::tests::line_of;
 use std::alloc::{AllocError, Global};
 use std::test::Fail;
 
@@ -16,6 +17,8 @@ struct Counts {
     nears: u32,
     bases: u32,
     groups: u32,
+    listed: u32,
+    filters: u32,
     accounts: u32,
     relays: u32,
     text: u32,
@@ -50,6 +53,15 @@ impl Counts {
         Counts { groups, ..self }
     }
 
+    /// How many names a group lists, and how many filters it has.
+    fn listed(self, listed: u32, filters: u32) -> Counts {
+        Counts {
+            listed,
+            filters,
+            ..self
+        }
+    }
+
     fn accounts(self, accounts: u32) -> Counts {
         Counts { accounts, ..self }
     }
@@ -72,6 +84,8 @@ const LEAST: Counts = Counts {
     nears: 0,
     bases: 1,
     groups: 1,
+    listed: 0,
+    filters: 0,
     accounts: 0,
     relays: 0,
     text: 0,
@@ -114,12 +128,28 @@ fn put_mounts(out: &mut Vec<u8>, counts: Counts) -> Result<(), AllocError> {
         put(out, "[[near]]\nname='N")?;
         put_number(out, i)?;
         put(out, "'\nbases=[")?;
-        for base in 0..counts.bases {
-            put(out, "'M")?;
-            put_number(out, base)?;
-            put(out, "',")?;
-        }
+        put_listed(out, counts.bases)?;
         put(out, "]\n")?;
+    }
+    Ok(())
+}
+
+/// Names of so many mountpoints.
+fn put_listed(out: &mut Vec<u8>, count: u32) -> Result<(), AllocError> {
+    for i in 0..count {
+        put(out, "'M")?;
+        put_number(out, i)?;
+        put(out, "',")?;
+    }
+    Ok(())
+}
+
+/// Filters for so many mountpoints.
+fn put_filters(out: &mut Vec<u8>, count: u32) -> Result<(), AllocError> {
+    for i in 0..count {
+        put(out, "{types='all',mount='M")?;
+        put_number(out, i)?;
+        put(out, "'},")?;
     }
     Ok(())
 }
@@ -128,7 +158,11 @@ fn put_parties(out: &mut Vec<u8>, counts: Counts) -> Result<(), AllocError> {
     for i in 0..counts.groups {
         put(out, "[[group]]\nname='G")?;
         put_number(out, i)?;
-        put(out, "'\nmounts=[]\ntypes='all'\n")?;
+        put(out, "'\ntypes='all'\nmounts=[")?;
+        put_listed(out, counts.listed)?;
+        put(out, "]\nfilter=[")?;
+        put_filters(out, counts.filters)?;
+        put(out, "]\n")?;
     }
     for i in 0..counts.accounts {
         put(out, "[[account]]\nuser='U")?;
@@ -176,12 +210,12 @@ fn top(list: u32) -> Option<Key> {
     })
 }
 
-/// The second key of the first entry.
-fn second_key(list: u32) -> Option<Key> {
+/// A key of the first entry.
+fn key_of(list: u32, key: u32) -> Option<Key> {
     Some(Key {
         list,
         entry: 1,
-        key: 2,
+        key,
     })
 }
 
@@ -213,19 +247,83 @@ fn lists_have_their_limits(rt: HostRuntime) -> Result<(), Fail> {
 
 #[test]
 fn names_and_texts_have_their_limits(rt: HostRuntime) -> Result<(), Fail> {
-    let bases = second_key(6);
+    let bases = key_of(6, 2);
     let near = LEAST.mounts(63);
+    let full = LEAST.mounts(64);
     let rows = [
         (near.nears(1, 16), None),
         (near.nears(1, 17), bases),
         (near.nears(1, 63), bases),
         (near.version(1).nears(1, 17), bases),
         (near.version(1).nears(1, 63), bases),
+        (full.listed(64, 64), None),
+        (full.listed(65, 0), key_of(7, 2)),
+        (full.listed(0, 65), key_of(7, 4)),
+        (full.version(1).listed(0, 65), None),
         (LEAST.text(100), None),
-        (LEAST.text(101), second_key(5)),
+        (LEAST.text(101), key_of(5, 2)),
     ];
     for (counts, past) in rows {
         assert!(rt; reads(rt.alloc(), counts, past)?);
+    }
+    Ok(())
+}
+
+const HUNDRED: &str = "xxxxxxxxxxxxxxxxxxxxxxxxxxxxxxxxxxxxxxxxxxxxxxxxxx\
+xxxxxxxxxxxxxxxxxxxxxxxxxxxxxxxxxxxxxxxxxxxxxxxxxx";
+
+/// Whether a document with a text of 100 bytes between these is read, and one with a text of 101 is
+/// refused as out of range at this place.
+fn ends_at_100(alloc: Global, front: &str, back: &str, place: &str) -> Result<bool, AllocError> {
+    let short = line_of(alloc, &[front, HUNDRED, back])?;
+    let long = line_of(alloc, &[front, HUNDRED, "x", back])?;
+    let mut line = Vec::from_slice(alloc, b"configuration: range ")?;
+    put(&mut line, place)?;
+    put(&mut line, "\n")?;
+    Ok(short.as_slice() == b"ok\n".as_slice() && long.as_slice() == line.as_slice())
+}
+
+/// A mountpoint and a group.
+const MOUNTS: &str = "version=2\n[[mount]]\nname='M'\npassword='p'\nring=4\nlatitude=0\n\
+longitude=0\n[[group]]\nname='g'\nmounts=[]\ntypes='all'\n";
+
+#[test]
+fn names_and_texts_have_100_bytes_at_most(rt: HostRuntime) -> Result<(), Fail> {
+    let rest = "'\npassword='p'\nring=4\nlatitude=0\nlongitude=0\n";
+    let near = "'\nbases=['M']\n";
+    let group = "'\nmounts=[]\ntypes='all'\n";
+    let account = "'\ngroup='g'\ncap=1\n";
+    let relay = "'\nmount='M'\nupstream='U'\nprotocol=1\n";
+    let rows = [
+        ["[[mount]]\nname='", rest, "mount 2 name"],
+        ["[[near]]\nname='", near, "near 1 name"],
+        ["[[group]]\nname='", group, "group 2 name"],
+        [
+            "[[account]]\npassword='p'\nuser='",
+            account,
+            "account 1 user",
+        ],
+        [
+            "[[account]]\nuser='u'\npassword='",
+            account,
+            "account 1 password",
+        ],
+        ["[[relay]]\naddress='", relay, "relay 1 address"],
+        ["[[relay]]\naddress='a'\nuser='", relay, "relay 1 user"],
+        [
+            "[[relay]]\naddress='a'\npassword='",
+            relay,
+            "relay 1 password",
+        ],
+    ];
+    for [front, back, place] in &rows {
+        let mut start = Vec::from_slice(rt.alloc(), MOUNTS.as_bytes())?;
+        put(&mut start, *front)?;
+        let start = String::from_utf8(start)?;
+        assert!(rt;
+            ends_at_100(rt.alloc(), start.as_str(), *back, *place)?,
+            "{place}"
+        );
     }
     Ok(())
 }

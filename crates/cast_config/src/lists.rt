@@ -1,5 +1,5 @@
-//! Lists of a configuration, which contracts see as plain lists. Each is made from a `Vec` and gives
-//! it back without taking memory.
+//! Lists of a configuration, which contracts see as plain lists. Each is made from a `Vec` and
+//! gives it back without taking memory.
 
 ghost use Rattle.std.specs.Prelude.{◌≡◌};
 
@@ -121,7 +121,8 @@ impl Groups {
     }
 }
 
-/// The filters of a group for single mountpoints, in the order of the file. Contracts see the list of them.
+/// The filters of a group for single mountpoints, in the order of the file. Contracts see the list
+/// of them.
 #[derive(Debug, Drop)]
 pub struct GroupFilters {
     items: Vec<GroupFilter>,

@@ -161,7 +161,8 @@ pub(crate) fn accounts(
     groups: &[Group],
 ) -> Result<Accounts, KeyFault>
     requires { length groups.now ≤ 64 }
-    ensures { Gives result (listed_or_none (account_of groups.now) 1024 (top 8) (seen value.entry)) }
+    ensures { Gives result
+        (listed_or_none (account_of groups.now) 1024 (top 8) (seen value.entry)) }
 {
     let values = tables_or(value, top(8), 1024)?;
     let list = each_account(alloc, groups, values)?;

@@ -10,7 +10,7 @@ const MOUNT: &str = "name='A'\npassword='p'\nring=4\nlatitude=0\nlongitude=0\n";
 const GROUP: &str = "[[group]]\nname='g'\nmounts=['A']\ntypes='all'\n";
 
 /// What is printed of a document of these parts: `ok`, or the line of its fault.
-fn line_of(alloc: Global, parts: &[&str]) -> Result<Vec<u8>, AllocError> {
+pub(crate) fn line_of(alloc: Global, parts: &[&str]) -> Result<Vec<u8>, AllocError> {
     let mut document = Vec::new(alloc);
     for part in parts {
         document.extend_from_slice(part.as_bytes())?;
@@ -297,6 +297,12 @@ fn mountpoints_name_their_fault(rt: HostRuntime) -> Result<(), Fail> {
         ],
         [
             "",
+            "name='A'\npassword=''\nring=4\nlatitude=0\nlongitude='0'",
+            GROUP,
+            "configuration: wrong mount 1 longitude\n",
+        ],
+        [
+            "",
             "name='A'\npassword=''\nring=4\nlatitude=0\nlongitude=-1800000000",
             GROUP,
             "ok\n",
@@ -558,6 +564,7 @@ fn accounts_and_relays_name_their_fault(rt: HostRuntime) -> Result<(), Fail> {
         ["[[relay]]\nmount=1", "wrong relay 1 mount"],
         ["[[relay]]\nmount='/'", "range relay 1 mount"],
         ["[[relay]]\nmount='C'", "unknown relay 1 mount"],
+        ["[[relay]]\nmount='g'", "unknown relay 1 mount"],
         ["[[relay]]\nmount='B'", "missing relay 1 address"],
         ["[[relay]]\nmount='B'\naddress=1", "wrong relay 1 address"],
         ["[[relay]]\nmount='B'\naddress=''", "range relay 1 address"],
@@ -590,6 +597,10 @@ fn accounts_and_relays_name_their_fault(rt: HostRuntime) -> Result<(), Fail> {
             "range relay 1 protocol",
         ],
         [
+            "[[relay]]\nmount='B'\naddress='a'\nupstream='U'\nprotocol=0",
+            "range relay 1 protocol",
+        ],
+        [
             "[[relay]]\nmount='B'\naddress='a'\nupstream='U'\nprotocol=2\nuser=1",
             "wrong relay 1 user",
         ],
@@ -612,6 +623,7 @@ fn accounts_and_relays_name_their_fault(rt: HostRuntime) -> Result<(), Fail> {
         ["[anonymous]\ngroup='g'", "missing anonymous cap"],
         ["[anonymous]\ngroup='g'\ncap=1.5", "wrong anonymous cap"],
         ["[anonymous]\ngroup='g'\ncap=0", "range anonymous cap"],
+        ["[anonymous]\ngroup='g'\ncap=1000001", "range anonymous cap"],
     ];
     assert!(rt; behind(&rt, group, &rows)?);
     Ok(())

@@ -24,7 +24,7 @@ use Rattle.cast_config.specs.Served.{all_filters}
 use Rattle.cast_config.specs.Document.{listed, listed_or_none, most_groups, heard_of, parties_of, config_of, IsDocument, IsRead}
 use Rattle.cast_config.specs.Kept.{KeepsRules}
 use Rattle.cast_config.proofs.EntryKeeps.{IsAnonymous, optional_anonymous}
-use Rattle.cast_config.proofs.KeptLemmas.{keeps_rules}
+use Rattle.cast_config.proofs.KeptLemmas.{keeps_rules, made}
 use Rattle.config_write.specs.Members.{list_data, number}
 use Rattle.config_write.specs.Entries.{mount_tree, near_tree, group_tree, account_tree, relay_tree, mounts_data, nears_data, groups_data, accounts_data, relays_data}
 use Rattle.config_write.specs.Written.{config_tree, WasRead, HasVersion}
@@ -63,18 +63,18 @@ record AreFew (mount : List Mount) (near : List Near) (group : List Group) (acco
   pub accounts : is_within 0 1024 (length account) ≡ true
   pub relays : is_within 0 16 (length relay) ≡ true
 
-within : (least most n : ℕ) → least ≤ n → n ≤ most → is_within least most n ≡ true
-within least most n low high = and_from _ _ (le-leb least n low) (le-leb n most high)
+in_range : (least most n : ℕ) → least ≤ n → n ≤ most → is_within least most n ≡ true
+in_range least most n low high = and_from _ _ (le-leb least n low) (le-leb n most high)
 
 few : (c : Config) → KeepsRules 1000000 c → AreFew c.mount c.near c.group c.account c.relay
 few c k =
     let most : length c.mount + length c.near ≤ 64 = k.few_mounts in
     record {
-      mounts = within 1 64 (length c.mount) k.some_mounts (omega arith);
-      nears = within 0 (64 - length c.mount) (length c.near) (omega arith) (omega arith);
+      mounts = in_range 1 64 (length c.mount) k.some_mounts (omega arith);
+      nears = in_range 0 (64 - length c.mount) (length c.near) (omega arith) (omega arith);
       groups = k.count_groups;
-      accounts = within 0 1024 (length c.account) (omega arith) k.few_accounts;
-      relays = within 0 16 (length c.relay) (omega arith) k.few_relays;
+      accounts = in_range 0 1024 (length c.account) (omega arith) k.few_accounts;
+      relays = in_range 0 16 (length c.relay) (omega arith) k.few_relays;
     }
 
 record AreHeard (h : Heard) : Type 0 where
@@ -125,20 +125,6 @@ record IsAgain (c : Config) : Type 0 where
   pub account : listed_or_none (account_of c.group) 1024 (top 8) (Some (accounts_data c.group c.account)) ≡ Ok c.account
   pub relay : listed_or_none (λ n before. relay_of c.mount n) 16 (top 9) (Some (relays_data c.mount c.relay)) ≡ Ok c.relay
   pub anonymous : IfSome c.anonymous (IsAnonymous c.group)
-
-abbrev made : ℕ → ℕ → List Record → Heard → Parties → Config
-made workers hysteresis records heard parties = record {
-  workers = workers;
-  hysteresis = hysteresis;
-  records = records;
-  mount = heard.mount;
-  near = heard.near;
-  group = heard.group;
-  account = parties.account;
-  relay = parties.relay;
-  anonymous = parties.anonymous;
-  permits = heard.permits;
-}
 
 record Again (c : Config) : Type 0 where
   pub is : KeepsRules 1000000 c → IsAgain c

@@ -20,6 +20,7 @@ use Rattle.config_keys.proofs.KeepLemmas.{done, value_is, taken, held, again, na
 use Rattle.cast_config.specs.declared.config.GroupFilter.{GroupFilter}
 use Rattle.cast_config.specs.Names.{entry_names, entries_once, filter_at, filters_at, place_at}
 use Rattle.cast_config.proofs.NameKeeps.{place_read}
+use Rattle.cast_config.proofs.ReferenceKeeps.{joined_ok}
 use Rattle.config_write.specs.Members.{put_keys, list_data}
 use Rattle.config_write.specs.Entries.{name_at, types_data, filter_tree}
 use Rattle.config_write.proofs.DataLemmas.{count_is}
@@ -33,12 +34,6 @@ pub record IsEntry (key : Key) (e : FilterEntry) : Type 0 where
 
 abbrev pub entry_tree : FilterEntry → Members
 entry_tree e = put_keys ((codes "mount", string e.mount) ∷ (codes "types", types_data e.types) ∷ []) no_members
-
-joined_ok : {A B C : Type 0} (make : A → B → C) (a : Read A) (b : Read B) (c : C) → both make a b ≡ Ok c → (x : A) × (y : B) × (a ≡ Ok x) × (b ≡ Ok y) × (make x y ≡ c)
-joined_ok make (Ok x) (Ok y) c e = (x, y, refl, refl, value_is (make x y) c e)
-joined_ok make (Ok x) (Err g) c e = absurd cc
-joined_ok make (Err f) (Ok y) c e = absurd cc
-joined_ok make (Err f) (Err g) c e = absurd cc
 
 read_types : (key : Key) (o : Option Data) (f : FilterValue) → required types key o ≡ Ok f → types key (types_data f) ≡ Ok f
 read_types key None f e = absurd cc

@@ -5,4 +5,3 @@ pub mod EntriesAgain
 pub mod ListsAgain
 pub mod ConfigAgain
 pub mod Depths
-pub mod TextLemmas

@@ -20,20 +20,18 @@ use Rattle.config_keys.specs.Rules.{is_within}
 use Rattle.config_keys.specs.Types.{message_number, types}
 use Rattle.config_keys.proofs.KeepLemmas.{value_is, taken, held}
 use Rattle.config_keys.proofs.NumberLemmas.{read_low}
+use Rattle.cast_config.proofs.KeptLemmas.{within}
 use Rattle.config_write.specs.Members.{list_data, number}
 use Rattle.config_write.specs.Entries.{types_data}
 use Rattle.config_write.proofs.DataLemmas.{integers_read}
 
 -- ---- numbers that are put in order
 
-abbrev placed : ℕ → ℕ → List ℕ → Ordering → List ℕ
-placed x y ys r = match_ordering r (x ∷ y ∷ ys) (y ∷ ys) (y ∷ insert_key nat_cmp ys x)
-
 put_few : (x : ℕ) (xs : List ℕ) → length (insert_key nat_cmp xs x) ≤ suc (length xs)
 put_few x [] = omega arith
 put_few x (y ∷ ys) =
     let more : length (insert_key nat_cmp ys x) ≤ suc (length ys) = put_few x ys in
-    elim (nat_cmp x y) as (λ r. length (placed x y ys r) ≤ suc (suc (length ys))) [
+    elim (nat_cmp x y) as (λ r. length (match_ordering r (x ∷ y ∷ ys) (y ∷ ys) (y ∷ insert_key nat_cmp ys x)) ≤ suc (suc (length ys))) [
       | Less ↦ omega arith
       | Equal ↦ omega arith
       | Greater ↦ omega arith
@@ -42,7 +40,7 @@ put_few x (y ∷ ys) =
 put_some : (x : ℕ) (xs : List ℕ) → 1 ≤ length (insert_key nat_cmp xs x)
 put_some x [] = omega arith
 put_some x (y ∷ ys) =
-    elim (nat_cmp x y) as (λ r. 1 ≤ length (placed x y ys r)) [
+    elim (nat_cmp x y) as (λ r. 1 ≤ length (match_ordering r (x ∷ y ∷ ys) (y ∷ ys) (y ∷ insert_key nat_cmp ys x))) [
       | Less ↦ omega arith
       | Equal ↦ omega arith
       | Greater ↦ omega arith
@@ -91,11 +89,6 @@ IsAgain key f = types key (types_data f) ≡ Ok f
 all_again : (key : Key) → IsAgain key Every
 unfolding types
 all_again key = refl
-
-within : (least most n : ℕ) → is_within least most n ≡ true → (least ≤ n) × (n ≤ most)
-within least most n h =
-    let parts = and_parts (leb least n) (leb n most) h in
-    (leb-true least n parts.0, leb-true n most parts.1)
 
 pub types_again : (key : Key) (d : Data) (f : FilterValue) → types key d ≡ Ok f → types key (types_data f) ≡ Ok f
 unfolding types
