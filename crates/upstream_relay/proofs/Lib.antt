@@ -1,3 +1,4 @@
 pub mod StepLemmas
 pub mod OwedLemmas
 pub mod StageLemmas
+pub mod HeldLemmas
