@@ -1,12 +1,11 @@
 -- What halts a relay, and which claim it was given.
-use Rattle.std.proofs.Common.{◌≡◌, ◌↔◌, ℕ, Bool, true, false, List, [], ◌∷◌, drop, refl, sym, ap, subst, ◌∙◌, Option, None, Some}
+use Rattle.std.proofs.Common.{◌≡◌, ◌↔◌, ℕ, Bool, true, false, List, [], ◌∷◌, drop, refl, sym, ap, subst, Option, None, Some}
 use Rattle.std.specs.Option.{option_map}
 use Rattle.chunk_body.specs.Text.{HasEnded, IsBadAt}
 use Rattle.session_calls.specs.Steps.{Step, answer_of}
 use Rattle.session_calls.specs.Plans.{IsMade}
 use Rattle.source_session.specs.declared.fault.SourceHalt.{SourceHalt}
 use Rattle.source_session.specs.declared.fault.SourceHalt.TheVariants as sources
-use Rattle.source_session.specs.declared.session.SourceSession.{SourceSession}
 use Rattle.source_session.proofs.StandingLemmas.{ended_at_done, bad_at_fault}
 use Rattle.ntrip_client.specs.declared.Answer.{Answer}
 use Rattle.ntrip_client.specs.declared.Answer.TheVariants.{Open, Accepted, Refused}

@@ -1,7 +1,7 @@
--- What the bytes of the other caster's answer owe at the mountpoint that the relay feeds: Claim once
--- the answer is accepted, and where a claim is given, Publish under it for each whole frame that
--- the body so far holds.
-use Rattle.std.specs.Prelude.{◌≡◌, ℕ, Bool, true, false, List, [], ◌∷◌, drop, Option, None, Some}
+-- What the bytes of the other caster's answer owe at the mountpoint that the relay feeds: Claim
+-- once the answer is accepted, and where a claim is given, Publish under it for each whole frame
+-- that the body so far holds.
+use Rattle.std.specs.Prelude.{ℕ, Bool, true, false, List, [], ◌∷◌, drop, Option, None, Some}
 use Rattle.mount_ring.specs.declared.RingCall.TheVariants.{Claim, Publish}
 use Rattle.mount_ring.specs.declared.RingAnswer.{RingAnswer}
 use Rattle.mount_ring.specs.declared.RingAnswer.TheVariants.{Given, Taken, Released, At, Joined, Looked, Read}

@@ -19,8 +19,8 @@ pub fn relays_call_what_is_owed()
         → IsDone (is_short_at session.stage) (owed mount answer bytes) steps }
 {}
 
-/// The number of a relay's claim is the one that its first call was given; it has none exactly where
-/// none was given so far.
+/// The number of a relay's claim is the one that its first call was given; it has none exactly
+/// where none was given so far.
 pub fn claims_are_those_given()
     ensures { (mount : ℕ) (session : RelaySession) (bytes : List ℕ) (steps : List Step)
         → StandsFor mount session bytes steps → claim_at session.stage ≡ first_claim steps }
