@@ -12,7 +12,7 @@ use Rattle.ntrip_client.specs.declared.answer.Refusal.TheVariants.{BadHead, Long
 use Rattle.ntrip_client.specs.declared.first_line.FirstLine.{FirstLine}
 use Rattle.ntrip_client.specs.declared.first_line.FirstLine.TheVariants.{Http}
 use Rattle.ntrip_client.specs.FirstLine.{has_line, kind_of, IsFirstLine, SpeaksHttp}
-use Rattle.ntrip_client.specs.Answer.{Said, said_by_line, said_by_response, IsLineHead, IsResponse, HasHead, GoesOn, IsTooLong, IsAnswer}
+use Rattle.ntrip_client.specs.Answer.{Said, said_by_line, said_by_response, IsLineHead, IsResponse, HasHead, HeadGoesOn, IsTooLong, IsAnswer}
 use Rattle.ntrip_client.proofs.LineLemmas.{none_front, one_first_line, first_line_there, first_line_of_front, http_of_front, http_more, line_there}
 
 -- ---- what a whole head shows of all bytes
@@ -40,7 +40,7 @@ head_few bytes at said (within, inr x) = omega (arith, x.head_is.within, length-
 
 -- ---- nothing else is said
 
-not_open : (bytes : List ℕ) (at : ℕ) (said : Said) → HasHead bytes at said → GoesOn bytes → ⊥
+not_open : (bytes : List ℕ) (at : ℕ) (said : Said) → HasHead bytes at said → HeadGoesOn bytes → ⊥
 not_open bytes at said x (inl (free, few)) =
     absurd (false≢true (sym (none_front at bytes free) ∙ head_has bytes at said x))
 not_open bytes at said (within, inl x) (inr (http, goes)) = no_http bytes at said x http
@@ -60,7 +60,7 @@ not_long bytes at said (within, inr x) (full, inr (http, long)) =
     sym (ap ends_with_empty_line front) ∙ long.no_line at (omega (arith, few, long.full)) in
     absurd (false≢true (sym none ∙ x.head_is.ends))
 
-open_or_long : (bytes : List ℕ) → GoesOn bytes → IsTooLong bytes → ⊥
+open_or_long : (bytes : List ℕ) → HeadGoesOn bytes → IsTooLong bytes → ⊥
 open_or_long bytes (inl (free, few)) (full, x) = absurd (omega (arith, few, full))
 open_or_long bytes (inr (http, goes)) (full, x) = absurd (omega (arith, goes.room, full))
 
@@ -102,7 +102,7 @@ said_at at (Err why) = Refused why
 
 abbrev Form : List ℕ → Answer → Type 0
 Form bytes a =
-    (GoesOn bytes × (a ≡ Open))
+    (HeadGoesOn bytes × (a ≡ Open))
     ⊎ ((IsTooLong bytes × (a ≡ Refused LongHead))
     ⊎ ((at : ℕ) × (said : Said) × HasHead bytes at said × (a ≡ said_at at said)))
 

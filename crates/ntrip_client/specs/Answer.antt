@@ -56,8 +56,8 @@ HasHead bytes at said =
     (at ≤ length bytes) × (IsLineHead (take at bytes) said ⊎ IsResponse (take at bytes) said)
 
 -- the head goes on: its first line does, in fewer than 8,192 bytes, or the head of HTTP behind it
-abbrev pub GoesOn : List ℕ → Type 0
-GoesOn bytes =
+abbrev pub HeadGoesOn : List ℕ → Type 0
+HeadGoesOn bytes =
     ((has_line bytes ≡ false) × (length bytes < 8192)) ⊎ (SpeaksHttp bytes × IsOpen bytes)
 
 -- 8,192 bytes came, and neither the first line has ended in them nor a head of HTTP
@@ -76,6 +76,6 @@ IsRefused bytes (Status status) = (at : ℕ) × HasHead bytes at (Err (Status st
 
 -- what the bytes so far say
 abbrev pub IsAnswer : List ℕ → Answer → Type 0
-IsAnswer bytes Open = GoesOn bytes
+IsAnswer bytes Open = HeadGoesOn bytes
 IsAnswer bytes (Accepted at chunked) = HasHead bytes at (Ok chunked)
 IsAnswer bytes (Refused why) = IsRefused bytes why

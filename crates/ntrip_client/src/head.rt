@@ -3,7 +3,7 @@
 ghost use Rattle.std.specs.Prelude.{◌≡◌, ◌≤◌, ◌-◌, ℕ, true, false, List, [], ◌∷◌, ◌++◌, length, take, IfOk};
 ghost use Rattle.ntrip_head.specs.Head.{IsHead};
 ghost use Rattle.ntrip_client.specs.FirstLine.{has_line, SpeaksHttp};
-ghost use Rattle.ntrip_client.specs.Answer.{GoesOn, IsAnswer};
+ghost use Rattle.ntrip_client.specs.Answer.{HeadGoesOn, IsAnswer};
 ghost use Rattle.ntrip_client.specs.Steps.{IsStep, BeginsAt};
 
 use crate::answer::{Answer, Refusal};
@@ -89,7 +89,7 @@ fn by_line(step: HeadStep, front: &[u8], head: &[u8]) -> Answer
 /// Adds a byte to a head that goes on, and says what the head then says. `named` is whether the
 /// first line has ended.
 fn add(head: &mut HeadBuf, named: &mut bool, byte: u8) -> Answer
-    requires open { GoesOn head.old }
+    requires open { HeadGoesOn head.old }
     requires named { named.old ≡ has_line head.old }
     ensures bytes { head.new ≡ head.old ++ byte ∷ [] }
     ensures named { named.new ≡ has_line head.new }
@@ -118,8 +118,8 @@ pub struct Taken {
 }
 
 /// The head of a caster's answer, as its bytes come in any pieces. No more than the 8,192 bytes
-/// that a head may have are kept, and all memory for them is taken at first. Contracts see all bytes
-/// that were taken.
+/// that a head may have are kept, and all memory for them is taken at first. Contracts see all
+/// bytes that were taken.
 #[derive(Debug, Drop)]
 pub struct AnswerHead {
     head: HeadBuf,

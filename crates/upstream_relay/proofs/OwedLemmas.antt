@@ -1,13 +1,12 @@
 -- What more bytes of an accepted answer owe.
-use Rattle.std.proofs.Common.{◌≡◌, ◌≢◌, ◌≤◌, ℕ, Bool, true, false, List, [], ◌∷◌, ◌++◌, drop, length, refl, sym, ap, subst, ◌∙◌}
+use Rattle.std.proofs.Common.{◌≡◌, ◌≤◌, ℕ, Bool, true, false, List, [], ◌∷◌, ◌++◌, drop, length, refl, sym, ap, subst, ◌∙◌}
 use Rattle.std.proofs.lemmas.List.{drop-append-le, append-nil}
 use Rattle.mount_ring.specs.declared.RingCall.TheVariants.{Claim}
 use Rattle.mount_ring.specs.declared.RingAnswer.TheVariants as answers
-use Rattle.session_calls.specs.Steps.{Step, Answer, of_ring, answer_of, at_ring, to_ring}
-use Rattle.session_calls.specs.Plans.{Plan, IsMade, IsBegun}
+use Rattle.session_calls.specs.Steps.{Step, Answer, answer_of, at_ring}
+use Rattle.session_calls.specs.Plans.{IsMade, IsBegun}
 use Rattle.source_session.specs.Body.{frames_of, completed}
 use Rattle.source_session.proofs.BodyLemmas.{frames_more}
-use Rattle.ntrip_client.specs.declared.Answer.{Answer as HeadAnswer}
 use Rattle.ntrip_client.specs.declared.Answer.TheVariants as heads
 use Rattle.upstream_relay.specs.Owed.{publishing, after_claim, owed, IsDone}
 use Rattle.upstream_relay.specs.Standing.{IsClaimed}

@@ -1,5 +1,5 @@
 -- What halts a relay, by what it met.
-use Rattle.std.specs.Prelude.{◌≡◌, ℕ, ⊤, Bool, true, false}
+use Rattle.std.specs.Prelude.{ℕ, ⊤, Bool, true, false}
 use Rattle.turn_log.specs.declared.TurnFault.TheVariants as turns
 use Rattle.turn_log.specs.Faults.{IsFault}
 use Rattle.source_session.specs.declared.fault.ClaimFault.{ClaimFault}
@@ -45,8 +45,8 @@ is_refused_turn (BadChunk place) = false
 is_refused_turn (Worn given) = true
 is_refused_turn Memory = true
 
--- A relay is halted by what it met, or the place refused a turn: it is worn by so many turns, or may
--- lack memory.
+-- A relay is halted by what it met, or the place refused a turn: it is worn by so many turns, or
+-- may lack memory.
 abbrev pub IsHaltOf : Bool → ℕ → RelayHalt → Type 0
 IsHaltOf may_lack worn BadHead = ⊤
 IsHaltOf may_lack worn LongHead = ⊤

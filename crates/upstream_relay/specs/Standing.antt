@@ -1,6 +1,6 @@
--- Where a relay stands with all bytes of the other caster that it was fed so far, and with all calls
--- that it made at its mountpoint.
-use Rattle.std.specs.Prelude.{◌≡◌, ℕ, ⊤, Bool, true, false, List, [], ◌∷◌, drop, Option, None, Some}
+-- Where a relay stands with all bytes of the other caster that it was fed so far, and with all
+-- calls that it made at its mountpoint.
+use Rattle.std.specs.Prelude.{◌≡◌, ℕ, ⊤, Bool, false, List, [], ◌∷◌, drop, Option, None, Some}
 use Rattle.std.specs.Option.{option_map}
 use Rattle.mount_ring.specs.declared.RingCall.TheVariants.{Claim}
 use Rattle.mount_ring.specs.declared.RingAnswer.TheVariants as answers
@@ -49,8 +49,8 @@ abbrev pub IsClaimed : ℕ → ℕ → List Step → Type 0
 IsClaimed mount claim [] = ⊥
 IsClaimed mount claim (step ∷ steps) = step ≡ at_ring mount Claim (answers.Given claim)
 
--- a relay was halted before a claim was given: by the answer, by who holds the mountpoint, or by the
--- place, which refused the turn
+-- a relay was halted before a claim was given: by the answer, by who holds the mountpoint, or by
+-- the place, which refused the turn
 abbrev pub IsHaltedBy : ℕ → Answer → List Step → RelayHalt → Type 0
 IsHaltedBy mount answer steps BadHead = answer ≡ Refused refusals.BadHead
 IsHaltedBy mount answer steps LongHead = answer ≡ Refused refusals.LongHead
@@ -80,7 +80,8 @@ IsAtStage mount me (Halted halt) answer bytes steps = IsHaltedBy mount answer st
 
 -- These bytes came and these calls were made, under this number of the mountpoint: the calls are
 -- those that the bytes owe, all of them, or where a turn was refused a beginning of them.
-pub record StandsAt (mount me : ℕ) (stage : Stage) (bytes : List ℕ) (steps : List Step) : Type 0 where
+pub record StandsAt (mount me : ℕ) (stage : Stage) (bytes : List ℕ) (steps : List Step)
+    : Type 0 where
   pub answer : Answer
   pub says : IsAnswer bytes answer
   pub made : IsDone (is_short_at stage) (owed mount answer bytes) steps

@@ -19,6 +19,7 @@ use mount_ring::{Ring, RingAnswer, RingCall};
 use ntrip_client::{AnswerHead, push_request};
 use ntrip_head::Version;
 use std::alloc::{AllocError, Global};
+use std::fmt;
 use turn_log::{Played, TurnFault, Turns};
 
 /// The version of NTRIP that this protocol is.
@@ -39,7 +40,7 @@ fn version_of(protocol: u32) -> Version
 /// Of the answer no more is kept than its head and a frame that is not complete. `StandsFor` ties a
 /// relay to all bytes that it was fed and to all calls that it made, and says that these are the
 /// calls that the bytes owe.
-#[derive(Debug, Drop)]
+#[derive(Drop)]
 pub struct RelaySession {
     me: u32,
     request: Vec<u8>,
@@ -47,7 +48,8 @@ pub struct RelaySession {
 }
 
 impl RelaySession {
-    /// A relay as the configuration has it, for the caller `me`, before the first byte of the answer.
+    /// A relay as the configuration has it, for the caller `me`, before the first byte of the
+    /// answer.
     pub fn new(alloc: Global, me: u32, r: &Relay) -> Result<RelaySession, AllocError>
         requires { (1 ≤ r.now.protocol) × (r.now.protocol ≤ 2) }
         ensures me { IfOk result (λ session. session.me ≡ me) }
@@ -86,14 +88,16 @@ impl RelaySession {
     }
 
     /// Takes more bytes of the other caster's answer, and does what they owe: the mountpoint is
-    /// claimed, one turn, where they end the head of an answer that is accepted, and then each frame
-    /// that they complete is published, one turn a frame.
+    /// claimed, one turn, where they end the head of an answer that is accepted, and then each
+    /// frame that they complete is published, one turn a frame.
+    ///
+    /// All calls together take fewer than 2^63 bytes. The claim was not given back, and the
+    /// relay's caller made no other call since its last.
     ///
     /// # Errors
     /// Where the answer gives no body, the claim is not given, the chunked body ends within these
-    /// bytes or is bad there, or a turn was refused. What stands before that has been done, and each
-    /// later call answers the same and calls nothing. All calls together take fewer than 2^63 bytes.
-    /// The claim was not given back, and the relay's caller made no other call since its last.
+    /// bytes or is bad there, or a turn was refused. What stands before that has been done, and
+    /// each later call answers the same and calls nothing.
     pub fn feed<T: Turns<Ring>>(&mut self, bytes: &[u8], place: &mut T) -> Result<(), RelayHalt>
         requires speaks { IsTrue (T.speaks place.old self.old.me) }
         requires held { IsHeldAt self.old.me self.old.stage (T.seen place.old) }
@@ -181,5 +185,15 @@ impl RelaySession {
             Stage::Head(_) => 0,
             Stage::Halted(_) => 0,
         }
+    }
+}
+
+// The request holds a password, and is not shown.
+impl fmt::Debug for RelaySession {
+    fn fmt<W: fmt::Write>(&self, f: &mut fmt::Formatter<W>) -> fmt::Result {
+        f.debug_struct("RelaySession")
+            .field("me", &self.me)
+            .field("stage", &self.stage)
+            .finish_non_exhaustive()
     }
 }
