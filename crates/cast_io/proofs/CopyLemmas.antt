@@ -1,7 +1,6 @@
 -- Reads and writes of a link, one after the other.
-use Rattle.std.proofs.Common.{◌≡◌, ◌≤◌, ℕ, List, [], ◌∷◌, ◌++◌, length, take, drop, Result, Ok, Err, refl, sym, ap, subst, ◌∙◌, inl, inr, append_assoc, append-nil, arith}
+use Rattle.std.proofs.Common.{◌≡◌, ℕ, List, [], ◌∷◌, ◌++◌, take, drop, Ok, Err, refl, sym, ap, subst, ◌∙◌, inl, inr, append_assoc, append-nil, arith}
 use Rattle.std.proofs.lemmas.List.{take-append-drop}
-use Rattle.std.specs.Prelude.{◌⊎◌}
 use Rattle.cast_io.specs.declared.steps.LinkStep.{LinkStep}
 use Rattle.cast_io.specs.declared.steps.Step.{Step}
 use Rattle.cast_io.specs.declared.steps.Step.TheVariants as took
@@ -46,15 +45,6 @@ read_bytes got.End buf old new (inl takes) = ap bytes_ahead takes
 read_bytes got.End buf old new (inr takes) =
     ap bytes_ahead takes.0 ∙ sym (ap bytes_ahead takes.1)
 read_bytes got.Failed buf old new takes = sym (ap bytes_ahead takes)
-
-pub exchanged_none : (told : LinkTold) → Exchanged told told [] []
-exchanged_none told = record {
-  given = refl;
-  left = λ now is. (now, is, refl);
-  steps = grew_none told.taken;
-  bytes = grew_none told.bytes;
-  later = omega arith;
-}
 
 pub exchanged_more : (a b c : LinkTold) (xs ys : List Step) (us vs : List ℕ)
     → Exchanged a b xs us → Exchanged b c ys vs → Exchanged a c (xs ++ ys) (us ++ vs)

@@ -1,5 +1,5 @@
 -- What contracts see of a store in memory.
-use Rattle.std.specs.Prelude.{ℕ, ◌≡◌, ◌||◌, not, if◌then◌else◌, List, [], Bool, Option, None, Some, is_some, unwrap_or, option_map, slice_get}
+use Rattle.std.specs.Prelude.{ℕ, ◌≡◌, ◌||◌, not, List, [], Bool, Option, None, Some, is_some, unwrap_or, option_map, slice_get}
 use Rattle.cast_io.specs.Causes.{next_count}
 use Rattle.cast_io.specs.Fakes.{fails_next}
 use Rattle.cast_io.specs.Told.{StoreTold}

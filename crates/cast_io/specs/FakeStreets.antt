@@ -1,10 +1,9 @@
 -- What contracts see of a street in memory.
-use Rattle.std.specs.Prelude.{ℕ, ◌≡◌, ◌+◌, ◌-◌, ◌||◌, nat_lt, if◌then◌else◌, List, [], length, map, Bool, Option, Some, option_map}
+use Rattle.std.specs.Prelude.{ℕ, ◌≡◌, ◌||◌, nat_lt, if◌then◌else◌, List, [], length, map, Bool, Option, Some, option_map}
 use Rattle.cast_io.specs.declared.steps.Asked.{Asked}
 use Rattle.cast_io.specs.Causes.{next_count}
 use Rattle.cast_io.specs.Fakes.{fails_next}
 use Rattle.cast_io.specs.Told.{StreetTold}
-use Rattle.cast_io.specs.Returns.{with_return}
 use Rattle.cast_io.specs.FakeLinks.{LinkState, link_told}
 use Rattle.cast_io.specs.FakeDoors.{DoorState, door_told}
 

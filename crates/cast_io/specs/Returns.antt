@@ -1,5 +1,5 @@
 -- What contracts see of the things that a fake gave and took back.
-use Rattle.std.specs.Prelude.{ℕ, ◌==◌, ◌-◌, List, [], ◌∷◌, ◌++◌, Option, None, option_map, if◌then◌else◌}
+use Rattle.std.specs.Prelude.{ℕ, ◌==◌, List, [], ◌∷◌, ◌++◌, Option, None, option_map, if◌then◌else◌}
 
 -- those that came back, in order, while they are told; how many were given and did not come back
 -- yet; and how many more may be given

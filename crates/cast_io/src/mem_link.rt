@@ -63,8 +63,8 @@ impl MemLink {
     ghost use Rattle.cast_io.specs.Told.{Grew};
     ghost use Rattle.cast_io.specs.declared.steps.Step.{Step};
 
-    /// A link whose peer takes these steps, of which those of bytes hold at least one. `fails`
-    /// holds the numbers, from 1, of the calls that are to fail, reads and writes counted together.
+    /// A link whose peer takes these steps, of which those of bytes hold at least one. `fails` lists
+    /// which calls fail, by their numbers from 1 over reads and writes alike.
     pub fn new(alloc: Global, steps: Vec<LinkStep>, fails: Vec<u64>) -> Self
         requires { IsTrue (list_all has_bytes steps.items) }
         ensures made { IsMadeOf result steps.items fails.items [] }
@@ -181,7 +181,8 @@ impl MemLink {
             → Grew self.old.taken self.new.taken (taken ∷ []) }
         ensures kept { IsSome self.new.taken → self.new.faults ≡ self.old.faults }
         ensures later { self.old.faults ≤ self.new.faults }
-        ensures same { self.new ≡ record self.old { taken = self.new.taken; faults = self.new.faults } }
+        ensures same { self.new ≡
+            record self.old { taken = self.new.taken; faults = self.new.faults } }
     {
         let Ok(step) = step else {
             self.taken.lose();
@@ -231,7 +232,8 @@ impl MemLink {
         ensures grew { Grew self.old.taken self.new.taken (took.WriteFailed ∷ []) }
         ensures later { self.old.faults ≤ self.new.faults }
         ensures rose { Rose self.old.faults self.new.faults }
-        ensures same { self.new ≡ record self.old { taken = self.new.taken; faults = self.new.faults } }
+        ensures same { self.new ≡
+            record self.old { taken = self.new.taken; faults = self.new.faults } }
     {
         self.faults = self.faults.saturating_add(1);
         self.note(Ok(Step::WriteFailed));

@@ -56,8 +56,7 @@ impl MemStore {
     ghost use Rattle.std.specs.Prelude.{List, ℕ};
 
     /// A store of these files, pairs of path and content, of which the first of a path counts.
-    /// `fails` holds the numbers, from 1, of the calls that are to fail, `open` and `read` counted
-    /// together.
+    /// `fails` lists which calls fail, by their numbers from 1 over `open` and `read` alike.
     pub fn new(alloc: Global, files: Vec<(ByteString, ByteString)>, fails: Vec<u64>) -> Self
         ensures made { IsStoreOf result files.items fails.items }
     {

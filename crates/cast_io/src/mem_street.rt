@@ -73,8 +73,8 @@ impl MemStreet {
     ghost use Rattle.cast_io.specs.declared.steps.Asked.{Asked};
 
     /// A street whose `open` gives the next of these doors, and whose `dial` the next of these
-    /// links, each as it was made. `fails` holds the numbers, from 1, of the calls that are to
-    /// fail, `open` and `dial` counted together.
+    /// links, each as it was made. `fails` lists which calls fail, by their numbers from 1 over
+    /// `open` and `dial` alike.
     pub fn new(
         alloc: Global,
         doors: Vec<MemDoor>,
@@ -83,7 +83,8 @@ impl MemStreet {
     ) -> Result<Self, AllocError>
         requires doors { IsTrue (list_all is_new_door doors.items) }
         requires links { IsTrue (list_all is_new_link links.items) }
-        ensures made { IfOk result (λ street. IsStreetOf street doors.items links.items fails.items) }
+        ensures made { IfOk result
+            (λ street. IsStreetOf street doors.items links.items fails.items) }
     {
         Ok(MemStreet {
             alloc,

@@ -8,8 +8,8 @@ use crate::source::Source;
 
 /// Files, of which the one that was opened last is read.
 pub trait Store: Source {
-    /// Makes the file at this path the one that `read` reads, from its first byte. A path that is
-    /// not there is refused, and after `Failed` nothing is left to read.
+    /// Opens the file of this path, with whose first byte `read` goes on. Where there is no such
+    /// file the call fails, and after `Failed` nothing is left to read.
     fn open(&mut self, path: &str) -> Result<(), Failed>
         ensures opened { HasOpened path.now (Self.store self.old) (Self.store self.new)
             (Self.left self.new) result }

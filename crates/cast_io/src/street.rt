@@ -37,7 +37,8 @@ pub trait Street {
     fn open(&mut self, addr: &str, doors: u32) -> Result<Vec<Self::Door>, StreetFault>
         ensures wanted { HasAsked (asked.Open addr.now doors) (told self.old) (told self.new) }
         ensures count { IfOk result (λ given. vec_len given ≡ doors) }
-        ensures each { IfOk result (λ given. All (λ door. IsNewDoor (Self.Door.told door)) given.items) }
+        ensures each { IfOk result
+            (λ given. All (λ door. IsNewDoor (Self.Door.told door)) given.items) }
         ensures cause { IsErrOf result StreetFault.Failed
             → Rose (told self.old).faults (told self.new).faults };
 

@@ -17,13 +17,13 @@ fn link_of(alloc: Global, fails: &[u64]) -> Result<MemLink, Fail>
     Ok(MemLink::new(alloc, Vec::new(alloc), fails.to_vec(alloc)?))
 }
 
-// Two links, of which the second fails at its first call.
+// Two links, of which the second fails at its second call.
 fn two_links(alloc: Global) -> Result<Vec<MemLink>, Fail>
     ensures { IfOk result (λ links. IsTrue (list_all is_new_link links.items)) }
 {
     let mut links = Vec::new(alloc);
     links.push(link_of(alloc, &[])?)?;
-    links.push(link_of(alloc, &[1])?)?;
+    links.push(link_of(alloc, &[2])?)?;
     Ok(links)
 }
 
@@ -61,28 +61,46 @@ fn arrived(door: &mut MemDoor) -> Result<MemLink, Fail> {
     }
 }
 
-// Writes one byte to the link, whose number it is.
+// Writes one byte to the link, by which it is known again.
 fn mark(link: &mut MemLink, number: u8) -> Result<(), Fail> {
     Ok(link.write(&[number])?)
 }
 
-fn open_at(alloc: Global, addr: &[u8], doors: u32) -> Result<Asked, Fail> {
-    Ok(Asked::Open {
-        addr: ByteString::copy_of(alloc, addr)?,
-        doors,
-    })
+// What the links took, one after the other.
+fn marks(alloc: Global, links: Option<&[MemLink]>) -> Result<Vec<u8>, Fail> {
+    let mut marks = Vec::new(alloc);
+    for link in links.ok_or("told no longer")? {
+        marks.extend_from_slice(link.bytes())?;
+    }
+    Ok(marks)
 }
 
-fn dial_of(alloc: Global, addr: &[u8]) -> Result<Asked, Fail> {
-    Ok(Asked::Dial {
-        addr: ByteString::copy_of(alloc, addr)?,
-    })
+// The two links that the street dials, as they are known again.
+fn dialled(street: &mut MemStreet) -> Result<(MemLink, MemLink), Fail> {
+    let mut first = street.dial("a")?;
+    let mut second = street.dial("b")?;
+    mark(&mut first, 1)?;
+    mark(&mut second, 2)?;
+    Ok((first, second))
+}
+
+// An open of three doors and a dial, as a street was asked for them.
+fn two_calls(alloc: Global) -> Result<Vec<Asked>, Fail> {
+    let mut calls = Vec::new(alloc);
+    calls.push(Asked::Open {
+        addr: ByteString::copy_of(alloc, b"here")?,
+        doors: 3,
+    })?;
+    calls.push(Asked::Dial {
+        addr: ByteString::copy_of(alloc, b"a")?,
+    })?;
+    Ok(calls)
 }
 
 #[test]
 fn a_door_gives_what_arrives(rt: HostRuntime) -> Result<(), Fail> {
     let mut door = sent(door_of(rt.alloc(), &[2])?);
-    let mut first = sent(arrived(&mut door)?);
+    let _first = sent(arrived(&mut door)?);
     assert!(rt;
         matches!(door.accept(), Arrived::Failed),
         "the second accept"
@@ -91,26 +109,27 @@ fn a_door_gives_what_arrives(rt: HostRuntime) -> Result<(), Fail> {
         matches!(door.accept(), Arrived::Idle),
         "which took nothing"
     );
-    let mut second = arrived(&mut door)?;
+    let _second = arrived(&mut door)?;
     assert!(rt; matches!(door.accept(), Arrived::Idle), "none is to come");
     assert_eq!(rt; door.faults(), 1);
-    mark(&mut first, 1)?;
-    mark(&mut second, 2)?;
-    door.hang_up(second);
-    door.hang_up(first);
-    let back = door.back().ok_or("told no longer")?;
-    assert_eq!(rt; back.len(), 2);
-    assert_eq!(rt; back[0].bytes(), [2].as_slice(), "as they came back");
-    assert_eq!(rt; back[1].bytes(), [1].as_slice());
+    Ok(())
+}
+
+#[test]
+fn a_door_tells_what_came_back(rt: HostRuntime) -> Result<(), Fail> {
+    let mut door = door_of(rt.alloc(), &[])?;
+    let mut link = arrived(&mut door)?;
+    mark(&mut link, 1)?;
+    door.hang_up(link);
+    assert_eq!(rt; marks(rt.alloc(), door.back())?.as_slice(), [1].as_slice());
     door.hang_up(link_of(rt.alloc(), &[])?);
     assert!(rt; door.back().is_none(), "one more than it gave");
     Ok(())
 }
 
 #[test]
-fn a_street_gives_what_it_has_and_no_more(rt: HostRuntime) -> Result<(), Fail> {
-    let alloc = rt.alloc();
-    let mut street = street_of(alloc, &[])?;
+fn a_street_gives_no_more_doors_than_it_has(rt: HostRuntime) -> Result<(), Fail> {
+    let mut street = street_of(rt.alloc(), &[])?;
     assert_eq!(rt;
         street.open("here", 3).err(),
         Some(StreetFault::Failed),
@@ -121,22 +140,26 @@ fn a_street_gives_what_it_has_and_no_more(rt: HostRuntime) -> Result<(), Fail> {
         2,
         "a refused call took nothing"
     );
-    assert_eq!(rt; street.open("there", 1).err(), Some(StreetFault::Failed));
-    let _first = street.dial("a")?;
-    let _second = street.dial("b")?;
+    assert_eq!(rt; street.open("here", 1).err(), Some(StreetFault::Failed));
+    assert_eq!(rt; street.faults(), 2);
+    Ok(())
+}
+
+#[test]
+fn a_street_gives_no_more_links_than_it_has(rt: HostRuntime) -> Result<(), Fail> {
+    let mut street = street_of(rt.alloc(), &[])?;
+    let _links = dialled(&mut street)?;
     assert_eq!(rt; street.dial("c").err(), Some(StreetFault::Failed));
-    assert_eq!(rt; street.faults(), 3);
-    let mut wanted = Vec::new(alloc);
-    wanted.push(open_at(alloc, b"here", 3)?)?;
-    wanted.push(open_at(alloc, b"here", 2)?)?;
-    wanted.push(open_at(alloc, b"there", 1)?)?;
-    wanted.push(dial_of(alloc, b"a")?)?;
-    wanted.push(dial_of(alloc, b"b")?)?;
-    wanted.push(dial_of(alloc, b"c")?)?;
-    assert!(rt;
-        street.asked() == Some(wanted.as_slice()),
-        "refused calls too"
-    );
+    assert_eq!(rt; street.faults(), 1);
+    Ok(())
+}
+
+#[test]
+fn what_was_asked_is_told_where_it_was_refused_too(rt: HostRuntime) -> Result<(), Fail> {
+    let mut street = street_of(rt.alloc(), &[2])?;
+    assert!(rt; street.open("here", 3).is_err(), "it has two");
+    assert!(rt; street.dial("a").is_err(), "it is to fail");
+    assert!(rt; street.asked() == Some(two_calls(rt.alloc())?.as_slice()));
     Ok(())
 }
 
@@ -155,7 +178,6 @@ fn calls_of_a_street_fail_by_their_number(rt: HostRuntime) -> Result<(), Fail> {
         "the third"
     );
     assert_eq!(rt; street.open("here", 1)?.len(), 1);
-    let _link = street.dial("a")?;
     assert_eq!(rt; street.faults(), 2);
     Ok(())
 }
@@ -163,22 +185,31 @@ fn calls_of_a_street_fail_by_their_number(rt: HostRuntime) -> Result<(), Fail> {
 #[test]
 fn links_come_back_in_another_order(rt: HostRuntime) -> Result<(), Fail> {
     let mut street = street_of(rt.alloc(), &[])?;
-    let mut first = street.dial("a")?;
-    let mut second = street.dial("b")?;
-    let mut buf = [0u8; 2];
-    assert_eq!(rt; second.read(&mut buf), Got::Failed);
-    mark(&mut first, 1)?;
-    mark(&mut second, 2)?;
+    let (first, second) = dialled(&mut street)?;
     street.hang_up(second);
     street.hang_up(first);
-    let back = street.links_back().ok_or("told no longer")?;
-    assert_eq!(rt; back.len(), 2);
-    assert_eq!(rt; back[0].bytes(), [2].as_slice());
-    assert_eq!(rt; back[1].bytes(), [1].as_slice());
-    assert_eq!(rt; street.link_faults(), 1, "one link came back with a fault");
-    assert_eq!(rt; street.faults(), 0, "which is none of the street");
+    assert_eq!(rt;
+        marks(rt.alloc(), street.links_back())?.as_slice(),
+        [2, 1].as_slice()
+    );
     street.hang_up(link_of(rt.alloc(), &[])?);
     assert!(rt; street.links_back().is_none(), "one more than it gave");
+    Ok(())
+}
+
+#[test]
+fn a_fault_of_a_link_is_none_of_the_street(rt: HostRuntime) -> Result<(), Fail> {
+    let mut street = street_of(rt.alloc(), &[])?;
+    let (first, mut second) = dialled(&mut street)?;
+    assert_eq!(rt;
+        second.read(&mut [0u8; 2]),
+        Got::Failed,
+        "the second call of this link"
+    );
+    street.hang_up(second);
+    street.hang_up(first);
+    assert_eq!(rt; street.link_faults(), 1, "one link came back with a fault");
+    assert_eq!(rt; street.faults(), 0);
     Ok(())
 }
 
@@ -186,18 +217,29 @@ fn links_come_back_in_another_order(rt: HostRuntime) -> Result<(), Fail> {
 fn a_door_that_failed_is_a_fault_of_the_street(rt: HostRuntime) -> Result<(), Fail> {
     let mut street = street_of(rt.alloc(), &[])?;
     let mut doors = street.open("here", 2)?;
-    let second = doors.pop().ok_or("no door")?;
+    street.shut(doors.pop().ok_or("no door")?);
+    assert_eq!(rt; street.faults(), 0, "this door had no fault");
     let mut first = doors.pop().ok_or("no door")?;
     assert!(rt; matches!(first.accept(), Arrived::Failed));
-    street.shut(second);
-    assert_eq!(rt; street.faults(), 0, "this door had no fault");
     street.shut(first);
     assert_eq!(rt; street.faults(), 1);
     assert_eq!(rt; street.link_faults(), 0);
-    let back = street.doors_back().ok_or("told no longer")?;
-    assert_eq!(rt; back.len(), 2);
-    assert_eq!(rt; back[0].faults(), 0, "as they came back");
-    assert_eq!(rt; back[1].faults(), 1);
+    Ok(())
+}
+
+#[test]
+fn doors_come_back_as_they_are_then(rt: HostRuntime) -> Result<(), Fail> {
+    let mut street = street_of(rt.alloc(), &[])?;
+    let mut doors = street.open("here", 1)?;
+    let mut door = doors.pop().ok_or("no door")?;
+    assert!(rt; matches!(door.accept(), Arrived::Failed));
+    street.shut(door);
+    let faults = street
+        .doors_back()
+        .ok_or("told no longer")?
+        .iter()
+        .map(|d| d.faults());
+    assert_eq!(rt; faults.max(), Some(1));
     street.shut(door_of(rt.alloc(), &[])?);
     assert!(rt; street.doors_back().is_none(), "one more than it gave");
     Ok(())
