@@ -9,3 +9,4 @@ pub mod LawLemmas
 pub mod BaseLemmas
 pub mod HeededLemmas
 pub mod TurnLemmas
+pub mod DeskLemmas

@@ -205,6 +205,14 @@ pub record ReadOn (shapes : List RingShape) (alone : Bool) (old now : List (Hist
   pub read : IsMade (reads budget before) more
   pub stands : Stands rover first bytes (steps ++ more)
 
+-- What stands between two calls of a session, where nobody else called: its bases are among these
+-- mountpoints, its filter is one of theirs, and its segments are what these histories tell.
+pub record IsServed (shapes : List RingShape) (histories : List (History RingCall)) (rover : Rover)
+    : Type 0 where
+  pub within : AreWithin (length shapes) rover.terms.bases
+  pub filter : KnowsFilter shapes rover.terms.filter
+  pub resumable : IsResumable shapes rover.me histories rover.segments
+
 -- nothing changes what a rover was admitted to, and how it is served
 abbrev pub SameAdmission : Rover → Rover → Type 0
 SameAdmission old new =

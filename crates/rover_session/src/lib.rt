@@ -10,3 +10,6 @@ mod places;
 mod session;
 
 pub use session::RoverSession;
+
+#[cfg(test)]
+mod tests;
