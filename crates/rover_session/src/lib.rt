@@ -1,0 +1,2 @@
+//! What a rover owes.
+#![tactic(auto)]
