@@ -1,5 +1,0 @@
-pub mod LineLemmas
-pub mod SayingLemmas
-pub mod OnceLemmas
-pub mod RequestLemmas
-mod Rows

@@ -1,4 +1,0 @@
-pub mod Request
-pub mod FirstLine
-pub mod Answer
-pub mod Steps

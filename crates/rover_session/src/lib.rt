@@ -1,2 +1,0 @@
-//! What a rover owes.
-#![tactic(auto)]
