@@ -1,1 +1,7 @@
 pub mod PieceLemmas
+pub mod TornLemmas
+pub mod StepLemmas
+pub mod ListLemmas
+pub mod ToldLemmas
+pub mod StoreLemmas
+pub mod CopyLemmas

@@ -1,3 +1,14 @@
 pub mod Causes
 pub mod Pieces
 pub mod Fakes
+pub mod Told
+pub mod Links
+pub mod FakeLinks
+pub mod Returns
+pub mod Doors
+pub mod FakeDoors
+pub mod Streets
+pub mod FakeStreets
+pub mod Stores
+pub mod FakeStores
+pub mod Copying

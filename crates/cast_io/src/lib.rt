@@ -1,17 +1,56 @@
-//! What the caster reads from and writes to, as traits with contracts, and a source and a sink
-//! in memory to test with.
+//! What the caster reads from and writes to, as traits with contracts, and fakes in memory to test
+//! with.
 //!
 //! Each object has a count of faults, a `u64` that never falls and stands at its last value. A
 //! call answers [`Failed`] only where the count rose in that call, so no caller can report a fault
 //! of the outside that did not happen.
 #![tactic(auto)]
 
-mod ends;
-mod memory;
+mod bytes;
+mod calls;
+#[cfg(test)]
+mod copy_tests;
+mod door;
+mod fault;
+mod link;
+#[cfg(test)]
+mod link_tests;
+mod mem_door;
+mod mem_link;
+mod mem_sink;
+mod mem_source;
+mod mem_store;
+mod mem_street;
+mod notes;
 mod reading;
+mod returned;
+#[cfg(test)]
+mod sending;
+mod sink;
+mod source;
+mod steps;
+mod store;
+#[cfg(test)]
+mod store_tests;
+mod street;
+#[cfg(test)]
+mod street_tests;
 #[cfg(test)]
 mod tests;
 
-pub use ends::{Failed, Sink, Source};
-pub use memory::{MemSink, MemSource};
+pub use bytes::ByteString;
+pub use door::{Arrived, Door};
+pub use fault::Failed;
+pub use link::{Got, Link};
+pub use mem_door::MemDoor;
+pub use mem_link::MemLink;
+pub use mem_sink::MemSink;
+pub use mem_source::MemSource;
+pub use mem_store::MemStore;
+pub use mem_street::MemStreet;
 pub use reading::{ReadAllFault, read_all};
+pub use sink::Sink;
+pub use source::Source;
+pub use steps::{Asked, LinkStep, Step};
+pub use store::Store;
+pub use street::{Street, StreetFault};

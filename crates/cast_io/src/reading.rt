@@ -1,10 +1,10 @@
 //! Reading a source to its end.
-ghost use Rattle.std.specs.Prelude.{◌<◌, ◌≤◌, ◌+◌, length, vec_len, IfOk, IsErrOf};
+ghost use Rattle.std.specs.Prelude.{◌≡◌, ◌<◌, ◌≤◌, ◌+◌, length, vec_len, IfOk, IsErrOf};
 ghost use Rattle.std.specs.Io.KnownBytes.{Consumes, IsAtEnd};
 ghost use Rattle.cast_io.specs.Causes.{Rose};
 ghost use Rattle.cast_io.specs.Pieces.{Loses};
 
-use crate::ends::Source;
+use crate::source::Source;
 use std::alloc::Global;
 use thiserror::Error;
 
@@ -45,6 +45,7 @@ pub fn read_all<S: Source>(
     ensures cause { IsErrOf result ReadAllFault.Failed
         → Rose (S.faults source.old) (S.faults source.new) }
     ensures later { S.faults source.old ≤ S.faults source.new }
+    ensures kept { S.store source.new ≡ S.store source.old }
 
     // Each read but the last gave a byte, and after a read that ended or failed comes none.
     ensures reads { Loses (λ came. S.reads source.new ≤ S.reads source.old + length came + 1)

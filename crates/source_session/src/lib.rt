@@ -8,3 +8,6 @@ mod session;
 
 pub use fault::{ClaimFault, SourceHalt};
 pub use session::SourceSession;
+
+#[cfg(test)]
+mod tests;

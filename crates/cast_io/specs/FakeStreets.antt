@@ -1,0 +1,72 @@
+-- What contracts see of a street in memory.
+use Rattle.std.specs.Prelude.{ℕ, ◌≡◌, ◌+◌, ◌-◌, ◌||◌, nat_lt, if◌then◌else◌, List, [], length, map, Bool, Option, Some, option_map}
+use Rattle.cast_io.specs.declared.steps.Asked.{Asked}
+use Rattle.cast_io.specs.Causes.{next_count}
+use Rattle.cast_io.specs.Fakes.{fails_next}
+use Rattle.cast_io.specs.Told.{StreetTold}
+use Rattle.cast_io.specs.Returns.{with_return}
+use Rattle.cast_io.specs.FakeLinks.{LinkState, link_told}
+use Rattle.cast_io.specs.FakeDoors.{DoorState, door_told}
+
+-- a street in memory: the doors and links to come, what it was asked while that is told, the doors
+-- and links that came back while they are told, how many of each it gave that did not come back,
+-- the numbers of the calls that are to fail, how many calls were made, its count of faults, and its
+-- count of links that came back with faults
+pub record StreetState : Type 0 where
+  pub doors : List DoorState
+  pub links : List LinkState
+  pub asked : Option (List Asked)
+  pub doors_back : Option (List DoorState)
+  pub doors_owed : ℕ
+  pub links_back : Option (List LinkState)
+  pub links_owed : ℕ
+  pub fails : List ℕ
+  pub calls : ℕ
+  pub faults : ℕ
+  pub link_faults : ℕ
+
+-- a street in memory tells all that a street can tell
+abbrev pub street_told : StreetState → StreetTold
+street_told street = record {
+  asked = street.asked;
+  doors = option_map (map door_told) street.doors_back;
+  links = option_map (map link_told) street.links_back;
+  faults = street.faults;
+  link_faults = street.link_faults;
+}
+
+-- a street that is to give these doors and links and has not been called
+pub record IsStreetOf (street : StreetState) (doors : List DoorState) (links : List LinkState)
+    (fails : List ℕ) : Type 0 where
+  pub doors_are : street.doors ≡ doors
+  pub links_are : street.links ≡ links
+  pub asked : street.asked ≡ Some []
+  pub doors_back : street.doors_back ≡ Some []
+  pub doors_owed : street.doors_owed ≡ 0
+  pub links_back : street.links_back ≡ Some []
+  pub links_owed : street.links_owed ≡ 0
+  pub fails_are : street.fails ≡ fails
+  pub calls : street.calls ≡ 0
+  pub faults : street.faults ≡ 0
+  pub link_faults : street.link_faults ≡ 0
+
+-- the next open of so many doors fails: it is told to, or too few doors are left
+abbrev pub open_fails : StreetState → ℕ → Bool
+open_fails street count =
+    fails_next street.calls street.fails || nat_lt (length street.doors) count
+
+-- the next dial fails: it is told to, or no link is left
+abbrev pub dial_fails : StreetState → Bool
+dial_fails street = fails_next street.calls street.fails || nat_lt (length street.links) 1
+
+-- an answer counts a fault where it was refused
+abbrev pub faults_by : Bool → ℕ → ℕ
+faults_by ok faults = if ok then faults else next_count faults
+
+-- one more call was counted, and nothing changed that neither an open nor a dial changes
+pub record IsAskOf (old new : StreetState) : Type 0 where
+  pub doors_back : new.doors_back ≡ old.doors_back
+  pub links_back : new.links_back ≡ old.links_back
+  pub fails : new.fails ≡ old.fails
+  pub calls : new.calls ≡ next_count old.calls
+  pub link_faults : new.link_faults ≡ old.link_faults

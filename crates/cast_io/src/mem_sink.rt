@@ -1,0 +1,160 @@
+//! A sink in memory that fails at the calls that it is told to.
+ghost use Rattle.std.specs.Prelude.{◌≡◌, ◌≤◌, ◌+◌, ◌++◌, ◌↔◌, ◌⊎◌, [], length, Some, false, IsTrue, IsOk, IsErr, OnOk, OnErr};
+ghost use Rattle.cast_io.specs.Causes.{HasCause, Rose, next_count};
+ghost use Rattle.cast_io.specs.Pieces.{AppendsPrefix};
+ghost use Rattle.cast_io.specs.Fakes.{sink_fails, sink_takes};
+
+use crate::calls::torn_front;
+use crate::fault::Failed;
+use crate::sink::Sink;
+use std::alloc::Global;
+use std::marker::Model;
+
+/// A sink that keeps the bytes in memory.
+#[derive(Drop)]
+pub struct MemSink {
+    bytes: Vec<u8>,
+    fails: Vec<u64>,
+    torn: Vec<(u64, u64)>,
+    calls: u64,
+    faults: u64,
+}
+
+impl Model for MemSink {
+    ghost use Rattle.std.specs.Prelude.{vec_capacity};
+    ghost use Rattle.cast_io.specs.Fakes.{SinkState};
+
+    ghost Value = { SinkState };
+
+    ghost view = { λ s. record {
+      bytes = s.bytes.items;
+      fails = s.fails.items;
+      torn = s.torn.items;
+      calls = s.calls;
+      faults = s.faults;
+      room = vec_capacity s.bytes;
+    } };
+}
+
+impl MemSink {
+    ghost use Rattle.cast_io.specs.Fakes.{IsEmptySink};
+
+    /// An empty sink. `fails` holds the numbers, from 1, of the writes that are to fail; such a
+    /// write takes no byte.
+    pub fn new(alloc: Global, fails: Vec<u64>) -> Self
+        ensures made { IsEmptySink result fails.items [] }
+    {
+        MemSink {
+            bytes: Vec::new(alloc),
+            fails,
+            torn: Vec::new(alloc),
+            calls: 0,
+            faults: 0,
+        }
+    }
+
+    /// An empty sink. `fails` holds pairs: the number of a write, from 1, that is to fail, and how
+    /// many bytes of its piece it takes, at most all. Of two pairs for one write the first counts.
+    pub fn torn(alloc: Global, fails: Vec<(u64, u64)>) -> Self
+        ensures made { IsEmptySink result [] fails.items }
+    {
+        MemSink {
+            bytes: Vec::new(alloc),
+            fails: Vec::new(alloc),
+            torn: fails,
+            calls: 0,
+            faults: 0,
+        }
+    }
+
+    /// All bytes written so far.
+    pub fn bytes(&self) -> &[u8]
+        ensures { result.now ≡ self.now.bytes }
+    {
+        &self.bytes
+    }
+
+    // Counts a write.
+    fn count_call(&mut self)
+        ensures { self.new ≡ record self.old { calls = next_count self.old.calls } }
+    {
+        self.calls = self.calls.saturating_add(1);
+    }
+
+    // Takes these bytes. Where there was no memory for them, that is a fault, and none is taken.
+    fn take_bytes(&mut self, piece: &[u8]) -> Result<(), Failed>
+        ensures same { self.new ≡ record self.old {
+          bytes = self.new.bytes;
+          faults = self.new.faults;
+          room = self.new.room;
+        } }
+        ensures whole { OnOk result ((self.new.bytes ≡ self.old.bytes ++ piece.now)
+            × (self.new.faults ≡ self.old.faults)) }
+        ensures none { OnErr result ((self.new.bytes ≡ self.old.bytes)
+            × (self.new.faults ≡ next_count self.old.faults)) }
+        ensures exact { length self.old.bytes + length piece.now ≤ self.old.room → IsOk result }
+        ensures later { self.old.faults ≤ self.new.faults }
+    {
+        let Ok(()) = self.bytes.extend_from_slice(piece) else {
+            self.faults = self.faults.saturating_add(1);
+            return Err(Failed);
+        };
+        Ok(())
+    }
+
+    // A write that is torn: it takes the front alone.
+    fn tear(&mut self, front: &[u8]) -> Failed
+        ensures bytes { (self.new.bytes ≡ self.old.bytes)
+            ⊎ (self.new.bytes ≡ self.old.bytes ++ front.now) }
+        ensures exact { length self.old.bytes + length front.now ≤ self.old.room
+            → self.new.bytes ≡ self.old.bytes ++ front.now }
+        ensures none { front.now ≡ [] → self.new.bytes ≡ self.old.bytes }
+        ensures later { self.old.faults ≤ self.new.faults }
+        ensures rose { Rose self.old.faults self.new.faults }
+        ensures same { self.new ≡ record self.old {
+          bytes = self.new.bytes;
+          faults = self.new.faults;
+          room = self.new.room;
+        } }
+    {
+        let _ = self.take_bytes(front);
+        self.faults = self.faults.saturating_add(1);
+        Failed
+    }
+}
+
+impl Sink for MemSink {
+    ghost taken = { λ s. Some s.bytes };
+
+    ghost faults = { λ s. s.faults };
+
+    fn write(&mut self, piece: &[u8]) -> Result<(), Failed>
+        ensures whole { OnOk result (self.new.bytes ≡ self.old.bytes ++ piece.now) }
+        ensures torn { OnErr result
+            (AppendsPrefix (Some self.old.bytes) (Some self.new.bytes) piece.now) }
+
+        // A failed write takes what is listed for it, or nothing: where none is listed, where it is
+        // not to fail, and where there was no memory.
+        ensures listed { OnErr result ((self.new.bytes ≡ self.old.bytes)
+            ⊎ (self.new.bytes ≡ self.old.bytes ++ sink_takes self.old piece.now)) }
+        ensures unlisted { self.old.torn ≡ [] → OnErr result (self.new.bytes ≡ self.old.bytes) }
+        ensures untold { sink_fails self.old ≡ false
+            → OnErr result (self.new.bytes ≡ self.old.bytes) }
+        ensures takes { length self.old.bytes + length piece.now ≤ self.old.room
+            → self.new.bytes ≡ self.old.bytes ++ sink_takes self.old piece.now }
+        ensures cause { HasCause self.old.faults self.new.faults result }
+        ensures told { IsTrue (sink_fails self.old) → IsErr result }
+        ensures exact { length self.old.bytes + length piece.now ≤ self.old.room
+            → (IsErr result ↔ IsTrue (sink_fails self.old)) }
+        ensures fails { (self.new.fails ≡ self.old.fails) × (self.new.torn ≡ self.old.torn) }
+        ensures calls { self.new.calls ≡ next_count self.old.calls }
+        ensures unharmed { OnOk result (self.new.faults ≡ self.old.faults) }
+    {
+        if let Some(front) = torn_front(&self.fails, &self.torn, self.calls, self.calls, piece) {
+            self.count_call();
+            return Err(self.tear(front));
+        }
+        self.count_call();
+        self.take_bytes(piece)
+    }
+}

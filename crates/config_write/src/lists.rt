@@ -1,0 +1,234 @@
+//! The lists of a document: of numbers, of names, of filters and of entries.
+
+ghost use Rattle.std.specs.Prelude.{◌≡◌, ◌<◌, ◌+◌, All, IfOk, IsTrue, OnOk, length};
+ghost use Rattle.std.specs.Str.{is_utf8};
+ghost use Rattle.sourcetable.specs.Record.{letters, line_of};
+ghost use Rattle.cast_config.specs.Kept.{KeepsAccount, KeepsGroup, KeepsMount, KeepsNear, KeepsRelay, filtered};
+ghost use Rattle.cast_config.specs.Names.{heard_names, mount_names};
+ghost use Rattle.config_write.specs.Entries.{accounts_data, filter_tree, groups_data, mounts_data, name_data, nears_data, relays_data, types_data};
+ghost use Rattle.config_write.specs.Members.{list_data, number};
+ghost use Rattle.toml.specs.Data.{array, string, table};
+ghost use Rattle.toml.specs.View.{items_view, table_view, view};
+
+use crate::entries::{
+    account_table, group_table, heard_name, mount_name, mount_table, near_table, relay_table,
+};
+use crate::members::{name_value, put, put_name, text_value};
+use cast_config::{Account, Group, GroupFilter, Mount, Near, Relay};
+use sourcetable::{Kind, Record};
+use std::alloc::{AllocError, Global};
+use toml::{Table, Value};
+use type_filter::Filter;
+
+fn number_values(alloc: Global, numbers: &[u16]) -> Result<Vec<Value>, AllocError>
+    ensures { IfOk result (λ v. array (items_view v.items) ≡ list_data number numbers.now) }
+{
+    let mut values = Vec::new(alloc);
+    for number in numbers {
+        values.push(Value::from(u32::from(*number)))?;
+    }
+    Ok(values)
+}
+
+/// The text `all`, or the list of a filter's message numbers.
+pub(crate) fn types_value(alloc: Global, filter: &Filter) -> Result<Value, AllocError>
+    ensures { IfOk result (λ v. view v ≡ types_data filter.now) }
+{
+    match filter.numbers() {
+        None => Value::string(alloc, "all"),
+        Some(numbers) => {
+            let values = number_values(alloc, numbers)?;
+            Ok(Value::from(values))
+        }
+    }
+}
+
+/// The names of the mountpoints of these numbers.
+pub(crate) fn base_values(
+    alloc: Global,
+    mounts: &[Mount],
+    numbers: &[u32],
+) -> Result<Vec<Value>, AllocError>
+    requires { All (λ n. n < length mounts.now) numbers.now }
+    ensures { IfOk result (λ v. array (items_view v.items)
+        ≡ list_data (name_data (mount_names mounts.now)) numbers.now) }
+{
+    let mut values = Vec::new(alloc);
+    for n in numbers {
+        let value = name_value(alloc, mount_name(mounts, *n))?;
+        values.push(value)?;
+    }
+    Ok(values)
+}
+
+/// The names of the mountpoints and near mountpoints of these numbers.
+pub(crate) fn heard_values(
+    alloc: Global,
+    mounts: &[Mount],
+    nears: &[Near],
+    numbers: &[u32],
+) -> Result<Vec<Value>, AllocError>
+    requires { All (λ n. n < length mounts.now + length nears.now) numbers.now }
+    ensures { IfOk result (λ v. array (items_view v.items)
+        ≡ list_data (name_data (heard_names mounts.now nears.now)) numbers.now) }
+{
+    let mut values = Vec::new(alloc);
+    for n in numbers {
+        let value = name_value(alloc, heard_name(mounts, nears, *n))?;
+        values.push(value)?;
+    }
+    Ok(values)
+}
+
+/// The table of a filter for one mountpoint.
+fn filter_table(alloc: Global, mounts: &[Mount], filter: &GroupFilter) -> Result<Table, AllocError>
+    requires { filter.now.mount < length mounts.now }
+    ensures { IfOk result (λ t. table_view t ≡ filter_tree (mount_names mounts.now) filter.now) }
+{
+    let types = types_value(alloc, &filter.types)?;
+    let mut table = Table::new(alloc);
+    put_name(alloc, &mut table, "mount", mount_name(mounts, filter.mount))?;
+    put(alloc, &mut table, "types", types)?;
+    Ok(table)
+}
+
+pub(crate) fn filter_values(
+    alloc: Global,
+    mounts: &[Mount],
+    filters: &[GroupFilter],
+) -> Result<Vec<Value>, AllocError>
+    requires { All (λ n. n < length mounts.now) (filtered filters.now) }
+    ensures { IfOk result (λ v. array (items_view v.items)
+        ≡ list_data (λ f. table (filter_tree (mount_names mounts.now) f)) filters.now) }
+{
+    let mut values = Vec::new(alloc);
+    for filter in filters {
+        let table = filter_table(alloc, mounts, filter)?;
+        values.push(Value::from(table))?;
+    }
+    Ok(values)
+}
+
+#[tactic(auto, unfolding(crate::specs::Entries::mounts_data))]
+pub(crate) fn mount_values(alloc: Global, mounts: &[Mount]) -> Result<Vec<Value>, AllocError>
+    requires { All KeepsMount mounts.now }
+    ensures { IfOk result (λ v. array (items_view v.items)
+        ≡ mounts_data mounts.now) }
+{
+    let mut values = Vec::new(alloc);
+    for mount in mounts {
+        let table = mount_table(alloc, mount)?;
+        values.push(Value::from(table))?;
+    }
+    Ok(values)
+}
+
+#[tactic(auto, unfolding(crate::specs::Entries::nears_data))]
+pub(crate) fn near_values(
+    alloc: Global,
+    mounts: &[Mount],
+    nears: &[Near],
+) -> Result<Vec<Value>, AllocError>
+    requires { All (KeepsNear (length mounts.now)) nears.now }
+    ensures { IfOk result (λ v. array (items_view v.items)
+        ≡ nears_data mounts.now nears.now) }
+{
+    let mut values = Vec::new(alloc);
+    for near in nears {
+        let table = near_table(alloc, mounts, near)?;
+        values.push(Value::from(table))?;
+    }
+    Ok(values)
+}
+
+#[tactic(auto, unfolding(crate::specs::Entries::groups_data))]
+pub(crate) fn group_values(
+    alloc: Global,
+    mounts: &[Mount],
+    nears: &[Near],
+    groups: &[Group],
+) -> Result<Vec<Value>, AllocError>
+    requires { All (KeepsGroup (length mounts.now) (length nears.now)) groups.now }
+    ensures { IfOk result (λ v. array (items_view v.items)
+        ≡ groups_data mounts.now nears.now groups.now) }
+{
+    let mut values = Vec::new(alloc);
+    for group in groups {
+        let table = group_table(alloc, mounts, nears, group)?;
+        values.push(Value::from(table))?;
+    }
+    Ok(values)
+}
+
+#[tactic(auto, unfolding(crate::specs::Entries::accounts_data))]
+pub(crate) fn account_values(
+    alloc: Global,
+    groups: &[Group],
+    accounts: &[Account],
+) -> Result<Vec<Value>, AllocError>
+    requires { All (KeepsAccount 1000000 (length groups.now)) accounts.now }
+    ensures { IfOk result (λ v. array (items_view v.items)
+        ≡ accounts_data groups.now accounts.now) }
+{
+    let mut values = Vec::new(alloc);
+    for account in accounts {
+        let table = account_table(alloc, groups, account)?;
+        values.push(Value::from(table))?;
+    }
+    Ok(values)
+}
+
+#[tactic(auto, unfolding(crate::specs::Entries::relays_data))]
+pub(crate) fn relay_values(
+    alloc: Global,
+    mounts: &[Mount],
+    relays: &[Relay],
+) -> Result<Vec<Value>, AllocError>
+    requires { All (KeepsRelay (length mounts.now)) relays.now }
+    ensures { IfOk result (λ v. array (items_view v.items)
+        ≡ relays_data mounts.now relays.now) }
+{
+    let mut values = Vec::new(alloc);
+    for relay in relays {
+        let table = relay_table(alloc, mounts, relay)?;
+        values.push(Value::from(table))?;
+    }
+    Ok(values)
+}
+
+/// The letters with which the lines of a kind begin.
+fn letters_of(kind: Kind) -> &'static [u8]
+    ensures { result.now ≡ letters kind }
+{
+    match kind {
+        Kind::Str => b"STR",
+        Kind::Cas => b"CAS",
+        Kind::Net => b"NET",
+    }
+}
+
+/// The line of a record.
+fn line_of(alloc: Global, entry: &Record) -> Result<Vec<u8>, AllocError>
+    ensures { IfOk result (λ line. line.items ≡ line_of entry.now) }
+{
+    let mut line = Vec::from_slice(alloc, letters_of(entry.kind))?;
+    for field in entry.fields.as_slice() {
+        line.push(b';')?;
+        line.extend_from_slice(field.bytes())?;
+    }
+    Ok(line)
+}
+
+pub(crate) fn record_values(alloc: Global, records: &[Record]) -> Result<Vec<Value>, AllocError>
+    requires { All (λ r. IsTrue (is_utf8 (line_of r))) records.now }
+    ensures { IfOk result (λ v. array (items_view v.items)
+        ≡ list_data (λ r. string (line_of r)) records.now) }
+{
+    let mut values = Vec::new(alloc);
+    for entry in records {
+        let line = line_of(alloc, entry)?;
+        let value = text_value(alloc, &line)?;
+        values.push(value)?;
+    }
+    Ok(values)
+}

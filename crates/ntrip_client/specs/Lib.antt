@@ -1,0 +1,4 @@
+pub mod Request
+pub mod FirstLine
+pub mod Answer
+pub mod Steps

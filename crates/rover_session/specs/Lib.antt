@@ -1,0 +1,4 @@
+pub mod Owed
+pub mod Made
+pub mod Body
+pub mod Standing

@@ -1,0 +1,41 @@
+use Rattle.std.proofs.Common.{ℕ, List, [], ◌∷◌, ◌++◌, ap, refl}
+use Rattle.mount_ring.specs.declared.RingCall.TheVariants.{Claim}
+use Rattle.mount_ring.specs.declared.RingAnswer.TheVariants.{Given}
+use Rattle.mount_ring.specs.declared.RingShape.{RingShape}
+use Rattle.session_calls.specs.Steps.{Step, at_ring}
+use Rattle.source_session.proofs.CallLemmas.{answer_at}
+use Rattle.upstream_relay.specs.declared.body.Stage.TheVariants.{Body}
+use Rattle.upstream_relay.specs.Standing.{StandsAt}
+use Rattle.upstream_relay.proofs.StageLemmas.{claim_stands, adds_unclaimed_as, adds_behind, adds_again}
+use Rattle.upstream_relay.proofs.body.begin.Goals as goal
+
+pub feed_body-fed-requires-clause-few : goal.feed_body-fed-requires-clause-few
+feed_body-fed-requires-clause-few g c =
+    let source = c.in-Ok.source in
+    let head = c.requires.accepted in (
+      0,
+      head.0,
+      at_ring 0 Claim (Given source.claim) ∷ [],
+      claim_stands 0 source.me c.args.chunked source head.0 head.1 c.in-Ok.ensures.goes_on refl c.in-Ok.ensures.chunked
+          c.in-Ok.ensures.begins,
+      head.2,
+    )
+
+pub returns-in-Err-clause-adds : goal.returns-in-Err-clause-adds
+returns-in-Err-clause-adds g c = λ mount head says.
+    adds_unclaimed_as _ _ c.args.me mount c.in-Err.fault c.from-halt.result c.args.chunked head c.args.body.now _ _
+    c.from-halt.ensures says c.in-Err.ensures.unclaimed
+
+pub returns-in-Ok-clause-adds : goal.returns-in-Ok-clause-adds
+returns-in-Ok-clause-adds g c = λ mount head says.
+    let source = c.in-Ok.source in
+    let new = c.feed_body-fed.new.source in
+    let claimed : Step = at_ring mount Claim (Given source.claim) in
+    adds_behind _ _ c.args.me mount _ _ _ Claim (Given source.claim)
+    (StandsAt mount c.args.me (Body new) (head ++ c.args.body.now)) c.in-Ok.ensures.given
+    (adds_again _ _ c.args.me mount _ _ source.me _ _
+    (λ (m : ℕ) (steps : List Step). StandsAt mount m (Body new) (head ++ c.args.body.now) (claimed ∷ steps))
+    c.claim.ensures.same.3 (ap (λ (shape : RingShape). answer_at shape) c.claim.ensures.same.0) c.in-Ok.ensures.me
+    (c.feed_body-fed.ensures.adds mount head (claimed ∷ [])
+    (claim_stands mount source.me c.args.chunked source head says c.in-Ok.ensures.goes_on refl c.in-Ok.ensures.chunked
+    c.in-Ok.ensures.begins)))

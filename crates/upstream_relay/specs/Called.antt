@@ -1,0 +1,35 @@
+-- What a call of a relay adds to the history of its mountpoint, and what it answers.
+use Rattle.std.specs.Prelude.{◌≡◌, ℕ, ⊤, Bool, List, Option, None, Some, Result, Ok, Err, IfNone}
+use Rattle.turn_log.specs.History.{History}
+use Rattle.turn_log.specs.Heard.{Heard}
+use Rattle.mount_ring.specs.declared.RingCall.{RingCall}
+use Rattle.mount_ring.specs.declared.RingAnswer.{RingAnswer}
+use Rattle.session_calls.specs.Steps.{Step, on_ring}
+use Rattle.source_session.specs.Calls.{IsHolding, HeldSince}
+use Rattle.upstream_relay.specs.declared.fault.RelayHalt.{RelayHalt}
+use Rattle.upstream_relay.specs.declared.body.Stage.{Stage}
+use Rattle.upstream_relay.specs.declared.body.Stage.TheVariants.{Head, Body, Halted}
+
+-- some calls were made, in order and no other of the caller's, each answered at its own point, and
+-- this holds of them
+abbrev pub Adds : Bool → (History RingCall → ℕ → RingCall → RingAnswer) → History RingCall
+    → History RingCall → ℕ → ℕ → (List Step → Type 0) → Type 0
+Adds alone answer old now me mount Holds =
+    (steps : List Step) × Heard alone answer old now me (on_ring mount steps) × Holds steps
+
+-- bytes were taken where nothing halts the relay, and what halts it is answered
+abbrev pub IsFed : {X : Type 0} → Option RelayHalt → Result X RelayHalt → Type 0
+IsFed halt (Ok x) = halt ≡ None
+IsFed halt (Err why) = halt ≡ Some why
+
+-- the caller holds the mountpoint under the claim that was given, if one was
+abbrev pub IsHoldingBy : ℕ → Option ℕ → History RingCall → Type 0
+IsHoldingBy me None history = ⊤
+IsHoldingBy me (Some claim) history = IsHolding me claim history
+
+-- where a body goes on, its claim was not given back
+abbrev pub IsHeldAt : ℕ → Stage → History RingCall → Type 0
+IsHeldAt me (Head head) history = ⊤
+IsHeldAt me (Body session) history =
+    IfNone session.halt (HeldSince me session.claim history)
+IsHeldAt me (Halted halt) history = ⊤

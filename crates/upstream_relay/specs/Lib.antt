@@ -1,0 +1,6 @@
+pub mod Request
+pub mod Owed
+pub mod Halts
+pub mod Standing
+pub mod Called
+pub mod Junk

@@ -1,0 +1,1 @@
+//! Laws of relays, each the contract of a function that does nothing.

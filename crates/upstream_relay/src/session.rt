@@ -1,0 +1,185 @@
+ghost use Rattle.std.specs.Prelude.{◌≡◌, ℕ, ◌+◌, ◌^◌, ◌<◌, ◌≤◌, ◌⊎◌, IsTrue, Bool, List, [], ◌∷◌, ◌++◌, length, drop, Some, None, OnOk, OnErr, IfOk, IfErr, IfSome, IfNone};
+ghost use Rattle.std.specs.Vec.{vec_capacity};
+ghost use Rattle.turn_log.specs.Turn.{SamePlace};
+ghost use Rattle.turn_log.specs.Heard.{Heard};
+ghost use Rattle.turn_log.specs.Faults.{IsFault};
+ghost use Rattle.mount_ring.specs.History.{state_of};
+ghost use Rattle.session_calls.specs.Steps.{Step};
+ghost use Rattle.source_session.specs.Calls.{IsHolding, HeldSince};
+ghost use Rattle.upstream_relay.specs.Request.{version_of, relay_request};
+ghost use Rattle.upstream_relay.specs.Standing.{StandsFor, halt_at, claim_at};
+ghost use Rattle.upstream_relay.specs.Junk.{IsJunk, IsAtMostJunk};
+ghost use Rattle.upstream_relay.specs.Halts.{IsHaltOf};
+ghost use Rattle.upstream_relay.specs.Called.{Adds, IsFed, IsHoldingBy, IsHeldAt};
+
+use crate::body::{Stage, decide, feed_body};
+use crate::fault::RelayHalt;
+use cast_config::Relay;
+use mount_ring::{Ring, RingAnswer, RingCall};
+use ntrip_client::{AnswerHead, push_request};
+use ntrip_head::Version;
+use std::alloc::{AllocError, Global};
+use turn_log::{Played, TurnFault, Turns};
+
+/// The version of NTRIP that this protocol is.
+fn version_of(protocol: u32) -> Version
+    ensures { result ≡ version_of protocol }
+{
+    if protocol == 2 {
+        Version::Two
+    } else {
+        Version::One
+    }
+}
+
+/// A relay: it has a request for another caster, is fed what that caster answers, and publishes the
+/// frames of the answer's body (RTCM 10403.3) at a mountpoint here, which it claims once the answer
+/// is accepted.
+///
+/// Of the answer no more is kept than its head and a frame that is not complete. `StandsFor` ties a
+/// relay to all bytes that it was fed and to all calls that it made, and says that these are the
+/// calls that the bytes owe.
+#[derive(Debug, Drop)]
+pub struct RelaySession {
+    me: u32,
+    request: Vec<u8>,
+    stage: Stage,
+}
+
+impl RelaySession {
+    /// A relay as the configuration has it, for the caller `me`, before the first byte of the answer.
+    pub fn new(alloc: Global, me: u32, r: &Relay) -> Result<RelaySession, AllocError>
+        requires { (1 ≤ r.now.protocol) × (r.now.protocol ≤ 2) }
+        ensures me { IfOk result (λ session. session.me ≡ me) }
+        ensures request { IfOk result (λ session. session.request.items ≡ relay_request r.now) }
+        ensures stands { IfOk result (λ session. (mount : ℕ) → StandsFor mount session [] []) }
+        ensures goes_on { IfOk result (λ session. halt_at session.stage ≡ None) }
+        ensures unclaimed { IfOk result (λ session. claim_at session.stage ≡ None) }
+    {
+        let mut request = Vec::new(alloc);
+        push_request(
+            version_of(r.protocol),
+            &r.upstream,
+            &r.address,
+            r.user.as_ref(),
+            &r.password,
+            &mut request,
+        )?;
+        let head = AnswerHead::new(alloc)?;
+        Ok(RelaySession {
+            me,
+            request,
+            stage: Stage::Head(head),
+        })
+    }
+
+    /// Appends the request, in bytes as they are sent.
+    ///
+    /// # Errors
+    /// For want of memory, and never where room for it was reserved. Then `out` is as it was.
+    pub fn request(&self, out: &mut Vec<u8>) -> Result<(), AllocError>
+        ensures ok { OnOk result (out.new.items ≡ out.old.items ++ self.now.request.items) }
+        ensures err { OnErr result (out.new.items ≡ out.old.items) }
+        ensures capacity { vec_capacity out.old ≤ vec_capacity out.new }
+    {
+        out.extend_from_slice(&self.request)
+    }
+
+    /// Takes more bytes of the other caster's answer, and does what they owe: the mountpoint is
+    /// claimed, one turn, where they end the head of an answer that is accepted, and then each frame
+    /// that they complete is published, one turn a frame.
+    ///
+    /// # Errors
+    /// Where the answer gives no body, the claim is not given, the chunked body ends within these
+    /// bytes or is bad there, or a turn was refused. What stands before that has been done, and each
+    /// later call answers the same and calls nothing. All calls together take fewer than 2^63 bytes.
+    /// The claim was not given back, and the relay's caller made no other call since its last.
+    pub fn feed<T: Turns<Ring>>(&mut self, bytes: &[u8], place: &mut T) -> Result<(), RelayHalt>
+        requires speaks { IsTrue (T.speaks place.old self.old.me) }
+        requires held { IsHeldAt self.old.me self.old.stage (T.seen place.old) }
+        requires few { (mount : ℕ) × (before : List ℕ) × (steps : List Step)
+            × StandsFor mount self.old before steps
+            × (length before + length bytes.now < 2 ^ 63) }
+        ensures same { SamePlace T.shape T.speaks T.may_lack T.alone T.home place.old place.new }
+        ensures worn { T.worn place.old ≤ T.worn place.new }
+        ensures relay { (self.new.me ≡ self.old.me)
+            × (self.new.request.items ≡ self.old.request.items) }
+        ensures adds { (mount : ℕ) (before : List ℕ) (steps : List Step)
+            → StandsFor mount self.old before steps
+            → Adds (T.alone place.old) (⟦<Ring as Played>⟧.answer (T.shape place.old))
+            (T.seen place.old) (T.seen place.new) self.old.me mount (λ more.
+            StandsFor mount self.new (before ++ bytes.now) (steps ++ more)) }
+        ensures fed { IsFed (halt_at self.new.stage) result }
+        ensures halted { IfSome (halt_at self.old.stage) (λ halt.
+            (self.new ≡ self.old) × (place.new ≡ place.old)) }
+        ensures holds { IfNone (halt_at self.old.stage)
+            (IsHoldingBy self.old.me (claim_at self.new.stage) (T.seen place.new)) }
+        ensures cause { IfNone (halt_at self.old.stage)
+            (IfErr result (IsHaltOf (T.may_lack place.old) (T.worn place.new))) }
+    {
+        match &mut self.stage {
+            Stage::Halted(halt) => Err(*halt),
+            Stage::Body(source) => feed_body(source, bytes, place),
+            Stage::Head(head) => match decide(head, self.me, bytes, place) {
+                None => Ok(()),
+                Some(begun) => {
+                    self.stage = begun.stage;
+                    begun.fed
+                }
+            },
+        }
+    }
+
+    /// Gives the claim back, which was given: one turn, which calls Release. After a refusal it is
+    /// still held.
+    pub fn release<T: Turns<Ring>>(&mut self, place: &mut T) -> Result<(), TurnFault>
+        requires speaks { IsTrue (T.speaks place.old self.old.me) }
+        requires claimed { (claim : ℕ) × (claim_at self.old.stage ≡ Some claim)
+            × HeldSince self.old.me claim (T.seen place.old) }
+        requires stands { (mount : ℕ) × (bytes : List ℕ) × (steps : List Step)
+            × StandsFor mount self.old bytes steps }
+        ensures same { SamePlace T.shape T.speaks T.may_lack T.alone T.home place.old place.new }
+        ensures worn { T.worn place.old ≤ T.worn place.new }
+        ensures session { self.new ≡ self.old }
+        ensures released { OnOk result (IfSome (claim_at self.old.stage) (λ claim.
+            Heard (T.alone place.old) (⟦<Ring as Played>⟧.answer (T.shape place.old))
+            (T.seen place.old) (T.seen place.new) self.old.me
+            ((RingCall.Release claim, RingAnswer.Released) ∷ []))) }
+        ensures free { OnOk result ((state_of (T.seen place.new)).holder ≡ None) }
+        ensures refused { OnErr result (T.seen place.new ≡ T.seen place.old) }
+        ensures holds { OnErr result
+            (IsHoldingBy self.old.me (claim_at self.old.stage) (T.seen place.new)) }
+        ensures fault { IfErr result (IsFault (T.may_lack place.old) (T.worn place.new)) }
+    {
+        match &mut self.stage {
+            Stage::Body(source) => source.release(place),
+            Stage::Head(_) => unreachable!(),
+            Stage::Halted(_) => unreachable!(),
+        }
+    }
+
+    /// The number of the claim, from 1, once it was given.
+    pub fn claim_number(&self) -> Option<u64>
+        ensures { result ≡ claim_at self.now.stage }
+    {
+        match &self.stage {
+            Stage::Body(source) => Some(source.claim_number()),
+            Stage::Head(_) => None,
+            Stage::Halted(_) => None,
+        }
+    }
+
+    /// How many bytes of the body so far were no part of a frame; none where no claim was given.
+    pub fn junk(&self) -> u64
+        ensures unclaimed { IfNone (claim_at self.now.stage) (result ≡ 0) }
+        ensures junk { IfSome (claim_at self.now.stage) (λ claim. IsJunk self.now result) }
+        ensures at_most { IfSome (claim_at self.now.stage) (λ claim.
+            IsAtMostJunk self.now result) }
+    {
+        match &self.stage {
+            Stage::Body(source) => source.junk(),
+            Stage::Head(_) => 0,
+            Stage::Halted(_) => 0,
+        }
+    }
+}

@@ -1,0 +1,1 @@
+//! A relay at a desk, by the public calls.
