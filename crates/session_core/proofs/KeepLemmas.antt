@@ -1,15 +1,16 @@
 -- What is called keeps every segment sound, and publishes frames alone.
 use Rattle.std.proofs.Common.{◌≡◌, ◌∙◌, ◌⊎◌, ◌++◌, ℕ, zero, suc, IsTrue, List, [], ◌∷◌, fold, set, All, Option, None, Some, refl, sym, ap, subst, inl, inr, append_assoc}
 use Rattle.std.proofs.lemmas.List.{append-nil}
-use Rattle.std.proofs.lemmas.List.Sums.{fold-append}
 use Rattle.std.proofs.lemmas.List.Elements.{All-head, All-tail, All-cons, All-nil, All-append}
 use Rattle.rtcm_frame.specs.Transport.{is_frame}
 use Rattle.turn_log.specs.History.{History}
 use Rattle.mount_ring.specs.declared.call.RingCall.{RingCall}
 use Rattle.mount_ring.specs.declared.call.RingCall.TheVariants.{Claim, Release, Publish, Join, Look, Read}
 use Rattle.mount_ring.specs.declared.call.Holder.{Holder}
+use Rattle.mount_ring.specs.Places.{frames_of}
 use Rattle.mount_ring.specs.Reads.{read_report}
-use Rattle.mount_ring.specs.History.{State, start, after, after_claim, state_of, claim_answer, permits_at, joined}
+use Rattle.mount_ring.specs.History.{State, state_of, claim_answer, permits_at, joined}
+use Rattle.mount_ring.proofs.HistoryLemmas.{published-append}
 use Rattle.rover_cursor.specs.declared.segment.Segment.{Segment}
 use Rattle.rover_cursor.specs.Segments.{begun, read_on, after_answer}
 use Rattle.rover_cursor.specs.Sound.{IsSound}
@@ -71,38 +72,11 @@ IsOne frame = IsTrue (is_frame frame)
 abbrev pub AreFrames : List (History RingCall) → Type 0
 AreFrames h = (mount : ℕ) → All IsOne (published_in (history_at h mount))
 
--- after one entry more
-state_more : (h : History RingCall) (me : ℕ) (call : RingCall)
-    → state_of (h ++ (me, call) ∷ []) ≡ after (state_of h) (me, call)
-state_more h me call = fold-append after start h ((me, call) ∷ [])
-
--- what a call publishes
-abbrev published_by : RingCall → List (List ℕ)
-published_by Claim = []
-published_by (Release claim) = []
-published_by (Publish claim frame) = frame ∷ []
-published_by (Join filter) = []
-published_by Look = []
-published_by (Read cursor budget) = []
-
-claim_publishes : (state : State) (me : ℕ) (holder : Option Holder)
-    → (after_claim state me holder).published ≡ state.published
-claim_publishes state me None = refl
-claim_publishes state me (Some holder) = refl
-
-after_publishes : (state : State) (me : ℕ) (call : RingCall)
-    → (after state (me, call)).published ≡ state.published ++ published_by call
-after_publishes state me Claim = claim_publishes state me state.holder ∙ sym (append-nil state.published)
-after_publishes state me (Release claim) = sym (append-nil state.published)
-after_publishes state me (Publish claim frame) = refl
-after_publishes state me (Join filter) = sym (append-nil state.published)
-after_publishes state me Look = sym (append-nil state.published)
-after_publishes state me (Read cursor budget) = sym (append-nil state.published)
-
 published_more : (h : History RingCall) (me : ℕ) (call : RingCall)
-    → published_in (h ++ (me, call) ∷ []) ≡ published_in h ++ published_by call
+    → published_in (h ++ (me, call) ∷ []) ≡ published_in h ++ frames_of call
 published_more h me call =
-    ap (λ (state : State). state.published) (state_more h me call) ∙ after_publishes (state_of h) me call
+    published-append h ((me, call) ∷ [])
+    ∙ ap (λ (more : List (List ℕ)). published_in h ++ more) (append-nil (frames_of call))
 
 -- one history of several changes
 set_at : (h : List (History RingCall)) (mount at : ℕ) (new : History RingCall)
@@ -123,13 +97,13 @@ ring_later : (h : List (History RingCall)) (mount me : ℕ) (call : RingCall) �
 ring_later h mount me call at = elim (set_at h mount at (history_at h mount ++ (me, call) ∷ [])) [
   | inl same ↦ ([], ap published_in same ∙ sym (append-nil (published_in (history_at h at))))
   | inr (changed, here) ↦ (
-    published_by call,
+    frames_of call,
     ap published_in changed ∙ published_more (history_at h mount) me call
-        ∙ ap (λ (n : ℕ). published_in (history_at h n) ++ published_by call) (sym here),
+        ∙ ap (λ (n : ℕ). published_in (history_at h n) ++ frames_of call) (sym here),
   )
 ]
 
-good_frames : (call : RingCall) → IsGoodCall call ⊎ (published_by call ≡ []) → All IsOne (published_by call)
+good_frames : (call : RingCall) → IsGoodCall call ⊎ (frames_of call ≡ []) → All IsOne (frames_of call)
 good_frames Claim good = All-nil IsOne
 good_frames (Release claim) good = All-nil IsOne
 good_frames (Publish claim frame) (inl good) = All-cons IsOne frame [] good (All-nil IsOne)
@@ -139,14 +113,14 @@ good_frames Look good = All-nil IsOne
 good_frames (Read cursor budget) good = All-nil IsOne
 
 ring_frames : (h : List (History RingCall)) (mount me : ℕ) (call : RingCall)
-    → IsGoodCall call ⊎ (published_by call ≡ []) → AreFrames h → AreFrames (with_ring h mount me call)
+    → IsGoodCall call ⊎ (frames_of call ≡ []) → AreFrames h → AreFrames (with_ring h mount me call)
 ring_frames h mount me call good frames at =
     elim (set_at h mount at (history_at h mount ++ (me, call) ∷ [])) [
       | inl same ↦ subst (λ (one : History RingCall). All IsOne (published_in one)) (sym same) (frames at)
       | inr (changed, here) ↦
           subst (λ (one : History RingCall). All IsOne (published_in one)) (sym changed)
           (subst (λ (list : List (List ℕ)). All IsOne list) (sym (published_more (history_at h mount) me call))
-          (All-append IsOne (published_in (history_at h mount)) (published_by call) (frames mount)
+          (All-append IsOne (published_in (history_at h mount)) (frames_of call) (frames mount)
           (good_frames call good)))
     ]
 
