@@ -1,50 +1,16 @@
--- The caster of the worked runs: two mountpoints and a near one, two groups and two accounts.
+-- What the worked runs are made of. The caster is that of the worked configuration: two mountpoints and
+-- a near one, two groups and two accounts.
 use Rattle.std.proofs.Common.{ℕ, List, [], ◌∷◌, ◌++◌, None, Ok}
-use Rattle.std.specs.Prelude.{codes, pos, ◌-◌, ◌==◌, false, true, if◌then◌else◌}
+use Rattle.std.specs.Prelude.{codes, ◌-◌, ◌==◌, false, true, if◌then◌else◌}
 use Rattle.std.specs.List.{flat_map}
 use Rattle.hex.specs.Hex.{encode_lower}
 use Rattle.type_filter.specs.Permitted.{All, Listed}
 use Rattle.cast_config.specs.declared.config.Config.{Config}
-use Rattle.cast_config.specs.declared.config.Mount.{Mount}
+use Rattle.cast_config.proofs.Example.{example}
 use Rattle.ntrip_head.specs.declared.request.Version.TheVariants.{One, Two}
 use Rattle.ntrip_head.specs.declared.request.Auth.TheVariants.{Basic}
 use Rattle.ntrip_head.specs.declared.request.Request.TheVariants.{Rover, Source}
 use Rattle.session_core.specs.Headings.{Heading, incomplete, whole}
-
-abbrev mount : List ℕ → ℕ → Mount
-mount name latitude = record {
-  name = name;
-  password = codes "sesame";
-  ring = 4;
-  at = record { lat = pos latitude; lon = pos 115166666 };
-  identifier = name;
-  details = [];
-  carrier = codes "2";
-  navigation = codes "GPS";
-  network = [];
-  country = [];
-  generator = [];
-  bitrate = 0;
-  misc = [];
-}
-
-abbrev pub example : Config
-example = record {
-  workers = 3;
-  hysteresis = 10;
-  records = [];
-  mount = mount (codes "ALPHA") 481173000 ∷ mount (codes "BRAVO") 482000000 ∷ [];
-  near = record { name = codes "NEAR"; bases = 0 ∷ 1 ∷ [] } ∷ [];
-  group =
-      record { name = codes "field"; mounts = 0 ∷ 1 ∷ 2 ∷ []; types = All; filter = [] }
-      ∷ record { name = codes "survey"; mounts = 1 ∷ []; types = Listed (1005 ∷ []); filter = [] } ∷ [];
-  account =
-      record { user = codes "rover1"; password = codes "secret"; group = 0; cap = 1 }
-      ∷ record { user = codes "rover2"; password = codes "secret2"; group = 1; cap = 8 } ∷ [];
-  relay = [];
-  anonymous = None;
-  permits = (All ∷ Listed (1005 ∷ []) ∷ []) ∷ (All ∷ Listed (1005 ∷ []) ∷ []) ∷ [];
-}
 
 -- ---- frames: without a number, and of the numbers 1005 and 1077
 

@@ -8,3 +8,4 @@ pub mod GoodLemmas
 pub mod KeepLemmas
 pub mod WellLemmas
 pub mod PromiseLemmas
+pub mod TextLemmas

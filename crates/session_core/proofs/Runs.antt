@@ -20,7 +20,8 @@ use Rattle.cast_config.specs.Bare.{bare}
 use Rattle.session_core.specs.Headings.{incomplete, too_long, answered}
 use Rattle.session_core.specs.Reports.{report, no_heads}
 use Rattle.session_core.specs.Text.{report_text, connection_lines, closed_text}
-use Rattle.session_core.proofs.Example.{example, with_relay, with_filter, frame_a, frame_b, frame_z, at_first, at_second, alpha_head, alpha_source, bravo_head, bravo_source, rover_head, alpha_rover, near_head, near_rover, rover_two_head, rover_two, source_two_head, source_two, text, sent, head_of, icy, source_lines, heads_of}
+use Rattle.cast_config.proofs.Example.{example}
+use Rattle.session_core.proofs.Example.{with_relay, with_filter, frame_a, frame_b, frame_z, at_first, at_second, alpha_head, alpha_source, bravo_head, bravo_source, rover_head, alpha_rover, near_head, near_rover, rover_two_head, rover_two, source_two_head, source_two, text, sent, head_of, icy, source_lines, heads_of}
 
 -- a bare source sends two frames, and a bare rover that joined before is sent both
 bare_run : report_text (bare 4) (report (bare 4) (no_heads)

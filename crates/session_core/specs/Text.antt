@@ -1,6 +1,6 @@
 -- The text of a report. Every line ends with LF, and its words stand one space apart.
 use Rattle.std.specs.Prelude.{ℕ, List, [], ◌∷◌, ◌++◌, codes, slice_get, Option, None, Some}
-use Rattle.std.specs.List.{flat_map, join_with_byte}
+use Rattle.std.specs.List.{flat_map, join_with_byte, zip}
 use Rattle.std.specs.Fmt.{decimal}
 use Rattle.hex.specs.Hex.{encode_lower}
 use Rattle.mount_ring.specs.declared.cursor.Lap.{Lap}
@@ -19,6 +19,10 @@ use Rattle.session_core.specs.declared.report.Report.{Report}
 -- one line
 abbrev pub line : List (List ℕ) → List ℕ
 line words = join_with_byte 32 words ++ 10 ∷ []
+
+-- numbers, each with a space (32) before it
+abbrev pub spaced : List ℕ → List ℕ
+spaced numbers = flat_map (λ number. 32 ∷ decimal number) numbers
 
 -- ---- a connection
 
@@ -76,29 +80,21 @@ connection_lines c told =
 
 -- ---- the caster
 
-abbrev pub mount_line : Mount → MountTotal → List ℕ
-mount_line mount total =
+abbrev pub mount_line : Mount × MountTotal → List ℕ
+mount_line (mount, total) =
     line (codes "mount" ∷ mount.name ∷ decimal total.published ∷ decimal total.claims ∷ [])
 
 abbrev pub sum_words : Sum → List (List ℕ)
 sum_words sum = decimal sum.sessions ∷ decimal sum.sent ∷ decimal sum.overrun ∷ []
 
--- a line for each mountpoint, and one for each named account
-abbrev pub mount_lines : List Mount → List MountTotal → List ℕ
-mount_lines [] totals = []
-mount_lines (mount ∷ mounts) [] = []
-mount_lines (mount ∷ mounts) (total ∷ totals) = mount_line mount total ++ mount_lines mounts totals
+abbrev pub account_line : Account × Sum → List ℕ
+account_line (account, sum) = line (codes "account" ∷ account.user ∷ sum_words sum)
 
-abbrev pub account_lines : List Account → List Sum → List ℕ
-account_lines [] sums = []
-account_lines (account ∷ accounts) [] = []
-account_lines (account ∷ accounts) (sum ∷ sums) =
-    line (codes "account" ∷ account.user ∷ sum_words sum) ++ account_lines accounts sums
-
+-- a line for each mountpoint, one for each named account, and one for all of them
 unfoldable pub closed_text : Config → Closed → List ℕ
 closed_text c closed =
-    mount_lines c.mount closed.mounts
-    ++ account_lines c.account closed.accounts
+    flat_map mount_line (zip c.mount closed.mounts)
+    ++ flat_map account_line (zip c.account closed.accounts)
     ++ line (codes "total" ∷ sum_words closed.total)
 
 -- ---- both

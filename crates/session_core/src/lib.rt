@@ -6,7 +6,12 @@ mod ending;
 pub mod laws;
 mod lists;
 mod report;
+mod text;
 
 pub use ending::{Bare, Ending, Flow, Last};
 pub use lists::{Connections, MountTotals, Segments, Sent, Sums};
 pub use report::{Closed, Connection, MountTotal, Receipt, Report};
+pub use text::closed_text;
+
+#[cfg(test)]
+mod tests;
