@@ -40,14 +40,14 @@ head_few bytes at said (within, inr x) = omega (arith, x.head_is.within, length-
 
 -- ---- nothing else is said
 
-not_open : (bytes : List ℕ) (at : ℕ) (said : Said) → HasHead bytes at said → HeadGoesOn bytes → ⊥
+pub not_open : (bytes : List ℕ) (at : ℕ) (said : Said) → HasHead bytes at said → HeadGoesOn bytes → ⊥
 not_open bytes at said x (inl (free, few)) =
     absurd (false≢true (sym (none_front at bytes free) ∙ head_has bytes at said x))
 not_open bytes at said (within, inl x) (inr (http, goes)) = no_http bytes at said x http
 not_open bytes at said (within, inr x) (inr (http, goes)) =
     absurd (false≢true (sym (goes.no_line at within) ∙ x.head_is.ends))
 
-not_long : (bytes : List ℕ) (at : ℕ) (said : Said) → HasHead bytes at said → IsTooLong bytes → ⊥
+pub not_long : (bytes : List ℕ) (at : ℕ) (said : Said) → HasHead bytes at said → IsTooLong bytes → ⊥
 not_long bytes at said x (full, inl free) =
     let front : take at (take 8192 bytes) ≡ take at bytes = take-take at 8192 bytes (head_few bytes at said x) in
     let none : has_line (take at bytes) ≡ false = sym (ap has_line front) ∙ none_front at (take 8192 bytes) free in
@@ -60,7 +60,7 @@ not_long bytes at said (within, inr x) (full, inr (http, long)) =
     sym (ap ends_with_empty_line front) ∙ long.no_line at (omega (arith, few, long.full)) in
     absurd (false≢true (sym none ∙ x.head_is.ends))
 
-open_or_long : (bytes : List ℕ) → HeadGoesOn bytes → IsTooLong bytes → ⊥
+pub open_or_long : (bytes : List ℕ) → HeadGoesOn bytes → IsTooLong bytes → ⊥
 open_or_long bytes (inl (free, few)) (full, x) = absurd (omega (arith, few, full))
 open_or_long bytes (inr (http, goes)) (full, x) = absurd (omega (arith, goes.room, full))
 
@@ -71,7 +71,7 @@ same_length : (i j : ℕ) (bytes : List ℕ) → i ≤ length bytes → j ≤ le
 same_length i j bytes within other same =
     sym (length-take-le i bytes within) ∙ ap length same ∙ length-take-le j bytes other
 
-heads_once : (bytes : List ℕ) (i j : ℕ) (said other : Said) → HasHead bytes i said → HasHead bytes j other
+pub heads_once : (bytes : List ℕ) (i j : ℕ) (said other : Said) → HasHead bytes i said → HasHead bytes j other
     → (i ≡ j) × (said ≡ other)
 heads_once bytes i j said other (within, inl x) (also, inl y) =
     let line : x.line ≡ y.line =
@@ -133,13 +133,13 @@ one_answer bytes a b x y = one_form bytes a b (form_of bytes a x) (form_of bytes
 
 -- ---- and more bytes
 
-head_stays : (bytes more : List ℕ) (at : ℕ) (said : Said) → HasHead bytes at said → HasHead (bytes ++ more) at said
+pub head_stays : (bytes more : List ℕ) (at : ℕ) (said : Said) → HasHead bytes at said → HasHead (bytes ++ more) at said
 head_stays bytes more at said x = (
   omega (arith, x.0, length-append bytes more),
   subst (λ (l : List ℕ). IsLineHead l said ⊎ IsResponse l said) (sym (take-append-le at bytes more x.0)) x.1,
 )
 
-long_stays : (bytes more : List ℕ) → IsTooLong bytes → IsTooLong (bytes ++ more)
+pub long_stays : (bytes more : List ℕ) → IsTooLong bytes → IsTooLong (bytes ++ more)
 long_stays bytes more (full, inl free) = (
   omega (arith, full, length-append bytes more),
   inl (ap has_line (take-append-le 8192 bytes more full) ∙ free),

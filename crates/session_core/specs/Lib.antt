@@ -1,0 +1,10 @@
+pub mod Setting
+pub mod Headings
+pub mod Judged
+pub mod Owed
+pub mod Endings
+pub mod Replies
+pub mod Run
+pub mod Reports
+pub mod Text
+pub mod Promises
