@@ -78,7 +78,11 @@ fn line_bytes(alloc: Global, line: Line) -> Result<Vec<u8>, Fail> {
             for _ in 0..zeros {
                 bytes.push(b'0')?;
             }
-            let behind = if zeros % 2 == 0 { b"*47\r\n" } else { b"*77\r\n" };
+            let behind = if zeros % 2 == 0 {
+                b"*47\r\n"
+            } else {
+                b"*77\r\n"
+            };
             bytes.extend_from_slice(behind)?;
         }
         Line::North => {
@@ -365,7 +369,10 @@ fn version_two_sends_one_chunk_a_frame(rt: HostRuntime) -> Result<(), Fail> {
     body.extend_from_slice(&FRAME_Z)?;
     body.extend_from_slice(b"\r\n")?;
     assert_eq!(rt; out.as_slice(), body.as_slice());
-    assert_eq!(rt; shown(alloc, &rover)?.as_slice(), [(0, 0, 2, 2, 0)].as_slice());
+    assert_eq!(rt;
+        shown(alloc, &rover)?.as_slice(),
+        [(0, 0, 2, 2, 0)].as_slice()
+    );
     Ok(())
 }
 
