@@ -1,12 +1,12 @@
 -- The base that a rover takes, and whether it is to be joined.
-use Rattle.std.proofs.Common.{◌≡◌, ◌≢◌, ℕ, ◌+◌, ◌<◌, Bool, true, false, List, [], ◌∷◌, ◌++◌, length, map, take, drop, get_or, cond, Option, None, Some, refl, sym, ap, subst, ◌∙◌, arith, eqb, eq-eqb}
+use Rattle.std.proofs.Common.{◌≡◌, ℕ, ◌+◌, ◌<◌, Bool, true, false, List, [], ◌∷◌, ◌++◌, length, take, drop, get_or, cond, Option, None, Some, refl, sym, ap, subst, ◌∙◌, eqb, eq-eqb}
 use Rattle.std.specs.Prelude.{pos, IfSome}
 use Rattle.std.specs.List.{All}
 use Rattle.std.proofs.lemmas.List.{append-nil, get_or-map, map-append, take-append-drop, take_more}
 use Rattle.std.proofs.lemmas.List.Elements.{All-nil, All-cons, All-head, All-tail, All-append}
 use Rattle.gga_read.specs.declared.Position.{Position}
 use Rattle.base_select.specs.declared.Base.{Base}
-use Rattle.base_select.specs.Choice.{mounts, IsChoice, choice_of}
+use Rattle.base_select.specs.Choice.{IsChoice, choice_of}
 use Rattle.base_select.proofs.NearestLemmas.{choice_is_of}
 use Rattle.base_select.proofs.LawLemmas.{among}
 use Rattle.rover_session.specs.Owed.{if_live, chooses, changed}

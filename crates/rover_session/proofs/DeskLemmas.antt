@@ -1,5 +1,5 @@
 -- A session that is served, after calls of others and after its own.
-use Rattle.std.proofs.Common.{◌≡◌, ◌≢◌, ℕ, ◌<◌, ◌≤◌, Bool, true, IsTrue, List, [], ◌∷◌, ◌++◌, length, map, get_or, set, Option, None, Some, refl, sym, ap, subst, ◌∙◌, arith, eq-eqb, inl, inr}
+use Rattle.std.proofs.Common.{◌≡◌, ◌≢◌, ℕ, ◌<◌, true, IsTrue, List, [], ◌∷◌, ◌++◌, length, map, get_or, set, Option, None, Some, refl, sym, ap, subst, ◌∙◌, eq-eqb, inl, inr}
 use Rattle.std.proofs.lemmas.Bool.{cases_eq}
 use Rattle.std.proofs.lemmas.List.{append-nil, get_or-set_other, length-map, length-set, map-set}
 use Rattle.turn_log.specs.History.{History, GoesOn}
@@ -13,7 +13,6 @@ use Rattle.mount_ring.specs.History.{State, state_of, answer, after_claim, claim
 use Rattle.mount_ring.specs.Shapes.{shape_of}
 use Rattle.mount_ring.proofs.HistoryLemmas.{state_of-append}
 use Rattle.mount_ring.specs.declared.shape.RingShape.{RingShape}
-use Rattle.rover_cursor.specs.declared.segment.Segment.{Segment}
 use Rattle.session_calls.specs.Rings.{history_at, WentOn}
 use Rattle.session_calls.proofs.PlaceLemmas.{kept_by_one}
 use Rattle.rover_session.specs.Standing.{Rover, KnowsFilter, AreWithin, IsResumable, WasResumable, SameAdmission, IsServed}

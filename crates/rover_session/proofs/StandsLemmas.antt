@@ -2,7 +2,6 @@
 use Rattle.std.proofs.Common.{◌≡◌, ℕ, zero, suc, ◌+◌, ◌<◌, Bool, true, false, List, [], ◌∷◌, ◌++◌, length, get_or, set, Option, None, Some, option_to_list, Result, Ok, Err, refl, sym, ap, subst, ◌∙◌, arith}
 use Rattle.std.specs.Prelude.{reverse, OnOk}
 use Rattle.std.specs.Result.{result_err}
-use Rattle.std.specs.List.{All}
 use Rattle.std.proofs.lemmas.List.{append-nil, reverse-append}
 use Rattle.cast_text.specs.Lines.{LineState}
 use Rattle.cast_text.specs.Lines as lines
@@ -26,7 +25,7 @@ use Rattle.session_calls.proofs.PlanLemmas.{begun_longer}
 use Rattle.session_calls.proofs.WentLemmas.{went_none}
 use Rattle.rover_session.specs.Owed.{Terms, joins, follows, joins_each, plan_by, rover_plan, heeds, reads}
 use Rattle.rover_session.specs.Made.{base_after, bases_joined, mounts_of, present_base, segments_after, owed_among, IsMadeUntil}
-use Rattle.rover_session.specs.Standing.{Rover, IsSoundAt, IsResumable, Followed, Stands, Told, ReadOn, IsNew}
+use Rattle.rover_session.specs.Standing.{Rover, IsResumable, Followed, Stands, Told, ReadOn, IsNew}
 use Rattle.rover_session.proofs.FollowLemmas.{rover_begins, rover_left}
 use Rattle.rover_session.proofs.MadeLemmas.{base-append, joined-append, segments-append, owed-append, until_both, mounts_both}
 use Rattle.rover_session.proofs.SegmentLemmas.{went_extends, all_later}
