@@ -96,11 +96,6 @@ asked_such P shapes alone old now me bases held asked all =
 
 -- ---- one look more
 
-pub asked_none : (shapes : List RingShape) (alone : Bool) (histories : List (History RingCall)) (me : ℕ)
-    → AskedEach shapes alone histories histories me [] []
-asked_none shapes alone histories me =
-    record { lives = []; asked = refl; held_are = refl; went = went_none shapes alone histories me }
-
 pub asked_more : (shapes : List RingShape) (alone : Bool) (old mid now : List (History RingCall)) (me : ℕ)
     (bases held : List Base) (base : Base) (live : Option ℕ) → AskedEach shapes alone old mid me bases held
     → Went shapes alone mid now me (at_ring base.mount Look (Looked live) ∷ [])

@@ -159,8 +159,8 @@ frames_read shapes histories budget (segment ∷ older) = frames_at shapes histo
 
 -- ---- what it was told and called
 
--- From one moment to another the caller made this plan, or at a refusal the first of it: no step was
--- a read, and with them these segments became those.
+-- From one moment to another the caller made this plan, or at a refusal the first of it: no step
+-- was a read, and with them these segments became those.
 pub record Followed (shapes : List RingShape) (alone : Bool) (old now : List (History RingCall))
     (me : ℕ) (plan : Plan) (refused : Option SegFault) (before after : List Segment)
     : Type 0 where
