@@ -17,7 +17,7 @@ use Rattle.mount_ring.specs.declared.call.RingAnswer.TheVariants.{Looked}
 use Rattle.mount_ring.specs.declared.shape.RingShape.{RingShape}
 use Rattle.session_calls.specs.Steps.{Step, at_ring}
 use Rattle.session_calls.specs.Rings.{Went}
-use Rattle.session_calls.proofs.WentLemmas.{went_none, went_both}
+use Rattle.session_calls.proofs.WentLemmas.{went_both}
 use Rattle.rover_session.specs.Standing.{AreWithin, looked, held_in, AskedEach, AskedFirst}
 use Rattle.rover_session.proofs.MadeLemmas.{bases_in, looked-append, held-append}
 

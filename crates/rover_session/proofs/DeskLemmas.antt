@@ -1,21 +1,13 @@
 -- A session that is served, after calls of others at one place.
-use Rattle.std.proofs.Common.{◌≡◌, ◌≢◌, ℕ, ◌<◌, true, IsTrue, List, [], ◌∷◌, ◌++◌, length, map, get_or, set, Option, None, Some, refl, sym, ap, subst, ◌∙◌, eq-eqb, inl, inr}
+use Rattle.std.proofs.Common.{◌≡◌, ℕ, ◌<◌, List, [], length, map, get_or, set, refl, sym, ap, subst, ◌∙◌, inl, inr}
 use Rattle.std.proofs.lemmas.Bool.{cases_eq}
 use Rattle.std.proofs.lemmas.List.{append-nil, get_or-set_other, length-map, length-set, map-set}
 use Rattle.turn_log.specs.History.{History, GoesOn}
 use Rattle.mount_ring.specs.declared.call.RingCall.{RingCall}
-use Rattle.turn_log.proofs.HistoryLaws.{own_other}
-use Rattle.mount_ring.specs.declared.call.RingCall.TheVariants.{Claim}
-use Rattle.mount_ring.specs.declared.call.RingAnswer.{RingAnswer}
-use Rattle.mount_ring.specs.declared.call.RingAnswer.TheVariants.{Taken}
-use Rattle.mount_ring.specs.declared.call.Holder.{Holder}
-use Rattle.mount_ring.specs.History.{State, state_of, answer, after_claim, claim_answer, is_holder}
-use Rattle.mount_ring.specs.Shapes.{shape_of}
-use Rattle.mount_ring.proofs.HistoryLemmas.{state_of-append}
 use Rattle.mount_ring.specs.declared.shape.RingShape.{RingShape}
 use Rattle.session_calls.specs.Rings.{history_at, WentOn}
 use Rattle.session_calls.proofs.PlaceLemmas.{kept_by_one}
-use Rattle.rover_session.specs.Standing.{Rover, KnowsFilter, AreWithin, IsResumable, WasResumable, SameAdmission, IsServed}
+use Rattle.rover_session.specs.Standing.{Rover, IsServed}
 use Rattle.rover_session.proofs.AtLemmas.{history_here, history_new}
 use Rattle.rover_session.proofs.SegmentLemmas.{was_resumable}
 

@@ -1,5 +1,5 @@
 -- What a session stands for, after each of its calls.
-use Rattle.std.proofs.Common.{◌≡◌, ℕ, zero, suc, ◌+◌, ◌<◌, Bool, true, false, List, [], ◌∷◌, ◌++◌, length, get_or, set, Option, None, Some, option_to_list, Result, Ok, Err, refl, sym, ap, subst, ◌∙◌, arith}
+use Rattle.std.proofs.Common.{◌≡◌, ℕ, zero, suc, ◌+◌, ◌<◌, Bool, List, [], ◌∷◌, ◌++◌, length, get_or, set, Option, None, Some, Result, Ok, Err, refl, sym, ap, subst, ◌∙◌, arith}
 use Rattle.std.specs.Prelude.{reverse, OnOk}
 use Rattle.std.specs.Result.{result_err}
 use Rattle.std.proofs.lemmas.List.{append-nil, reverse-append}
@@ -8,7 +8,6 @@ use Rattle.cast_text.specs.Lines as lines
 use Rattle.turn_log.specs.History.{History}
 use Rattle.gga_read.specs.declared.Position.{Position}
 use Rattle.gga_read.specs.Report.{reports}
-use Rattle.base_select.specs.declared.Base.{Base}
 use Rattle.mount_ring.specs.declared.call.RingCall.{RingCall}
 use Rattle.mount_ring.specs.declared.call.RingCall.TheVariants as calls
 use Rattle.mount_ring.specs.declared.call.RingAnswer.TheVariants as answers
@@ -19,13 +18,13 @@ use Rattle.rover_cursor.specs.declared.fault.SegFault.{SegFault}
 use Rattle.rover_cursor.specs.Segments.{read_on}
 use Rattle.rover_cursor.specs.Told.{IsSegment}
 use Rattle.session_calls.specs.Steps.{Step, at_ring}
-use Rattle.session_calls.specs.Plans.{Plan, done, IsMade, IsBegun}
+use Rattle.session_calls.specs.Plans.{Plan, IsMade, IsBegun}
 use Rattle.session_calls.specs.Rings.{history_at, shape_at, Went}
 use Rattle.session_calls.proofs.PlanLemmas.{begun_longer}
 use Rattle.session_calls.proofs.WentLemmas.{went_none}
-use Rattle.rover_session.specs.Owed.{Terms, joins, follows, joins_each, plan_by, rover_plan, heeds, reads}
+use Rattle.rover_session.specs.Owed.{rover_plan, heeds, reads}
 use Rattle.rover_session.specs.Made.{base_after, bases_joined, mounts_of, present_base, segments_after, owed_among, IsMadeUntil}
-use Rattle.rover_session.specs.Standing.{Rover, IsResumable, Followed, Stands, Told, ReadOn, IsNew}
+use Rattle.rover_session.specs.Standing.{Rover, IsResumable, Followed, Stands, Told, ReadOn}
 use Rattle.rover_session.proofs.FollowLemmas.{rover_begins, rover_left}
 use Rattle.rover_session.proofs.MadeLemmas.{base-append, joined-append, segments-append, owed-append, until_both, mounts_both}
 use Rattle.rover_session.proofs.SegmentLemmas.{went_extends, all_later}
