@@ -1,12 +1,12 @@
 -- The base that a rover takes, and whether it is to be joined.
-use Rattle.std.proofs.Common.{◌≡◌, ◌≢◌, ℕ, ◌+◌, ◌<◌, Bool, true, false, List, [], ◌∷◌, ◌++◌, length, map, take, drop, get_or, cond, Option, None, Some, refl, sym, ap, subst, ◌∙◌, arith, eqb, eq-eqb}
+use Rattle.std.proofs.Common.{◌≡◌, ℕ, ◌+◌, ◌<◌, Bool, true, false, List, [], ◌∷◌, ◌++◌, length, take, drop, get_or, cond, Option, None, Some, refl, sym, ap, subst, ◌∙◌, eqb, eq-eqb}
 use Rattle.std.specs.Prelude.{pos, IfSome}
 use Rattle.std.specs.List.{All}
 use Rattle.std.proofs.lemmas.List.{append-nil, get_or-map, map-append, take-append-drop, take_more}
 use Rattle.std.proofs.lemmas.List.Elements.{All-nil, All-cons, All-head, All-tail, All-append}
 use Rattle.gga_read.specs.declared.Position.{Position}
 use Rattle.base_select.specs.declared.Base.{Base}
-use Rattle.base_select.specs.Choice.{mounts, IsChoice, choice_of}
+use Rattle.base_select.specs.Choice.{IsChoice, choice_of}
 use Rattle.base_select.proofs.NearestLemmas.{choice_is_of}
 use Rattle.base_select.proofs.LawLemmas.{among}
 use Rattle.rover_session.specs.Owed.{if_live, chooses, changed}
@@ -17,7 +17,7 @@ use Rattle.mount_ring.specs.declared.call.RingAnswer.TheVariants.{Looked}
 use Rattle.mount_ring.specs.declared.shape.RingShape.{RingShape}
 use Rattle.session_calls.specs.Steps.{Step, at_ring}
 use Rattle.session_calls.specs.Rings.{Went}
-use Rattle.session_calls.proofs.WentLemmas.{went_none, went_both}
+use Rattle.session_calls.proofs.WentLemmas.{went_both}
 use Rattle.rover_session.specs.Standing.{AreWithin, looked, held_in, AskedEach, AskedFirst}
 use Rattle.rover_session.proofs.MadeLemmas.{bases_in, looked-append, held-append}
 
@@ -95,11 +95,6 @@ asked_such P shapes alone old now me bases held asked all =
     subst (All P) (sym asked.held_are) (held_such P asked.lives (subst (All P) asked.asked all))
 
 -- ---- one look more
-
-pub asked_none : (shapes : List RingShape) (alone : Bool) (histories : List (History RingCall)) (me : ℕ)
-    → AskedEach shapes alone histories histories me [] []
-asked_none shapes alone histories me =
-    record { lives = []; asked = refl; held_are = refl; went = went_none shapes alone histories me }
 
 pub asked_more : (shapes : List RingShape) (alone : Bool) (old mid now : List (History RingCall)) (me : ℕ)
     (bases held : List Base) (base : Base) (live : Option ℕ) → AskedEach shapes alone old mid me bases held

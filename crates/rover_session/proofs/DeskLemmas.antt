@@ -1,29 +1,15 @@
--- A session that is served, after calls of others and after its own.
-use Rattle.std.proofs.Common.{◌≡◌, ◌≢◌, ℕ, ◌<◌, ◌≤◌, Bool, true, IsTrue, List, [], ◌∷◌, ◌++◌, length, map, get_or, set, Option, None, Some, refl, sym, ap, subst, ◌∙◌, arith, eq-eqb, inl, inr}
+-- A session that is served, after calls of others at one place.
+use Rattle.std.proofs.Common.{◌≡◌, ℕ, ◌<◌, List, [], length, map, get_or, set, refl, sym, ap, subst, ◌∙◌, inl, inr}
 use Rattle.std.proofs.lemmas.Bool.{cases_eq}
 use Rattle.std.proofs.lemmas.List.{append-nil, get_or-set_other, length-map, length-set, map-set}
 use Rattle.turn_log.specs.History.{History, GoesOn}
 use Rattle.mount_ring.specs.declared.call.RingCall.{RingCall}
-use Rattle.turn_log.proofs.HistoryLaws.{own_other}
-use Rattle.mount_ring.specs.declared.call.RingCall.TheVariants.{Claim}
-use Rattle.mount_ring.specs.declared.call.RingAnswer.{RingAnswer}
-use Rattle.mount_ring.specs.declared.call.RingAnswer.TheVariants.{Taken}
-use Rattle.mount_ring.specs.declared.call.Holder.{Holder}
-use Rattle.mount_ring.specs.History.{State, state_of, answer, after_claim, claim_answer, is_holder}
-use Rattle.mount_ring.specs.Shapes.{shape_of}
-use Rattle.mount_ring.proofs.HistoryLemmas.{state_of-append}
 use Rattle.mount_ring.specs.declared.shape.RingShape.{RingShape}
-use Rattle.rover_cursor.specs.declared.segment.Segment.{Segment}
 use Rattle.session_calls.specs.Rings.{history_at, WentOn}
 use Rattle.session_calls.proofs.PlaceLemmas.{kept_by_one}
-use Rattle.rover_session.specs.Standing.{Rover, KnowsFilter, AreWithin, IsResumable, WasResumable, SameAdmission, IsServed}
+use Rattle.rover_session.specs.Standing.{Rover, IsServed}
 use Rattle.rover_session.proofs.AtLemmas.{history_here, history_new}
 use Rattle.rover_session.proofs.SegmentLemmas.{was_resumable}
-
--- nobody called
-went_on_none : (histories : List (History RingCall)) (me : ℕ) → WentOn histories histories me
-went_on_none histories me =
-    record { size = refl; rings = λ mount. ([], sym (append-nil (history_at histories mount)), refl) }
 
 -- others called at one place
 went_on_by_one : {P : Type 0} (seen : P → History RingCall) (places : List P) (i : ℕ) (d new : P) (me : ℕ)
@@ -59,51 +45,3 @@ served_by_one shape seen places i d new rover me within mine same goes served =
       filter = served.filter;
       resumable = was_resumable (map shape places) rover.me now rover.segments (map seen places, served.resumable, on);
     })
-
--- ---- what a call requires
-
-pub served_resumes : (shapes : List RingShape) (histories : List (History RingCall)) (rover : Rover)
-    → IsServed shapes histories rover → WasResumable shapes rover.me histories rover.segments
-served_resumes shapes histories rover served =
-    (histories, served.resumable, went_on_none histories rover.me)
-
-pub served_within : {P : Type 0} (shape : P → RingShape) (places : List P) (histories : List (History RingCall))
-    (rover : Rover) → IsServed (map shape places) histories rover → AreWithin (length places) rover.terms.bases
-served_within shape places histories rover served =
-    subst (λ (n : ℕ). AreWithin n rover.terms.bases) (length-map places shape) served.within
-
--- and what it leaves
-pub served_after : (shapes now_shapes : List RingShape) (histories now : List (History RingCall)) (rover later : Rover)
-    → now_shapes ≡ shapes → SameAdmission rover later → IsServed shapes histories rover
-    → IsResumable shapes rover.me now later.segments → IsServed now_shapes now later
-served_after shapes now_shapes histories now rover later same admission served resumable =
-    subst (λ s. IsServed s now later) (sym same) (record {
-      within = subst (λ terms. AreWithin (length shapes) terms.bases) (sym admission.2) served.within;
-      filter = subst (λ terms. KnowsFilter shapes terms.filter) (sym admission.2) served.filter;
-      resumable = subst (λ (me : ℕ). IsResumable shapes me now later.segments) (sym admission.1) resumable;
-    })
-
--- ---- calls at a desk
-
--- another caller's call
-pub goes_call : (me caller : ℕ) (call : RingCall) (h now : History RingCall) → now ≡ h ++ (caller, call) ∷ []
-    → caller ≢ me → GoesOn me h now
-goes_call me caller call h now is other = ((caller, call) ∷ [], is, own_other me caller call other)
-
-taken_holds : (state : State) (holder : Option Holder) (by caller claim : ℕ) → state.holder ≡ holder
-    → Taken caller claim ≡ claim_answer state holder
-    → is_holder (after_claim state by holder).holder caller claim ≡ true
-taken_holds state None by caller claim is told = absurd cc
-taken_holds state (Some holder) by caller claim is told =
-    let same_caller : holder.caller ≡ caller = cc in
-    let same_claim : holder.claim ≡ claim = cc in
-    ap (λ (o : Option Holder). is_holder o caller claim) is
-    ∙ rw (eq-eqb holder.caller caller same_caller, eq-eqb holder.claim claim same_claim) refl
-
--- a claim that is told who holds the mountpoint
-pub holder_told : (shape : RingShape) (by caller claim : ℕ) (h now : History RingCall) (reply : RingAnswer)
-    → now ≡ h ++ (by, Claim) ∷ [] → reply ≡ answer (shape_of shape) (state_of h) Claim → reply ≡ Taken caller claim
-    → IsTrue (is_holder (state_of now).holder caller claim)
-holder_told shape by caller claim h now reply is answered told =
-    ap (λ (s : State). is_holder s.holder caller claim) (ap state_of is ∙ state_of-append h ((by, Claim) ∷ []))
-    ∙ taken_holds (state_of h) (state_of h).holder by caller claim refl (sym told ∙ answered)

@@ -11,7 +11,7 @@ use Rattle.gga_read.specs.declared.Position.{Position}
 use Rattle.gga_read.specs.Report.{report_of, reports}
 use Rattle.base_select.specs.declared.Base.{Base}
 use Rattle.mount_ring.specs.declared.call.RingCall.TheVariants.{Join}
-use Rattle.session_calls.specs.Steps.{Answer, Step, to_ring, ask_of, answer_of}
+use Rattle.session_calls.specs.Steps.{Step, to_ring, answer_of}
 use Rattle.session_calls.specs.Plans.{Plan, done, asks, left, IsMade, Begins}
 use Rattle.rover_session.specs.Owed.{Terms, if_held, looks, chooses, changed, joins, follows, joins_each, plan_by, rover_plan, heeds}
 use Rattle.rover_session.specs.Made.{after_ask, base_after}

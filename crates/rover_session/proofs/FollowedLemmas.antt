@@ -2,7 +2,7 @@
 use Rattle.std.proofs.Common.{◌≡◌, ℕ, ◌<◌, Bool, true, false, List, [], ◌∷◌, ◌++◌, length, Option, None, Some, option_to_list, Result, Err, refl, sym, ap, subst, ◌∙◌}
 use Rattle.std.specs.Result.{result_err}
 use Rattle.std.specs.Prelude.{reverse}
-use Rattle.std.proofs.lemmas.List.{append-nil, map-append, reverse-append}
+use Rattle.std.proofs.lemmas.List.{reverse-append}
 use Rattle.turn_log.specs.History.{History}
 use Rattle.gga_read.specs.declared.Position.{Position}
 use Rattle.base_select.specs.declared.Base.{Base}
@@ -20,10 +20,10 @@ use Rattle.session_calls.specs.Rings.{history_at, shape_at, Went}
 use Rattle.session_calls.proofs.PlanLemmas.{begun_longer}
 use Rattle.session_calls.proofs.WentLemmas.{went_none, went_both}
 use Rattle.rover_session.specs.Owed.{Terms, chooses, changed, joins, follows, heeds, looks}
-use Rattle.rover_session.specs.Made.{base_after, bases_joined, mounts_of, present_base, segments_after, owed_among, IsMadeUntil}
-use Rattle.rover_session.specs.Standing.{looked, held_in, AskedEach, AskedFirst, IsResumable, KeepsSegments, frames_sent, Followed}
+use Rattle.rover_session.specs.Made.{base_after, bases_joined, mounts_of, present_base, segments_after, IsMadeUntil}
+use Rattle.rover_session.specs.Standing.{looked, AskedEach, AskedFirst, IsResumable, KeepsSegments, frames_sent, Followed}
 use Rattle.rover_session.proofs.FollowLemmas.{heeds_begin, heeds_left}
-use Rattle.rover_session.proofs.MadeLemmas.{base-append, segments-append, owed_both, until_both, owed_looked, base_looked, joined_looked, mounts_both, segments_looked, bases_in, looks_until, looks_cut}
+use Rattle.rover_session.proofs.MadeLemmas.{base-append, segments-append, owed_both, until_both, owed_looked, base_looked, joined_looked, mounts_both, segments_looked, looks_until, looks_cut}
 use Rattle.rover_session.proofs.SegmentLemmas.{went_extends, all_sound, resumable_stays, looks_resume, resumable_joined, sent_later, sent_begun}
 
 -- segments that were kept, and then kept again

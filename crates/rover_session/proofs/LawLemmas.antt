@@ -1,6 +1,6 @@
 -- What follows for a rover: a Join is made only where the base changes, and its body reads as the
 -- frames that it was sent.
-use Rattle.std.proofs.Common.{◌≡◌, ◌≢◌, ℕ, ◌≤◌, Bool, true, false, IsTrue, List, [], ◌∷◌, ◌++◌, ◌+◌, ◌<◌, length, map, take, get_or, min, cond, Option, None, Some, option_to_list, refl, sym, ap, subst, ◌∙◌, arith}
+use Rattle.std.proofs.Common.{◌≡◌, ◌≢◌, ℕ, ◌≤◌, Bool, true, false, List, [], ◌∷◌, ◌++◌, ◌+◌, ◌<◌, length, map, take, get_or, min, cond, Option, None, Some, option_to_list, refl, sym, ap, subst, ◌∙◌, arith}
 use Rattle.std.specs.Prelude.{◌==◌, reverse}
 use Rattle.std.specs.List.{concat, All, sum_by}
 use Rattle.std.proofs.Math.Seq.{take-length}
@@ -9,21 +9,19 @@ use Rattle.std.proofs.lemmas.Bool.{eqb-true, eqb-false}
 use Rattle.std.proofs.lemmas.List.{append-nil, length-map, length-reverse, take_more}
 use Rattle.std.proofs.lemmas.List.Elements.{All-nil, All-cons, All-head, All-tail, All-append}
 use Rattle.std.proofs.lemmas.List.Concat.{flat_map-append}
-use Rattle.rtcm_frame.specs.Transport.{is_frame}
 use Rattle.gga_read.specs.declared.Position.{Position}
 use Rattle.gga_read.specs.Report.{reports}
 use Rattle.base_select.specs.declared.Base.{Base}
-use Rattle.mount_ring.specs.declared.call.RingCall.{RingCall}
 use Rattle.mount_ring.specs.declared.call.RingCall.TheVariants.{Claim, Release, Publish, Join, Look, Read}
 use Rattle.ntrip_head.specs.declared.request.Version.{Version}
-use Rattle.ntrip_head.specs.declared.request.Version.TheVariants.{One, Two}
+use Rattle.ntrip_head.specs.declared.request.Version.TheVariants.{One}
 use Rattle.rover_cursor.specs.declared.fault.SegFault.{SegFault}
 use Rattle.rover_cursor.specs.declared.segment.Segment.{Segment}
 use Rattle.session_calls.specs.Steps.{Step, Ask, to_ring, at_ring, at_book, ask_of, answer_of}
-use Rattle.session_calls.specs.Plans.{Plan, done, asks, IsMade, IsBegun}
+use Rattle.session_calls.specs.Plans.{Plan, IsMade, IsBegun}
 use Rattle.session_calls.proofs.PlanLemmas.{made_begun}
 use Rattle.rover_session.specs.Owed.{Terms, if_held, looks, chooses, changed, joins, follows, joins_each, plan_by, rover_plan}
-use Rattle.rover_session.specs.Made.{after_ask, joined_in, bases_joined, Changes, mounts_of, owed_among, IsMadeUntil}
+use Rattle.rover_session.specs.Made.{after_ask, bases_joined, Changes, owed_among, IsMadeUntil}
 use Rattle.rover_session.specs.Body.{frame_sent, body_of}
 use Rattle.rover_session.specs.Standing.{Rover, Stands}
 use Rattle.rover_session.proofs.FollowLemmas.{choice_stays}

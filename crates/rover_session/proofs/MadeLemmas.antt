@@ -11,7 +11,7 @@ use Rattle.mount_ring.specs.declared.call.RingAnswer.TheVariants.{Looked}
 use Rattle.rover_cursor.specs.declared.segment.Segment.{Segment}
 use Rattle.rover_cursor.specs.declared.fault.SegFault.{SegFault}
 use Rattle.session_calls.specs.Steps.{Step, at_ring, ask_of}
-use Rattle.session_calls.specs.Plans.{Plan, done, asks, left, IsMade, IsBegun, Begins}
+use Rattle.session_calls.specs.Plans.{Plan, left, IsMade, IsBegun, Begins}
 use Rattle.session_calls.proofs.PlanLemmas.{made_both, begun_both}
 use Rattle.rover_session.specs.Owed.{if_live, looks}
 use Rattle.rover_session.specs.Made.{after_ask, base_after, joined_in, bases_joined, after_step, segments_after, is_owed, owed_among, IsMadeUntil}

@@ -3,7 +3,6 @@
 use Rattle.std.proofs.Common.{◌≡◌, ℕ, true, List, [], ◌∷◌, Option, None, Some, refl}
 use Rattle.std.specs.Prelude.{pos}
 use Rattle.gga_read.specs.declared.Position.{Position}
-use Rattle.base_select.specs.declared.Base.{Base}
 use Rattle.base_select.specs.Measure.{measure_of}
 use Rattle.mount_ring.specs.declared.cursor.Cursor.{Cursor}
 use Rattle.mount_ring.specs.declared.call.RingCall.TheVariants.{Join, Look}

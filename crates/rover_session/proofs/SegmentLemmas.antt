@@ -4,8 +4,8 @@ use Rattle.std.specs.Prelude.{◌==◌, Option}
 use Rattle.std.specs.List.{list_all, All}
 use Rattle.std.proofs.lemmas.List.Elements.{All-nil, All-cons, All-head, All-tail}
 use Rattle.std.proofs.lemmas.List.{append-nil}
-use Rattle.turn_log.specs.History.{History, own}
-use Rattle.turn_log.specs.Heard.{told, calls_in}
+use Rattle.turn_log.specs.History.{History}
+use Rattle.turn_log.specs.Heard.{calls_in}
 use Rattle.turn_log.proofs.HeardLaws.{calls_told}
 use Rattle.base_select.specs.declared.Base.{Base}
 use Rattle.mount_ring.specs.declared.call.RingCall.{RingCall}
@@ -23,7 +23,7 @@ use Rattle.rover_cursor.specs.Told.{IsSegment, Resumes, is_quiet, published_in}
 use Rattle.rover_cursor.proofs.SoundLemmas.{IsSound-append, kept-append, kept-begun, kept-read}
 use Rattle.rover_cursor.proofs.ToldLemmas.{segment_stays, goes_resumes}
 use Rattle.session_calls.specs.Steps.{Step, on_ring}
-use Rattle.session_calls.specs.Rings.{history_at, shape_at, answer_at, Went, WentOn}
+use Rattle.session_calls.specs.Rings.{history_at, shape_at, answer_at, Went}
 use Rattle.rover_session.specs.Standing.{looked, IsSoundAt, IsResumable, WasResumable, frames_of, frames_sent, report_at, frames_at}
 
 -- each history begins with what it was

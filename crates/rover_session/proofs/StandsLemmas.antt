@@ -1,15 +1,13 @@
 -- What a session stands for, after each of its calls.
-use Rattle.std.proofs.Common.{◌≡◌, ℕ, zero, suc, ◌+◌, ◌<◌, Bool, true, false, List, [], ◌∷◌, ◌++◌, length, get_or, set, Option, None, Some, option_to_list, Result, Ok, Err, refl, sym, ap, subst, ◌∙◌, arith}
+use Rattle.std.proofs.Common.{◌≡◌, ℕ, zero, suc, ◌+◌, ◌<◌, Bool, List, [], ◌∷◌, ◌++◌, length, get_or, set, Option, None, Some, Result, Ok, Err, refl, sym, ap, subst, ◌∙◌, arith}
 use Rattle.std.specs.Prelude.{reverse, OnOk}
 use Rattle.std.specs.Result.{result_err}
-use Rattle.std.specs.List.{All}
 use Rattle.std.proofs.lemmas.List.{append-nil, reverse-append}
 use Rattle.cast_text.specs.Lines.{LineState}
 use Rattle.cast_text.specs.Lines as lines
 use Rattle.turn_log.specs.History.{History}
 use Rattle.gga_read.specs.declared.Position.{Position}
 use Rattle.gga_read.specs.Report.{reports}
-use Rattle.base_select.specs.declared.Base.{Base}
 use Rattle.mount_ring.specs.declared.call.RingCall.{RingCall}
 use Rattle.mount_ring.specs.declared.call.RingCall.TheVariants as calls
 use Rattle.mount_ring.specs.declared.call.RingAnswer.TheVariants as answers
@@ -20,13 +18,13 @@ use Rattle.rover_cursor.specs.declared.fault.SegFault.{SegFault}
 use Rattle.rover_cursor.specs.Segments.{read_on}
 use Rattle.rover_cursor.specs.Told.{IsSegment}
 use Rattle.session_calls.specs.Steps.{Step, at_ring}
-use Rattle.session_calls.specs.Plans.{Plan, done, IsMade, IsBegun}
+use Rattle.session_calls.specs.Plans.{Plan, IsMade, IsBegun}
 use Rattle.session_calls.specs.Rings.{history_at, shape_at, Went}
 use Rattle.session_calls.proofs.PlanLemmas.{begun_longer}
 use Rattle.session_calls.proofs.WentLemmas.{went_none}
-use Rattle.rover_session.specs.Owed.{Terms, joins, follows, joins_each, plan_by, rover_plan, heeds, reads}
+use Rattle.rover_session.specs.Owed.{rover_plan, heeds, reads}
 use Rattle.rover_session.specs.Made.{base_after, bases_joined, mounts_of, present_base, segments_after, owed_among, IsMadeUntil}
-use Rattle.rover_session.specs.Standing.{Rover, IsSoundAt, IsResumable, Followed, Stands, Told, ReadOn, IsNew}
+use Rattle.rover_session.specs.Standing.{Rover, IsResumable, Followed, Stands, Told, ReadOn}
 use Rattle.rover_session.proofs.FollowLemmas.{rover_begins, rover_left}
 use Rattle.rover_session.proofs.MadeLemmas.{base-append, joined-append, segments-append, owed-append, until_both, mounts_both}
 use Rattle.rover_session.proofs.SegmentLemmas.{went_extends, all_later}
@@ -97,55 +95,6 @@ told_halted shapes alone histories rover fault first before bytes steps halted s
       no_read = refl;
       stands = subst (λ (l : List Step). Stands rover first (before ++ bytes) l) (sym (append-nil steps)) so_far;
     }
-
--- the first call
-pub told_started : (shapes : List RingShape) (alone : Bool) (old now : List (History RingCall)) (rover : Rover)
-    (after : List Segment) (halt : Option SegFault) (first : Option Position) (plan : Plan) → IsNew rover
-    → plan ≡ rover_plan rover.terms first []
-    → Followed shapes alone old now rover.me plan halt rover.segments after
-    → Told shapes alone old now (record rover { segments = after; halt = halt }) first [] []
-told_started shapes alone old now rover after halt first plan new is x =
-    let none : present_base rover.segments ≡ None = ap present_base new.0 in record {
-      more = x.steps;
-      went = x.went;
-      no_read = x.no_read;
-      stands = record {
-        line = λ going. new.2;
-        owed = subst (λ (l : List Step). IsMadeUntil halt (rover_plan rover.terms first []) l) (sym x.no_read)
-            (subst (λ (p : Plan). IsMadeUntil halt p x.steps) is x.made);
-        base = ap (base_after None) x.no_read
-            ∙ ap (λ (base : Option ℕ). base_after base x.steps) (sym none)
-            ∙ x.base;
-        segments = x.segments ∙ ap (λ (s : List Segment). segments_after s x.steps) new.0;
-        mounts = x.mounts
-            ∙ ap (λ (s : List Segment). reverse (bases_joined x.steps) ++ mounts_of s) new.0
-            ∙ append-nil (reverse (bases_joined x.steps));
-      };
-    }
-
--- what it owes: of a near rover
-pub starts_near : (terms : Terms) (first : Option Position) (segments : List Segment) → segments ≡ []
-    → terms.near ≡ true
-    → heeds terms.near terms (present_base segments) (option_to_list first) ≡ rover_plan terms first []
-starts_near terms first segments none near =
-    ap (λ (b : Bool). heeds b terms (present_base segments) (option_to_list first)) near
-    ∙ ap (λ (s : List Segment). follows terms (present_base s) (option_to_list first)) none
-    ∙ ap (λ (told : List Position). follows terms None told) (sym (append-nil (option_to_list first)))
-    ∙ ap (λ (b : Bool). plan_by b terms (option_to_list first ++ [])) (sym near)
-
-one_base : (filter : ℕ) (bases : List Base) (d : Base) → length bases ≡ 1
-    → joins filter (Some (get_or bases 0 d).mount) done ≡ joins_each filter bases
-one_base filter [] d one = absurd (omega arith)
-one_base filter (base ∷ []) d one = refl
-one_base filter (base ∷ other ∷ more) d one = absurd (omega arith)
-
--- and of one that is not near
-pub starts_far : (terms : Terms) (first : Option Position) (d : Base) → length terms.bases ≡ 1
-    → terms.near ≡ false
-    → joins terms.filter (Some (get_or terms.bases 0 d).mount) done ≡ rover_plan terms first []
-starts_far terms first d one near =
-    one_base terms.filter terms.bases d one
-    ∙ ap (λ (b : Bool). plan_by b terms (option_to_list first ++ reports [])) (sym near)
 
 -- ---- a turn
 

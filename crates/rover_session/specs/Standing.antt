@@ -1,6 +1,6 @@
 -- What a rover's session stands for: the report of its head, the bytes that came since, all that it
 -- called, and what the histories of the mountpoints tell of its segments.
-use Rattle.std.specs.Prelude.{◌≡◌, ℕ, ◌<◌, Bool, List, [], ◌∷◌, ◌++◌, length, map, reverse, Option, None, Some}
+use Rattle.std.specs.Prelude.{◌≡◌, ℕ, ◌<◌, Bool, List, [], ◌∷◌, ◌++◌, length, map, reverse, Option, None}
 use Rattle.std.specs.List.{flat_map, All}
 use Rattle.cast_text.specs.Lines.{LineState}
 use Rattle.cast_text.specs.Lines as lines
@@ -12,7 +12,7 @@ use Rattle.mount_ring.specs.declared.call.RingCall.{RingCall}
 use Rattle.mount_ring.specs.declared.call.RingCall.TheVariants.{Look}
 use Rattle.mount_ring.specs.declared.call.RingAnswer.TheVariants.{Looked}
 use Rattle.mount_ring.specs.declared.shape.RingShape.{RingShape}
-use Rattle.mount_ring.specs.History.{Shape, permits_at}
+use Rattle.mount_ring.specs.History.{permits_at}
 use Rattle.rover_cursor.specs.declared.segment.Segment.{Segment}
 use Rattle.rover_cursor.specs.declared.fault.SegFault.{SegFault}
 use Rattle.rover_cursor.specs.Sound.{IsSound, kept}
@@ -159,8 +159,8 @@ frames_read shapes histories budget (segment ∷ older) = frames_at shapes histo
 
 -- ---- what it was told and called
 
--- From one moment to another the caller made this plan, or at a refusal the first of it: no step was
--- a read, and with them these segments became those.
+-- From one moment to another the caller made this plan, or at a refusal the first of it: no step
+-- was a read, and with them these segments became those.
 pub record Followed (shapes : List RingShape) (alone : Bool) (old now : List (History RingCall))
     (me : ℕ) (plan : Plan) (refused : Option SegFault) (before after : List Segment)
     : Type 0 where

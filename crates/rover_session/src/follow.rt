@@ -48,8 +48,8 @@ pub(crate) fn begin_segment<T: Turns<Ring>>(
     Ok(())
 }
 
-/// The mountpoint that a rover is to join next: the one that it takes among these bases, where it is
-/// not its present one. `h` percent of the distance another base must be nearer.
+/// The mountpoint that a rover is to join next: the one that it takes among these bases, where it
+/// is not its present one. `h` percent of the distance another base must be nearer.
 fn next_base(present: Option<u32>, rover: Position, held: &[Base], h: u32) -> Option<u32>
     requires rover { IsOnEarth rover }
     requires bases { All (λ base. IsOnEarth base.at) held.now }

@@ -36,8 +36,8 @@ pub fn more_reports_go_on()
         ≡ heeds terms.near terms (base_after None steps) new }
 {}
 
-/// A rover's body reads as exactly the frames that it was sent: under NTRIP 1.0 it is cut into them,
-/// with no junk and no rest; under NTRIP 2.0 it is an open chunked text whose data is that body. A
+/// A rover's body reads as exactly the frames that it was sent: under NTRIP 1.0 it is cut into
+/// them, with no junk and no rest; under NTRIP 2.0 it is an open chunked text whose data is that body. A
 /// further turn's frames stand behind those before.
 pub fn body_reads_as_its_frames()
     ensures plain { (frames : List (List ℕ)) → All (λ frame. IsTrue (is_frame frame)) frames

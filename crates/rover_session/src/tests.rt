@@ -51,7 +51,7 @@ enum Act {
 /// A line that the rover sends.
 #[derive(Clone, Copy)]
 enum Line {
-    /// A report from where the mountpoint 0 stands, with so many zeros in a field that nobody reads.
+    /// A report from where the mountpoint 0 stands, with so many zeros in an unread field.
     South(usize),
     /// A report from where the mountpoint 1 stands.
     North,

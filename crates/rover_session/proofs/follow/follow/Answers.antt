@@ -1,4 +1,4 @@
-use Rattle.std.proofs.Common.{◌≡◌, ℕ, ◌<◌, Bool, List, [], ◌∷◌, Option, None, Some, length, map, refl, sym, ap, subst, ◌∙◌, arith}
+use Rattle.std.proofs.Common.{ℕ, ◌<◌, Bool, List, [], ◌∷◌, Option, None, Some, length, map, refl, sym, ap, subst, ◌∙◌}
 use Rattle.std.specs.Prelude.{reverse}
 use Rattle.std.specs.Result.{result_err}
 use Rattle.std.specs.List.{All}
@@ -10,10 +10,10 @@ use Rattle.mount_ring.specs.declared.call.RingCall.{RingCall}
 use Rattle.mount_ring.specs.declared.shape.RingShape.{RingShape}
 use Rattle.rover_cursor.specs.declared.segment.Segment.{Segment}
 use Rattle.rover_cursor.specs.declared.fault.SegFault.{SegFault}
-use Rattle.session_calls.specs.Plans.{Plan, done, IsMade}
+use Rattle.session_calls.specs.Plans.{done}
 use Rattle.session_calls.specs.Rings.{all_alone}
 use Rattle.session_calls.proofs.PlaceLemmas.{speak_same, alone_same, length_same}
-use Rattle.rover_session.specs.Owed.{Terms, chooses, changed, joins, follows}
+use Rattle.rover_session.specs.Owed.{Terms, joins, follows}
 use Rattle.rover_session.specs.Made.{present_base}
 use Rattle.rover_session.specs.Standing.{terms_of, AreWithin, AskedEach, AskedFirst, Followed}
 use Rattle.rover_session.proofs.FollowedLemmas.{followed_none, followed_after, followed_first, followed_as, err_at, changed_named}

@@ -1,4 +1,4 @@
-use Rattle.std.proofs.Common.{◌≡◌, ℕ, ◌<◌, ◌++◌, Bool, List, Option, None, Some, option_to_list, Err, length, map, take, refl, sym, ap, subst, ◌∙◌, arith}
+use Rattle.std.proofs.Common.{ℕ, ◌++◌, Bool, List, Option, None, Some, option_to_list, Err, map, take, refl, sym, ap, subst, ◌∙◌, arith}
 use Rattle.std.specs.Prelude.{reverse}
 use Rattle.std.proofs.lemmas.Result.{err_from_is_err_and}
 use Rattle.turn_log.specs.History.{History}
@@ -7,13 +7,13 @@ use Rattle.mount_ring.specs.declared.shape.RingShape.{RingShape}
 use Rattle.rover_cursor.specs.declared.segment.Segment.{Segment}
 use Rattle.rover_cursor.specs.declared.fault.SegFault.{SegFault}
 use Rattle.session_calls.specs.Rings.{all_alone}
-use Rattle.session_calls.proofs.PlaceLemmas.{speak_same, alone_same, length_same, later_both}
+use Rattle.session_calls.proofs.PlaceLemmas.{speak_same, alone_same, later_both}
 use Rattle.rover_session.specs.Owed.{Terms, heeds}
 use Rattle.rover_session.specs.Made.{present_base}
-use Rattle.rover_session.specs.Standing.{terms_of, KnowsFilter, AreWithin}
+use Rattle.rover_session.specs.Standing.{terms_of, KnowsFilter}
 use Rattle.rover_session.proofs.AtLemmas.{same_places_both}
 use Rattle.rover_session.proofs.FollowedLemmas.{followed_as, keeps_both, err_at}
-use Rattle.rover_session.proofs.HeededLemmas.{HeededUntil, heeded_none, heeded_next, heeded_all, heeded_line, heeded_refused}
+use Rattle.rover_session.proofs.HeededLemmas.{HeededUntil, heeded_none, heeded_next, heeded_refused}
 use Rattle.rover_session.proofs.follow.heed_all.Goals as goal
 
 pub heed-requires-clause-speaks : goal.heed-requires-clause-speaks

@@ -1,5 +1,4 @@
-use Rattle.std.proofs.Common.{◌∙◌, ap}
-use Rattle.rover_session.specs.Owed.{changed}
+use Rattle.std.proofs.Common.{◌∙◌}
 use Rattle.rover_session.proofs.BaseLemmas.{none_changes, some_changes, some_within}
 use Rattle.rover_session.proofs.follow.next_base.Goals as goal
 

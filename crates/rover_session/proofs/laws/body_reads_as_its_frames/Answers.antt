@@ -1,7 +1,6 @@
 use Rattle.std.proofs.Common.{List, ℕ, sym, subst, ap, ◌∙◌}
 use Rattle.rtcm_frame.specs.Cut.{cut}
 use Rattle.rtcm_frame.proofs.CutLemmas.{cut-frames-joined}
-use Rattle.chunk_body.specs.Written.{chunk_of}
 use Rattle.chunk_body.specs.Text.{IsPlain}
 use Rattle.chunk_body.proofs.ChunkLemmas.{frames_open, frames_plain}
 use Rattle.ntrip_head.specs.declared.request.Version.TheVariants.{Two}

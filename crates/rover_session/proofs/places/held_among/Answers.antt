@@ -1,7 +1,5 @@
-use Rattle.std.proofs.Common.{◌≡◌, ℕ, List, map, arith}
+use Rattle.std.proofs.Common.{map, arith}
 use Rattle.std.proofs.lemmas.Result.{err_from_is_err_and}
-use Rattle.turn_log.specs.History.{History}
-use Rattle.mount_ring.specs.declared.call.RingCall.{RingCall}
 use Rattle.session_calls.specs.Rings.{all_alone}
 use Rattle.session_calls.proofs.PlaceLemmas.{speak_same, alone_same, later_both}
 use Rattle.rover_session.proofs.AtLemmas.{same_places_both, look_refused}

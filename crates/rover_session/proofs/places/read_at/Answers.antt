@@ -1,17 +1,9 @@
 -- The place that is read changes as a turn changes it, and the others do not change.
-use Rattle.std.proofs.Common.{◌≡◌, ◌<◌, ℕ, true, List, ◌∷◌, [], length, map, get_or, sym, ap, subst, ◌∙◌}
+use Rattle.std.proofs.Common.{◌≡◌, true, get_or, ◌∙◌}
 use Rattle.std.proofs.lemmas.Result.{on_ok_weaker, on_err_weaker, MatchResult-weaker}
-use Rattle.turn_log.specs.History.{History}
-use Rattle.mount_ring.specs.declared.call.RingCall.{RingCall}
-use Rattle.mount_ring.specs.declared.call.RingCall.TheVariants.{Read}
-use Rattle.mount_ring.specs.declared.call.RingAnswer.TheVariants as answers
-use Rattle.mount_ring.specs.declared.shape.RingShape.{RingShape}
-use Rattle.mount_ring.specs.History.{Shape}
 use Rattle.mount_ring.specs.Shapes.{shape_of}
-use Rattle.rover_cursor.specs.declared.segment.Segment.{Segment}
 use Rattle.rover_cursor.specs.Segments.{read_on}
-use Rattle.rover_cursor.specs.Told.{IsSegment, report_in, frames_in}
-use Rattle.session_calls.specs.Rings.{history_at, shape_at}
+use Rattle.rover_cursor.specs.Told.{report_in, frames_in}
 use Rattle.session_calls.proofs.PlaceLemmas.{kept_by_one, later_by_one}
 use Rattle.rover_session.proofs.AtLemmas.{same_by_one, turn_refused, read_resumes, read_went, read_named, segment_named}
 use Rattle.rover_session.proofs.places.read_at.Goals as goal

@@ -1,6 +1,5 @@
-use Rattle.std.proofs.Common.{◌≡◌, ℕ, ◌++◌, Bool, List, Option, None, Some, map, refl, sym, ap, subst, ◌∙◌}
+use Rattle.std.proofs.Common.{ℕ, ◌++◌, Bool, List, Option, map, sym, subst}
 use Rattle.std.specs.Prelude.{reverse}
-use Rattle.std.specs.Result.{result_err}
 use Rattle.cast_text.specs.Lines as lines
 use Rattle.turn_log.specs.History.{History}
 use Rattle.mount_ring.specs.declared.call.RingCall.{RingCall}

@@ -1,14 +1,12 @@
-use Rattle.std.proofs.Common.{◌≡◌, ℕ, ◌+◌, ◌++◌, Bool, IsTrue, List, [], length, map, set, get_or, refl, sym, ap, subst, ◌∙◌, arith}
+use Rattle.std.proofs.Common.{◌≡◌, ℕ, IsTrue, List, [], map, set, refl, sym, ap, subst, ◌∙◌, arith}
 use Rattle.std.specs.Prelude.{reverse}
 use Rattle.std.specs.List.{All}
-use Rattle.std.proofs.lemmas.Result.{err_from_is_err_and}
 use Rattle.rtcm_frame.specs.Transport.{is_frame}
 use Rattle.turn_log.specs.History.{History}
 use Rattle.mount_ring.specs.declared.call.RingCall.{RingCall}
 use Rattle.mount_ring.specs.declared.shape.RingShape.{RingShape}
 use Rattle.rover_cursor.specs.declared.segment.Segment.{Segment}
 use Rattle.session_calls.specs.Rings.{all_alone}
-use Rattle.rover_session.specs.Body.{body_of}
 use Rattle.rover_session.specs.Standing.{Rover, rover_of, IsResumable}
 use Rattle.rover_session.proofs.SegmentLemmas.{was_resumable}
 use Rattle.rover_session.proofs.StandsLemmas.{read_none}
