@@ -65,13 +65,14 @@ fn frames_at(desk: &mut Desk<Ring>) -> Result<Outbox, TurnFault>
     Ok(out)
 }
 
-// Caller 1 is a relay that is answered in two pieces, cut at this place.
-fn answered_in_two(alloc: Global, answer: &[u8], at: usize) -> Result<Told, Fail>
+// Caller 1 is a relay of this protocol that is answered in two pieces, cut at this place.
+fn answered_in_two(alloc: Global, protocol: u32, answer: &[u8], at: usize) -> Result<Told, Fail>
+    requires protocol { (1 ≤ protocol) × (protocol ≤ 2) }
     requires few { length answer.now < 2 ^ 62 }
     requires within { at ≤ length answer.now }
 {
     let mut desk = ring_desk(alloc)?;
-    let mut relay = RelaySession::new(alloc, 1, &relay_of(alloc, 1, None)?)?;
+    let mut relay = RelaySession::new(alloc, 1, &relay_of(alloc, protocol, None)?)?;
     let _first = relay.feed(&answer[..at], &mut desk);
     let ended = relay.feed(&answer[at..], &mut desk);
     Ok(Told {
@@ -100,6 +101,16 @@ fn answered_by_bytes(alloc: Global, answer: &[u8]) -> Result<Told, Fail>
     })
 }
 
+// Whether a relay that is answered so is halted by this cause, and nothing was called.
+fn is_refused(alloc: Global, protocol: u32, answer: &[u8], halt: RelayHalt) -> Result<bool, Fail>
+    requires protocol { (1 ≤ protocol) × (protocol ≤ 2) }
+    requires few { length answer.now < 2 ^ 62 }
+{
+    let told = answered_in_two(alloc, protocol, answer, answer.len() / 2)?;
+    let unclaimed = told.claim.is_none() && told.junk == 0 && told.frames.frames().is_empty();
+    Ok(told.ended == Err(halt) && unclaimed)
+}
+
 // This head, and the frame behind it.
 fn with_frame(alloc: Global, head: &[u8]) -> Result<Vec<u8>, Fail> {
     let mut answer = Vec::from_slice(alloc, head)?;
@@ -122,7 +133,7 @@ fn an_accepted_body_is_published(rt: HostRuntime) -> Result<(), Fail> {
         let answer = with_frame(rt.alloc(), head)?;
         assert!(rt; answer.len() < 100);
         for at in 0..answer.len() + 1 {
-            let told = answered_in_two(rt.alloc(), &answer, at)?;
+            let told = answered_in_two(rt.alloc(), 1, &answer, at)?;
             assert_eq!(rt; told.ended, Ok(()));
             assert_eq!(rt; told.claim, Some(1));
             assert_eq!(rt; told.junk, junk);
@@ -147,11 +158,9 @@ fn a_refused_answer_claims_nothing(rt: HostRuntime) -> Result<(), Fail> {
         (b"HELLO\n".as_slice(), RelayHalt::BadHead),
         ([b'a'; 8192].as_slice(), RelayHalt::LongHead),
     ] {
-        let told = answered_in_two(rt.alloc(), answer, answer.len() / 2)?;
-        assert_eq!(rt; told.ended, Err(halt));
-        assert_eq!(rt; told.claim, None);
-        assert_eq!(rt; told.junk, 0);
-        assert!(rt; told.frames.frames().is_empty());
+        assert!(rt; answer.len() < 10_000);
+        assert!(rt; is_refused(rt.alloc(), 1, answer, halt)?);
+        assert!(rt; is_refused(rt.alloc(), 2, answer, halt)?);
     }
     Ok(())
 }
