@@ -2,7 +2,7 @@
 use Rattle.std.proofs.Common.{◌≡◌, ◌≢◌, ◌∙◌, ◌<◌, ◌⊎◌, ℕ, List, ◌++◌, length, refl, ap, subst, inl, inr}
 use Rattle.std.proofs.lemmas.Bool.{cases_lt}
 use Rattle.std.proofs.lemmas.List.{take-append-le}
-use Rattle.ntrip_client.specs.Answer.{Said, IsLineHead, IsResponse, GoesOn}
+use Rattle.ntrip_client.specs.Answer.{Said, IsLineHead, IsResponse, HeadGoesOn}
 use Rattle.ntrip_client.proofs.OnceLemmas.{not_open, not_long, open_or_long, heads_once, head_stays, long_stays}
 use Rattle.session_core.specs.Headings.{Heading, incomplete, too_long, whole, answered, IsAnswering}
 use Rattle.session_core.proofs.HeadingLemmas.{said_from}
@@ -32,7 +32,7 @@ answering_stays bytes more (whole at answer) not x = absurd x
 answering_stays bytes more (answered at said) not x = head_stays bytes more at said x
 
 -- a head that is open: what more bytes say is not said yet
-few_while_open : (bytes more : List ℕ) → GoesOn bytes → length bytes < 8192
+few_while_open : (bytes more : List ℕ) → HeadGoesOn bytes → length bytes < 8192
 few_while_open bytes more (inl (free, few)) = few
 few_while_open bytes more (inr (http, goes)) = goes.room
 

@@ -6,7 +6,7 @@ use Rattle.ntrip_head.specs.declared.fault.HeadFault.{HeadFault}
 use Rattle.ntrip_head.specs.declared.request.Request.{Request}
 use Rattle.ntrip_head.specs.Head.{IsOpen, IsHead, IsLong}
 use Rattle.ntrip_head.specs.Answer.{HeadAnswer}
-use Rattle.ntrip_client.specs.Answer.{Said, HasHead, GoesOn, IsTooLong}
+use Rattle.ntrip_client.specs.Answer.{Said, HasHead, HeadGoesOn, IsTooLong}
 
 pub data Heading : Type 0 where
   -- no head is whole yet, or none is awaited
@@ -28,7 +28,7 @@ IsHeading bytes (answered at said) = ⊥
 
 -- and those of another caster
 abbrev pub IsAnswering : List ℕ → Heading → Type 0
-IsAnswering bytes incomplete = GoesOn bytes
+IsAnswering bytes incomplete = HeadGoesOn bytes
 IsAnswering bytes too_long = IsTooLong bytes
 IsAnswering bytes (whole at answer) = ⊥
 IsAnswering bytes (answered at said) = HasHead bytes at said
