@@ -205,6 +205,7 @@ impl RoverSession {
         ensures same { SamePlaces T.shape T.speaks T.may_lack T.alone T.home places.old places.new }
         ensures worn { AllLater (map T.worn places.old) (map T.worn places.new) }
         ensures admission { SameAdmission (rover_of self.old) (rover_of self.new) }
+        ensures halt { (rover_of self.new).halt ≡ (rover_of self.old).halt }
         ensures read { OnOk result
             ((first : Option Position) (bytes : List ℕ) (steps : List Step)
             → Stands (rover_of self.old) first bytes steps
@@ -249,11 +250,25 @@ impl RoverSession {
         Ok(taken)
     }
 
+    /// The version of NTRIP in which it is served.
+    pub fn version(&self) -> Version
+        ensures { result ≡ (rover_of self.now).version }
+    {
+        self.admitted.version
+    }
+
     /// The segments, in the order of their joins.
     pub fn segments(&self) -> &[Segment]
         ensures { reverse result.now ≡ (rover_of self.now).segments }
     {
         self.segments.as_slice()
+    }
+
+    /// The segments, in the order of their joins, of a session that is over.
+    pub fn into_segments(self) -> Vec<Segment>
+        ensures { reverse result.items ≡ (rover_of self).segments }
+    {
+        self.segments
     }
 
     /// The frames sent in all segments; 2^64 - 1 in place of a greater sum.
