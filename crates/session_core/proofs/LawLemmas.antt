@@ -35,13 +35,13 @@ of_stays (bare_rover mount) bytes more a not x = x
 -- ---- what was said
 
 -- these say something
-long_says : too_long ≢ incomplete
+pub long_says : too_long ≢ incomplete
 long_says e = absurd cc
 
-whole_says : (at : ℕ) (answer : Result Request HeadFault) → whole at answer ≢ incomplete
+pub whole_says : (at : ℕ) (answer : Result Request HeadFault) → whole at answer ≢ incomplete
 whole_says at answer e = absurd cc
 
-answered_says : (at : ℕ) (said : Said) → answered at said ≢ incomplete
+pub answered_says : (at : ℕ) (said : Said) → answered at said ≢ incomplete
 answered_says at said e = absurd cc
 
 -- of a heading that says something already, and of one that does not yet

@@ -8,3 +8,12 @@ pub mod Run
 pub mod Reports
 pub mod Text
 pub mod Promises
+pub mod Published
+pub mod Entries
+pub mod Called
+pub mod Standing
+pub mod Feeding
+pub mod Closing
+pub mod Beginnings
+pub mod Turned
+pub mod States

@@ -5,11 +5,13 @@ use native.Mathlib.Omega.{arith}
 
 pub loop-i-preserved : goal.loop-i-preserved
 loop-i-preserved c =
-    zip_more mount_line c.args.mounts.now c.args.totals.now c.loop-i.i c.index-mounts-i.result (record { published = 0; claims = 0 })
+    zip_more mount_line c.args.mounts.now c.args.totals.now c.loop-i.i c.index-mounts-i.result
+    (record { published = 0; claims = 0 })
     c.index-mounts-i.result c.index-mounts-i.is (omega (arith, c.loop-i-test.true)) c.requires
     c.args.out.now.items c.loop-i.out.items c.push_mount.new.out.items c.loop-i.invariant c.in_ok-push_mount.ensures
 
 pub returns : goal.returns
 returns c =
-    zip_all mount_line c.args.mounts.now c.args.totals.now c.loop-i.i (omega (arith, c.loop-i-test.false)) c.args.out.now.items
+    zip_all mount_line c.args.mounts.now c.args.totals.now c.loop-i.i (omega
+    (arith, c.loop-i-test.false)) c.args.out.now.items
     c.loop-i.out.items c.loop-i.invariant

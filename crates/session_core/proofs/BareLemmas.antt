@@ -1,0 +1,84 @@
+-- A connection without head and reply.
+use Rattle.std.proofs.Common.{◌≡◌, ◌∙◌, ℕ, Bool, List, [], ◌++◌, refl, sym, subst, inl, inr, Option, None, Some}
+use Rattle.std.specs.Prelude.{IfNone}
+use Rattle.std.proofs.lemmas.List.{append-nil}
+use Rattle.ntrip_head.specs.declared.request.Version.{Version}
+use Rattle.ntrip_reply.specs.declared.kind.Reply.{Reply}
+use Rattle.cast_config.specs.declared.config.Config.{Config}
+use Rattle.session_core.specs.declared.ending.Bare.{Bare}
+use Rattle.session_core.specs.declared.ending.Bare.TheVariants as bare
+use Rattle.session_core.specs.declared.session.Session.{Session}
+use Rattle.session_core.specs.Headings.{incomplete}
+use Rattle.session_core.specs.Judged.{judged}
+use Rattle.session_core.specs.Replies.{opening_text, text_if}
+use Rattle.session_core.specs.Run.{Histories}
+use Rattle.session_core.specs.Called.{Called}
+use Rattle.session_core.specs.Beginnings.{bare_opening}
+use Rattle.session_core.specs.Standing.{Begins, BeginsFor, Fed, IsSentBy, Stands, due_by, is_halted}
+use Rattle.session_core.proofs.CloseLemmas.{called_none}
+
+-- what is sent to nobody
+pub untold : (version : Option Version) (with : Reply) (before after : List ℕ) → after ≡ before ++ text_if version with []
+    → IfNone version (after ≡ before)
+untold None with before after is = is ∙ append-nil before
+untold (Some version) with before after is = tt
+
+nothing_added : (added after : List ℕ) → after ≡ [] ++ added → after ≡ [] → added ≡ []
+nothing_added added after out none = sym out ∙ none
+
+stands_bare : (c : Config) (alone : Bool) (old now : Histories) (role : Bare) (name : List ℕ) (session : Session)
+    (after : List ℕ)
+    (b : Begins c alone old now session.me (judged c (bare_opening role name) incomplete []) session.stage session.ended
+    [] after) → b.added ≡ []
+    → Stands c session (bare_opening role name) [] b.more now []
+stands_bare c alone old now bare.Source name session after b none = record {
+  heading = incomplete;
+  is_heading = refl;
+  owes = b.owes;
+  ends = b.ends;
+  stage = b.stage_is (bare_opening bare.Source name) [];
+  halts = b.halts;
+  sent_is = subst (λ (l : List ℕ). IsSentBy (is_halted session.ended) l (due_by c now
+      (judged c (bare_opening bare.Source name) incomplete []) b.more)) none b.sent_is;
+}
+stands_bare c alone old now bare.Rover name session after b none = record {
+  heading = incomplete;
+  is_heading = refl;
+  owes = b.owes;
+  ends = b.ends;
+  stage = b.stage_is (bare_opening bare.Rover name) [];
+  halts = b.halts;
+  sent_is = subst (λ (l : List ℕ). IsSentBy (is_halted session.ended) l (due_by c now
+      (judged c (bare_opening bare.Rover name) incomplete []) b.more)) none b.sent_is;
+}
+
+unsent_bare : (c : Config) (role : Bare) (name : List ℕ) → [] ≡ opening_text c (bare_opening role name)
+unsent_bare c bare.Source name = refl
+unsent_bare c bare.Rover name = refl
+
+pub bare_begun : (c : Config) (alone : Bool) (old now : Histories) (role : Bare) (name : List ℕ) (session : Session)
+    (after : List ℕ)
+    → BeginsFor c alone old now session.me (judged c (bare_opening role name) incomplete []) session.stage session.ended
+    [] after → after ≡ [] → Fed c alone old now session (bare_opening role name) [] [] [] [] []
+bare_begun c alone old now role name session after (inl b) none =
+    let added : b.added ≡ [] = nothing_added b.added after b.out none in
+    record {
+      more = b.more;
+      added = [];
+      out = refl;
+      called = b.called;
+      stands = inl (stands_bare c alone old now role name session after b added);
+    }
+bare_begun c alone old now role name session after (inr lost) none = record {
+  more = [];
+  added = [];
+  out = refl;
+  called = subst (λ (h : Histories). Called c alone old h session.me []) (sym lost.uncalled)
+      (called_none c alone old session.me);
+  stands = inr (record {
+    ended = lost.ended_is;
+    stage = lost.stage_is;
+    uncalled = refl;
+    unsent = unsent_bare c role name;
+  });
+}

@@ -1,0 +1,156 @@
+-- A connection is closed.
+use Rattle.std.proofs.Common.{◌≡◌, ◌∙◌, ℕ, Bool, List, [], length, refl, sym, ap, subst, inl, inr, Option, None, Some, Result, Ok, Err}
+use Rattle.std.specs.Prelude.{reverse, unwrap_or, OnOk, OnErr, is_ok}
+use Rattle.turn_log.specs.declared.place.TurnFault.{TurnFault}
+use Rattle.mount_ring.specs.declared.shape.RingShape.{RingShape}
+use Rattle.session_calls.specs.Steps.{Step}
+use Rattle.session_calls.specs.Plans.{Plan, IsMade}
+use Rattle.rover_session.specs.Made.{segments_after, sent_in, overrun_in}
+use Rattle.cast_config.specs.declared.config.Config.{Config}
+use Rattle.session_core.specs.declared.ending.Ending.{Ending}
+use Rattle.session_core.specs.declared.ending.Last.{Last}
+use Rattle.session_core.specs.declared.report.Receipt.{Receipt}
+use Rattle.session_core.specs.declared.session.Session.{Session}
+use Rattle.session_core.specs.declared.stage.Stage.{Stage}
+use Rattle.session_core.specs.Setting.{caps, shapes}
+use Rattle.session_core.specs.Headings.{Heading}
+use Rattle.session_core.specs.Judged.{Opening, Judged, judged}
+use Rattle.session_core.specs.Owed.{received, closing}
+use Rattle.session_core.specs.Endings.{ended_last}
+use Rattle.session_core.specs.Reports.{IsHeadingOf, junk_of, is_entered}
+use Rattle.session_core.specs.Run.{Histories}
+use Rattle.session_core.specs.Called.{Called, OthersCalled}
+use Rattle.session_core.specs.Standing.{IsLost, StandsFor, Follows, IsSettled, IsReceipt, IsClosed, IsAtStage}
+use Rattle.session_core.specs.Closing.{closing_at, received_at, segments_at, IsJunkAt, IsHeldBy, Makes}
+use Rattle.session_core.proofs.LawLemmas.{one_of}
+use Rattle.session_core.proofs.HeldLemmas.{held_at, length_shapes}
+use Rattle.session_core.proofs.CloseLemmas.{called_none}
+use Rattle.session_core.proofs.ClosingLemmas.{closing_unasked, junk_unasked}
+use Rattle.session_core.proofs.ReceiptLemmas.{closing_is, ending_is, receipt_is, IsTold, no_junk}
+
+-- ---- what it holds
+
+held_if : (c : Config) (session : Session) (o : Opening) (text : List ℕ) (steps : List Step) (h now : Histories)
+    (sent : List ℕ) → length now.rings ≡ length c.mount → StandsFor c session o text steps h sent
+    → OthersCalled h now session.me → IsHeldBy (caps c) session.me now session.stage
+held_if c session o text steps h now sent long (inl stands) others =
+    held_at c session.me h now o (judged c o stands.heading text) text steps session.stage stands.stage long others
+held_if c session o text steps h now sent long (inr lost) others =
+    subst (IsHeldBy (caps c) session.me now) (sym lost.stage) tt
+
+pub held_by : (c : Config) (session : Session) (now : Histories) (given : List RingShape) (caps_given : List ℕ)
+    → length now.rings ≡ length given → given ≡ shapes c → caps_given ≡ caps c → Follows c session now 0
+    → IsHeldBy caps_given session.me now session.stage
+held_by c session now given caps_given long shaped capped (o, text, steps, h, sent, stands, others, few) =
+    subst (λ (l : List ℕ). IsHeldBy l session.me now session.stage) (sym capped)
+    (held_if c session o text steps h now sent (long ∙ ap length shaped ∙ length_shapes c) stands others)
+
+-- ---- its turn
+
+is_closed : (c : Config) (alone : Bool) (old now : Histories) (me : ℕ) (ended : Option Ending) (j : Judged)
+    (steps : List Step)
+    (plan : Plan) (last : Last) (receipt : Receipt) (settled : Result (Unit {0}) TurnFault)
+    → closing j steps ≡ plan → receipt.settled ≡ is_ok settled
+    → OnOk settled (Makes c alone old now me plan) → OnErr settled (now ≡ old)
+    → IsReceipt ended j steps last receipt → IsClosed c alone old now me ended j steps last receipt
+is_closed c alone old now me ended j steps plan last receipt (Ok x) due settled makes same told = record {
+  more = makes.more;
+  called = makes.called;
+  settled = subst (λ (b : Bool). IsSettled b (closing j steps) makes.more) (sym settled)
+      (subst (λ (p : Plan). IsMade p makes.more) (sym due) makes.made);
+  receipt_is = told;
+}
+is_closed c alone old now me ended j steps plan last receipt (Err fault) due settled makes same told = record {
+  more = [];
+  called = subst (λ (h : Histories). Called c alone old h me []) (sym same) (called_none c alone old me);
+  settled = subst (λ (b : Bool). IsSettled b (closing j steps) []) (sym settled) refl;
+  receipt_is = told;
+}
+
+-- ---- what is told
+
+lost_told : (c : Config) (session : Session) (o : Opening) (j : Judged) (steps : List Step) (sent : List ℕ)
+    (last : Last) (receipt : Receipt)
+    → IsLost c session o steps sent
+    → receipt.ending ≡ unwrap_or session.ended (ended_last last (received_at session.stage))
+    → receipt.segments ≡ reverse (segments_at session.stage)
+    → receipt.sent ≡ sent_in (segments_at session.stage) → receipt.overrun ≡ overrun_in (segments_at session.stage)
+    → IsJunkAt session.stage receipt.junk → receipt.entered ≡ is_entered (received_at session.stage)
+    → IsReceipt session.ended j steps last receipt
+lost_told c session o j steps sent last receipt lost ending segments sent_is overrun junk inside =
+    let none : segments_at session.stage ≡ segments_after [] steps =
+    ap segments_at lost.stage ∙ ap (segments_after []) (sym lost.uncalled) in
+    let told : IsTold session.ended receipt.junk (junk_of j (received steps)) =
+    no_junk session.ended receipt.junk (junk_of j (received steps))
+    (subst (λ (stage : Stage). IsJunkAt stage receipt.junk) lost.stage junk)
+    (ap (λ (s : List Step). junk_of j (received s)) lost.uncalled ∙ junk_unasked j) in
+    record {
+      ending = ending_is session.ended last steps session.stage receipt.ending
+          (λ unended. absurd (not_both (sym lost.ended ∙ unended))) ending;
+      segments = segments ∙ ap reverse none;
+      sent = sent_is ∙ ap sent_in none;
+      overrun = overrun ∙ ap overrun_in none;
+      junk = told.0;
+      at_most = told.1;
+      entered = inside ∙ ap (λ (stage : Stage). is_entered (received_at stage)) lost.stage
+          ∙ ap (λ (s : List Step). is_entered (received s)) (sym lost.uncalled);
+    } where
+      not_both : {end : Ending} → Some end ≡ None → ⊥
+      not_both e = cc
+
+-- ---- the whole
+
+pub closed_by : (c : Config) (alone : Bool) (now after : Histories) (session : Session) (o : Opening)
+    (heading : Heading) (text : List ℕ)
+    (steps : List Step) (h : Histories) (sent : List ℕ) (last : Last) (receipt : Receipt) (settled : Result
+    (Unit {0}) TurnFault)
+    → IsHeadingOf (Some o) text heading → StandsFor c session o text steps h sent
+    → OnOk settled (Makes c alone now after session.me (closing_at session.stage)) → OnErr settled (after ≡ now)
+    → receipt.settled ≡ is_ok settled
+    → receipt.ending ≡ unwrap_or session.ended (ended_last last (received_at session.stage))
+    → receipt.segments ≡ reverse (segments_at session.stage)
+    → receipt.sent ≡ sent_in (segments_at session.stage) → receipt.overrun ≡ overrun_in (segments_at session.stage)
+    → IsJunkAt session.stage receipt.junk → receipt.entered ≡ is_entered (received_at session.stage)
+    → IsClosed c alone now after session.me session.ended (judged c o heading text) steps last receipt
+closed_by c alone now after session o heading text steps h sent last receipt settled is
+    (inl stands) makes same settled_is ending segments sent_is overrun junk inside =
+    let at : IsAtStage c session.me h o (judged c o heading text) text steps session.stage =
+    subst (λ (other : Heading). IsAtStage c session.me h o (judged c o other text) text steps session.stage)
+    (one_of (Some o) text stands.heading heading stands.is_heading is) stands.stage in
+    is_closed c alone now after session.me session.ended (judged c o heading text) steps
+    (closing_at session.stage) last receipt settled
+    (closing_is c session.me h o heading text steps session.stage is at) settled_is makes same
+    (receipt_is c session.me h session.ended o heading text steps session.stage last receipt is at stands.halts
+    ending segments sent_is overrun junk inside)
+closed_by c alone now after session o heading text steps h sent last receipt settled is
+    (inr lost) makes same settled_is ending segments sent_is overrun junk inside =
+    is_closed c alone now after session.me session.ended (judged c o heading text) steps
+    (closing_at session.stage) last receipt settled
+    (ap (λ (s : List Step). closing (judged c o heading text) s) lost.uncalled
+    ∙ closing_unasked (judged c o heading text) [] ∙ sym (ap closing_at lost.stage)) settled_is makes same
+    (lost_told c session o (judged c o heading text) steps sent last receipt lost ending segments sent_is overrun junk
+    inside)
+
+-- by a stage that its turn left as it was
+pub closed_at : (c : Config) (alone : Bool) (now after : Histories) (session : Session) (stage : Stage) (o : Opening)
+    (heading : Heading)
+    (text : List ℕ) (steps : List Step) (h : Histories) (sent : List ℕ) (last : Last) (receipt : Receipt)
+    (settled : Result (Unit {0}) TurnFault)
+    → stage ≡ session.stage → IsHeadingOf (Some o) text heading → StandsFor c session o text steps h sent
+    → OnOk settled (Makes c alone now after session.me (closing_at session.stage)) → OnErr settled (after ≡ now)
+    → receipt.settled ≡ is_ok settled
+    → receipt.ending ≡ unwrap_or session.ended (ended_last last (received_at stage))
+    → receipt.segments ≡ reverse (segments_at stage)
+    → receipt.sent ≡ sent_in (segments_at stage) → receipt.overrun ≡ overrun_in (segments_at stage)
+    → IsJunkAt stage receipt.junk → receipt.entered ≡ is_entered (received_at stage)
+    → IsClosed c alone now after session.me session.ended (judged c o heading text) steps last receipt
+closed_at c alone now after session stage o heading text steps h sent last receipt settled still is stands makes same
+    settled_is
+    ending segments sent_is overrun junk inside =
+    closed_by c alone now after session o heading text steps h sent last receipt settled is stands makes same settled_is
+    (subst (λ (s : Stage). receipt.ending ≡ unwrap_or session.ended (ended_last last (received_at s))) still ending)
+    (subst (λ (s : Stage). receipt.segments ≡ reverse (segments_at s)) still segments)
+    (subst (λ (s : Stage). receipt.sent ≡ sent_in (segments_at s)) still sent_is)
+    (subst (λ (s : Stage). receipt.overrun ≡ overrun_in (segments_at s)) still overrun)
+    (subst (λ (s : Stage). IsJunkAt s receipt.junk) still junk)
+    (subst (λ (s : Stage). receipt.entered ≡ is_entered (received_at s)) still inside)

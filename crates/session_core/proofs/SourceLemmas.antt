@@ -1,0 +1,175 @@
+-- A source at one of several places.
+use Rattle.std.proofs.Common.{◌≡◌, ◌∙◌, ◌<◌, ◌≤◌, ℕ, Bool, true, false, List, [], ◌∷◌, length, map, get_or, set, refl, sym, ap, subst, arith, Result, Ok, Err, Option, None, Some}
+use Rattle.std.specs.Prelude.{IfErr, OnOk, ◌^◌}
+use Rattle.std.specs.List.{list_all}
+use Rattle.std.proofs.lemmas.List.{get_or-map, get_or-set_same, length-map, length-set}
+use Rattle.turn_log.specs.History.{History}
+use Rattle.turn_log.specs.Heard.{Heard, HeardFirst}
+use Rattle.turn_log.specs.Faults.{IsFault}
+use Rattle.turn_log.specs.declared.place.TurnFault.{TurnFault}
+use Rattle.turn_log.specs.declared.place.TurnFault.TheVariants as turns
+use Rattle.mount_ring.specs.declared.call.RingCall.{RingCall}
+use Rattle.mount_ring.specs.declared.call.RingCall.TheVariants.{Claim}
+use Rattle.mount_ring.specs.declared.call.RingAnswer.{RingAnswer}
+use Rattle.mount_ring.specs.declared.call.RingAnswer.TheVariants as answers
+use Rattle.mount_ring.specs.declared.shape.RingShape.{RingShape}
+use Rattle.session_calls.specs.Rings.{Went}
+use Rattle.session_calls.proofs.PlaceLemmas.{kept_by_one, ring_answer, went_turn}
+use Rattle.session_calls.proofs.WentLemmas.{went_none}
+use Rattle.source_session.specs.Calls.{publishes, HeardAll, HeardUntil, IsUnclaimed}
+use Rattle.source_session.specs.Refusals.{IsClaimFault, IsHaltOf}
+use Rattle.source_session.specs.Standing.{is_cut_short}
+use Rattle.source_session.specs.declared.fault.ClaimFault.{ClaimFault}
+use Rattle.source_session.specs.declared.fault.ClaimFault.TheVariants as claims
+use Rattle.source_session.specs.declared.fault.SourceHalt.{SourceHalt}
+use Rattle.source_session.specs.declared.fault.SourceHalt.TheVariants as sources
+use Rattle.upstream_relay.proofs.StepLemmas.{steps_of, on_ring_of, pairs_made, pairs_begun}
+use Rattle.session_core.specs.Published.{Published, steps_unclaimed, IsWornBy, IsClaimRefused, IsFeedRefused, IsTurnRefused}
+use Rattle.session_core.proofs.PlacedLemmas.{IsAt, went_calls, at_none, at_more}
+
+-- ---- steps of pairs
+
+pub steps_at : (mount : ℕ) (pairs : List (RingCall × RingAnswer)) → IsAt mount (steps_of mount pairs)
+steps_at mount [] = at_none mount
+steps_at mount (p ∷ pairs) = at_more mount mount p.0 p.1 (steps_of mount pairs) refl (steps_at mount pairs)
+
+-- ---- refusals
+
+pub worn_there : {P : Type 0} (worn : P → ℕ) (places : List P) (mount : ℕ) (new : P) (given : ℕ) → mount < length places
+    → worn new ≡ given → 2 ^ 62 ≤ given → IsWornBy (map worn (set places mount new)) given
+worn_there worn places mount new given within is most =
+    let long : length (set places mount new) ≡ length places = length-set places mount new in (
+      (
+        mount,
+        omega (arith, within, long, length-map (set places mount new) worn),
+        get_or-map worn (set places mount new) mount new given (omega (arith, within, long))
+            ∙ ap worn (get_or-set_same places mount new new within) ∙ is,
+      ),
+      most,
+    )
+
+pub turn_refused_at : {P : Type 0} (may_lack : Bool) (worn : P → ℕ) (places : List P) (mount : ℕ) (new : P)
+    (fault : TurnFault) → mount < length places → IsFault may_lack (worn new) fault
+    → IsTurnRefused (map worn (set places mount new)) fault
+turn_refused_at may_lack worn places mount new (turns.Worn given) within is = worn_there worn places mount new given
+    within is.0 is.1
+turn_refused_at may_lack worn places mount new turns.Memory within is = tt
+
+pub claim_refused_at : {P : Type 0} (may_lack : Bool) (worn : P → ℕ) (places : List P) (mount : ℕ) (new : P)
+    (fault : ClaimFault) → mount < length places → IsClaimFault may_lack (worn new) fault
+    → IsClaimRefused (map worn (set places mount new)) fault
+claim_refused_at may_lack worn places mount new (claims.Taken caller claim) within is = tt
+claim_refused_at may_lack worn places mount new (claims.Worn given) within is = worn_there worn places mount new given
+    within is.0 is.1
+claim_refused_at may_lack worn places mount new claims.Memory within is = tt
+
+pub feed_refused_at : {P : Type 0} (may_lack : Bool) (worn : P → ℕ) (places : List P) (mount : ℕ) (new : P)
+    (halt : SourceHalt) → mount < length places → IsHaltOf may_lack (worn new) halt
+    → IsFeedRefused (map worn (set places mount new)) halt
+feed_refused_at may_lack worn places mount new sources.Done within is = tt
+feed_refused_at may_lack worn places mount new (sources.BadChunk place) within is = tt
+feed_refused_at may_lack worn places mount new (sources.Worn given) within is = worn_there worn places mount new given
+    within is.0 is.1
+feed_refused_at may_lack worn places mount new sources.Memory within is = tt
+
+-- ---- a claim that was not given
+
+pub unclaimed_at : {P : Type 0} (shape : P → RingShape) (alone : P → Bool) (seen : P
+    → History RingCall) (places : List P)
+    (mount : ℕ) (d new : P) (me : ℕ) (fault : ClaimFault) → mount < length places
+    → IsUnclaimed fault (alone (get_or places mount d)) (ring_answer (shape (get_or places mount d)))
+    (seen (get_or places mount d)) (seen new) me
+    → Went (map shape places) (list_all alone places) (map seen places) (map seen (set places mount new)) me
+    (steps_unclaimed mount fault)
+unclaimed_at shape alone seen places mount d new me (claims.Taken caller claim) within heard =
+    went_turn shape alone seen places mount d new me Claim (answers.Taken caller claim) within heard
+unclaimed_at shape alone seen places mount d new me (claims.Worn given) within same =
+    subst (λ (now : List (History RingCall)). Went (map shape places) (list_all alone places)
+    (map seen places) now me [])
+    (sym (kept_by_one seen places mount d new same)) (went_none (map shape places) (list_all alone places)
+    (map seen places) me)
+unclaimed_at shape alone seen places mount d new me claims.Memory within same =
+    subst (λ (now : List (History RingCall)). Went (map shape places) (list_all alone places)
+    (map seen places) now me [])
+    (sym (kept_by_one seen places mount d new same)) (went_none (map shape places) (list_all alone places)
+    (map seen places) me)
+
+-- ---- frames that were published
+
+went_pairs : {P : Type 0} (shape : P → RingShape) (alone : P → Bool) (seen : P → History RingCall) (places : List P)
+    (mount : ℕ) (d new : P) (me : ℕ) (pairs : List (RingCall × RingAnswer)) → mount < length places
+    → Heard (alone (get_or places mount d)) (ring_answer (shape (get_or places mount d)))
+    (seen (get_or places mount d)) (seen new) me pairs
+    → Went (map shape places) (list_all alone places) (map seen places) (map seen (set places mount new)) me
+    (steps_of mount pairs)
+went_pairs shape alone seen places mount d new me pairs within heard =
+    went_calls shape alone seen places mount d new me (steps_of mount pairs) within (steps_at mount pairs)
+    (subst (λ (list : List (RingCall × RingAnswer)). Heard (alone (get_or places mount d)) (ring_answer (shape
+    (get_or places mount d)))
+    (seen (get_or places mount d)) (seen new) me list) (sym (on_ring_of mount pairs)) heard)
+
+pub published_all : {P : Type 0} (shape : P → RingShape) (alone : P → Bool) (seen : P
+    → History RingCall) (places : List P)
+    (mount : ℕ) (d new : P) (me claim : ℕ) (frames : List (List ℕ)) → mount < length places
+    → HeardAll (alone (get_or places mount d)) (ring_answer (shape (get_or places mount d)))
+    (seen (get_or places mount d)) (seen new) me (publishes claim frames)
+    → Published (map shape places) (list_all alone places) (map seen places) (map seen
+    (set places mount new)) me mount claim false frames
+published_all shape alone seen places mount d new me claim frames within heard = record {
+  more = steps_of mount heard.pairs;
+  went = went_pairs shape alone seen places mount d new me heard.pairs within heard.heard;
+  made = pairs_made mount claim frames heard.pairs heard.made;
+}
+
+first_published : {P : Type 0} (shape : P → RingShape) (alone : P → Bool) (seen : P
+    → History RingCall) (places : List P)
+    (mount : ℕ) (d new : P) (me claim : ℕ) (frames : List (List ℕ)) → mount < length places
+    → HeardFirst (alone (get_or places mount d)) (ring_answer (shape (get_or places mount d)))
+    (seen (get_or places mount d)) (seen new) me (publishes claim frames)
+    → Published (map shape places) (list_all alone places) (map seen places) (map seen
+    (set places mount new)) me mount claim true frames
+first_published shape alone seen places mount d new me claim frames within heard = record {
+  more = steps_of mount heard.pairs;
+  went = went_pairs shape alone seen places mount d new me heard.pairs within heard.heard;
+  made = pairs_begun mount claim frames heard.pairs heard.unmade heard.split;
+}
+
+pub published_until : {P : Type 0} (shape : P → RingShape) (alone : P → Bool) (seen : P
+    → History RingCall) (places : List P)
+    (mount : ℕ) (d new : P) (me claim : ℕ) (frames : List (List ℕ)) (halt : SourceHalt) → mount < length places
+    → HeardUntil halt (alone (get_or places mount d)) (ring_answer (shape (get_or places mount d)))
+    (seen (get_or places mount d)) (seen new) me (publishes claim frames)
+    → Published (map shape places) (list_all alone places) (map seen places) (map seen
+    (set places mount new)) me mount claim
+    (is_cut_short (Some halt)) frames
+published_until shape alone seen places mount d new me claim frames sources.Done within heard =
+    published_all shape alone seen places mount d new me claim frames within heard
+published_until shape alone seen places mount d new me claim frames (sources.BadChunk place) within heard =
+    published_all shape alone seen places mount d new me claim frames within heard
+published_until shape alone seen places mount d new me claim frames (sources.Worn given) within heard =
+    first_published shape alone seen places mount d new me claim frames within heard
+published_until shape alone seen places mount d new me claim frames sources.Memory within heard =
+    first_published shape alone seen places mount d new me claim frames within heard
+
+-- by what a call answered
+pub published_fed : {P : Type 0} (shape : P → RingShape) (alone : P → Bool) (seen : P
+    → History RingCall) (places : List P)
+    (mount : ℕ) (d new : P) (me claim : ℕ) (frames : List (List ℕ)) (r : Result (Unit {0}) SourceHalt)
+    (halt : Option SourceHalt)
+    → mount < length places
+    → OnOk r (HeardAll (alone (get_or places mount d)) (ring_answer (shape (get_or places mount d)))
+    (seen (get_or places mount d)) (seen new) me (publishes claim frames))
+    → IfErr r (λ why. HeardUntil why (alone (get_or places mount d)) (ring_answer (shape (get_or places mount d)))
+    (seen (get_or places mount d)) (seen new) me (publishes claim frames))
+    → OnOk r (halt ≡ None) → IfErr r (λ why. halt ≡ Some why)
+    → Published (map shape places) (list_all alone places) (map seen places) (map seen
+    (set places mount new)) me mount claim
+    (is_cut_short halt) frames
+published_fed shape alone seen places mount d new me claim frames (Ok x) halt within heard until goes halts =
+    subst (λ (h : Option SourceHalt). Published (map shape places) (list_all alone places) (map seen places)
+    (map seen (set places mount new)) me mount claim (is_cut_short h) frames) (sym goes)
+    (published_all shape alone seen places mount d new me claim frames within heard)
+published_fed shape alone seen places mount d new me claim frames (Err why) halt within heard until goes halts =
+    subst (λ (h : Option SourceHalt). Published (map shape places) (list_all alone places) (map seen places)
+    (map seen (set places mount new)) me mount claim (is_cut_short h) frames) (sym halts)
+    (published_until shape alone seen places mount d new me claim frames why within until)

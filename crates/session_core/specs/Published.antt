@@ -1,0 +1,76 @@
+-- What a source adds at the ring of its mountpoint, one of several.
+use Rattle.std.specs.Prelude.{ℕ, ⊤, ◌^◌, ◌≤◌, Bool, List, [], ◌∷◌, ◌++◌, Contains}
+use Rattle.turn_log.specs.History.{History}
+use Rattle.turn_log.specs.declared.place.TurnFault.{TurnFault}
+use Rattle.turn_log.specs.declared.place.TurnFault.TheVariants as turns
+use Rattle.mount_ring.specs.declared.call.RingCall.{RingCall}
+use Rattle.mount_ring.specs.declared.call.RingCall.TheVariants.{Claim}
+use Rattle.mount_ring.specs.declared.call.RingAnswer.TheVariants as answers
+use Rattle.mount_ring.specs.declared.shape.RingShape.{RingShape}
+use Rattle.session_calls.specs.Steps.{Step, at_ring}
+use Rattle.session_calls.specs.Rings.{Went}
+use Rattle.source_session.specs.declared.fault.ClaimFault.{ClaimFault}
+use Rattle.source_session.specs.declared.fault.ClaimFault.TheVariants as claims
+use Rattle.source_session.specs.declared.fault.SourceHalt.{SourceHalt}
+use Rattle.source_session.specs.declared.fault.SourceHalt.TheVariants as sources
+use Rattle.upstream_relay.specs.declared.fault.RelayHalt.{RelayHalt}
+use Rattle.upstream_relay.specs.declared.fault.RelayHalt.TheVariants as relays
+use Rattle.upstream_relay.specs.declared.session.RelaySession.{RelaySession}
+use Rattle.upstream_relay.specs.Owed.{publishing, IsDone}
+use Rattle.upstream_relay.specs.Standing.{StandsFor}
+
+-- these frames were published under this claim, one call each and nothing else; where a turn was
+-- refused, the first of them
+pub record Published (shapes : List RingShape) (alone : Bool) (old now : List (History RingCall))
+    (me mount claim : ℕ) (refused : Bool) (frames : List (List ℕ)) : Type 0 where
+  pub more : List Step
+  pub went : Went shapes alone old now me more
+  pub made : IsDone refused (publishing mount claim frames) more
+
+-- what was called where a claim was not given
+abbrev pub steps_unclaimed : ℕ → ClaimFault → List Step
+steps_unclaimed mount (claims.Taken caller claim) =
+    at_ring mount Claim (answers.Taken caller claim) ∷ []
+steps_unclaimed mount (claims.Worn given) = []
+steps_unclaimed mount claims.Memory = []
+
+-- ---- refusals: Worn tells by how many turns one of these places is worn; Memory comes only where
+-- a place may lack it
+
+abbrev pub IsWornBy : List ℕ → ℕ → Type 0
+IsWornBy worn given = Contains worn given × (2 ^ 62 ≤ given)
+
+abbrev pub IsClaimRefused : List ℕ → ClaimFault → Type 0
+IsClaimRefused worn (claims.Taken caller claim) = ⊤
+IsClaimRefused worn (claims.Worn given) = IsWornBy worn given
+IsClaimRefused worn claims.Memory = ⊤
+
+abbrev pub IsFeedRefused : List ℕ → SourceHalt → Type 0
+IsFeedRefused worn sources.Done = ⊤
+IsFeedRefused worn (sources.BadChunk place) = ⊤
+IsFeedRefused worn (sources.Worn given) = IsWornBy worn given
+IsFeedRefused worn sources.Memory = ⊤
+
+abbrev pub IsTurnRefused : List ℕ → TurnFault → Type 0
+IsTurnRefused worn (turns.Worn given) = IsWornBy worn given
+IsTurnRefused worn turns.Memory = ⊤
+
+-- what a relay adds where it is fed: its calls at the ring of its mountpoint, with which it stands for
+-- the longer answer
+pub record RelayFed (shapes : List RingShape) (alone : Bool) (old now : List (History RingCall))
+    (me mount : ℕ) (session : RelaySession) (answer : List ℕ) (steps : List Step) : Type 0 where
+  pub more : List Step
+  pub went : Went shapes alone old now me more
+  pub stands : StandsFor mount session answer (steps ++ more)
+
+abbrev pub IsRelayRefused : List ℕ → RelayHalt → Type 0
+IsRelayRefused worn relays.BadHead = ⊤
+IsRelayRefused worn relays.LongHead = ⊤
+IsRelayRefused worn relays.Coding = ⊤
+IsRelayRefused worn relays.Table = ⊤
+IsRelayRefused worn (relays.Status status) = ⊤
+IsRelayRefused worn (relays.Taken caller claim) = ⊤
+IsRelayRefused worn relays.Done = ⊤
+IsRelayRefused worn (relays.BadChunk place) = ⊤
+IsRelayRefused worn (relays.Worn given) = IsWornBy worn given
+IsRelayRefused worn relays.Memory = ⊤

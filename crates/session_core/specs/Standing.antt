@@ -1,0 +1,291 @@
+-- What a session stands for: how its connection opened, the bytes that came in, the calls that were
+-- made, the histories that the last of them left, and the bytes that were sent.
+use Rattle.std.specs.Prelude.{◌≡◌, ◌≢◌, ℕ, ◌+◌, ◌^◌, ◌<◌, ◌≤◌, ◌⊎◌, ⊤, Bool, true, false, IsTrue, List, [], ◌∷◌, ◌++◌, length, reverse, Option, None, Some, unwrap_or, slice_get, is_none}
+use Rattle.caster_accounts.specs.declared.call.BookCall.TheVariants.{Enter}
+use Rattle.caster_accounts.specs.declared.call.BookAnswer.TheVariants.{Entered}
+use Rattle.caster_accounts.specs.History.{may_leave}
+use Rattle.session_calls.specs.Steps.{Step, at_book}
+use Rattle.session_calls.specs.Plans.{Plan, done, IsMade, IsBegun}
+use Rattle.session_calls.specs.Rings.{history_at}
+use Rattle.source_session.specs.declared.session.SourceSession.{SourceSession}
+use Rattle.source_session.specs.Calls.{IsHolding}
+use Rattle.source_session.specs.Standing as source_standing
+use Rattle.upstream_relay.specs.declared.session.RelaySession.{RelaySession}
+use Rattle.upstream_relay.specs.Called.{IsHoldingBy}
+use Rattle.upstream_relay.specs.Standing as relay_standing
+use Rattle.rover_session.specs.declared.session.RoverSession.{RoverSession}
+use Rattle.rover_session.specs.Made.{segments_after, owed_among, sent_in, overrun_in}
+use Rattle.rover_session.specs.Body.{body_of}
+use Rattle.rover_session.specs.Standing.{rover_of, IsResumable}
+use Rattle.rover_session.specs.Standing as rover_standing
+use Rattle.ntrip_head.specs.declared.request.Version.TheVariants.{One}
+use Rattle.ntrip_head.specs.Head.{IsOpen}
+use Rattle.cast_config.specs.declared.config.Config.{Config}
+use Rattle.session_core.specs.declared.ending.Ending.{Ending}
+use Rattle.session_core.specs.declared.ending.Ending.TheVariants.{Memory}
+use Rattle.session_core.specs.declared.ending.Last.{Last}
+use Rattle.session_core.specs.declared.report.Receipt.{Receipt}
+use Rattle.session_core.specs.declared.stage.Stage.{Stage}
+use Rattle.session_core.specs.declared.stage.Stage.TheVariants.{Head, Over, Source, Relay, Rover}
+use Rattle.session_core.specs.declared.session.Session.{Session}
+use Rattle.session_core.specs.Setting.{shapes, caps}
+use Rattle.session_core.specs.Headings.{Heading}
+use Rattle.session_core.specs.Judged.{Opening, sends_head, relays, SourceTerms, RoverTerms, Judged, waiting, source, rover, judged, mount_fed}
+use Rattle.session_core.specs.Owed.{claimed, received, terms_of, plan_of, closing}
+use Rattle.session_core.specs.Endings.{ended_by, ended_last}
+use Rattle.session_core.specs.Replies.{opening_text, reply_of, version_of, kept_frames, sent_by}
+use Rattle.session_core.specs.Reports.{IsHeadingOf, junk_of, is_entered}
+use Rattle.session_core.specs.Run.{Histories}
+use Rattle.session_core.specs.Called.{Called, OthersCalled, is_halt}
+use Rattle.session_core.specs.Beginnings.{ended_joining}
+
+-- ---- halts
+
+-- whether a session was halted by a place or want of memory
+abbrev pub is_halted : Option Ending → Bool
+is_halted None = false
+is_halted (Some end) = is_halt end
+
+-- all of a plan was made, and by a session that was halted the first of it
+abbrev pub IsMadeBy : Bool → Plan → List Step → Type 0
+IsMadeBy false plan steps = IsMade plan steps
+IsMadeBy true plan steps = IsBegun plan steps
+
+-- these bytes, and of a session that was halted the first of them
+abbrev pub IsSentBy : Bool → List ℕ → List ℕ → Type 0
+IsSentBy false sent due = sent ≡ due
+IsSentBy true sent due = (rest : List ℕ) × (due ≡ sent ++ rest)
+
+-- a session that was not halted ended where its connection did by itself
+abbrev pub EndsAs : Option Ending → Option Ending → Type 0
+EndsAs ended by = IsTrue (is_halted ended) ⊎ (ended ≡ by)
+
+-- ---- stages
+
+-- nothing is to be closed, and there is nothing to tell
+pub record IsOver (judged : Judged) (steps : List Step) : Type 0 where
+  pub known : judged ≢ waiting
+  pub closed : closing judged steps ≡ done
+  pub segments : segments_after [] steps ≡ []
+  pub junk : junk_of judged (received steps) ≡ 0
+  pub outside : is_entered (received steps) ≡ false
+  pub no_read : owed_among steps ≡ steps
+
+-- a source that was given its claim
+pub record IsSource (c : Config) (me : ℕ) (histories : Histories) (judged : Judged)
+    (steps : List Step) (mount : ℕ) (session : SourceSession) : Type 0 where
+  pub terms : SourceTerms
+  pub body : List ℕ
+  pub judged_is : judged ≡ source terms body
+  pub mount_is : terms.mount ≡ mount
+  pub within : mount < length c.mount
+  pub caller : session.me ≡ me
+  pub stands : source_standing.StandsFor session body
+  pub chunked : source_standing.is_chunked session ≡ terms.chunked
+  pub claim : received steps ≡ claimed session.claim
+  pub holds : IsHolding me session.claim (history_at histories.rings mount)
+  pub no_read : owed_among steps ≡ steps
+  pub segments : segments_after [] steps ≡ []
+
+-- a relay, whatever the other caster answered so far
+pub record IsRelay (c : Config) (me : ℕ) (histories : Histories) (opening : Opening)
+    (text : List ℕ) (steps : List Step) (mount : ℕ) (session : RelaySession) : Type 0 where
+  pub number : ℕ
+  pub opens : opening ≡ relays number
+  pub mount_is : mount_fed (slice_get c.relay number) ≡ mount
+  pub within : mount < length c.mount
+  pub caller : session.me ≡ me
+  pub stands : relay_standing.StandsFor mount session text steps
+  pub segments : segments_after [] steps ≡ []
+  pub holds : IsHoldingBy me (relay_standing.claim_at session.stage)
+      (history_at histories.rings mount)
+
+-- a relay of this mountpoint before the first byte of the answer
+abbrev pub IsNewRelay : ℕ → ℕ → Stage → Type 0
+IsNewRelay me mount (Head head) = ⊥
+IsNewRelay me mount Over = ⊥
+IsNewRelay me mount (Source at session) = ⊥
+IsNewRelay me mount (Relay at session) =
+    (at ≡ mount) × (session.me ≡ me) × (relay_standing.claim_at session.stage ≡ None)
+    × (relay_standing.halt_at session.stage ≡ None)
+    × relay_standing.StandsFor mount session [] []
+IsNewRelay me mount (Rover account session) = ⊥
+
+-- a rover that entered its account
+pub record IsRover (c : Config) (me : ℕ) (histories : Histories) (judged : Judged)
+    (steps : List Step) (account : ℕ) (session : RoverSession) : Type 0 where
+  pub terms : RoverTerms
+  pub tail : List ℕ
+  pub behind : List Step
+  pub judged_is : judged ≡ rover terms tail
+  pub account_is : terms.admission.account ≡ account
+  pub steps_are : steps ≡ at_book (Enter account) Entered ∷ behind
+  pub caller : (rover_of session).me ≡ me
+  pub admitted : (rover_of session).terms ≡ terms_of c terms.admission
+  pub version : (rover_of session).version ≡ unwrap_or terms.version One
+  pub stands : rover_standing.Stands (rover_of session) terms.first tail behind
+  pub resumes : IsResumable (shapes c) me histories.rings (rover_of session).segments
+  pub inside : IsTrue (may_leave (caps c) histories.book me account)
+
+abbrev pub IsAtStage : Config → ℕ → Histories → Opening → Judged → List ℕ → List Step → Stage
+    → Type 0
+IsAtStage c me h opening j text steps (Head head) =
+    (opening ≡ sends_head) × (head ≡ text) × (steps ≡ []) × IsOpen head
+IsAtStage c me h opening j text steps Over = IsOver j steps
+IsAtStage c me h opening j text steps (Source mount session) = IsSource c me h j steps mount session
+IsAtStage c me h opening j text steps (Relay mount session) =
+    IsRelay c me h opening text steps mount session
+IsAtStage c me h opening j text steps (Rover account session) =
+    IsRover c me h j steps account session
+
+-- ---- halts of stages
+
+-- what comes is taken
+abbrev pub is_going : Stage → Bool
+is_going (Head head) = true
+is_going Over = false
+is_going (Source mount session) = is_none session.halt
+is_going (Relay mount session) = is_none (relay_standing.halt_at session.stage)
+is_going (Rover account session) = is_none (rover_of session).halt
+
+-- a turn of a source or of a relay was refused
+abbrev pub is_refused_at : Stage → Bool
+is_refused_at (Head head) = false
+is_refused_at Over = false
+is_refused_at (Source mount session) = source_standing.is_cut_short session.halt
+is_refused_at (Relay mount session) = relay_standing.is_short_at session.stage
+is_refused_at (Rover account session) = false
+
+-- a session that has not ended is halted nowhere, and one whose turn was refused has ended by that
+pub record EndsAt (stage : Stage) (ended : Option Ending) : Type 0 where
+  pub goes : ended ≡ None → IsTrue (is_going stage)
+  pub refused : IsTrue (is_refused_at stage) → IsTrue (is_halted ended)
+
+-- ---- the whole
+
+pub record Stands (c : Config) (session : Session) (opening : Opening) (text : List ℕ)
+    (steps : List Step) (histories : Histories) (sent : List ℕ) : Type 0 where
+  pub heading : Heading
+  pub is_heading : IsHeadingOf (Some opening) text heading
+  pub owes : IsMadeBy (is_halted session.ended) (plan_of c (judged c opening heading text))
+      (owed_among steps)
+  pub ends : EndsAs session.ended (ended_by (judged c opening heading text) (received steps))
+  pub stage : IsAtStage c session.me histories opening (judged c opening heading text) text steps
+      session.stage
+  pub halts : EndsAt session.stage session.ended
+  pub sent_is : IsSentBy (is_halted session.ended) sent
+      (sent_by c histories.rings opening (judged c opening heading text) (received steps)
+      (reverse (segments_after [] steps)))
+
+-- memory was lacking before anything was called or replied
+pub record IsLost (c : Config) (session : Session) (opening : Opening) (steps : List Step)
+    (sent : List ℕ) : Type 0 where
+  pub ended : session.ended ≡ Some Memory
+  pub stage : session.stage ≡ Over
+  pub uncalled : steps ≡ []
+  pub unsent : sent ≡ opening_text c opening
+
+abbrev pub StandsFor : Config → Session → Opening → List ℕ → List Step → Histories → List ℕ
+    → Type 0
+StandsFor c session opening text steps histories sent =
+    Stands c session opening text steps histories sent ⊎ IsLost c session opening steps sent
+
+-- ---- what calls make of it
+
+-- the session stands for something, others alone called since, and so many more bytes may come
+abbrev pub Follows : Config → Session → Histories → ℕ → Type 0
+Follows c session now more =
+    (opening : Opening) × (text : List ℕ) × (steps : List Step) × (histories : Histories)
+    × (sent : List ℕ) × StandsFor c session opening text steps histories sent
+    × OthersCalled histories now session.me × (length text + more < 2 ^ 63)
+
+-- A call made further steps and sent further bytes, and the session stands with them for this text.
+pub record Fed (c : Config) (alone : Bool) (old now : Histories) (session : Session)
+    (opening : Opening) (text : List ℕ) (steps : List Step) (sent before after : List ℕ)
+    : Type 0 where
+  pub more : List Step
+  pub added : List ℕ
+  pub out : after ≡ before ++ added
+  pub called : Called c alone old now session.me more
+  pub stands : StandsFor c session opening text (steps ++ more) now (sent ++ added)
+
+-- what is sent of a connection that is so judged, behind its opening
+abbrev pub due_by : Config → Histories → Judged → List Step → List ℕ
+due_by c histories j steps =
+    reply_of c j (received steps)
+    ++ body_of (unwrap_or (version_of j) One)
+    (kept_frames c histories.rings (reverse (segments_after [] steps)))
+
+-- A connection that is so judged was begun: it made what it owes and was sent its reply.
+pub record Begins (c : Config) (alone : Bool) (old now : Histories) (me : ℕ) (j : Judged)
+    (stage : Stage) (ended : Option Ending) (before after : List ℕ) : Type 0 where
+  pub more : List Step
+  pub added : List ℕ
+  pub out : after ≡ before ++ added
+  pub called : Called c alone old now me more
+  pub owes : IsMadeBy (is_halted ended) (plan_of c j) (owed_among more)
+  pub ends : EndsAs ended (ended_by j (received more))
+  pub stage_is : (opening : Opening) (text : List ℕ)
+      → IsAtStage c me now opening j text more stage
+  pub halts : EndsAt stage ended
+  pub sent_is : IsSentBy (is_halted ended) added (due_by c now j more)
+
+-- a connection that was just begun goes on, unless nothing is left to be closed, or it is a rover that
+-- was halted as it joined
+abbrev pub StartsAs : Stage → Option Ending → Type 0
+StartsAs (Head head) ended = ended ≡ None
+StartsAs Over ended = ⊤
+StartsAs (Source mount session) ended = ended ≡ None
+StartsAs (Relay mount session) ended = ended ≡ None
+StartsAs (Rover account session) ended = ended ≡ ended_joining (rover_of session).halt
+
+-- this text was appended, behind which nothing comes, or memory was lacking and nothing was
+abbrev pub IsRepliedLast : Ending → List ℕ → Option Ending → List ℕ → List ℕ → Type 0
+IsRepliedLast end text ended before after =
+    ((ended ≡ Some end) × (after ≡ before ++ text))
+    ⊎ ((ended ≡ Some Memory) × (after ≡ before))
+
+-- memory was lacking before anything was called or appended
+pub record IsLostAt (old now : Histories) (stage : Stage) (ended : Option Ending)
+    (before after : List ℕ) : Type 0 where
+  pub uncalled : now ≡ old
+  pub unsent : after ≡ before
+  pub stage_is : stage ≡ Over
+  pub ended_is : ended ≡ Some Memory
+
+abbrev pub BeginsFor : Config → Bool → Histories → Histories → ℕ → Judged → Stage → Option Ending
+    → List ℕ → List ℕ → Type 0
+BeginsFor c alone old now me j stage ended before after =
+    Begins c alone old now me j stage ended before after
+    ⊎ IsLostAt old now stage ended before after
+
+-- ---- when it is over
+
+-- each turn that closes it was taken, or none was
+abbrev pub IsSettled : Bool → Plan → List Step → Type 0
+IsSettled true plan steps = IsMade plan steps
+IsSettled false plan steps = steps ≡ []
+
+abbrev pub ending_by : Option Ending → Last → List Step → Ending
+ending_by None last steps = ended_last last (received steps)
+ending_by (Some end) last steps = end
+
+-- the receipt of a connection with these steps, whose judgment is this
+pub record IsReceipt (ended : Option Ending) (j : Judged) (steps : List Step) (last : Last)
+    (receipt : Receipt) : Type 0 where
+  pub ending : receipt.ending ≡ ending_by ended last steps
+  pub segments : receipt.segments ≡ reverse (segments_after [] steps)
+  pub sent : receipt.sent ≡ sent_in (segments_after [] steps)
+  pub overrun : receipt.overrun ≡ overrun_in (segments_after [] steps)
+  pub junk : IsTrue (is_halted ended) ⊎ (receipt.junk ≡ junk_of j (received steps))
+  pub at_most : receipt.junk ≤ junk_of j (received steps)
+  pub entered : receipt.entered ≡ is_entered (received steps)
+
+-- of a connection with this judgment and these steps so far
+pub record IsClosed (c : Config) (alone : Bool) (old now : Histories) (me : ℕ)
+    (ended : Option Ending) (j : Judged) (steps : List Step) (last : Last) (receipt : Receipt)
+    : Type 0 where
+  pub more : List Step
+  pub called : Called c alone old now me more
+  pub settled : IsSettled receipt.settled (closing j steps) more
+  pub receipt_is : IsReceipt ended j steps last receipt

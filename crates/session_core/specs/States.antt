@@ -1,0 +1,35 @@
+-- How far a rover is, for whoever gives it its turns.
+use Rattle.std.specs.Prelude.{ℕ, List, [], ◌∷◌, length, Option, None, Some}
+use Rattle.ntrip_head.specs.declared.request.Version.{Version}
+use Rattle.rover_cursor.specs.declared.segment.Segment.{Segment}
+use Rattle.rover_session.specs.Standing.{Rover as RoverValue, rover_of}
+use Rattle.session_core.specs.declared.ending.Ending.{Ending}
+use Rattle.session_core.specs.declared.rover_state.RoverState.{RoverState}
+use Rattle.session_core.specs.declared.stage.Stage.{Stage}
+use Rattle.session_core.specs.declared.stage.Stage.TheVariants.{Head, Over, Source, Relay, Rover}
+use Rattle.session_core.specs.declared.session.Session.{Session}
+
+-- with these segments, the newest first
+abbrev pub state_in : Version → List Segment → Option RoverState
+state_in version [] = None
+state_in version (newest ∷ older) = Some (record {
+  version = version;
+  mount = newest.mount;
+  next = newest.cursor.next;
+  segments = length (newest ∷ older);
+})
+
+abbrev pub state_of : RoverValue → Option RoverState
+state_of rover = state_in rover.version rover.segments
+
+-- of a session that ended so, if it did, at this stage
+abbrev pub state_at : Option Ending → Stage → Option RoverState
+state_at (Some end) stage = None
+state_at None (Head head) = None
+state_at None Over = None
+state_at None (Source mount session) = None
+state_at None (Relay mount session) = None
+state_at None (Rover account session) = state_of (rover_of session)
+
+abbrev pub rover_state : Session → Option RoverState
+rover_state session = state_at session.ended session.stage

@@ -1,0 +1,81 @@
+//! How a connection begins, once its head is whole.
+
+ghost use Rattle.std.specs.Prelude.{◌≡◌, ◌+◌, ◌<◌, ◌≤◌, ◌++◌, Bool, IsTrue, [], length, map, vec_len, Some, Ok, IfNone, IfSome};
+ghost use Rattle.std.specs.Vec.{vec_capacity};
+ghost use Rattle.turn_log.specs.History.{History};
+ghost use Rattle.caster_accounts.specs.declared.call.BookCall.{BookCall};
+ghost use Rattle.session_calls.specs.Rings.{AllLater, AllSpeak, SamePlaces, all_alone};
+ghost use Rattle.cast_config.specs.declared.config.Config.{Config as ConfigValue};
+ghost use Rattle.session_core.specs.Setting.{shapes};
+ghost use Rattle.session_core.specs.Judged.{source_judged};
+ghost use Rattle.session_core.specs.Called.{IsCause};
+ghost use Rattle.session_core.specs.Standing.{BeginsFor, StartsAs};
+ghost use Rattle.session_core.specs.Replies.{text_if};
+ghost use Rattle.session_core.specs.Beginnings.{text_unclaimed, end_unclaimed, histories_of};
+
+use crate::at::claim_at;
+use crate::begun::{Begun, REPLY_ROOM, push_reply};
+use crate::ending::Ending;
+use crate::stage::Stage;
+use mount_ring::Ring;
+use ntrip_head::Version;
+use ntrip_reply::Reply;
+use source_session::ClaimFault;
+use turn_log::Turns;
+
+/// A source whose claim was not given is told so, if another one holds the mountpoint.
+fn unclaimed(version: Option<Version>, fault: ClaimFault, out: &mut Vec<u8>) -> Begun
+    requires room { vec_len out.old + 256 ≤ vec_capacity out.old }
+    ensures stage { result.stage ≡ Stage.Over }
+    ensures ended { result.ended ≡ Some (end_unclaimed fault) }
+    ensures sent { out.new.items ≡ out.old.items ++ text_unclaimed version fault }
+{
+    match fault {
+        ClaimFault::Taken { caller, claim } => {
+            push_reply(version, Reply::Taken, out);
+            Begun::over(Ending::Taken { caller, claim })
+        }
+        ClaimFault::Worn { turns } => Begun::over(Ending::Worn { turns }),
+        ClaimFault::Memory => Begun::over(Ending::Memory),
+    }
+}
+
+/// Lets a source in that is admitted to the mountpoint of this number: it claims the mountpoint, and
+/// is then replied to.
+pub(crate) fn begin_source<T: Turns<Ring>>(
+    me: u32,
+    version: Option<Version>,
+    mount: u32,
+    chunked: bool,
+    rings: &mut [T],
+    out: &mut Vec<u8>,
+) -> Begun
+    requires within { mount < length rings.old }
+    requires speaks { AllSpeak T.speaks rings.old me }
+    ensures same { SamePlaces T.shape T.speaks T.may_lack T.alone T.home rings.old rings.new }
+    ensures worn { AllLater (map T.worn rings.old) (map T.worn rings.new) }
+    ensures begins { (c : ConfigValue) (alone : Bool) (book : History BookCall)
+        → map T.shape rings.old ≡ shapes c
+        → (IsTrue alone → IsTrue (all_alone T.alone rings.old))
+        → BeginsFor c alone (histories_of (map T.seen rings.old) book)
+        (histories_of (map T.seen rings.new) book) me
+        (source_judged version chunked [] (Ok mount)) result.stage result.ended
+        out.old.items out.new.items }
+    ensures untold { IfNone version (out.new.items ≡ out.old.items) }
+    ensures starts { StartsAs result.stage result.ended }
+    ensures cause { IfSome result.ended (IsCause (map T.worn rings.new)) }
+{
+    let Ok(()) = out.reserve(REPLY_ROOM) else {
+        return Begun::over(Ending::Memory);
+    };
+    match claim_at(rings, me, mount, chunked) {
+        Ok(session) => {
+            push_reply(version, Reply::SourceOk, out);
+            Begun {
+                stage: Stage::Source { mount, session },
+                ended: None,
+            }
+        }
+        Err(fault) => unclaimed(version, fault, out),
+    }
+}

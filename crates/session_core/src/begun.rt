@@ -1,0 +1,108 @@
+//! What becomes of a connection as it begins, and its reply.
+
+ghost use Rattle.std.specs.Prelude.{◌≡◌, ℕ, ◌+◌, ◌≤◌, ◌++◌, ◌⊎◌, Bool, [], length, vec_len, IfNone, Some};
+ghost use Rattle.std.specs.Vec.{vec_capacity};
+ghost use Rattle.ntrip_reply.specs.Text.{reply_text};
+ghost use Rattle.cast_config.specs.declared.config.Config.{Config as ConfigValue};
+ghost use Rattle.session_core.specs.Setting as setting;
+ghost use Rattle.session_core.specs.Judged.{Judged, refused};
+ghost use Rattle.session_core.specs.Judged as judged;
+ghost use Rattle.session_core.specs.Beginnings.{IsTableFor};
+ghost use Rattle.session_core.specs.Replies.{text_if};
+ghost use Rattle.session_core.specs.Run.{Histories};
+ghost use Rattle.session_core.specs.Standing.{BeginsFor, IsRepliedLast, StartsAs};
+
+use crate::ending::Ending;
+use crate::stage::Stage;
+use ntrip_head::Version;
+use ntrip_reply::{Reply, reply};
+use std::alloc::AllocError;
+
+/// Room for each reply without a sourcetable.
+pub(crate) const REPLY_ROOM: usize = 256;
+
+/// What became of a connection that began.
+#[derive(Debug, Drop)]
+pub(crate) struct Begun {
+    pub(crate) stage: Stage,
+    /// How it ended by itself, or what halted it.
+    pub(crate) ended: Option<Ending>,
+}
+
+impl Begun {
+    /// Nothing is left to be closed.
+    pub(crate) fn over(ending: Ending) -> Begun
+        ensures stage { result.stage ≡ Stage.Over }
+        ensures ended { result.ended ≡ Some ending }
+    {
+        Begun {
+            stage: Stage::Over,
+            ended: Some(ending),
+        }
+    }
+}
+
+/// Appends a reply, behind which nothing comes.
+fn reply_last(
+    version: Version,
+    with: Reply,
+    ending: Ending,
+    table: &[u8],
+    out: &mut Vec<u8>,
+) -> Begun
+    ensures stage { result.stage ≡ Stage.Over }
+    ensures replied { IsRepliedLast ending (reply_text version with table.now) result.ended
+        out.old.items out.new.items }
+{
+    match reply(version, &with, table, out) {
+        Ok(()) => Begun::over(ending),
+        Err(AllocError) => Begun::over(Ending::Memory),
+    }
+}
+
+/// Refuses a connection with this reply, if it is replied to.
+pub(crate) fn refuse(
+    version: Option<Version>,
+    with: Reply,
+    ending: Ending,
+    table: &[u8],
+    out: &mut Vec<u8>,
+) -> Begun
+    ensures begins { (c : ConfigValue) (alone : Bool) (h : Histories) (me : ℕ)
+        → IsTableFor version table.now c
+        → BeginsFor c alone h h me (refused version with ending) result.stage result.ended
+        out.old.items out.new.items }
+    ensures untold { IfNone version (out.new.items ≡ out.old.items) }
+    ensures starts { StartsAs result.stage result.ended }
+    ensures cause { (result.ended ≡ Some ending) ⊎ (result.ended ≡ Some Ending.Memory) }
+{
+    match version {
+        None => Begun::over(ending),
+        Some(version) => reply_last(version, with, ending, table, out),
+    }
+}
+
+/// Sends a connection the sourcetable.
+pub(crate) fn send_table(version: Version, table: &[u8], out: &mut Vec<u8>) -> Begun
+    ensures begins { (c : ConfigValue) (alone : Bool) (h : Histories) (me : ℕ)
+        → table.now ≡ setting.table c
+        → BeginsFor c alone h h me (judged.table version) result.stage result.ended
+        out.old.items out.new.items }
+    ensures starts { StartsAs result.stage result.ended }
+    ensures cause { (result.ended ≡ Some Ending.TableSent) ⊎ (result.ended ≡ Some Ending.Memory) }
+{
+    reply_last(version, Reply::Table, Ending::TableSent, table, out)
+}
+
+/// Appends a reply without a sourcetable, if one is made. Room for it was reserved.
+pub(crate) fn push_reply(version: Option<Version>, with: Reply, out: &mut Vec<u8>)
+    requires room { vec_len out.old + 256 ≤ vec_capacity out.old }
+    ensures { out.new.items ≡ out.old.items ++ text_if version with [] }
+{
+    if let Some(version) = version {
+        let appended = reply(version, &with, &[], out);
+        if appended.is_err() {
+            unreachable!();
+        }
+    }
+}

@@ -1,0 +1,132 @@
+//! What is told of a connection that is closed.
+
+ghost use Rattle.std.specs.Prelude.{◌≡◌, [], false, reverse, unwrap_or};
+ghost use Rattle.rover_session.specs.Made.{overrun_in, sent_in};
+ghost use Rattle.session_core.specs.Closing.{IsJunkAt, received_at, segments_at};
+ghost use Rattle.session_core.specs.Endings.{ended_last};
+ghost use Rattle.session_core.specs.Reports.{is_entered};
+
+use crate::ending::{Ending, Last};
+use crate::lists::Segments;
+use crate::report::Receipt;
+use crate::stage::Stage;
+use std::alloc::Global;
+
+/// How a connection at this stage ends that came to its end.
+fn ending_at_end(stage: &Stage) -> Ending
+    ensures { result ≡ ended_last Last.End (received_at stage.now) }
+{
+    match stage {
+        Stage::Head(_) => Ending::NoHead,
+        Stage::Over => Ending::NoHead,
+        Stage::Source { mount: _, session } => Ending::SourceEnd {
+            claim: session.claim_number(),
+        },
+        Stage::Relay { mount: _, session } => match session.claim_number() {
+            None => Ending::NoHead,
+            Some(claim) => Ending::SourceEnd { claim },
+        },
+        Stage::Rover {
+            account: _,
+            session: _,
+        } => Ending::RoverEnd,
+    }
+}
+
+/// How a connection at this stage ends that is closed so.
+pub(crate) fn ending_last(stage: &Stage, last: Last) -> Ending
+    ensures { result ≡ ended_last last (received_at stage.now) }
+{
+    match last {
+        Last::End => ending_at_end(stage),
+        Last::ReadFault => Ending::ReadFault,
+        Last::WriteFault => Ending::WriteFault,
+    }
+}
+
+/// How many bytes of a source's payload were no part of a frame.
+pub(crate) fn junk_at(stage: &Stage) -> u64
+    ensures { IsJunkAt stage.now result }
+{
+    match stage {
+        Stage::Head(_) => 0,
+        Stage::Over => 0,
+        Stage::Source { mount: _, session } => session.junk(),
+        Stage::Relay { mount: _, session } => session.junk(),
+        Stage::Rover {
+            account: _,
+            session: _,
+        } => 0,
+    }
+}
+
+/// What is told of a connection that was no rover.
+fn without_segments(alloc: Global, ending: Ending, junk: u64, settled: bool) -> Receipt
+    ensures { result ≡ record {
+      ending = ending;
+      segments = [];
+      sent = 0;
+      overrun = 0;
+      junk = junk;
+      entered = false;
+      settled = settled;
+    } }
+{
+    Receipt {
+        ending,
+        segments: Segments::new(Vec::new(alloc)),
+        sent: 0,
+        overrun: 0,
+        junk,
+        entered: false,
+        settled,
+    }
+}
+
+/// What is told of a connection that was closed at this stage.
+pub(crate) fn receipt_of(
+    alloc: Global,
+    stage: Stage,
+    ended: Option<Ending>,
+    last: Last,
+    settled: bool,
+) -> Receipt
+    ensures ending { result.ending ≡ unwrap_or ended (ended_last last (received_at stage)) }
+    ensures segments { result.segments ≡ reverse (segments_at stage) }
+    ensures sent { result.sent ≡ sent_in (segments_at stage) }
+    ensures overrun { result.overrun ≡ overrun_in (segments_at stage) }
+    ensures junk { IsJunkAt stage result.junk }
+    ensures entered { result.entered ≡ is_entered (received_at stage) }
+    ensures settled { result.settled ≡ settled }
+{
+    let ending = ended.unwrap_or(ending_last(&stage, last));
+    let junk = junk_at(&stage);
+    match stage {
+        Stage::Head(_head) => without_segments(alloc, ending, junk, settled),
+        Stage::Over => without_segments(alloc, ending, junk, settled),
+        Stage::Source {
+            mount: _mount,
+            session: _session,
+        } => without_segments(alloc, ending, junk, settled),
+        Stage::Relay {
+            mount: _mount,
+            session: _session,
+        } => without_segments(alloc, ending, junk, settled),
+        Stage::Rover {
+            account: _account,
+            session,
+        } => {
+            let sent = session.sent();
+            let overrun = session.overrun();
+            Receipt {
+                ending,
+                segments: Segments::new(session.into_segments()),
+                sent,
+                overrun,
+                junk,
+                entered: true,
+                settled,
+            }
+        }
+    }
+}

@@ -1,0 +1,314 @@
+//! Bytes that come in on a connection.
+
+ghost use Rattle.std.specs.Prelude.{◌≡◌, ◌≤◌, ◌<◌, ◌⊎◌, ◌++◌, ℕ, Bool, IsTrue, List, [], length, map, take, IfNone, IfSome, None, Some};
+ghost use Rattle.std.specs.Option.{option_map};
+ghost use Rattle.std.specs.Result.{result_err};
+ghost use Rattle.turn_log.specs.History.{History};
+ghost use Rattle.turn_log.specs.Turn.{SamePlace};
+ghost use Rattle.caster_accounts.specs.declared.call.BookCall.{BookCall};
+ghost use Rattle.ntrip_head.specs.Head.{IsOpen};
+ghost use Rattle.session_calls.specs.Steps.{Step};
+ghost use Rattle.session_calls.specs.Rings.{AllLater, AllSpeak, SamePlaces, all_alone};
+ghost use Rattle.cast_config.specs.declared.config.Config.{Config as ConfigValue};
+ghost use Rattle.cast_config.specs.Kept.{KeepsRules};
+ghost use Rattle.session_core.specs.Called.{IsCause, OthersCalled, alone_at, seen_at};
+ghost use Rattle.session_core.specs.Beginnings.{histories_of, worn_at};
+ghost use Rattle.session_core.specs.Feeding.{FedOn, HasBegunFor, IsBehindHead, end_of_relay, end_of_source};
+ghost use Rattle.session_core.specs.Judged.{Opening};
+ghost use Rattle.session_core.specs.Run.{Histories};
+ghost use Rattle.session_core.specs.Setting.{caps, shapes};
+ghost use Rattle.session_core.specs.Setting as setting;
+ghost use Rattle.session_core.specs.Turned.{flow_of};
+ghost use Rattle.session_core.specs.Standing.{Fed, Follows, Stands, StandsFor, StartsAs};
+
+use crate::at::feed_at;
+use crate::begun::{Begun, refuse};
+use crate::ending::{Ending, Flow};
+use crate::head::take_head;
+use crate::judging::begin_head;
+use crate::places::Places;
+use crate::relay_at::feed_relay_at;
+use crate::rovers::halted;
+use crate::session::Session;
+use crate::stage::Stage;
+use crate::turning::flow_after;
+use cast_config::Config;
+use caster_accounts::Book;
+use mount_ring::Ring;
+use ntrip_head::{HeadBuf, HeadStep, Version};
+use ntrip_reply::Reply;
+use source_session::SourceHalt;
+use std::alloc::Global;
+use turn_log::Turns;
+use upstream_relay::RelayHalt;
+
+/// How a source under this claim is ended by what its bytes came to.
+fn ended_source(claim: u64, fed: Result<(), SourceHalt>) -> Option<Ending>
+    ensures { result ≡ option_map (end_of_source claim) (result_err fed) }
+{
+    match fed {
+        Ok(()) => None,
+        Err(SourceHalt::Done) => Some(Ending::SourceEnd { claim }),
+        Err(SourceHalt::BadChunk { at }) => Some(Ending::BadChunk { at }),
+        Err(SourceHalt::Worn { turns }) => Some(Ending::Worn { turns }),
+        Err(SourceHalt::Memory) => Some(Ending::Memory),
+    }
+}
+
+/// How a relay is ended by what its bytes came to. A body is over only under a claim.
+fn end_of_relay(claim: Option<u64>, halt: RelayHalt) -> Ending
+    ensures { result ≡ end_of_relay claim halt }
+{
+    match halt {
+        RelayHalt::BadHead => Ending::BadHead,
+        RelayHalt::LongHead => Ending::LongHead,
+        RelayHalt::Coding => Ending::Coding,
+        RelayHalt::Table => Ending::UpstreamTable,
+        RelayHalt::Status(status) => Ending::Upstream { status },
+        RelayHalt::Taken { caller, claim } => Ending::Taken { caller, claim },
+        RelayHalt::Done => Ending::SourceEnd {
+            claim: claim.unwrap_or(0),
+        },
+        RelayHalt::BadChunk { at } => Ending::BadChunk { at },
+        RelayHalt::Worn { turns } => Ending::Worn { turns },
+        RelayHalt::Memory => Ending::Memory,
+    }
+}
+
+/// How a relay is ended, if it is.
+fn ended_relay(claim: Option<u64>, fed: Result<(), RelayHalt>) -> Option<Ending>
+    ensures { result ≡ option_map (end_of_relay claim) (result_err fed) }
+{
+    match fed {
+        Ok(()) => None,
+        Err(halt) => Some(end_of_relay(claim, halt)),
+    }
+}
+
+/// What bytes of a head come to.
+#[derive(Debug, Drop)]
+struct Heard {
+    /// What became of the connection, unless its head goes on.
+    begun: Option<Begun>,
+    /// How many of the bytes belong to the head.
+    count: usize,
+}
+
+/// Takes more bytes of a head that goes on. Where they end it, the connection begins.
+fn hear_head<T: Turns<Ring>, B: Turns<Book>>(
+    alloc: Global,
+    config: &Config,
+    table: &[u8],
+    me: u32,
+    head: &mut HeadBuf,
+    bytes: &[u8],
+    places: &mut Places<T, B>,
+    out: &mut Vec<u8>,
+) -> Heard
+    requires open { IsOpen head.old }
+    requires kept { (cap : ℕ) × KeepsRules cap config.now }
+    requires table { table.now ≡ setting.table config.now }
+    requires shapes { map T.shape places.old.rings.items ≡ shapes config.now }
+    requires caps { B.shape places.old.book ≡ caps config.now }
+    requires rings { AllSpeak T.speaks places.old.rings.items me }
+    requires book { IsTrue (B.speaks places.old.book me) }
+    ensures same_rings { SamePlaces T.shape T.speaks T.may_lack T.alone T.home
+        places.old.rings.items places.new.rings.items }
+    ensures same_book { SamePlace B.shape B.speaks B.may_lack B.alone B.home
+        places.old.book places.new.book }
+    ensures worn_rings { AllLater (map T.worn places.old.rings.items)
+        (map T.worn places.new.rings.items) }
+    ensures worn_book { B.worn places.old.book ≤ B.worn places.new.book }
+    ensures within { result.count ≤ length bytes.now }
+    ensures open { IfNone result.begun (IsOpen (head.old ++ bytes.now)) }
+    ensures bytes { IfNone result.begun (head.new ≡ head.old ++ bytes.now) }
+    ensures places { IfNone result.begun (places.new ≡ places.old) }
+    ensures out { IfNone result.begun (out.new ≡ out.old) }
+    ensures begun { IfSome result.begun (λ begun. HasBegunFor config.now
+        (alone_at T.alone B.alone places.old.rings.items places.old.book)
+        (seen_at T.seen B.seen places.old.rings.items places.old.book)
+        (seen_at T.seen B.seen places.new.rings.items places.new.book) me
+        (head.old ++ take result.count bytes.now) begun.stage begun.ended
+        out.old.items out.new.items) }
+    ensures starts { IfSome result.begun (λ begun. StartsAs begun.stage begun.ended) }
+    ensures cause { IfSome result.begun (λ begun. IfSome begun.ended (IsCause
+        (worn_at T.worn B.worn places.new.rings.items places.new.book))) }
+{
+    let taken = take_head(head, bytes);
+    let count = taken.count;
+    match taken.step {
+        HeadStep::More => Heard { begun: None, count },
+        HeadStep::Done => {
+            let begun = begin_head(alloc, config, table, me, head.bytes(), places, out);
+            Heard {
+                begun: Some(begun),
+                count,
+            }
+        }
+        HeadStep::Long => {
+            let (reply, ending) = (Reply::BadHead, Ending::LongHead);
+            let begun = refuse(Some(Version::One), reply, ending, table, out);
+            Heard {
+                begun: Some(begun),
+                count,
+            }
+        }
+    }
+}
+
+impl Session {
+    /// Takes more bytes behind the head.
+    fn feed_body<T: Turns<Ring>>(&mut self, bytes: &[u8], rings: &mut [T])
+        requires behind { IsBehindHead self.old.stage }
+        requires goes_on { self.old.ended ≡ None }
+        requires speaks { AllSpeak T.speaks rings.old self.old.me }
+        requires follows { (c : ConfigValue) × (book : History BookCall)
+            × ((cap : ℕ) × KeepsRules cap c) × (map T.shape rings.old ≡ shapes c)
+            × Follows c self.old (histories_of (map T.seen rings.old) book) (length bytes.now) }
+        ensures same { SamePlaces T.shape T.speaks T.may_lack T.alone T.home rings.old rings.new }
+        ensures worn { AllLater (map T.worn rings.old) (map T.worn rings.new) }
+        ensures me { self.new.me ≡ self.old.me }
+        ensures fed { (c : ConfigValue) (alone : Bool) (book : History BookCall)
+            (opening : Opening) (text : List ℕ) (steps : List Step) (histories : Histories)
+            (sent : List ℕ) → map T.shape rings.old ≡ shapes c
+            → (IsTrue alone → IsTrue (all_alone T.alone rings.old))
+            → Stands c self.old opening text steps histories sent
+            → OthersCalled histories (histories_of (map T.seen rings.old) book) self.old.me
+            → FedOn c alone (histories_of (map T.seen rings.old) book)
+            (histories_of (map T.seen rings.new) book) self.new opening (text ++ bytes.now) steps
+            sent }
+        ensures cause { IfSome self.new.ended (IsCause (map T.worn rings.new)) }
+    {
+        match &mut self.stage {
+            Stage::Head(_) => unreachable!(),
+            Stage::Over => unreachable!(),
+            Stage::Source { mount, session } => {
+                let fed = feed_at(session, bytes, rings, *mount);
+                self.ended = ended_source(session.claim_number(), fed);
+            }
+            Stage::Relay { mount, session } => {
+                let fed = feed_relay_at(session, bytes, rings, *mount);
+                self.ended = ended_relay(session.claim_number(), fed);
+            }
+            Stage::Rover {
+                account: _,
+                session,
+            } => {
+                self.ended = halted(session.feed(bytes, rings));
+            }
+        }
+    }
+
+    /// Takes more bytes behind the head, at the rings among these places.
+    fn feed_behind<T: Turns<Ring>, B: Turns<Book>>(
+        &mut self,
+        bytes: &[u8],
+        places: &mut Places<T, B>,
+    )
+        requires behind { IsBehindHead self.old.stage }
+        requires goes_on { self.old.ended ≡ None }
+        requires rings { AllSpeak T.speaks places.old.rings.items self.old.me }
+        requires follows { (c : ConfigValue) × ((cap : ℕ) × KeepsRules cap c)
+            × (map T.shape places.old.rings.items ≡ shapes c)
+            × Follows c self.old (seen_at T.seen B.seen places.old.rings.items places.old.book)
+            (length bytes.now) }
+        ensures same_rings { SamePlaces T.shape T.speaks T.may_lack T.alone T.home
+            places.old.rings.items places.new.rings.items }
+        ensures worn_rings { AllLater (map T.worn places.old.rings.items)
+            (map T.worn places.new.rings.items) }
+        ensures same_book { SamePlace B.shape B.speaks B.may_lack B.alone B.home
+            places.old.book places.new.book }
+        ensures worn_book { B.worn places.old.book ≤ B.worn places.new.book }
+        ensures me { self.new.me ≡ self.old.me }
+        ensures fed { (c : ConfigValue) (opening : Opening) (text : List ℕ) (steps : List Step)
+            (histories : Histories) (sent : List ℕ)
+            → map T.shape places.old.rings.items ≡ shapes c
+            → Stands c self.old opening text steps histories sent
+            → OthersCalled histories
+            (seen_at T.seen B.seen places.old.rings.items places.old.book) self.old.me
+            → FedOn c (alone_at T.alone B.alone places.old.rings.items places.old.book)
+            (seen_at T.seen B.seen places.old.rings.items places.old.book)
+            (seen_at T.seen B.seen places.new.rings.items places.new.book) self.new opening
+            (text ++ bytes.now) steps sent }
+        ensures cause { IfSome self.new.ended (IsCause
+            (worn_at T.worn B.worn places.new.rings.items places.new.book)) }
+    {
+        self.feed_body(bytes, places.rings.as_mut_slice());
+    }
+
+    /// Is what became of it once its head was whole.
+    fn go_on_as(&mut self, begun: Begun)
+        ensures { self.new ≡ record {
+          alloc = self.old.alloc;
+          me = self.old.me;
+          stage = begun.stage;
+          ended = begun.ended;
+        } }
+    {
+        self.stage = begun.stage;
+        self.ended = begun.ended;
+    }
+
+    /// Takes bytes that came in. Where they end the head, the connection is judged by it: it is
+    /// refused or sent the sourcetable, or it claims its mountpoint, or enters its account and
+    /// joins; its reply is appended. Bytes behind the head are published frame by frame, or are a
+    /// rover's reports.
+    ///
+    /// The places are as `close` has them, of the same configuration in each call, and `table` is
+    /// its sourcetable. All calls together take fewer than 2^63 bytes.
+    pub fn feed<T: Turns<Ring>, B: Turns<Book>>(
+        &mut self,
+        config: &Config,
+        table: &[u8],
+        bytes: &[u8],
+        places: &mut Places<T, B>,
+        out: &mut Vec<u8>,
+    ) -> Flow
+        requires goes_on { self.old.ended ≡ None }
+        requires kept { (cap : ℕ) × KeepsRules cap config.now }
+        requires table { table.now ≡ setting.table config.now }
+        requires shapes { map T.shape places.old.rings.items ≡ shapes config.now }
+        requires caps { B.shape places.old.book ≡ caps config.now }
+        requires rings { AllSpeak T.speaks places.old.rings.items self.old.me }
+        requires book { IsTrue (B.speaks places.old.book self.old.me) }
+        requires follows { Follows config.now self.old
+            (seen_at T.seen B.seen places.old.rings.items places.old.book) (length bytes.now) }
+        ensures same_rings { SamePlaces T.shape T.speaks T.may_lack T.alone T.home
+            places.old.rings.items places.new.rings.items }
+        ensures same_book { SamePlace B.shape B.speaks B.may_lack B.alone B.home
+            places.old.book places.new.book }
+        ensures worn_rings { AllLater (map T.worn places.old.rings.items)
+            (map T.worn places.new.rings.items) }
+        ensures worn_book { B.worn places.old.book ≤ B.worn places.new.book }
+        ensures me { self.new.me ≡ self.old.me }
+        ensures flow { result ≡ flow_of self.new.ended }
+        ensures fed { (opening : Opening) (text : List ℕ) (steps : List Step)
+            (histories : Histories) (sent : List ℕ)
+            → StandsFor config.now self.old opening text steps histories sent
+            → OthersCalled histories
+            (seen_at T.seen B.seen places.old.rings.items places.old.book) self.old.me
+            → Fed config.now (alone_at T.alone B.alone places.old.rings.items places.old.book)
+            (seen_at T.seen B.seen places.old.rings.items places.old.book)
+            (seen_at T.seen B.seen places.new.rings.items places.new.book) self.new opening
+            (text ++ bytes.now) steps sent out.old.items out.new.items }
+        ensures cause { IfSome self.new.ended (IsCause
+            (worn_at T.worn B.worn places.new.rings.items places.new.book)) }
+    {
+        let Stage::Head(head) = &mut self.stage else {
+            self.feed_behind(bytes, places);
+            return flow_after(self.ended);
+        };
+        let Heard { begun, count } = hear_head(
+            self.alloc, config, table, self.me, head, bytes, places, out,
+        );
+        let Some(begun) = begun else {
+            return Flow::Open;
+        };
+        self.go_on_as(begun);
+        if self.ended.is_some() {
+            return Flow::Ended;
+        }
+        self.feed_behind(&bytes[count..], places);
+        flow_after(self.ended)
+    }
+}

@@ -1,0 +1,315 @@
+//! What becomes of a connection, by what its head asks for.
+
+ghost use Rattle.std.specs.Prelude.{◌≡◌, ℕ, ◌≤◌, ◌⊎◌, Bool, IsTrue, List, [], length, map, Some, Ok, Err, IfNone, IfSome, Result, Option};
+ghost use Rattle.turn_log.specs.History.{History};
+ghost use Rattle.turn_log.specs.Turn.{SamePlace};
+ghost use Rattle.caster_accounts.specs.declared.call.BookCall.{BookCall};
+ghost use Rattle.base_select.specs.Measure.{IsOnEarth};
+ghost use Rattle.session_calls.specs.Rings.{AllLater, AllSpeak, SamePlaces, all_alone};
+ghost use Rattle.gga_read.specs.declared.Position.{Position as PositionValue};
+ghost use Rattle.cast_config.specs.declared.config.Config.{Config as ConfigValue};
+ghost use Rattle.cast_config.specs.Kept.{KeepsRules};
+ghost use Rattle.ntrip_head.specs.Answer.{HeadAnswer};
+ghost use Rattle.ntrip_head.specs.declared.fault.HeadFault.{HeadFault as HeadFaultValue};
+ghost use Rattle.ntrip_head.specs.declared.request.Request.{Request as RequestValue};
+ghost use Rattle.access_groups.specs.declared.admission.Admission.{Admission as AdmissionValue};
+ghost use Rattle.access_groups.specs.declared.admission.Denial.{Denial as DenialValue};
+ghost use Rattle.access_groups.specs.Admission.{Gives, admission as admission_of, source_admission};
+ghost use Rattle.session_core.specs.Setting.{shapes, caps};
+ghost use Rattle.session_core.specs.Setting as setting;
+ghost use Rattle.session_core.specs.Judged.{rover_judged, source_judged, fault_judged, request_judged};
+ghost use Rattle.session_core.specs.Run.{Histories};
+ghost use Rattle.session_core.specs.Called.{IsCause, seen_at, alone_at};
+ghost use Rattle.session_core.specs.Beginnings.{histories_of, worn_at, IsRequestOnEarth, IsTableFor};
+ghost use Rattle.session_core.specs.Standing.{BeginsFor, IsLostAt, StartsAs};
+
+use crate::begin::begin_source;
+use crate::begun::{Begun, refuse, send_table};
+use crate::ending::Ending;
+use crate::places::Places;
+use crate::rovers::begin_rover;
+use access_groups::{Denial, SourceDenial, admit, admit_source};
+use cast_config::Config;
+use cast_text::MountName;
+use caster_accounts::Book;
+use gga_read::Position;
+use mount_ring::Ring;
+use ntrip_head::{Auth, HeadFault, Request, Version, read_head};
+use ntrip_reply::Reply;
+use std::alloc::Global;
+use turn_log::Turns;
+
+/// A rover that is given nothing is told why; for want of memory it is told nothing.
+fn deny(version: Option<Version>, denial: Denial, table: &[u8], out: &mut Vec<u8>) -> Begun
+    ensures begins { (c : ConfigValue) (alone : Bool) (h : Histories) (me : ℕ)
+        (first : Option PositionValue) (answer : Result AdmissionValue DenialValue)
+        → IsTableFor version table.now c → Gives (Err denial) answer
+        → BeginsFor c alone h h me (rover_judged version first [] answer) result.stage
+        result.ended out.old.items out.new.items }
+    ensures untold { IfNone version (out.new.items ≡ out.old.items) }
+    ensures starts { StartsAs result.stage result.ended }
+    ensures cause { (worn : List ℕ) → IfSome result.ended (IsCause worn) }
+{
+    match denial {
+        Denial::NoMount => refuse(version, Reply::RoverNoMount, Ending::NoMount, table, out),
+        Denial::NoAccount => refuse(version, Reply::Unauthorized, Ending::NoAccount, table, out),
+        Denial::Password { account } => {
+            refuse(
+                version,
+                Reply::Unauthorized,
+                Ending::Password { account },
+                table,
+                out,
+            )
+        }
+        Denial::Group { group } => {
+            refuse(version, Reply::Denied, Ending::Denied { group }, table, out)
+        }
+        Denial::Memory => Begun::over(Ending::Memory),
+    }
+}
+
+/// A source that may not feed its mountpoint is told why.
+fn deny_source(
+    version: Option<Version>,
+    denial: SourceDenial,
+    table: &[u8],
+    out: &mut Vec<u8>,
+) -> Begun
+    ensures begins { (c : ConfigValue) (alone : Bool) (h : Histories) (me : ℕ) (chunked : Bool)
+        → IsTableFor version table.now c
+        → BeginsFor c alone h h me (source_judged version chunked [] (Err denial)) result.stage
+        result.ended out.old.items out.new.items }
+    ensures untold { IfNone version (out.new.items ≡ out.old.items) }
+    ensures starts { StartsAs result.stage result.ended }
+    ensures cause { (worn : List ℕ) → IfSome result.ended (IsCause worn) }
+{
+    match denial {
+        SourceDenial::NoMount => {
+            refuse(version, Reply::SourceNoMount, Ending::NoMount, table, out)
+        }
+        SourceDenial::Password => {
+            refuse(
+                version,
+                Reply::SourcePassword,
+                Ending::SourcePassword,
+                table,
+                out,
+            )
+        }
+    }
+}
+
+/// What becomes of a rover that asks for a mountpoint with these credentials.
+pub(crate) fn judge_rover<T: Turns<Ring>, B: Turns<Book>>(
+    alloc: Global,
+    config: &Config,
+    table: &[u8],
+    me: u32,
+    version: Option<Version>,
+    mount: &MountName,
+    auth: &Auth,
+    first: Option<Position>,
+    places: &mut Places<T, B>,
+    out: &mut Vec<u8>,
+) -> Begun
+    requires kept { (cap : ℕ) × KeepsRules cap config.now }
+    requires table { IsTableFor version table.now config.now }
+    requires first { IfSome first IsOnEarth }
+    requires shapes { map T.shape places.old.rings.items ≡ shapes config.now }
+    requires caps { B.shape places.old.book ≡ caps config.now }
+    requires rings { AllSpeak T.speaks places.old.rings.items me }
+    requires book { IsTrue (B.speaks places.old.book me) }
+    ensures same_rings { SamePlaces T.shape T.speaks T.may_lack T.alone T.home
+        places.old.rings.items places.new.rings.items }
+    ensures same_book { SamePlace B.shape B.speaks B.may_lack B.alone B.home
+        places.old.book places.new.book }
+    ensures worn_rings { AllLater (map T.worn places.old.rings.items)
+        (map T.worn places.new.rings.items) }
+    ensures worn_book { B.worn places.old.book ≤ B.worn places.new.book }
+    ensures begins { BeginsFor config.now
+        (alone_at T.alone B.alone places.old.rings.items places.old.book)
+        (seen_at T.seen B.seen places.old.rings.items places.old.book)
+        (seen_at T.seen B.seen places.new.rings.items places.new.book) me
+        (rover_judged version first [] (admission_of config.now auth.now mount.now))
+        result.stage result.ended out.old.items out.new.items }
+    ensures untold { IfNone version (out.new.items ≡ out.old.items) }
+    ensures starts { StartsAs result.stage result.ended }
+    ensures cause { IfSome result.ended (IsCause
+        (worn_at T.worn B.worn places.new.rings.items places.new.book)) }
+{
+    match admit(alloc, config, auth, mount) {
+        Ok(admission) => begin_rover(alloc, config, me, version, &admission, first, places, out),
+        Err(denial) => deny(version, denial, table, out),
+    }
+}
+
+/// What becomes of a source that would feed a mountpoint with this password.
+pub(crate) fn judge_source<T: Turns<Ring>>(
+    config: &Config,
+    table: &[u8],
+    me: u32,
+    version: Option<Version>,
+    mount: &MountName,
+    password: &[u8],
+    chunked: bool,
+    rings: &mut [T],
+    out: &mut Vec<u8>,
+) -> Begun
+    requires kept { (cap : ℕ) × KeepsRules cap config.now }
+    requires table { IsTableFor version table.now config.now }
+    requires shapes { map T.shape rings.old ≡ shapes config.now }
+    requires speaks { AllSpeak T.speaks rings.old me }
+    ensures same { SamePlaces T.shape T.speaks T.may_lack T.alone T.home rings.old rings.new }
+    ensures worn { AllLater (map T.worn rings.old) (map T.worn rings.new) }
+    ensures begins { (alone : Bool) (book : History BookCall)
+        → (IsTrue alone → IsTrue (all_alone T.alone rings.old))
+        → BeginsFor config.now alone (histories_of (map T.seen rings.old) book)
+        (histories_of (map T.seen rings.new) book) me
+        (source_judged version chunked [] (source_admission config.now mount.now password.now))
+        result.stage result.ended out.old.items out.new.items }
+    ensures untold { IfNone version (out.new.items ≡ out.old.items) }
+    ensures starts { StartsAs result.stage result.ended }
+    ensures cause { IfSome result.ended (IsCause (map T.worn rings.new)) }
+{
+    match admit_source(config, mount, password) {
+        Ok(mount) => begin_source(me, version, mount, chunked, rings, out),
+        Err(denial) => deny_source(version, denial, table, out),
+    }
+}
+
+/// What becomes of a connection whose head asks for this.
+fn begin_request<T: Turns<Ring>, B: Turns<Book>>(
+    alloc: Global,
+    config: &Config,
+    table: &[u8],
+    me: u32,
+    request: &Request,
+    places: &mut Places<T, B>,
+    out: &mut Vec<u8>,
+) -> Begun
+    requires kept { (cap : ℕ) × KeepsRules cap config.now }
+    requires table { table.now ≡ setting.table config.now }
+    requires first { IsRequestOnEarth request.now }
+    requires shapes { map T.shape places.old.rings.items ≡ shapes config.now }
+    requires caps { B.shape places.old.book ≡ caps config.now }
+    requires rings { AllSpeak T.speaks places.old.rings.items me }
+    requires book { IsTrue (B.speaks places.old.book me) }
+    ensures same_rings { SamePlaces T.shape T.speaks T.may_lack T.alone T.home
+        places.old.rings.items places.new.rings.items }
+    ensures same_book { SamePlace B.shape B.speaks B.may_lack B.alone B.home
+        places.old.book places.new.book }
+    ensures worn_rings { AllLater (map T.worn places.old.rings.items)
+        (map T.worn places.new.rings.items) }
+    ensures worn_book { B.worn places.old.book ≤ B.worn places.new.book }
+    ensures begins { BeginsFor config.now
+        (alone_at T.alone B.alone places.old.rings.items places.old.book)
+        (seen_at T.seen B.seen places.old.rings.items places.old.book)
+        (seen_at T.seen B.seen places.new.rings.items places.new.book) me
+        (request_judged config.now [] (Ok request.now))
+        result.stage result.ended out.old.items out.new.items }
+    ensures starts { StartsAs result.stage result.ended }
+    ensures cause { IfSome result.ended (IsCause
+        (worn_at T.worn B.worn places.new.rings.items places.new.book)) }
+{
+    match request {
+        Request::Table(version) => send_table(*version, table, out),
+        Request::Rover {
+            version,
+            mount,
+            auth,
+            gga,
+        } => judge_rover(
+            alloc,
+            config,
+            table,
+            me,
+            Some(*version),
+            mount,
+            auth,
+            *gga,
+            places,
+            out,
+        ),
+        Request::Source {
+            version,
+            mount,
+            password,
+            chunked,
+        } => judge_source(
+            config,
+            table,
+            me,
+            Some(*version),
+            mount,
+            password.bytes(),
+            *chunked,
+            places.rings.as_mut_slice(),
+            out,
+        ),
+    }
+}
+
+/// A connection is told what is wrong with its head; for want of memory it is told nothing.
+fn refuse_head(fault: HeadFault, table: &[u8], out: &mut Vec<u8>) -> Begun
+    ensures begins { (c : ConfigValue) (alone : Bool) (h : Histories) (me : ℕ)
+        → table.now ≡ setting.table c
+        → BeginsFor c alone h h me (request_judged c [] (Err fault)) result.stage result.ended
+        out.old.items out.new.items }
+    ensures lost { (h : Histories) → fault ≡ HeadFault.Memory
+        → IsLostAt h h result.stage result.ended out.old.items out.new.items }
+    ensures starts { StartsAs result.stage result.ended }
+    ensures cause { (worn : List ℕ) → IfSome result.ended (IsCause worn) }
+{
+    let one = Some(Version::One);
+    match fault {
+        HeadFault::Bad => refuse(one, Reply::BadHead, Ending::BadHead, table, out),
+        HeadFault::Method => refuse(one, Reply::Method, Ending::Method, table, out),
+        HeadFault::Coding => refuse(one, Reply::Coding, Ending::Coding, table, out),
+        HeadFault::Memory => Begun::over(Ending::Memory),
+    }
+}
+
+/// What becomes of a connection with this head, which is whole.
+pub(crate) fn begin_head<T: Turns<Ring>, B: Turns<Book>>(
+    alloc: Global,
+    config: &Config,
+    table: &[u8],
+    me: u32,
+    head: &[u8],
+    places: &mut Places<T, B>,
+    out: &mut Vec<u8>,
+) -> Begun
+    requires long { length head.now ≤ 8192 }
+    requires kept { (cap : ℕ) × KeepsRules cap config.now }
+    requires table { table.now ≡ setting.table config.now }
+    requires shapes { map T.shape places.old.rings.items ≡ shapes config.now }
+    requires caps { B.shape places.old.book ≡ caps config.now }
+    requires rings { AllSpeak T.speaks places.old.rings.items me }
+    requires book { IsTrue (B.speaks places.old.book me) }
+    ensures same_rings { SamePlaces T.shape T.speaks T.may_lack T.alone T.home
+        places.old.rings.items places.new.rings.items }
+    ensures same_book { SamePlace B.shape B.speaks B.may_lack B.alone B.home
+        places.old.book places.new.book }
+    ensures worn_rings { AllLater (map T.worn places.old.rings.items)
+        (map T.worn places.new.rings.items) }
+    ensures worn_book { B.worn places.old.book ≤ B.worn places.new.book }
+    ensures begins { ((answer : Result RequestValue HeadFaultValue) × HeadAnswer head.now answer
+        × BeginsFor config.now
+        (alone_at T.alone B.alone places.old.rings.items places.old.book)
+        (seen_at T.seen B.seen places.old.rings.items places.old.book)
+        (seen_at T.seen B.seen places.new.rings.items places.new.book) me
+        (request_judged config.now [] answer)
+        result.stage result.ended out.old.items out.new.items)
+        ⊎ IsLostAt (seen_at T.seen B.seen places.old.rings.items places.old.book)
+        (seen_at T.seen B.seen places.new.rings.items places.new.book)
+        result.stage result.ended out.old.items out.new.items }
+    ensures starts { StartsAs result.stage result.ended }
+    ensures cause { IfSome result.ended (IsCause
+        (worn_at T.worn B.worn places.new.rings.items places.new.book)) }
+{
+    match read_head(alloc, head) {
+        Ok(request) => begin_request(alloc, config, table, me, &request, places, out),
+        Err(fault) => refuse_head(fault, table, out),
+    }
+}

@@ -1,0 +1,55 @@
+//! How far a rover is.
+
+ghost use Rattle.std.specs.Prelude.{◌≡◌};
+ghost use Rattle.rover_session.specs.Standing.{rover_of};
+ghost use Rattle.session_core.specs.States.{rover_state, state_of};
+
+use crate::session::Session;
+use crate::stage::Stage;
+use ntrip_head::Version;
+use rover_session::RoverSession;
+
+/// Where a rover stands that goes on and has a segment.
+#[derive(Clone, Copy, Debug, PartialEq, Eq)]
+pub struct RoverState {
+    /// The version of NTRIP in which it is served.
+    pub version: Version,
+    /// The number of its present mountpoint.
+    pub mount: u32,
+    /// The place of the next frame that it reads there, counted from 0.
+    pub next: u64,
+    /// How many segments it has.
+    pub segments: u64,
+}
+
+/// Where a rover's session stands, if it has a segment.
+fn state_of(session: &RoverSession) -> Option<RoverState>
+    ensures { result ≡ state_of (rover_of session.now) }
+{
+    let segments = session.segments();
+    let newest = segments.last()?;
+    Some(RoverState {
+        version: session.version(),
+        mount: newest.mount,
+        next: newest.cursor.next,
+        segments: segments.len() as u64,
+    })
+}
+
+impl Session {
+    /// Where it stands, of a rover that goes on and has a segment.
+    pub fn rover(&self) -> Option<RoverState>
+        ensures { result ≡ rover_state self.now }
+    {
+        match (&self.ended, &self.stage) {
+            (
+                None,
+                Stage::Rover {
+                    account: _,
+                    session,
+                },
+            ) => state_of(session),
+            _ => None,
+        }
+    }
+}

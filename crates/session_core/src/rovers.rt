@@ -1,0 +1,188 @@
+//! How a rover begins.
+
+ghost use Rattle.std.specs.Prelude.{◌≡◌, ℕ, ◌<◌, ◌≤◌, ◌++◌, IsTrue, List, [], length, map, unwrap_or, Ok, Err, IfNone, IfOk, IfSome, OnOk, option_to_list, slice_get};
+ghost use Rattle.std.specs.Result.{result_err};
+ghost use Rattle.turn_log.specs.Turn.{SamePlace};
+ghost use Rattle.base_select.specs.Measure.{IsOnEarth};
+ghost use Rattle.session_calls.specs.Rings.{AllLater, AllSpeak, SamePlaces};
+ghost use Rattle.rover_session.specs.Standing.{rover_of, IsNew};
+ghost use Rattle.ntrip_head.specs.declared.request.Version.TheVariants.{One};
+ghost use Rattle.ntrip_head.specs.declared.request.Auth.{Auth as AuthValue};
+ghost use Rattle.cast_config.specs.Kept.{KeepsRules};
+ghost use Rattle.access_groups.specs.Admission.{admission as admission_of};
+ghost use Rattle.session_core.specs.Setting.{shapes, caps};
+ghost use Rattle.session_core.specs.Setting as setting;
+ghost use Rattle.session_core.specs.Judged.{rover_judged};
+ghost use Rattle.session_core.specs.Owed.{terms_of};
+ghost use Rattle.session_core.specs.Called.{IsCause, seen_at, alone_at};
+ghost use Rattle.session_core.specs.Beginnings.{end_unentered, ended_joining, worn_at};
+ghost use Rattle.session_core.specs.Standing.{BeginsFor, StartsAs};
+
+use crate::begun::{Begun, REPLY_ROOM, push_reply};
+use crate::book::{Entry, enter};
+use crate::ending::Ending;
+use crate::places::Places;
+use crate::stage::Stage;
+use access_groups::Admission;
+use base_select::Base;
+use cast_config::Config;
+use caster_accounts::Book;
+use gga_read::Position;
+use mount_ring::Ring;
+use ntrip_head::Version;
+use ntrip_reply::Reply;
+use rover_cursor::SegFault;
+use rover_session::RoverSession;
+use std::alloc::{AllocError, Global};
+use turn_log::{TurnFault, Turns};
+
+/// The mountpoint of this number as a base.
+fn base_at(config: &Config, number: u32) -> Option<Base>
+    ensures { option_to_list result ≡ setting.base_at number
+        (slice_get config.now.mount number) }
+{
+    match config.mount.as_slice().get(number as usize) {
+        Some(mount) => Some(Base {
+            mount: number,
+            at: mount.at,
+        }),
+        None => None,
+    }
+}
+
+/// Appends the mountpoint of this number as a base.
+fn push_base(config: &Config, number: u32, bases: &mut Vec<Base>) -> Result<(), AllocError>
+    ensures { OnOk result (bases.new.items ≡ bases.old.items
+        ++ setting.base_at number (slice_get config.now.mount number)) }
+{
+    match base_at(config, number) {
+        Some(base) => {
+            bases.push(base)?;
+            Ok(())
+        }
+        None => Ok(()),
+    }
+}
+
+/// The bases of these numbers, with their positions.
+fn bases_of(alloc: Global, config: &Config, numbers: &[u32]) -> Result<Vec<Base>, AllocError>
+    ensures { IfOk result (λ bases. bases.items ≡ setting.bases_at config.now numbers.now) }
+{
+    let mut bases = Vec::new(alloc);
+    for number in numbers {
+        push_base(config, *number, &mut bases)?;
+    }
+    Ok(bases)
+}
+
+/// The session of a rover that is admitted, before its first call.
+fn new_session(
+    alloc: Global,
+    config: &Config,
+    me: u32,
+    version: Option<Version>,
+    admission: &Admission,
+) -> Result<RoverSession, AllocError>
+    requires kept { (cap : ℕ) × KeepsRules cap config.now }
+    requires admitted { (auth : AuthValue) × (name : List ℕ)
+        × (admission_of config.now auth name ≡ Ok admission.now) }
+    ensures new { IfOk result (λ session. IsNew (rover_of session)) }
+    ensures me { IfOk result (λ session. (rover_of session).me ≡ me) }
+    ensures version { IfOk result (λ session.
+        (rover_of session).version ≡ unwrap_or version One) }
+    ensures terms { IfOk result (λ session.
+        (rover_of session).terms ≡ terms_of config.now admission.now) }
+{
+    let bases = bases_of(alloc, config, admission.bases.as_slice())?;
+    RoverSession::new(
+        alloc,
+        version.unwrap_or(Version::One),
+        me,
+        admission.group,
+        bases,
+        config.hysteresis,
+        admission.near,
+    )
+}
+
+/// What ends a rover whose entry was refused.
+fn unentered(fault: TurnFault) -> Ending
+    ensures { result ≡ end_unentered fault }
+{
+    match fault {
+        TurnFault::Worn { turns } => Ending::Worn { turns },
+        TurnFault::Memory => Ending::Memory,
+    }
+}
+
+/// What halted a rover, by what its session answered.
+pub(crate) fn halted<X: Copy>(answered: Result<X, SegFault>) -> Option<Ending>
+    ensures { result ≡ ended_joining (result_err answered) }
+{
+    match answered {
+        Ok(_) => None,
+        Err(SegFault::Worn { turns }) => Some(Ending::Worn { turns }),
+        Err(SegFault::Memory) => Some(Ending::Memory),
+    }
+}
+
+/// Lets a rover in that is admitted: it enters its account, is replied to, and joins.
+pub(crate) fn begin_rover<T: Turns<Ring>, B: Turns<Book>>(
+    alloc: Global,
+    config: &Config,
+    me: u32,
+    version: Option<Version>,
+    admission: &Admission,
+    first: Option<Position>,
+    places: &mut Places<T, B>,
+    out: &mut Vec<u8>,
+) -> Begun
+    requires kept { (cap : ℕ) × KeepsRules cap config.now }
+    requires admitted { (auth : AuthValue) × (name : List ℕ)
+        × (admission_of config.now auth name ≡ Ok admission.now) }
+    requires first { IfSome first IsOnEarth }
+    requires shapes { map T.shape places.old.rings.items ≡ shapes config.now }
+    requires caps { B.shape places.old.book ≡ caps config.now }
+    requires rings { AllSpeak T.speaks places.old.rings.items me }
+    requires book { IsTrue (B.speaks places.old.book me) }
+    ensures same_rings { SamePlaces T.shape T.speaks T.may_lack T.alone T.home
+        places.old.rings.items places.new.rings.items }
+    ensures same_book { SamePlace B.shape B.speaks B.may_lack B.alone B.home
+        places.old.book places.new.book }
+    ensures worn_rings { AllLater (map T.worn places.old.rings.items)
+        (map T.worn places.new.rings.items) }
+    ensures worn_book { B.worn places.old.book ≤ B.worn places.new.book }
+    ensures begins { BeginsFor config.now
+        (alone_at T.alone B.alone places.old.rings.items places.old.book)
+        (seen_at T.seen B.seen places.old.rings.items places.old.book)
+        (seen_at T.seen B.seen places.new.rings.items places.new.book) me
+        (rover_judged version first [] (Ok admission.now)) result.stage result.ended
+        out.old.items out.new.items }
+    ensures untold { IfNone version (out.new.items ≡ out.old.items) }
+    ensures starts { StartsAs result.stage result.ended }
+    ensures cause { IfSome result.ended (IsCause
+        (worn_at T.worn B.worn places.new.rings.items places.new.book)) }
+{
+    let Ok(mut session) = new_session(alloc, config, me, version, admission) else {
+        return Begun::over(Ending::Memory);
+    };
+    let Ok(()) = out.reserve(REPLY_ROOM) else {
+        return Begun::over(Ending::Memory);
+    };
+    let account = admission.account;
+    match enter(&mut places.book, me, account) {
+        Ok(Entry::Entered) => {
+            push_reply(version, Reply::RoverOk, out);
+            let joined = session.start(first, places.rings.as_mut_slice());
+            Begun {
+                stage: Stage::Rover { account, session },
+                ended: halted(joined),
+            }
+        }
+        Ok(Entry::Full { busy, cap }) => {
+            push_reply(version, Reply::Full, out);
+            Begun::over(Ending::Full { busy, cap })
+        }
+        Err(fault) => Begun::over(unentered(fault)),
+    }
+}

@@ -1,0 +1,152 @@
+//! One connection, from its first byte to its receipt.
+
+ghost use Rattle.std.specs.Prelude.{◌≡◌, ◌<◌, ◌≤◌, ◌++◌, ℕ, List, [], length, map, IsTrue, IfOk, OnOk, OnErr, None, Some, is_some};
+ghost use Rattle.turn_log.specs.Turn.{SamePlace};
+ghost use Rattle.session_calls.specs.Steps.{Step};
+ghost use Rattle.session_calls.specs.Rings.{AllLater, AllSpeak, SamePlaces};
+ghost use Rattle.cast_config.specs.declared.config.Config.{Config as ConfigValue};
+ghost use Rattle.cast_config.specs.Kept.{KeepsRules};
+ghost use Rattle.session_core.specs.Called.{OthersCalled, alone_at, seen_at};
+ghost use Rattle.session_core.specs.Headings.{Heading};
+ghost use Rattle.session_core.specs.Judged.{Opening, judged, relays, sends_head};
+ghost use Rattle.session_core.specs.Replies.{opening_text};
+ghost use Rattle.session_core.specs.Reports.{IsHeadingOf};
+ghost use Rattle.session_core.specs.Run.{Histories};
+ghost use Rattle.session_core.specs.Setting.{caps, shapes};
+ghost use Rattle.session_core.specs.Standing.{Follows, IsClosed, IsNewRelay, StandsFor};
+ghost use Rattle.upstream_relay.specs.Request.{relay_request};
+
+use crate::closing::receipt_of;
+use crate::ending::{Ending, Last};
+use crate::places::Places;
+use crate::report::Receipt;
+use crate::settle::settle;
+use crate::stage::Stage;
+use cast_config::{Config, Relay};
+use caster_accounts::Book;
+use mount_ring::Ring;
+use ntrip_head::HeadBuf;
+use std::alloc::{AllocError, Global};
+use turn_log::Turns;
+use upstream_relay::RelaySession;
+
+/// One connection: the bytes that come in on it are fed to it, and what is to be sent it appends.
+#[derive(Debug, Drop)]
+pub struct Session {
+    pub(crate) alloc: Global,
+    pub(crate) me: u32,
+    pub(crate) stage: Stage,
+    pub(crate) ended: Option<Ending>,
+}
+
+/// A relay before the first byte of the answer, whose request is appended.
+fn new_relay(alloc: Global, me: u32, relay: &Relay, out: &mut Vec<u8>) -> Result<Stage, AllocError>
+    requires { (1 ≤ relay.now.protocol) × (relay.now.protocol ≤ 2) }
+    ensures ok { OnOk result (out.new.items ≡ out.old.items ++ relay_request relay.now) }
+    ensures err { OnErr result (out.new.items ≡ out.old.items) }
+    ensures stage { IfOk result (IsNewRelay me relay.now.mount) }
+{
+    let session = RelaySession::new(alloc, me, relay)?;
+    session.request(out)?;
+    let mount = relay.mount;
+    Ok(Stage::Relay { mount, session })
+}
+
+impl Session {
+    /// A connection that is to send a head (RTCM 10410.0, or RTCM 10410.1 over RFC 9112), served as
+    /// the caller `me`.
+    ///
+    /// # Errors
+    /// For want of memory.
+    pub fn open(alloc: Global, me: u32) -> Result<Session, AllocError>
+        ensures me { IfOk result (λ session. session.me ≡ me) }
+        ensures goes_on { IfOk result (λ session. session.ended ≡ None) }
+        ensures stands { IfOk result (λ session. (c : Config) (histories : Histories)
+            → StandsFor c session sends_head [] [] histories []) }
+    {
+        let head = HeadBuf::new(alloc)?;
+        Ok(Session {
+            alloc,
+            me,
+            stage: Stage::Head(head),
+            ended: None,
+        })
+    }
+
+    /// A connection to another caster, for the relay of this number: its request is appended.
+    ///
+    /// # Errors
+    /// For want of memory. Then `out` is as it was.
+    pub fn relay(
+        alloc: Global,
+        config: &Config,
+        me: u32,
+        number: u32,
+        out: &mut Vec<u8>,
+    ) -> Result<Session, AllocError>
+        requires there { number < length config.now.relay }
+        requires kept { (cap : ℕ) × KeepsRules cap config.now }
+        ensures me { IfOk result (λ session. session.me ≡ me) }
+        ensures goes_on { IfOk result (λ session. session.ended ≡ None) }
+        ensures ok { OnOk result
+            (out.new.items ≡ out.old.items ++ opening_text config.now (relays number)) }
+        ensures err { OnErr result (out.new.items ≡ out.old.items) }
+        ensures stands { IfOk result (λ session. (histories : Histories)
+            → StandsFor config.now session (relays number) [] [] histories
+            (opening_text config.now (relays number))) }
+    {
+        let stage = new_relay(alloc, me, &config.relay.as_slice()[number as usize], out)?;
+        Ok(Session {
+            alloc,
+            me,
+            stage,
+            ended: None,
+        })
+    }
+
+    /// Whether it ended by itself, or was halted.
+    pub fn ended(&self) -> bool
+        ensures { result ≡ is_some self.now.ended }
+    {
+        self.ended.is_some()
+    }
+
+    /// Closes the connection, which came to its end or was broken so: a claim that it holds is given
+    /// back, or the account that it entered is left with what its segments count. One turn, or none
+    /// where nothing is held. Where the turn was refused, the receipt is not settled.
+    pub fn close<T: Turns<Ring>, B: Turns<Book>>(
+        self,
+        last: Last,
+        places: &mut Places<T, B>,
+    ) -> Receipt
+        requires rings { AllSpeak T.speaks places.old.rings.items self.me }
+        requires book { IsTrue (B.speaks places.old.book self.me) }
+        requires follows { (c : ConfigValue) × (map T.shape places.old.rings.items ≡ shapes c)
+            × (B.shape places.old.book ≡ caps c)
+            × Follows c self
+            (seen_at T.seen B.seen places.old.rings.items places.old.book) 0 }
+        ensures same_rings { SamePlaces T.shape T.speaks T.may_lack T.alone T.home
+            places.old.rings.items places.new.rings.items }
+        ensures same_book { SamePlace B.shape B.speaks B.may_lack B.alone B.home
+            places.old.book places.new.book }
+        ensures worn_rings { AllLater (map T.worn places.old.rings.items)
+            (map T.worn places.new.rings.items) }
+        ensures worn_book { B.worn places.old.book ≤ B.worn places.new.book }
+        ensures closed { (c : ConfigValue) (opening : Opening) (heading : Heading) (text : List ℕ)
+            (steps : List Step) (histories : Histories) (sent : List ℕ)
+            → map T.shape places.old.rings.items ≡ shapes c → B.shape places.old.book ≡ caps c
+            → IsHeadingOf (Some opening) text heading
+            → StandsFor c self opening text steps histories sent
+            → OthersCalled histories
+            (seen_at T.seen B.seen places.old.rings.items places.old.book) self.me
+            → IsClosed c (alone_at T.alone B.alone places.old.rings.items places.old.book)
+            (seen_at T.seen B.seen places.old.rings.items places.old.book)
+            (seen_at T.seen B.seen places.new.rings.items places.new.book) self.me self.ended
+            (judged c opening heading text) steps last result }
+    {
+        let mut stage = self.stage;
+        let rings = places.rings.as_mut_slice();
+        let settled = settle(self.me, &mut stage, rings, &mut places.book);
+        receipt_of(self.alloc, stage, self.ended, last, settled.is_ok())
+    }
+}

@@ -1,0 +1,131 @@
+//! Turns of a rover.
+
+ghost use Rattle.std.specs.Prelude.{◌≡◌, ◌≤◌, ℕ, List, false, map, IfSome, IsTrue, None, true};
+ghost use Rattle.std.specs.Result.{result_err};
+ghost use Rattle.turn_log.specs.Turn.{SamePlace};
+ghost use Rattle.session_calls.specs.Steps.{Step};
+ghost use Rattle.session_calls.specs.Rings.{AllLater, AllSpeak, SamePlaces, all_alone};
+ghost use Rattle.cast_config.specs.declared.config.Config.{Config as ConfigValue};
+ghost use Rattle.session_core.specs.Beginnings.{ended_joining, worn_at};
+ghost use Rattle.session_core.specs.Called.{IsCause, OthersCalled, alone_at, is_halt, seen_at};
+ghost use Rattle.session_core.specs.Judged.{Opening};
+ghost use Rattle.session_core.specs.Run.{Histories};
+ghost use Rattle.session_core.specs.Setting.{caps, shapes};
+ghost use Rattle.session_core.specs.Standing.{Follows, StandsFor};
+ghost use Rattle.session_core.specs.Turned.{IsReadBy, Turned, TurnedAt, flow_of, is_rover};
+
+use crate::ending::{Ending, Flow};
+use crate::places::Places;
+use crate::rovers::halted;
+use crate::session::Session;
+use crate::stage::Stage;
+use caster_accounts::Book;
+use mount_ring::Ring;
+use turn_log::Turns;
+
+/// Whether a session goes on that ended so, if it did.
+pub(crate) fn flow_after(ended: Option<Ending>) -> Flow
+    ensures { result ≡ flow_of ended }
+{
+    match ended {
+        None => Flow::Open,
+        Some(_) => Flow::Ended,
+    }
+}
+
+/// One turn of a rover, whose frames are appended; gives what halted it. Nothing else takes a turn.
+fn turn_at<T: Turns<Ring>>(
+    me: u32,
+    stage: &mut Stage,
+    budget: u32,
+    rings: &mut [T],
+    out: &mut Vec<u8>,
+) -> Option<Ending>
+    requires speaks { AllSpeak T.speaks rings.old me }
+    requires reads { IsReadBy (map T.shape rings.old) me (map T.seen rings.old) stage.old }
+    ensures same { SamePlaces T.shape T.speaks T.may_lack T.alone T.home rings.old rings.new }
+    ensures worn { AllLater (map T.worn rings.old) (map T.worn rings.new) }
+    ensures bystander { is_rover stage.old ≡ false → (result ≡ None) × (stage.new ≡ stage.old)
+        × (rings.new ≡ rings.old) × (out.new.items ≡ out.old.items) }
+    ensures turned { TurnedAt (map T.shape rings.old) (all_alone T.alone rings.old)
+        (map T.seen rings.old) (map T.seen rings.new) budget stage.old stage.new result
+        out.old.items out.new.items }
+    ensures refused { IfSome result (λ end. (map T.seen rings.new ≡ map T.seen rings.old)
+        × (out.new.items ≡ out.old.items)) }
+    ensures halts { IfSome result (λ end. IsTrue (is_halt end)) }
+    ensures cause { IfSome result (IsCause (map T.worn rings.new)) }
+{
+    match stage {
+        Stage::Head(_) => None,
+        Stage::Over => None,
+        Stage::Source {
+            mount: _mount,
+            session: _session,
+        } => None,
+        Stage::Relay {
+            mount: _mount,
+            session: _session,
+        } => None,
+        Stage::Rover {
+            account: _account,
+            session,
+        } => halted(session.turn(budget, rings, out)),
+    }
+}
+
+impl Session {
+    /// One turn of a rover: the frames that its place gives are appended, at most `budget` of them
+    /// and at most 16, each as it is under NTRIP 1.0 (RTCM 10410.0), and as one chunk (RFC 9112,
+    /// section 7.1) under NTRIP 2.0 (RTCM 10410.1). Of any other session nothing changes.
+    ///
+    /// Answers whether the session goes on. A place that is worn, or want of memory, ends it; then
+    /// nothing was read and nothing appended.
+    pub fn turn<T: Turns<Ring>, B: Turns<Book>>(
+        &mut self,
+        budget: u32,
+        places: &mut Places<T, B>,
+        out: &mut Vec<u8>,
+    ) -> Flow
+        requires rings { AllSpeak T.speaks places.old.rings.items self.old.me }
+        requires goes_on { self.old.ended ≡ None }
+        requires follows { (c : ConfigValue) × (map T.shape places.old.rings.items ≡ shapes c)
+            × (B.shape places.old.book ≡ caps c)
+            × Follows c self.old
+            (seen_at T.seen B.seen places.old.rings.items places.old.book) 0 }
+        ensures me { self.new.me ≡ self.old.me }
+        ensures same_rings { SamePlaces T.shape T.speaks T.may_lack T.alone T.home
+            places.old.rings.items places.new.rings.items }
+        ensures same_book { SamePlace B.shape B.speaks B.may_lack B.alone B.home
+            places.old.book places.new.book }
+        ensures worn_rings { AllLater (map T.worn places.old.rings.items)
+            (map T.worn places.new.rings.items) }
+        ensures worn_book { B.worn places.old.book ≤ B.worn places.new.book }
+        ensures flow { result ≡ flow_of self.new.ended }
+        ensures halts { IfSome self.new.ended (λ end. IsTrue (is_halt end)) }
+        ensures cause { IfSome self.new.ended (IsCause
+            (worn_at T.worn B.worn places.new.rings.items places.new.book)) }
+        ensures refused { IfSome self.new.ended (λ end.
+            (seen_at T.seen B.seen places.new.rings.items places.new.book
+            ≡ seen_at T.seen B.seen places.old.rings.items places.old.book)
+            × (out.new.items ≡ out.old.items)) }
+        ensures bystander { is_rover self.old.stage ≡ false → (self.new ≡ self.old)
+            × (places.new.rings.items ≡ places.old.rings.items)
+            × (places.new.book ≡ places.old.book) × (out.new.items ≡ out.old.items) }
+        ensures turned { is_rover self.old.stage ≡ true
+            → (c : ConfigValue) (opening : Opening) (text : List ℕ) (steps : List Step)
+            (histories : Histories) (sent : List ℕ)
+            → map T.shape places.old.rings.items ≡ shapes c → B.shape places.old.book ≡ caps c
+            → StandsFor c self.old opening text steps histories sent
+            → OthersCalled histories
+            (seen_at T.seen B.seen places.old.rings.items places.old.book) self.old.me
+            → Turned c (alone_at T.alone B.alone places.old.rings.items places.old.book)
+            (seen_at T.seen B.seen places.old.rings.items places.old.book)
+            (seen_at T.seen B.seen places.new.rings.items places.new.book) budget self.new
+            opening text steps sent out.old.items out.new.items }
+    {
+        let rings = places.rings.as_mut_slice();
+        let ended = turn_at(self.me, &mut self.stage, budget, rings, out);
+        self.ended = ended;
+        flow_after(ended)
+    }
+}
