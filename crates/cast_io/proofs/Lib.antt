@@ -4,4 +4,3 @@ pub mod StepLemmas
 pub mod ListLemmas
 pub mod ToldLemmas
 pub mod StoreLemmas
-pub mod CopyLemmas

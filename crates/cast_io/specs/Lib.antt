@@ -11,4 +11,3 @@ pub mod Streets
 pub mod FakeStreets
 pub mod Stores
 pub mod FakeStores
-pub mod Copying

@@ -8,13 +8,9 @@
 
 mod bytes;
 mod calls;
-#[cfg(test)]
-mod copy_tests;
 mod door;
 mod fault;
 mod link;
-#[cfg(test)]
-mod link_tests;
 mod mem_door;
 mod mem_link;
 mod mem_sink;
@@ -24,19 +20,11 @@ mod mem_street;
 mod notes;
 mod reading;
 mod returned;
-#[cfg(test)]
-mod sending;
 mod sink;
 mod source;
 mod steps;
 mod store;
-#[cfg(test)]
-mod store_tests;
 mod street;
-#[cfg(test)]
-mod street_tests;
-#[cfg(test)]
-mod tests;
 
 pub use bytes::ByteString;
 pub use door::{Arrived, Door};

@@ -8,7 +8,7 @@ use Rattle.cast_io.specs.declared.link.Got.{Got}
 use Rattle.cast_io.specs.declared.link.Got.TheVariants as got
 use Rattle.cast_io.specs.Told.{LinkTold, Grew}
 use Rattle.cast_io.specs.Links.{TakesStep, ahead, step_of, HasRead, HasWritten}
-use Rattle.cast_io.specs.Copying.{bytes_given, bytes_ahead, Exchanged, Copied}
+use Rattle.cast_io_tests.specs.Copying.{bytes_given, bytes_ahead, Exchanged, Copied}
 use Rattle.cast_io.proofs.ToldLemmas.{grew_none, grew_both}
 
 bytes_given-append : (xs ys : List Step) → bytes_given (xs ++ ys) ≡ bytes_given xs ++ bytes_given ys

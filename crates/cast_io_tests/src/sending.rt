@@ -1,13 +1,13 @@
 //! A caller over any link, for the tests: what it says is proved over the clauses of the trait.
 ghost use Rattle.std.specs.Prelude.{◌≡◌, ◌++◌, [], ◌∷◌, List, OnOk, OnErr};
 ghost use Rattle.cast_io.specs.Causes.{Rose};
-ghost use Rattle.cast_io.specs.Copying.{Copied, Exchanged, IsDone, IsBroken, bytes_given};
+ghost use Rattle.cast_io_tests.specs.Copying.{Copied, Exchanged, IsDone, IsBroken, bytes_given};
 ghost use Rattle.cast_io.specs.declared.steps.Step.{Step};
 
-use crate::{Failed, Got, Link};
+use cast_io::{Failed, Got, Link};
 
-// Sends back to the peer what it sends, with at most so many reads, until it ends.
-pub(crate) fn send_back<L: Link>(link: &mut L, reads: u32) -> Result<(), Failed>
+/// Sends back to the peer what it sends, with at most so many reads, until it ends.
+pub fn send_back<L: Link>(link: &mut L, reads: u32) -> Result<(), Failed>
     ensures ok { OnOk result ((taken : List Step)
         × Copied (L.told link.old) (L.told link.new) taken × IsDone reads taken) }
     ensures err { OnErr result ((taken : List Step) × (last : Step) × (written : List _)

@@ -4,10 +4,12 @@ ghost use Rattle.std.specs.List.{list_all};
 ghost use Rattle.cast_io.specs.FakeLinks.{is_new_link};
 ghost use Rattle.cast_io.specs.FakeDoors.{is_new_arrival, is_new_door};
 
-use crate::{
+use crate::expected::{expect_bytes, expect_got};
+use cast_io::{
     Arrived, Asked, ByteString, Door, Got, Link, MemDoor, MemLink, MemStreet, Street, StreetFault,
 };
 use std::alloc::Global;
+use std::process::Abort;
 use std::test::Fail;
 
 // A link whose peer has ended, and whose calls of these numbers fail.
@@ -97,51 +99,78 @@ fn two_calls(alloc: Global) -> Result<Vec<Asked>, Fail> {
     Ok(calls)
 }
 
+// An accept that finds nothing.
+fn expect_idle(rt: &impl Abort, door: &mut MemDoor) {
+    let found = matches!(door.accept(), Arrived::Idle);
+    assert!(rt; found);
+}
+
+// An accept that fails.
+fn expect_failed(rt: &impl Abort, door: &mut MemDoor) {
+    let failed = matches!(door.accept(), Arrived::Failed);
+    assert!(rt; failed);
+}
+
+// An `open` of so many doors. Those that it gives are let go.
+fn expect_open(
+    rt: &impl Abort,
+    street: &mut MemStreet,
+    count: u32,
+    wanted: Result<usize, StreetFault>,
+) {
+    let answer = match street.open("here", count) {
+        Ok(doors) => Ok(doors.len()),
+        Err(fault) => Err(fault),
+    };
+    assert_eq!(rt; answer, wanted);
+}
+
+// A `dial` that is refused.
+fn expect_no_dial(rt: &impl Abort, street: &mut MemStreet) {
+    let refusal = street.dial("a").err();
+    assert_eq!(rt; refusal, Some(StreetFault::Failed));
+}
+
+// So many faults of the street, and so many links that came back with faults.
+fn expect_faults(rt: &impl Abort, street: &MemStreet, faults: u64, link_faults: u64) {
+    assert!(rt; street.faults() == faults && street.link_faults() == link_faults);
+}
+
+// The second accept fails, and takes nothing.
 #[test]
 fn a_door_gives_what_arrives(rt: HostRuntime) -> Result<(), Fail> {
     let mut door = sent(door_of(rt.alloc(), &[2])?);
     let _first = sent(arrived(&mut door)?);
-    assert!(rt;
-        matches!(door.accept(), Arrived::Failed),
-        "the second accept"
-    );
-    assert!(rt;
-        matches!(door.accept(), Arrived::Idle),
-        "which took nothing"
-    );
+    expect_failed(&rt, &mut door);
+    expect_idle(&rt, &mut door);
     let _second = arrived(&mut door)?;
-    assert!(rt; matches!(door.accept(), Arrived::Idle), "none is to come");
-    assert_eq!(rt; door.faults(), 1);
+    expect_idle(&rt, &mut door);
+    assert!(rt; door.faults() == 1);
     Ok(())
 }
 
+// It tells them until one more came back than it gave.
 #[test]
 fn a_door_tells_what_came_back(rt: HostRuntime) -> Result<(), Fail> {
     let mut door = door_of(rt.alloc(), &[])?;
     let mut link = arrived(&mut door)?;
     mark(&mut link, 1)?;
     door.hang_up(link);
-    assert_eq!(rt; marks(rt.alloc(), door.back())?.as_slice(), [1].as_slice());
+    let back = marks(rt.alloc(), door.back())?;
+    expect_bytes(&rt, back.as_slice(), &[1]);
     door.hang_up(link_of(rt.alloc(), &[])?);
-    assert!(rt; door.back().is_none(), "one more than it gave");
+    assert!(rt; door.back().is_none());
     Ok(())
 }
 
+// It has two, and a refused call takes none.
 #[test]
 fn a_street_gives_no_more_doors_than_it_has(rt: HostRuntime) -> Result<(), Fail> {
     let mut street = street_of(rt.alloc(), &[])?;
-    assert_eq!(rt;
-        street.open("here", 3).err(),
-        Some(StreetFault::Failed),
-        "it has two"
-    );
-    assert_eq!(rt;
-        street.open("here", 2)?.len(),
-        2,
-        "a refused call took nothing"
-    );
-    assert_eq!(rt; street.open("here", 1).err(), Some(StreetFault::Failed));
-    assert_eq!(rt; street.faults(), 2);
+    expect_open(&rt, &mut street, 3, Err(StreetFault::Failed));
+    expect_open(&rt, &mut street, 2, Ok(2));
+    expect_open(&rt, &mut street, 1, Err(StreetFault::Failed));
+    expect_faults(&rt, &street, 2, 0);
     Ok(())
 }
 
@@ -149,98 +178,88 @@ fn a_street_gives_no_more_doors_than_it_has(rt: HostRuntime) -> Result<(), Fail>
 fn a_street_gives_no_more_links_than_it_has(rt: HostRuntime) -> Result<(), Fail> {
     let mut street = street_of(rt.alloc(), &[])?;
     let _links = dialled(&mut street)?;
-    assert_eq!(rt; street.dial("c").err(), Some(StreetFault::Failed));
-    assert_eq!(rt; street.faults(), 1);
+    expect_no_dial(&rt, &mut street);
+    expect_faults(&rt, &street, 1, 0);
     Ok(())
 }
 
+// It has two doors, and the second call is to fail.
 #[test]
 fn what_was_asked_is_told_where_it_was_refused_too(rt: HostRuntime) -> Result<(), Fail> {
     let mut street = street_of(rt.alloc(), &[2])?;
-    assert!(rt; street.open("here", 3).is_err(), "it has two");
-    assert!(rt; street.dial("a").is_err(), "it is to fail");
-    assert!(rt; street.asked() == Some(two_calls(rt.alloc())?.as_slice()));
+    expect_open(&rt, &mut street, 3, Err(StreetFault::Failed));
+    expect_no_dial(&rt, &mut street);
+    let wanted = two_calls(rt.alloc())?;
+    assert!(rt; street.asked() == Some(wanted.as_slice()));
     Ok(())
 }
 
 #[test]
 fn calls_of_a_street_fail_by_their_number(rt: HostRuntime) -> Result<(), Fail> {
     let mut street = street_of(rt.alloc(), &[2, 3])?;
-    assert_eq!(rt; street.open("here", 1)?.len(), 1);
-    assert_eq!(rt;
-        street.dial("a").err(),
-        Some(StreetFault::Failed),
-        "the second call"
-    );
-    assert_eq!(rt;
-        street.open("here", 1).err(),
-        Some(StreetFault::Failed),
-        "the third"
-    );
-    assert_eq!(rt; street.open("here", 1)?.len(), 1);
-    assert_eq!(rt; street.faults(), 2);
+    expect_open(&rt, &mut street, 1, Ok(1));
+    expect_no_dial(&rt, &mut street);
+    expect_open(&rt, &mut street, 1, Err(StreetFault::Failed));
+    expect_open(&rt, &mut street, 1, Ok(1));
+    expect_faults(&rt, &street, 2, 0);
     Ok(())
 }
 
+// The street tells them until one more came back than it gave.
 #[test]
 fn links_come_back_in_another_order(rt: HostRuntime) -> Result<(), Fail> {
     let mut street = street_of(rt.alloc(), &[])?;
     let (first, second) = dialled(&mut street)?;
     street.hang_up(second);
     street.hang_up(first);
-    assert_eq!(rt;
-        marks(rt.alloc(), street.links_back())?.as_slice(),
-        [2, 1].as_slice()
-    );
+    let back = marks(rt.alloc(), street.links_back())?;
+    expect_bytes(&rt, back.as_slice(), &[2, 1]);
     street.hang_up(link_of(rt.alloc(), &[])?);
-    assert!(rt; street.links_back().is_none(), "one more than it gave");
+    assert!(rt; street.links_back().is_none());
     Ok(())
 }
 
+// The second call of the second link fails: one link comes back with a fault.
 #[test]
 fn a_fault_of_a_link_is_none_of_the_street(rt: HostRuntime) -> Result<(), Fail> {
     let mut street = street_of(rt.alloc(), &[])?;
     let (first, mut second) = dialled(&mut street)?;
-    assert_eq!(rt;
-        second.read(&mut [0u8; 2]),
-        Got::Failed,
-        "the second call of this link"
-    );
+    expect_got(&rt, &mut second, 2, Got::Failed, b"");
     street.hang_up(second);
     street.hang_up(first);
-    assert_eq!(rt; street.link_faults(), 1, "one link came back with a fault");
-    assert_eq!(rt; street.faults(), 0);
+    expect_faults(&rt, &street, 0, 1);
     Ok(())
 }
 
+// Of two doors the first one had a fault.
 #[test]
 fn a_door_that_failed_is_a_fault_of_the_street(rt: HostRuntime) -> Result<(), Fail> {
     let mut street = street_of(rt.alloc(), &[])?;
     let mut doors = street.open("here", 2)?;
     street.shut(doors.pop().ok_or("no door")?);
-    assert_eq!(rt; street.faults(), 0, "this door had no fault");
+    expect_faults(&rt, &street, 0, 0);
     let mut first = doors.pop().ok_or("no door")?;
-    assert!(rt; matches!(first.accept(), Arrived::Failed));
+    expect_failed(&rt, &mut first);
     street.shut(first);
-    assert_eq!(rt; street.faults(), 1);
-    assert_eq!(rt; street.link_faults(), 0);
+    expect_faults(&rt, &street, 1, 0);
     Ok(())
 }
 
+// The most faults that one of the doors had.
+fn most_faults(doors: Option<&[MemDoor]>) -> Option<u64> {
+    doors?.iter().map(|door| door.faults()).max()
+}
+
+// The street tells them until one more came back than it gave.
 #[test]
 fn doors_come_back_as_they_are_then(rt: HostRuntime) -> Result<(), Fail> {
     let mut street = street_of(rt.alloc(), &[])?;
     let mut doors = street.open("here", 1)?;
     let mut door = doors.pop().ok_or("no door")?;
-    assert!(rt; matches!(door.accept(), Arrived::Failed));
+    expect_failed(&rt, &mut door);
     street.shut(door);
-    let faults = street
-        .doors_back()
-        .ok_or("told no longer")?
-        .iter()
-        .map(|d| d.faults());
-    assert_eq!(rt; faults.max(), Some(1));
+    assert!(rt; most_faults(street.doors_back()) == Some(1));
     street.shut(door_of(rt.alloc(), &[])?);
-    assert!(rt; street.doors_back().is_none(), "one more than it gave");
+    assert!(rt; street.doors_back().is_none());
     Ok(())
 }

@@ -3,10 +3,10 @@ use Rattle.std.proofs.Common.{◌≡◌, ◌+◌, ◌++◌, [], ◌∷◌, List,
 use Rattle.cast_io.specs.declared.steps.Step.{Step}
 use Rattle.cast_io.specs.declared.steps.Step.TheVariants as took
 use Rattle.cast_io.specs.declared.link.Got.TheVariants as got
-use Rattle.cast_io.specs.Copying.{Exchanged, Copied, bytes_given}
-use Rattle.cast_io.proofs.CopyLemmas.{exchanged_next, copied_read, copied_bytes, copied_torn}
-use Rattle.cast_io.proofs.sending.send_back.Goals.{in-Bytes+in-Ok, in-Idle}
-use Rattle.cast_io.proofs.sending.send_back.Goals as goal
+use Rattle.cast_io_tests.specs.Copying.{Exchanged, Copied, bytes_given}
+use Rattle.cast_io_tests.proofs.CopyLemmas.{exchanged_next, copied_read, copied_bytes, copied_torn}
+use Rattle.cast_io_tests.proofs.sending.send_back.Goals.{in-Bytes+in-Ok, in-Idle}
+use Rattle.cast_io_tests.proofs.sending.send_back.Goals as goal
 
 pub returns-in_default-clause-err : goal.returns-in_default-clause-err
 returns-in_default-clause-err g c =

@@ -1,0 +1,20 @@
+//! Runs of the fakes of `cast_io`, and a caller over any link.
+//!
+//! They stand in a crate of their own, so that the crate that they try is proved once.
+#![tactic(auto)]
+
+#[cfg(test)]
+mod copy_tests;
+#[cfg(test)]
+mod expected;
+#[cfg(test)]
+mod link_tests;
+#[cfg(test)]
+mod read_tests;
+mod sending;
+#[cfg(test)]
+mod store_tests;
+#[cfg(test)]
+mod street_tests;
+
+pub use sending::send_back;
