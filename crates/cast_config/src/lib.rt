@@ -20,10 +20,3 @@ pub use document::read_config;
 pub use fault::ConfigFault;
 pub use known::{Named, place_heard, place_named};
 pub use lists::{Accounts, FilterTable, GroupFilters, Groups, Mounts, Nears, Numbers, Relays};
-
-#[cfg(test)]
-mod examples;
-#[cfg(test)]
-mod limits;
-#[cfg(test)]
-mod tests;
