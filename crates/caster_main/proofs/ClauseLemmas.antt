@@ -1,139 +1,242 @@
--- What words, input and output say of a status and of what was written.
-use Rattle.std.proofs.Common.{◌≡◌, ℕ, ◌⊎◌, List, Option, None, Some, Ok, inl, inr, refl, ap, sym, subst, ◌∙◌}
+-- What words, input, files and output say of a status and of what was written.
+use Rattle.std.proofs.Common.{◌≡◌, ℕ, ◌≤◌, ◌⊎◌, List, length, Option, None, Some, Result, Ok, Err, IsOk, inl, inr, refl, ap, sym, subst, ◌∙◌, arith}
 use Rattle.std.specs.Io.KnownBytes.{Appends}
 use Rattle.session_script.specs.declared.Event.{Event}
 use Rattle.session_script.specs.declared.ScriptKind.TheVariants.{Bare}
 use Rattle.session_script.specs.Script.{script_of}
-use Rattle.caster_replay.specs.World.{bare}
+use Rattle.caster_replay.specs.World as world
 use Rattle.caster_replay.specs.Report.{report}
 use Rattle.cast_io.specs.Causes.{Rose}
+use Rattle.cast_io.specs.Stores.{content_of}
+use Rattle.cast_config.specs.declared.config.Config.{Config}
+use Rattle.cast_config.specs.declared.fault.ConfigFault.{ConfigFault}
+use Rattle.cast_config.specs.Document.{IsRead}
 use Rattle.caster_main.specs.declared.answers.Answer.{Answer}
-use Rattle.caster_main.specs.declared.answers.Answer.TheVariants.{Report, Session, Usage, Long, ReadFault, Memory}
-use Rattle.caster_main.specs.Command.{AreBare, AreOfNoForm, command_of}
-use Rattle.caster_main.specs.Outcome.{Exit, usage_exit, exit_of_script, outcome}
-use Rattle.caster_main.specs.Told.{Tells, EndsWith, FollowsOutcome, HaveInput}
-use Rattle.caster_main.specs.Answers.{exit_of, IsOutcome, IsAnswer, Writes}
-use Rattle.caster_main.proofs.WordLemmas.{command_of-bare, bare-command_of}
-use Rattle.caster_main.proofs.AnswerLemmas.{outcome-command}
-use Rattle.caster_main.proofs.ScriptLemmas.{script_not_usage}
+use Rattle.caster_main.specs.declared.answers.Answer.TheVariants.{Done, Valid, NoConfig, NoSession, Usage, Long, ReadFault, Memory}
+use Rattle.caster_main.specs.declared.command.Aim.{Aim}
+use Rattle.caster_main.specs.Command.{Form, bare, over, AreBare, AreOver, AreOf, AreOfNoForm, form_of}
+use Rattle.caster_main.specs.Reading.{config_in}
+use Rattle.caster_main.specs.Outcome.{Exit, Ending, EndsSo, Came, exit_of_script, ending_of_config, ending_of_read, ending_of_bytes, ending_of_form, ending_of}
+use Rattle.caster_main.specs.Told.{Files, Holds, IsConfigAt, HasCome, EndsWith, FollowsOutcome, HaveForm, HaveFault, HaveCome}
+use Rattle.caster_main.specs.Answers.{exit_of, IsAnswer, Writes}
+use Rattle.caster_main.proofs.WordLemmas.{form_of-form, form-form_of, no_form}
+use Rattle.caster_main.proofs.ReadingLemmas.{config_in-ok, read-config_in}
+use Rattle.caster_main.proofs.AnswerLemmas.{outcome-form, told_bytes, ending_of_bytes-short}
+use Rattle.caster_main.proofs.StatusLemmas.{status_of, status-ends, no_usage_form, bytes_status, ok_status}
 
--- an answer that is the outcome, and was written
-outcome_written : (words : List (List ℕ)) (left old new : Option (List ℕ)) (status : ℕ) (end : Exit)
-    → IsOutcome words left end → EndsWith status old new end → FollowsOutcome words left status old new
-outcome_written words left old new status end is written =
-    (is.0, is.1, subst (λ (e : Exit). EndsWith status old new e) is.2 written)
+-- ---- how a run ended
+
+-- with a failed write, with want of memory, with a fault of reading, or as the outcome says
+abbrev Ended : List (List ℕ) → Option (List ℕ) → Files → Type 0 → Type 0 → Option (List ℕ) → Option (List ℕ)
+    → ℕ → Type 0
+Ended words left files of_input of_store old new status =
+    ((status ≡ 7) × HaveForm words)
+    ⊎ (((status ≡ 4) × HaveFault words of_input of_store) ⊎ FollowsOutcome words left files status old new)
+
+answer_written : (words : List (List ℕ)) (left : Option (List ℕ)) (files : Files) (of_input of_store : Type 0)
+    (old new : Option (List ℕ)) (status : ℕ) (answer : Answer) → IsAnswer words left files of_input of_store answer
+    → EndsWith status old new (exit_of answer) → Ended words left files of_input of_store old new status
+answer_written words left files of_input of_store old new status Memory is written = inl (written.0, is)
+answer_written words left files of_input of_store old new status ReadFault is written = inr (inl (written.0, is))
+answer_written words left files of_input of_store old new status (Done text) is written = inr (inr (_, is, written))
+answer_written words left files of_input of_store old new status Valid is written = inr (inr (_, is, written))
+answer_written words left files of_input of_store old new status (NoConfig text) is written =
+    inr (inr (_, is, written))
+answer_written words left files of_input of_store old new status (NoSession text) is written =
+    inr (inr (_, is, written))
+answer_written words left files of_input of_store old new status Usage is written = inr (inr (_, is, written))
+answer_written words left files of_input of_store old new status Long is written = inr (inr (_, is, written))
 
 -- where no count rose, the outcome followed or memory was wanting
-pub undisturbed_run : (words : List (List ℕ)) (left old new : Option (List ℕ)) (before now before' now' status : ℕ)
-    (answer : Answer) → IsAnswer words left before now answer → Writes (exit_of answer) old new before' now' status
-    → (Rose before now → ⊥) → (Rose before' now' → ⊥) → (status ≡ 7) ⊎ FollowsOutcome words left status old new
-undisturbed_run words left old new before now before' now' status answer is (inr failed) r w = absurd (w failed.1)
-undisturbed_run words left old new before now before' now' status Memory is (inl written) r w = inl written.0
-undisturbed_run words left old new before now before' now' status ReadFault is (inl written) r w = absurd (r is.1)
-undisturbed_run words left old new before now before' now' status (Report text) is (inl written) r w =
-    inr (outcome_written words left old new status _ is written)
-undisturbed_run words left old new before now before' now' status (Session text) is (inl written) r w =
-    inr (outcome_written words left old new status _ is written)
-undisturbed_run words left old new before now before' now' status Usage is (inl written) r w =
-    inr (outcome_written words left old new status _ is written)
-undisturbed_run words left old new before now before' now' status Long is (inl written) r w =
-    inr (outcome_written words left old new status _ is written)
+pub undisturbed_run : (words : List (List ℕ)) (left : Option (List ℕ)) (files : Files) (of_input of_store : Type 0)
+    (old new : Option (List ℕ)) (before now status : ℕ) (answer : Answer)
+    → IsAnswer words left files of_input of_store answer → Writes (exit_of answer) old new before now status
+    → (HaveFault words of_input of_store → ⊥) → (Rose before now → ⊥)
+    → (status ≡ 7) ⊎ FollowsOutcome words left files status old new
+undisturbed_run words left files of_input of_store old new before now status answer is (inr failed) r w =
+    absurd (w failed.1)
+undisturbed_run words left files of_input of_store old new before now status answer is (inl written) r w =
+    elim (answer_written words left files of_input of_store old new status answer is written) [
+      | inl memory ↦ inl memory.0
+      | inr (inl fault) ↦ absurd (r fault.1)
+      | inr (inr follows) ↦ inr follows
+    ]
 
 -- where the status names no fault, the outcome followed
-pub decided_run : (words : List (List ℕ)) (left old new : Option (List ℕ)) (before now before' now' status : ℕ)
-    (answer : Answer) → IsAnswer words left before now answer → Writes (exit_of answer) old new before' now' status
-    → (status ≡ 4 → ⊥) → (status ≡ 5 → ⊥) → (status ≡ 7 → ⊥) → FollowsOutcome words left status old new
-decided_run words left old new before now before' now' status answer is (inr failed) r w m = absurd (w failed.0)
-decided_run words left old new before now before' now' status Memory is (inl written) r w m = absurd (m written.0)
-decided_run words left old new before now before' now' status ReadFault is (inl written) r w m = absurd (r written.0)
-decided_run words left old new before now before' now' status (Report text) is (inl written) r w m =
-    outcome_written words left old new status _ is written
-decided_run words left old new before now before' now' status (Session text) is (inl written) r w m =
-    outcome_written words left old new status _ is written
-decided_run words left old new before now before' now' status Usage is (inl written) r w m =
-    outcome_written words left old new status _ is written
-decided_run words left old new before now before' now' status Long is (inl written) r w m =
-    outcome_written words left old new status _ is written
+pub decided_run : (words : List (List ℕ)) (left : Option (List ℕ)) (files : Files) (of_input of_store : Type 0)
+    (old new : Option (List ℕ)) (before now status : ℕ) (answer : Answer)
+    → IsAnswer words left files of_input of_store answer → Writes (exit_of answer) old new before now status
+    → (status ≡ 4 → ⊥) → (status ≡ 5 → ⊥) → (status ≡ 7 → ⊥) → FollowsOutcome words left files status old new
+decided_run words left files of_input of_store old new before now status answer is (inr failed) r w m =
+    absurd (w failed.0)
+decided_run words left files of_input of_store old new before now status answer is (inl written) r w m =
+    elim (answer_written words left files of_input of_store old new status answer is written) [
+      | inl memory ↦ absurd (m memory.0)
+      | inr (inl fault) ↦ absurd (r fault.0)
+      | inr (inr follows) ↦ follows
+    ]
 
--- ---- what an outcome says of words and input
+-- ---- what the outcome is of
 
--- another status than `usage` has words of the form, and an input
-have_input_at : (AreSuch : List ℕ → Type 0) (status : ℕ) (words : List (List ℕ)) (left : Option (List ℕ))
-    (bytes : List ℕ) (read : Option ℕ) → read ≡ command_of words → (status ≡ 1 → ⊥)
-    → ((capacity : ℕ) → (exit_of_script capacity (script_of Bare bytes)).status ≡ status → AreSuch bytes)
-    → Tells left bytes → status ≡ (outcome words bytes).status → HaveInput AreSuch words left
-have_input_at AreSuch status words left bytes None h other such told is =
-    absurd (other (is ∙ ap (λ (e : Exit). e.status) (sym (outcome-command words bytes None h))))
-have_input_at AreSuch status words left bytes (Some capacity) h other such told is = (
-  capacity,
-  bytes,
-  bare-command_of words capacity (sym h),
-  told,
-  such capacity (sym (is ∙ ap (λ (e : Exit). e.status) (sym (outcome-command words bytes (Some capacity) h)))),
-)
+-- the outcome of words that are read so
+pub read_run : (words : List (List ℕ)) (left : Option (List ℕ)) (files : Files) (old new : Option (List ℕ))
+    (status : ℕ) (read : Option Form) → FollowsOutcome words left files status old new → form_of words ≡ read
+    → (came : Came) × (end : Exit) × HasCome read left files came × EndsSo (ending_of read came) end
+    × EndsWith status old new end
+read_run words left files old new status read follows h =
+    let end = follows.0 in
+    let is = follows.1 in (
+      is.0,
+      end,
+      subst (λ (f : Option Form). HasCome f left files is.0) h is.1,
+      subst (λ (e : Ending). EndsSo e end) (sym (outcome-form words is.0 read h)) is.2,
+      follows.2,
+    )
 
-pub have_input : (AreSuch : List ℕ → Type 0) (status : ℕ) (words : List (List ℕ)) (left old new : Option (List ℕ))
-    → (status ≡ 1 → ⊥)
-    → ((capacity : ℕ) (bytes : List ℕ) → (exit_of_script capacity (script_of Bare bytes)).status ≡ status
-    → AreSuch bytes)
-    → FollowsOutcome words left status old new → HaveInput AreSuch words left
-have_input AreSuch status words left old new other such follows =
-    have_input_at AreSuch status words left follows.0 (command_of words) refl other
-    (λ capacity h. such capacity follows.0 h) follows.1 follows.2.0
+-- another status than `usage` has words of a form, and what came for it is such
+have_come_at : (IsSuch : Form → Came → Type 0) (words : List (List ℕ)) (left : Option (List ℕ)) (files : Files)
+    (old new : Option (List ℕ)) (status : ℕ) (read : Option Form) → form_of words ≡ read → (status ≡ 1 → ⊥)
+    → ((form : Form) (came : Came) → status_of (ending_of_form form came) ≡ status → IsSuch form came)
+    → FollowsOutcome words left files status old new → HaveCome IsSuch words left files
+have_come_at IsSuch words left files old new status None h other such follows =
+    let run = read_run words left files old new status None follows h in
+    absurd (other (run.4.0 ∙ ap (λ (e : Exit). e.status) run.3))
+have_come_at IsSuch words left files old new status (Some form) h other such follows =
+    let run = read_run words left files old new status (Some form) follows h in
+    let ended = status-ends (ending_of_form form run.0) run.1 run.3 in
+    (form, run.0, form-form_of words form h, run.2, such form run.0 (sym (run.4.0 ∙ ended)))
 
--- the outcome of words of no form
-outcome-no_form : (words : List (List ℕ)) (bytes : List ℕ) (read : Option ℕ) → read ≡ command_of words
-    → AreOfNoForm words → usage_exit ≡ outcome words bytes
-outcome-no_form words bytes None h none = outcome-command words bytes None h
-outcome-no_form words bytes (Some capacity) h none = absurd (none capacity (bare-command_of words capacity (sym h)))
-
--- words of no form end with `usage`, unless a write fails
-pub no_form_run : (words : List (List ℕ)) (left old new : Option (List ℕ)) (before now before' now' status : ℕ)
-    (answer : Answer) → IsAnswer words left before now answer → Writes (exit_of answer) old new before' now' status
-    → AreOfNoForm words → (status ≡ 1) ⊎ (status ≡ 5)
-no_form_run words left old new before now before' now' status answer is (inr failed) none = inr failed.0
-no_form_run words left old new before now before' now' status Memory is (inl written) none = absurd (none is.0 is.1)
-no_form_run words left old new before now before' now' status ReadFault is (inl written) none =
-    absurd (none is.0.0 is.0.1)
-no_form_run words left old new before now before' now' status (Report text) is (inl written) none =
-    inl (written.0 ∙ ap (λ (e : Exit). e.status) (is.2 ∙ sym (outcome-no_form words is.0 (command_of words) refl none)))
-no_form_run words left old new before now before' now' status (Session text) is (inl written) none =
-    inl (written.0 ∙ ap (λ (e : Exit). e.status) (is.2 ∙ sym (outcome-no_form words is.0 (command_of words) refl none)))
-no_form_run words left old new before now before' now' status Usage is (inl written) none =
-    inl (written.0 ∙ ap (λ (e : Exit). e.status) (is.2 ∙ sym (outcome-no_form words is.0 (command_of words) refl none)))
-no_form_run words left old new before now before' now' status Long is (inl written) none =
-    inl (written.0 ∙ ap (λ (e : Exit). e.status) (is.2 ∙ sym (outcome-no_form words is.0 (command_of words) refl none)))
+pub have_come : (IsSuch : Form → Came → Type 0) (words : List (List ℕ)) (left : Option (List ℕ)) (files : Files)
+    (old new : Option (List ℕ)) (status : ℕ) → (status ≡ 1 → ⊥)
+    → ((form : Form) (came : Came) → status_of (ending_of_form form came) ≡ status → IsSuch form came)
+    → FollowsOutcome words left files status old new → HaveCome IsSuch words left files
+have_come IsSuch words left files old new status other such follows =
+    have_come_at IsSuch words left files old new status (form_of words) refl other such follows
 
 -- status 1 says that the words are of no form
-usage_at : (words : List (List ℕ)) (bytes : List ℕ) (read : Option ℕ) → read ≡ command_of words
-    → (outcome words bytes).status ≡ 1 → AreOfNoForm words
-usage_at words bytes None h is = λ capacity are. absurd (let e = command_of-bare words capacity are in cc)
-usage_at words bytes (Some capacity) h is =
-    absurd (script_not_usage capacity (script_of Bare bytes)
-    (ap (λ (e : Exit). e.status) (outcome-command words bytes (Some capacity) h) ∙ is))
+usage_at : (words : List (List ℕ)) (left : Option (List ℕ)) (files : Files) (old new : Option (List ℕ)) (status : ℕ)
+    (read : Option Form) → form_of words ≡ read → FollowsOutcome words left files status old new → status ≡ 1
+    → AreOfNoForm words
+usage_at words left files old new status None h follows is = no_form words h
+usage_at words left files old new status (Some form) h follows is =
+    let run = read_run words left files old new status (Some form) follows h in
+    let ended = status-ends (ending_of_form form run.0) run.1 run.3 in
+    absurd (no_usage_form form run.0 (sym (run.4.0 ∙ ended) ∙ is))
 
-pub usage_run : (words : List (List ℕ)) (left old new : Option (List ℕ)) (status : ℕ)
-    → FollowsOutcome words left status old new → status ≡ 1 → AreOfNoForm words
-usage_run words left old new status follows is =
-    usage_at words follows.0 (command_of words) refl (sym follows.2.0 ∙ is)
+pub usage_run : (words : List (List ℕ)) (left : Option (List ℕ)) (files : Files) (old new : Option (List ℕ))
+    (status : ℕ) → FollowsOutcome words left files status old new → status ≡ 1 → AreOfNoForm words
+usage_run words left files old new status follows is =
+    usage_at words left files old new status (form_of words) refl follows is
+
+-- words of no form are read as none
+no_form_read : (words : List (List ℕ)) (read : Option Form) → form_of words ≡ read → AreOfNoForm words
+    → form_of words ≡ None
+no_form_read words None h none = h
+no_form_read words (Some form) h none = absurd (none form (form-form_of words form h))
+
+-- they end with `usage`, unless a write fails
+pub no_form_run : (words : List (List ℕ)) (left : Option (List ℕ)) (files : Files) (of_input of_store : Type 0)
+    (old new : Option (List ℕ)) (before now status : ℕ) (answer : Answer)
+    → IsAnswer words left files of_input of_store answer → Writes (exit_of answer) old new before now status
+    → AreOfNoForm words → (status ≡ 1) ⊎ (status ≡ 5)
+no_form_run words left files of_input of_store old new before now status answer is (inr failed) none = inr failed.0
+no_form_run words left files of_input of_store old new before now status answer is (inl written) none =
+    elim (answer_written words left files of_input of_store old new status answer is written) [
+      | inl memory ↦ absurd (none memory.1.0 memory.1.1)
+      | inr (inl fault) ↦ absurd (none fault.1.0 fault.1.1)
+      | inr (inr follows) ↦
+          let run = read_run words left files old new status None follows
+          (no_form_read words (form_of words) refl none) in
+          inl (run.4.0 ∙ ap (λ (e : Exit). e.status) run.3)
+    ]
 
 -- ---- scripts
 
-told_bytes : (left : Option (List ℕ)) (bytes told : List ℕ) → Tells left bytes → left ≡ Some told → told ≡ bytes
-told_bytes None bytes told h e = absurd cc
-told_bytes (Some xs) bytes told h e = cc
-
 -- the outcome of a script is the report of its run
-outcome-script : (words : List (List ℕ)) (capacity : ℕ) (bytes : List ℕ) (events : List Event) → AreBare words capacity
-    → script_of Bare bytes ≡ Ok events → outcome words bytes ≡ exit_of_script capacity (Ok events)
-outcome-script words capacity bytes events are script =
-    sym (outcome-command words bytes (Some capacity) (sym (command_of-bare words capacity are)))
-    ∙ ap (λ s. exit_of_script capacity s) script
+pub script_run : (words : List (List ℕ)) (left : Option (List ℕ)) (files : Files) (old new : Option (List ℕ))
+    (status capacity : ℕ) (bytes : List ℕ) (events : List Event) → FollowsOutcome words left files status old new
+    → AreBare words capacity → left ≡ Some bytes → script_of Bare bytes ≡ Ok events
+    → (status ≡ 0) × Appends old new (report (world.bare capacity) events)
+script_run words left files old new status capacity bytes events follows are told script =
+    let run = read_run words left files old new status (Some (bare capacity)) follows
+    (form_of-form words (bare capacity) are) in
+    let same = told_bytes left run.0.script bytes run.2 told in
+    let end = run.3 ∙ ap (λ b. exit_of_script capacity (script_of Bare b)) (sym same)
+    ∙ ap (λ s. exit_of_script capacity s) script in
+    subst (λ (e : Exit). EndsWith status old new e) end run.4
 
-pub script_run : (words : List (List ℕ)) (left old new : Option (List ℕ)) (status capacity : ℕ) (bytes : List ℕ)
-    (events : List Event) → FollowsOutcome words left status old new → AreBare words capacity → left ≡ Some bytes
-    → script_of Bare bytes ≡ Ok events → (status ≡ 0) × Appends old new (report (bare capacity) events)
-script_run words left old new status capacity bytes events follows are told script =
-    let same = told_bytes left follows.0 bytes follows.1 told in
-    let end = ap (λ b. outcome words b) (sym same) ∙ outcome-script words capacity bytes events are script in
-    subst (λ (e : Exit). EndsWith status old new e) end follows.2
+-- words have one form
+one_form : (words : List (List ℕ)) (a b : Form) → AreOf words a → AreOf words b → Some a ≡ Some b
+one_form words a b first second = sym (form_of-form words a first) ∙ form_of-form words b second
+
+pub bare_fault : (words : List (List ℕ)) (of_input of_store : Type 0) (capacity : ℕ) → AreBare words capacity
+    → (of_input → ⊥) → HaveFault words of_input of_store → ⊥
+bare_fault words of_input of_store capacity are read (bare other, of, fault) = read fault
+bare_fault words of_input of_store capacity are read (over aim path, of, fault) =
+    let e = one_form words (bare capacity) (over aim path) are of in absurd cc
+
+pub over_fault : (words : List (List ℕ)) (of_input of_store : Type 0) (aim : Aim) (path : List ℕ)
+    → AreOver aim words path → (of_store → ⊥) → HaveFault words of_input of_store → ⊥
+over_fault words of_input of_store aim path are read (bare capacity, of, fault) =
+    let e = one_form words (over aim path) (bare capacity) are of in absurd cc
+over_fault words of_input of_store aim path are read (over other other_path, of, fault) = read fault
+
+-- ---- configurations
+
+ok_value : (read : Result Config ConfigFault) → IsOk read → (c : Config) × (read ≡ Ok c)
+ok_value (Ok c) h = (c, refl)
+ok_value (Err fault) h = absurd cc
+
+config_status : (aim : Aim) (bytes : List ℕ) → status_of (ending_of_bytes aim bytes) ≡ 0
+    → IsOk (config_in bytes) × (length bytes ≤ 8388608)
+config_status aim bytes h = elim (bytes_status aim bytes) [
+  | inl long ↦ absurd (omega (arith, h, long.0))
+  | inr (inl whole) ↦ (whole.1, whole.2)
+  | inr (inr (inl faulty)) ↦ absurd (omega (arith, h, faulty.0))
+  | inr (inr (inr memory)) ↦ absurd (omega (arith, h, memory))
+]
+
+ending_of_bytes-config : (aim : Aim) (bytes : List ℕ) (c : Config) → length bytes ≤ 8388608 → config_in bytes ≡ Ok c
+    → ending_of_bytes aim bytes ≡ ending_of_config aim c
+ending_of_bytes-config aim bytes c short h =
+    ending_of_bytes-short aim bytes short ∙ ap (λ (r : Result Config ConfigFault). ending_of_read aim r) h
+
+-- with status 0 the file is a configuration, and what was written is what is done with it
+pub over_run : (words : List (List ℕ)) (left : Option (List ℕ)) (files : Files) (old new : Option (List ℕ))
+    (status : ℕ) (aim : Aim) (path : List ℕ) → status ≡ 0 → FollowsOutcome words left files status old new
+    → AreOver aim words path
+    → (c : Config) × (end : Exit) × IsConfigAt files path c × EndsSo (ending_of_config aim c) end
+    × Appends old new end.text
+over_run words left files old new status aim path is follows are =
+    let run = read_run words left files old new status (Some (over aim path)) follows
+    (form_of-form words (over aim path) are) in
+    let ended = status-ends (ending_of_bytes aim run.0.config) run.1 run.3 in
+    let whole = config_status aim run.0.config (sym (run.4.0 ∙ ended) ∙ is) in
+    let value = ok_value (config_in run.0.config) whole.0 in (
+      value.0,
+      run.1,
+      (run.0.config, run.2, whole.1, read-config_in run.0.config value.0 value.1),
+      subst (λ (e : Ending). EndsSo e run.1) (ending_of_bytes-config aim run.0.config value.0 whole.1 value.1) run.3,
+      run.4.1,
+    )
+
+held_bytes : (files : Files) (list : List (List ℕ × List ℕ)) (path bytes held : List ℕ) → Holds files path held
+    → files ≡ Some list → content_of list path ≡ Some bytes → held ≡ bytes
+held_bytes None list path bytes held h e c = absurd cc
+held_bytes (Some told) list path bytes held h e c =
+    let same : told ≡ list = cc in
+    let both : content_of list path ≡ Some held = ap (λ l. content_of l path) (sym same) ∙ h in
+    cc
+
+-- a configuration has status 0
+pub config_run : (words : List (List ℕ)) (left : Option (List ℕ)) (files : Files) (old new : Option (List ℕ))
+    (status : ℕ) (aim : Aim) (path : List ℕ) (list : List (List ℕ × List ℕ)) (bytes : List ℕ) (c : Config)
+    → FollowsOutcome words left files status old new → AreOver aim words path → files ≡ Some list
+    → content_of list path ≡ Some bytes → length bytes ≤ 8388608 → IsRead bytes (Ok c) → status ≡ 0
+config_run words left files old new status aim path list bytes c follows are told content short is =
+    let run = read_run words left files old new status (Some (over aim path)) follows
+    (form_of-form words (over aim path) are) in
+    let ended = status-ends (ending_of_bytes aim run.0.config) run.1 run.3 in
+    let same = held_bytes files list path bytes run.0.config run.2 told content in
+    run.4.0 ∙ ended ∙ ap (λ b. status_of (ending_of_bytes aim b)) same
+    ∙ ap status_of (ending_of_bytes-config aim bytes c short (config_in-ok bytes c is)) ∙ ok_status aim c

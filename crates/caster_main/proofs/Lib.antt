@@ -1,5 +1,7 @@
 pub mod WordLemmas
+pub mod ReadingLemmas
 pub mod AnswerLemmas
 pub mod ScriptLemmas
+pub mod StatusLemmas
 pub mod ClauseLemmas
 pub mod PieceLemmas

@@ -93,6 +93,15 @@ script_not_usage capacity (Err NoStop) h = omega arith
 script_not_usage capacity (Err Long) h = omega arith
 script_not_usage capacity (Err Memory) h = omega arith
 
+pub script_not_config : (capacity : ℕ) (script : Result (List Event) ScriptFault)
+    → (exit_of_script capacity script).status ≡ 2 → ⊥
+script_not_config capacity (Ok events) h = omega arith
+script_not_config capacity (Err (Line n)) h = omega arith
+script_not_config capacity (Err (State n)) h = omega arith
+script_not_config capacity (Err NoStop) h = omega arith
+script_not_config capacity (Err Long) h = omega arith
+script_not_config capacity (Err Memory) h = omega arith
+
 pub faulty_script : (capacity : ℕ) (script : Result (List Event) ScriptFault)
     → (exit_of_script capacity script).status ≡ 3 → IsNoSession script
 faulty_script capacity (Ok events) h = absurd (omega arith)

@@ -1,5 +1,5 @@
--- The words `bare C` are those that are read as the capacity C.
-use Rattle.std.proofs.Common.{◌≡◌, ◌==◌, ℕ, suc, zero, ◌^◌, ◌<◌, ◌≤◌, ◌⊎◌, true, false, not, ◌&&◌, List, [], ◌∷◌, length, get_or, codes, Option, None, Some, IfSome, IfNone, Result, Ok, Err, inl, inr, refl, ap, sym, subst, ◌∙◌, arith, rules, nat_le}
+-- The words of a form are those that are read as it.
+use Rattle.std.proofs.Common.{◌≡◌, ◌==◌, ℕ, suc, zero, ◌^◌, ◌<◌, ◌≤◌, ◌⊎◌, true, false, not, ◌&&◌, List, [], ◌∷◌, length, get_or, codes, Option, None, Some, IfSome, IfNone, option_map, Result, Ok, Err, inl, inr, refl, ap, sym, subst, ◌∙◌, arith, rules, nat_le}
 use Rattle.std.proofs.lemmas.Bool.{and_parts, le-leb, cases_Bool}
 use Rattle.std.proofs.lemmas.Bool.Decides.{nat_tests}
 use Rattle.std.proofs.lemmas.Fmt.{decimal_digit, digits_decimal, digits_value-decimal, decimal_nonempty, first_decimal, decimal-digits_value}
@@ -10,7 +10,10 @@ use Rattle.std.specs.Fmt.{decimal}
 use Rattle.std.specs.Str.{bytes_eq}
 use Rattle.std.specs.Str.Parse.{ParsesUnsigned}
 use Rattle.session_script.specs.Digits.{is_digit, is_number, number_from, number_of, at_most}
-use Rattle.caster_main.specs.Command.{AreBare, AreOfNoForm, command_of}
+use Rattle.caster_main.specs.declared.command.Aim.{Aim}
+use Rattle.caster_main.specs.declared.command.Aim.TheVariants.{Check, Table, Migrate}
+use Rattle.caster_main.specs.declared.command.Command.{Command}
+use Rattle.caster_main.specs.Command.{Form, bare, over, AreBare, AreOver, AreOf, AreOfNoForm, aim_name, aim_of, is_path, form_of_two, form_of, form}
 
 -- what is read here as digits and as a number is what std reads and writes
 own : IsNumeralModel (λ ds. list_all is_digit ds ≡ true) (number_from 0)
@@ -133,39 +136,125 @@ number_from-positive t is small = elim (zero_or_more (number_from 0 t)) [
   | inr more ↦ more
 ]
 
-pub command_of-bare : (words : List (List ℕ)) (capacity : ℕ) → AreBare words capacity → command_of words ≡ Some capacity
-command_of-bare words capacity are =
+form_of-bare : (words : List (List ℕ)) (capacity : ℕ) → AreBare words capacity
+    → form_of words ≡ Some (bare capacity)
+form_of-bare words capacity are =
     let some : 0 < capacity = omega (arith, are.least) in
     let small : capacity < 2 ^ 64 = omega (arith, are.most) in
-    ap command_of are.parts ∙ ap (λ v. at_most 4096 v) (number_of-decimal capacity some small)
-    ∙ at_most-within 4096 capacity are.most
+    ap form_of are.parts ∙ ap (λ v. option_map bare (at_most 4096 v)) (number_of-decimal capacity some small)
+    ∙ ap (λ v. option_map bare v) (at_most-within 4096 capacity are.most)
 
-pub bare-command_of : (words : List (List ℕ)) (capacity : ℕ) → command_of words ≡ Some capacity → AreBare words capacity
-bare-command_of [] capacity h = absurd cc
-bare-command_of (name ∷ []) capacity h = absurd cc
-bare-command_of (name ∷ number ∷ []) capacity h = elim (cases_Bool (bytes_eq name (codes "bare"))) [
-  | inl same ↦
-      let read = at_most-number number capacity (sym (rw same refl) ∙ h) in
-      let text : number ≡ decimal capacity = sym (decimal-number number read.0 read.2) ∙ ap decimal read.1 in
-      let word : name ≡ codes "bare" = (bytes_eq-Decides name (codes "bare")).0 same in
-      record {
-        least = subst (λ n. 1 ≤ n) read.1 (number_from-positive number read.0 read.2);
-        most = subst (λ n. n ≤ 4096) read.1 read.2;
-        parts = ap (λ w. w ∷ number ∷ []) word ∙ ap (λ w. codes "bare" ∷ w ∷ []) text;
-      }
-  | inr other ↦
-      let e : command_of (name ∷ number ∷ []) ≡ None = rw other refl in
-      absurd cc
+-- ---- a name and a path
+
+is_path-true : (word : List ℕ) → 1 ≤ length word → length word ≤ 255 → is_path word ≡ true
+is_path-true word least most =
+    let some : nat_le 1 (length word) ≡ true = le-leb 1 (length word) least in
+    let few : nat_le (length word) 255 ≡ true = le-leb (length word) 255 most in
+    rw (some, few) refl
+
+is_path-parts : (word : List ℕ) → is_path word ≡ true → (1 ≤ length word) × (length word ≤ 255)
+is_path-parts word h =
+    let parts = and_parts (nat_le 1 (length word)) (nat_le (length word) 255) h in
+    let some = parts.0 in
+    let few = parts.1 in
+    (grind (arith, nat_tests, some), grind (arith, nat_tests, few))
+
+form_of_two-over : (aim : Aim) (config : List ℕ) → is_path config ≡ true
+    → form_of_two (aim_name aim) config ≡ Some (over aim config)
+form_of_two-over Check config h = rw h refl
+form_of_two-over Table config h = rw h refl
+form_of_two-over Migrate config h = rw h refl
+
+pub form_of-form : (words : List (List ℕ)) (form : Form) → AreOf words form → form_of words ≡ Some form
+form_of-form words (bare capacity) are = form_of-bare words capacity are
+form_of-form words (over aim config) are =
+    ap form_of are.parts ∙ form_of_two-over aim config (is_path-true config are.least are.most)
+
+-- ---- back
+
+name_is : (name text : List ℕ) → bytes_eq name text ≡ true → name ≡ text
+name_is name text h = (bytes_eq-Decides name text).0 h
+
+aim_is : (a b : Aim) → Some a ≡ Some b → a ≡ b
+aim_is a b h = cc
+
+aim_of-name : (name : List ℕ) (aim : Aim) → aim_of name ≡ Some aim → name ≡ aim_name aim
+aim_of-name name aim h = elim (cases_Bool (bytes_eq name (codes "check"))) [
+  | inl check ↦
+      name_is name (codes "check") check ∙ ap aim_name (aim_is Check aim (sym (rw check refl) ∙ h))
+  | inr other ↦ elim (cases_Bool (bytes_eq name (codes "table"))) [
+    | inl table_ ↦
+        name_is name (codes "table") table_ ∙ ap aim_name (aim_is Table aim (sym (rw (other, table_) refl) ∙ h))
+    | inr third ↦ elim (cases_Bool (bytes_eq name (codes "migrate"))) [
+      | inl migrate ↦
+          name_is name (codes "migrate") migrate
+          ∙ ap aim_name (aim_is Migrate aim (sym (rw (other, third, migrate) refl) ∙ h))
+      | inr none ↦
+          let e : aim_of name ≡ None = rw (other, third, none) refl in
+          absurd cc
+    ]
+  ]
 ]
-bare-command_of (name ∷ number ∷ more ∷ others) capacity h = absurd cc
 
--- what is read as a capacity are the words `bare C`
-pub command-form : (words : List (List ℕ)) (read : Option ℕ) → read ≡ command_of words
-    → IfSome read (λ capacity. AreBare words capacity)
+mapped : {A B : Type 0} (f : A → B) (o : Option A) (b : B) → option_map f o ≡ Some b
+    → (a : A) × (o ≡ Some a) × (f a ≡ b)
+mapped f None b h = absurd cc
+mapped f (Some a) b h = (a, refl, cc)
+
+are_bare : (name word : List ℕ) (capacity : ℕ) → bytes_eq name (codes "bare") ≡ true
+    → at_most 4096 (number_of word) ≡ Some capacity → AreBare (name ∷ word ∷ []) capacity
+are_bare name word capacity same h =
+    let read = at_most-number word capacity h in
+    let text : word ≡ decimal capacity = sym (decimal-number word read.0 read.2) ∙ ap decimal read.1 in
+    let first : name ≡ codes "bare" = name_is name (codes "bare") same in
+    record {
+      least = subst (λ n. 1 ≤ n) read.1 (number_from-positive word read.0 read.2);
+      most = subst (λ n. n ≤ 4096) read.1 read.2;
+      parts = ap (λ w. w ∷ word ∷ []) first ∙ ap (λ w. codes "bare" ∷ w ∷ []) text;
+    }
+
+are_over : (name word : List ℕ) (aim : Aim) → is_path word ≡ true → aim_of name ≡ Some aim
+    → AreOver aim (name ∷ word ∷ []) word
+are_over name word aim path h = record {
+  least = (is_path-parts word path).0;
+  most = (is_path-parts word path).1;
+  parts = ap (λ w. w ∷ word ∷ []) (aim_of-name name aim h);
+}
+
+form_of_two-form : (name word : List ℕ) (form : Form) → form_of_two name word ≡ Some form
+    → AreOf (name ∷ word ∷ []) form
+form_of_two-form name word form h = elim (cases_Bool (bytes_eq name (codes "bare"))) [
+  | inl same ↦
+      let read = mapped bare (at_most 4096 (number_of word)) form (sym (rw same refl) ∙ h) in
+      subst (λ f. AreOf (name ∷ word ∷ []) f) read.2 (are_bare name word read.0 same read.1)
+  | inr other ↦ elim (cases_Bool (is_path word)) [
+    | inl path ↦
+        let read = mapped (λ aim. over aim word) (aim_of name) form (sym (rw (other, path) refl) ∙ h) in
+        subst (λ f. AreOf (name ∷ word ∷ []) f) read.2 (are_over name word read.0 path read.1)
+    | inr none ↦
+        let e : form_of_two name word ≡ None = rw (other, none) refl in
+        absurd cc
+  ]
+]
+
+pub form-form_of : (words : List (List ℕ)) (form : Form) → form_of words ≡ Some form → AreOf words form
+form-form_of [] form h = absurd cc
+form-form_of (name ∷ []) form h = absurd cc
+form-form_of (name ∷ word ∷ []) form h = form_of_two-form name word form h
+form-form_of (name ∷ word ∷ more ∷ others) form h = absurd cc
+
+-- words that are read as nothing are of no form
+pub no_form : (words : List (List ℕ)) → form_of words ≡ None → AreOfNoForm words
+no_form words h = λ form are. absurd (let e = form_of-form words form are in cc)
+
+-- what is read as a command are the words of its form
+pub command-form : (words : List (List ℕ)) (read : Option Command) → option_map form read ≡ form_of words
+    → IfSome read (λ command. AreOf words (form command))
 command-form words None h = tt
-command-form words (Some capacity) h = bare-command_of words capacity (sym h)
+command-form words (Some command) h = form-form_of words (form command) (sym h)
 
 -- where nothing is read, the words are of no form
-pub command-none : (words : List (List ℕ)) (read : Option ℕ) → read ≡ command_of words → IfNone read (AreOfNoForm words)
-command-none words None h = λ capacity are. absurd (let e = command_of-bare words capacity are in cc)
-command-none words (Some capacity) h = tt
+pub command-none : (words : List (List ℕ)) (read : Option Command) → option_map form read ≡ form_of words
+    → IfNone read (AreOfNoForm words)
+command-none words None h = no_form words (sym h)
+command-none words (Some command) h = tt

@@ -1,4 +1,5 @@
 pub mod Command
+pub mod Reading
 pub mod Outcome
 pub mod Told
 pub mod Answers

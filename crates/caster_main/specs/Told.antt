@@ -1,59 +1,136 @@
--- The outcome where the input may not tell its bytes, and what a status says of words and input.
-use Rattle.std.specs.Prelude.{◌≡◌, ℕ, ◌⊎◌, List, Option, Some, None, Result, Ok, Err, ⊤}
+-- The outcome where input and files may not tell their bytes, and what a status says of words, files
+-- and input.
+use Rattle.std.specs.Prelude.{◌≡◌, ℕ, ◌<◌, ◌≤◌, ◌⊎◌, List, length, Option, Some, None, Result, Ok, Err, IsOk, ⊤}
 use Rattle.std.specs.Io.KnownBytes.{Appends}
 use Rattle.session_script.specs.declared.Event.{Event}
+use Rattle.session_script.specs.declared.ScriptKind.TheVariants.{Bare}
 use Rattle.session_script.specs.declared.ScriptFault.{ScriptFault}
-use Rattle.session_script.specs.declared.ScriptFault.TheVariants.{Line, State, NoStop, Long, Memory}
-use Rattle.cast_io.specs.Causes.{Rose}
+use Rattle.session_script.specs.declared.ScriptFault.TheVariants as scripts
+use Rattle.session_script.specs.Script.{script_of}
 use Rattle.cast_io.specs.Pieces.{AppendsPrefix}
-use Rattle.caster_main.specs.Command.{AreBare}
-use Rattle.caster_main.specs.Outcome.{Exit, read_fault_exit, memory_exit, outcome}
+use Rattle.cast_io.specs.Stores.{content_of}
+use Rattle.cast_config.specs.declared.config.Config.{Config}
+use Rattle.cast_config.specs.declared.fault.ConfigFault.{ConfigFault}
+use Rattle.cast_config.specs.declared.fault.ConfigFault.TheVariants as configs
+use Rattle.cast_config.specs.Document.{IsRead}
+use Rattle.caster_main.specs.Command.{Form, bare, over, AreOf, form_of}
+use Rattle.caster_main.specs.Reading.{config_in}
+use Rattle.caster_main.specs.Outcome.{Exit, Came, EndsSo, read_fault_exit, memory_exit, outcome}
+
+-- files as a store tells them: pairs of path and content, of which the first of a path counts
+abbrev pub Files : Type 0
+Files = Option (List (List ℕ × List ℕ))
+
+-- ---- what came
 
 -- where the input tells its bytes, they are these
 abbrev pub Tells : Option (List ℕ) → List ℕ → Type 0
 Tells None bytes = ⊤
 Tells (Some told) bytes = told ≡ bytes
 
+-- where the files are told, that of this path holds these bytes
+abbrev pub Holds : Files → List ℕ → List ℕ → Type 0
+Holds None path bytes = ⊤
+Holds (Some files) path bytes = content_of files path ≡ Some bytes
+
+-- where the files are told, that of this path is read as this configuration
+abbrev pub IsConfigAt : Files → List ℕ → Config → Type 0
+IsConfigAt files path c =
+    (bytes : List ℕ) × Holds files path bytes × (length bytes ≤ 8388608) × IsRead bytes (Ok c)
+
+-- what came for words of this form is what input and files tell
+abbrev pub IsTold : Form → Option (List ℕ) → Files → Came → Type 0
+IsTold (bare capacity) left files came = Tells left came.script
+IsTold (over aim config) left files came = Holds files config came.config
+
+abbrev pub HasCome : Option Form → Option (List ℕ) → Files → Came → Type 0
+HasCome None left files came = ⊤
+HasCome (Some form) left files came = IsTold form left files came
+
+-- ---- how the program ended
+
 -- the program ended with this status and wrote the text
 abbrev pub EndsWith : ℕ → Option (List ℕ) → Option (List ℕ) → Exit → Type 0
 EndsWith status old new end = (status ≡ end.status) × Appends old new end.text
 
--- status and written bytes are the outcome of the words and of the bytes that came, which are those
--- that the input told
-abbrev pub FollowsOutcome : List (List ℕ) → Option (List ℕ)
+-- this is the outcome of the words and of what came, which is what input and files tell
+abbrev pub IsOutcome : List (List ℕ) → Option (List ℕ) → Files → Exit → Type 0
+IsOutcome words left files end =
+    (came : Came) × HasCome (form_of words) left files came × EndsSo (outcome words came) end
+
+-- status and written bytes are that outcome
+abbrev pub FollowsOutcome : List (List ℕ) → Option (List ℕ) → Files
     → ℕ → Option (List ℕ) → Option (List ℕ) → Type 0
-FollowsOutcome words left status old new =
-    (bytes : List ℕ) × Tells left bytes × EndsWith status old new (outcome words bytes)
+FollowsOutcome words left files status old new =
+    (end : Exit) × IsOutcome words left files end × EndsWith status old new end
 
 -- the status is one of those that there are
 abbrev pub IsStatus : ℕ → Type 0
 IsStatus status =
-    (status ≡ 0) ⊎ ((status ≡ 1) ⊎ ((status ≡ 3) ⊎ ((status ≡ 4) ⊎ ((status ≡ 5)
-    ⊎ ((status ≡ 7) ⊎ (status ≡ 8))))))
+    (status ≡ 0) ⊎ ((status ≡ 1) ⊎ ((status ≡ 2) ⊎ ((status ≡ 3) ⊎ ((status ≡ 4)
+    ⊎ ((status ≡ 5) ⊎ ((status ≡ 7) ⊎ (status ≡ 8)))))))
+
+-- ---- what a status says
 
 -- the words are of a form
 abbrev pub HaveForm : List (List ℕ) → Type 0
-HaveForm words = (capacity : ℕ) × AreBare words capacity
+HaveForm words = (form : Form) × AreOf words form
 
--- the words are of a form, and the bytes that came, which are those that the input told, are such
-abbrev pub HaveInput : (List ℕ → Type 0) → List (List ℕ) → Option (List ℕ) → Type 0
-HaveInput AreSuch words left =
-    (capacity : ℕ) × (bytes : List ℕ) × AreBare words capacity × Tells left bytes × AreSuch bytes
+-- the words are of a form, and what came for them, which is what input and files tell, is such
+abbrev pub HaveCome : (Form → Came → Type 0) → List (List ℕ) → Option (List ℕ) → Files → Type 0
+HaveCome IsSuch words left files =
+    (form : Form) × (came : Came) × AreOf words form × IsTold form left files came
+    × IsSuch form came
+
+-- a script, or a configuration
+abbrev pub IsWhole : Form → Came → Type 0
+IsWhole (bare capacity) came = IsOk (script_of Bare came.script)
+IsWhole (over aim config) came = IsOk (config_in came.config)
+
+-- the bytes break a rule of configurations, or are no document
+abbrev pub IsNoConfig : Result Config ConfigFault → Type 0
+IsNoConfig (Ok c) = ⊥
+IsNoConfig (Err configs.Memory) = ⊥
+IsNoConfig (Err fault) = ⊤
+
+abbrev pub IsFaultyConfig : Form → Came → Type 0
+IsFaultyConfig (bare capacity) came = ⊥
+IsFaultyConfig (over aim config) came =
+    (length came.config ≤ 8388608) × IsNoConfig (config_in came.config)
 
 -- the bytes have a faulty line or no `stop`
 abbrev pub IsNoSession : Result (List Event) ScriptFault → Type 0
 IsNoSession (Ok events) = ⊥
-IsNoSession (Err (Line n)) = ⊤
-IsNoSession (Err (State n)) = ⊤
-IsNoSession (Err NoStop) = ⊤
-IsNoSession (Err Long) = ⊥
-IsNoSession (Err Memory) = ⊥
+IsNoSession (Err (scripts.Line n)) = ⊤
+IsNoSession (Err (scripts.State n)) = ⊤
+IsNoSession (Err scripts.NoStop) = ⊤
+IsNoSession (Err scripts.Long) = ⊥
+IsNoSession (Err scripts.Memory) = ⊥
+
+abbrev pub IsFaultyScript : Form → Came → Type 0
+IsFaultyScript (bare capacity) came = IsNoSession (script_of Bare came.script)
+IsFaultyScript (over aim config) came = ⊥
+
+-- more bytes than a script or a configuration may have
+abbrev pub IsTooLong : Form → Came → Type 0
+IsTooLong (bare capacity) came = 8388608 < length came.script
+IsTooLong (over aim config) came = 8388608 < length came.config
+
+-- the words are of a form, and the fault is of what is read for it: the input's for a bare session,
+-- and the store's for a command that names a configuration
+abbrev pub FaultFor : Form → Type 0 → Type 0 → Type 0
+FaultFor (bare capacity) of_input of_store = of_input
+FaultFor (over aim config) of_input of_store = of_store
+
+abbrev pub HaveFault : List (List ℕ) → Type 0 → Type 0 → Type 0
+HaveFault words of_input of_store =
+    (form : Form) × AreOf words form × FaultFor form of_input of_store
 
 -- a failed write wrote a first part of the outcome's text, of the line of a read fault that was
 -- counted, or of the line of want of memory
-abbrev pub WritesPart : List (List ℕ) → Option (List ℕ) → ℕ → ℕ
+abbrev pub WritesPart : List (List ℕ) → Option (List ℕ) → Files → Type 0 → Type 0
     → Option (List ℕ) → Option (List ℕ) → Type 0
-WritesPart words left before now old new =
-    ((bytes : List ℕ) × Tells left bytes × AppendsPrefix old new (outcome words bytes).text)
-    ⊎ ((Rose before now × AppendsPrefix old new read_fault_exit.text)
+WritesPart words left files of_input of_store old new =
+    ((end : Exit) × IsOutcome words left files end × AppendsPrefix old new end.text)
+    ⊎ ((HaveFault words of_input of_store × AppendsPrefix old new read_fault_exit.text)
     ⊎ AppendsPrefix old new memory_exit.text)

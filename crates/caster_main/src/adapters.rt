@@ -1,9 +1,11 @@
-//! A reader and a writer of std as a source and a sink. `main` puts standard input and standard
-//! output into them; what those give and take is outside of every proof.
-ghost use Rattle.std.specs.Prelude.{◌≡◌, ◌<◌, ◌≤◌, length, take, IfSome, IfNone};
+//! A reader, a writer and the files of std as a source, a sink and a store. `main` puts standard
+//! input, standard output and the file system into them; what those give and take is outside of
+//! every proof.
+ghost use Rattle.std.specs.Prelude.{◌≡◌, ◌<◌, ◌≤◌, None, length, take, IfSome, IfNone};
 ghost use Rattle.std.specs.Io.KnownBytes.{Appends, Keeps};
 
-use cast_io::{Failed, Sink, Source};
+use cast_io::{Failed, Sink, Source, Store};
+use std::fs::File;
 use std::io::{Read, Write};
 
 /// A source that reads from a reader of std, and counts its reads and its failures.
@@ -79,6 +81,63 @@ impl<W: Write> Sink for WriterSink<W> {
     }
 }
 
+/// A store of the file system's files, which counts its reads and its failures. A path is one of the
+/// system, seen from the folder in which the program runs.
+#[derive(Drop)]
+pub struct FileStore<'a> {
+    rt: &'a HostRuntime,
+    file: Option<File>,
+    reads: u64,
+    faults: u64,
+}
+
+impl<'a> FileStore<'a> {
+    /// A store that was not asked yet.
+    pub fn new(rt: &'a HostRuntime) -> Self
+        ensures faults { result.faults ≡ 0 }
+        ensures reads { result.reads ≡ 0 }
+    {
+        FileStore {
+            rt,
+            file: None,
+            reads: 0,
+            faults: 0,
+        }
+    }
+}
+
+impl Source for FileStore<'_> {
+    ghost left = { λ _. None };
+
+    ghost faults = { λ s. s.faults };
+
+    ghost reads = { λ s. s.reads };
+
+    fn read(&mut self, buf: &mut [u8]) -> Result<usize, Failed> {
+        self.reads = self.reads.saturating_add(1);
+        let Some(file) = &mut self.file else {
+            return Ok(0);
+        };
+        let Ok(count) = file.read(buf) else {
+            self.faults = self.faults.saturating_add(1);
+            return Err(Failed);
+        };
+        Ok(count)
+    }
+}
+
+impl Store for FileStore<'_> {
+    fn open(&mut self, path: &str) -> Result<(), Failed> {
+        self.file = None;
+        let Ok(file) = File::open(self.rt, path) else {
+            self.faults = self.faults.saturating_add(1);
+            return Err(Failed);
+        };
+        self.file = Some(file);
+        Ok(())
+    }
+}
+
 // One write of a piece that is not empty: how many bytes were taken, and None where none were.
 fn write_some<W: Write>(writer: &mut W, piece: &[u8]) -> Option<usize>
     ensures some { IfSome result (λ count. (0 < count) × (count ≤ length piece.now)) }
@@ -94,8 +153,8 @@ fn write_some<W: Write>(writer: &mut W, piece: &[u8]) -> Option<usize>
 
 #[cfg(test)]
 mod tests {
-    use super::{ReaderSource, WriterSink};
-    use cast_io::{Failed, Sink, Source};
+    use super::{FileStore, ReaderSource, WriterSink};
+    use cast_io::{Failed, Sink, Source, Store};
     use std::io;
     use std::io::{ErrorKind, Read, Write};
 
@@ -153,5 +212,21 @@ mod tests {
         assert_eq!(rt; sink.faults, 1);
         assert_eq!(rt; sink.write(b""), Ok(()));
         assert_eq!(rt; sink.faults, 1);
+    }
+
+    #[test]
+    fn a_store_counts_its_failures_up_to_the_last_value(rt: HostRuntime) {
+        let mut store = FileStore::new(&rt);
+        store.faults = u64::MAX - 1;
+        let mut buf = [0u8; 8];
+        assert_eq!(rt; store.read(&mut buf), Ok(0), "no file is open");
+        assert_eq!(rt; store.open("no such folder/no such file"), Err(Failed));
+        assert_eq!(rt; store.faults, u64::MAX);
+        assert_eq!(rt; store.open("."), Ok(()), "a folder is opened");
+        assert_eq!(rt; store.read(&mut buf), Err(Failed), "and not read");
+        assert_eq!(rt; store.faults, u64::MAX);
+        assert_eq!(rt; store.open("/dev/null"), Ok(()));
+        assert_eq!(rt; store.read(&mut buf), Ok(0), "an empty file");
+        assert_eq!(rt; store.reads, 3);
     }
 }

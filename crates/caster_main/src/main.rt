@@ -1,15 +1,16 @@
-//! The caster's program: it reads its words and its input, plays the session, and writes the report
+//! The caster's program: it reads its words and what they name, runs the command, and writes its text
 //! or one line that says why there is none. Its status says which.
 #![tactic(auto)]
 
 mod adapters;
 mod answers;
 mod command;
+mod config_answers;
 #[cfg(test)]
 mod tests;
 mod top;
 
-use adapters::{ReaderSource, WriterSink};
+use adapters::{FileStore, ReaderSource, WriterSink};
 use std::alloc::AllocError;
 use std::env;
 use std::io::ErrorKind;
@@ -33,10 +34,11 @@ fn words(rt: &HostRuntime) -> Result<Vec<String>, AllocError> {
 }
 
 fn main(rt: HostRuntime) -> ExitCode {
+    let mut store = FileStore::new(&rt);
     let mut input = ReaderSource::new(rt.stdin());
     let mut out = WriterSink::new(rt.stdout());
     let status = match words(&rt) {
-        Ok(words) => caster(rt.alloc(), &words, &mut input, &mut out),
+        Ok(words) => caster(rt.alloc(), &words, &mut store, &mut input, &mut out),
         Err(AllocError) => refuse_for_memory(&mut out),
     };
     ExitCode::from(status)

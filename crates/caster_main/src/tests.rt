@@ -1,6 +1,7 @@
-//! Whole calls: each read and each write failing in turn, and what is written with each status.
+//! Whole calls: each call of input, files and output failing in turn, and what is written with each
+//! status.
 use crate::top::caster;
-use cast_io::{MemSink, MemSource};
+use cast_io::{ByteString, MemSink, MemSource, MemStore};
 use std::alloc::Global;
 use std::test::Fail;
 
@@ -16,7 +17,75 @@ const UPPER: &[u8] = b"D300133ED7D30202980EDEEF34B4BD62AC0941986F33360B98";
 
 const LOWER: &[u8] = b"d300133ed7d30202980edeef34b4bd62ac0941986f33360b98";
 
-// The status and the output of a run whose reads and writes of these numbers fail.
+// A configuration of two mountpoints, a near one and two groups, behind its version: up to the first
+// group, and from the second one on.
+const FRONT: &[u8] = b"workers = 3
+hysteresis = 10
+[[mount]]
+name = \"ALPHA\"
+password = \"sesame\"
+ring = 4
+latitude = 481173000
+longitude = 115166666
+[[mount]]
+name = \"BRAVO\"
+password = \"sesame\"
+ring = 4
+latitude = 482000000
+longitude = 115166666
+[[near]]
+name = \"NEAR\"
+bases = [\"ALPHA\", \"BRAVO\"]
+[[group]]
+name = \"field\"
+mounts = [\"ALPHA\", \"BRAVO\", \"NEAR\"]
+types = \"all\"
+";
+
+const BACK: &[u8] = b"[[group]]
+name = \"survey\"
+mounts = [\"BRAVO\"]
+types = [1005]
+[[account]]
+user = \"rover1\"
+password = \"secret\"
+group = \"field\"
+cap = 1
+[[account]]
+user = \"rover2\"
+password = \"secret2\"
+group = \"survey\"
+cap = 8
+";
+
+// A filter of the first group for a mountpoint that there is not.
+const FILTER: &[u8] = b"[[group.filter]]\nmount = \"NONE\"\ntypes = [1005]\n";
+
+// Its sourcetable of 206 bytes.
+const TABLE: &[u8] = b"STR;ALPHA;ALPHA;RTCM 3.3;;2;GPS;;;48.11;11.51;0;0;;none;B;N;0;\r\n\
+    STR;BRAVO;BRAVO;RTCM 3.3;;2;GPS;;;48.20;11.51;0;0;;none;B;N;0;\r\n\
+    STR;NEAR;NEAR;RTCM 3.3;;2;GPS;;;48.11;11.51;1;1;;none;B;N;0;\r\n\
+    ENDSOURCETABLE\r\n";
+
+// The status and the output of a run over this store whose reads and writes of these numbers fail.
+fn run_over(
+    alloc: Global,
+    words: &[&str],
+    store: &mut MemStore,
+    input: MemSource,
+    writes: &[u64],
+) -> Result<(u8, MemSink), Fail> {
+    let mut texts = Vec::new(alloc);
+    for word in words {
+        texts.push(String::from_str(alloc, word)?)?;
+    }
+    let mut source = input;
+    let mut sink = MemSink::new(alloc, writes.to_vec(alloc)?);
+    let status = caster(alloc, &texts, store, &mut source, &mut sink);
+    Ok((status, sink))
+}
+
+// The same over a store of no files, with this input.
 fn run(
     alloc: Global,
     words: &[&str],
@@ -24,14 +93,32 @@ fn run(
     reads: &[u64],
     writes: &[u64],
 ) -> Result<(u8, MemSink), Fail> {
-    let mut texts = Vec::new(alloc);
-    for word in words {
-        texts.push(String::from_str(alloc, word)?)?;
+    let mut store = MemStore::new(alloc, Vec::new(alloc), Vec::new(alloc));
+    let source = MemSource::new(input.to_vec(alloc)?, reads.to_vec(alloc)?);
+    run_over(alloc, words, &mut store, source, writes)
+}
+
+// A store of a file `a` of these parts, behind which there is another `a`, whose calls of these
+// numbers fail.
+fn store_of(alloc: Global, parts: &[&[u8]], calls: &[u64]) -> Result<MemStore, Fail> {
+    let mut content = Vec::new(alloc);
+    for part in parts {
+        content.extend_from_slice(part)?;
     }
-    let mut source = MemSource::new(input.to_vec(alloc)?, reads.to_vec(alloc)?);
-    let mut sink = MemSink::new(alloc, writes.to_vec(alloc)?);
-    let status = caster(alloc, &texts, &mut source, &mut sink);
-    Ok((status, sink))
+    let mut files = Vec::new(alloc);
+    files.push((ByteString::copy_of(alloc, b"a")?, ByteString::new(content)))?;
+    files.push((
+        ByteString::copy_of(alloc, b"a")?,
+        ByteString::copy_of(alloc, b"=")?,
+    ))?;
+    Ok(MemStore::new(alloc, files, calls.to_vec(alloc)?))
+}
+
+// The status and the output of a command over a store whose file `a` has these parts.
+fn over(alloc: Global, name: &str, parts: &[&[u8]]) -> Result<(u8, MemSink), Fail> {
+    let mut store = store_of(alloc, parts, &[])?;
+    let input = MemSource::new(Vec::new(alloc), Vec::new(alloc));
+    run_over(alloc, &[name, "a"], &mut store, input, &[])
 }
 
 // The text so often, one after the other, and then the end.
@@ -112,12 +199,16 @@ fn a_long_report_is_written_in_pieces(rt: HostRuntime) -> Result<(), Fail> {
 fn each_refusal_has_its_status_and_line(rt: HostRuntime) -> Result<(), Fail> {
     let bare: [&str; 2] = ["bare", "4"];
     let nothing: [&str; 0] = [];
-    let cases: [(&[&str], &[u8], u8, &[u8]); 9] = [
+    let cases: [(&[&str], &[u8], u8, &[u8]); 13] = [
         (&nothing, EXAMPLE, 1, b"usage\n"),
         (&["bare", "0"], EXAMPLE, 1, b"usage\n"),
         (&["bare", "4097"], EXAMPLE, 1, b"usage\n"),
         (&["bare", "04"], EXAMPLE, 1, b"usage\n"),
         (&["bare", "4", "4"], EXAMPLE, 1, b"usage\n"),
+        (&["check", ""], EXAMPLE, 1, b"usage\n"),
+        (&["check", "a", "a"], EXAMPLE, 1, b"usage\n"),
+        (&["look", "a"], EXAMPLE, 1, b"usage\n"),
+        (&["check", "a"], EXAMPLE, 4, b"read fault\n"),
         (&bare, b"", 3, b"session: no stop\n"),
         (&bare, b"in 5 00\nstop\n", 3, b"session: state 1\n"),
         (
@@ -145,5 +236,73 @@ fn more_than_8_mib_are_too_long(rt: HostRuntime) -> Result<(), Fail> {
     let (status, sink) = run(rt.alloc(), &["bare", "4"], &input, &[], &[])?;
     assert_eq!(rt; status, 8);
     assert_eq!(rt; sink.bytes(), b"too long\n".as_slice());
+    let (status, sink) = over(rt.alloc(), "check", &[&input])?;
+    assert_eq!(rt; status, 8);
+    assert_eq!(rt; sink.bytes(), b"too long\n".as_slice());
+    Ok(())
+}
+
+// The file of these parts is a configuration with that sourcetable.
+fn has_table(alloc: Global, parts: &[&[u8]]) -> Result<bool, Fail> {
+    let (checked, line) = over(alloc, "check", parts)?;
+    let (tabled, table) = over(alloc, "table", parts)?;
+    let is_checked = checked == 0 && line.bytes() == b"ok\n".as_slice();
+    Ok(is_checked && tabled == 0 && table.bytes() == TABLE)
+}
+
+#[test]
+fn a_configuration_is_migrated_to_one_with_its_table(rt: HostRuntime) -> Result<(), Fail> {
+    assert_eq!(rt; TABLE.len(), 206);
+    assert!(rt; has_table(rt.alloc(), &[b"version = 1\n", FRONT, BACK])?);
+    let (status, sink) = over(rt.alloc(), "migrate", &[b"version = 1\n", FRONT, BACK])?;
+    assert_eq!(rt; status, 0);
+    let written = sink.bytes();
+    assert!(rt; has_table(rt.alloc(), &[written])?);
+    Ok(())
+}
+
+#[test]
+fn a_faulty_file_has_the_line_of_its_first_fault(rt: HostRuntime) -> Result<(), Fail> {
+    let cases: [(&[&[u8]], &[u8]); 4] = [
+        (
+            &[b"version = 2\n", FRONT, FILTER, BACK],
+            b"configuration: unknown group 1 filter\n",
+        ),
+        (
+            &[b"version = 3\n", FRONT, BACK],
+            b"configuration: range version\n",
+        ),
+        (&[FRONT, BACK], b"configuration: missing version\n"),
+        (&[b"="], b"configuration: toml\n"),
+    ];
+    for (parts, line) in cases {
+        for name in ["check", "table", "migrate"] {
+            let (status, sink) = over(rt.alloc(), name, parts)?;
+            assert_eq!(rt; status, 2);
+            assert_eq!(rt; sink.bytes(), line);
+        }
+    }
+    Ok(())
+}
+
+#[test]
+fn each_failing_call_of_the_store_is_a_read_fault(rt: HostRuntime) -> Result<(), Fail> {
+    // The file is opened, comes in one read, and the third call says that it ends.
+    let alloc = rt.alloc();
+    for failing in 1..=4u64 {
+        let mut store = store_of(alloc, &[b"version = 1\n", FRONT, BACK], &[failing])?;
+        let input = MemSource::new(Vec::new(alloc), Vec::new(alloc));
+        let (status, sink) = run_over(alloc, &["check", "a"], &mut store, input, &[])?;
+        if failing < 4 {
+            assert_eq!(rt; status, 4, "call {failing}");
+            assert_eq!(rt; sink.bytes(), b"read fault\n".as_slice(), "call {failing}");
+        } else {
+            assert_eq!(rt; status, 0);
+            assert_eq!(rt; sink.bytes(), b"ok\n".as_slice());
+        }
+        let asked = store.asked().ok_or("told no longer")?;
+        assert_eq!(rt; asked.len(), 1, "call {failing}");
+        assert_eq!(rt; asked[0].as_slice(), b"a".as_slice(), "call {failing}");
+    }
     Ok(())
 }

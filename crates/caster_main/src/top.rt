@@ -1,5 +1,5 @@
 //! The call that the program makes.
-ghost use Rattle.std.specs.Prelude.{◌≡◌, ◌≢◌, ◌≤◌, ◌<◌, ◌+◌, ◌⊎◌, ℕ, List, Some, Ok, Result, length, IsOk, OnOk, OnErr};
+ghost use Rattle.std.specs.Prelude.{◌≡◌, ◌≢◌, ◌≤◌, ◌<◌, ◌+◌, ◌++◌, ◌⊎◌, ℕ, List, Some, Ok, Result, codes, length, OnOk, OnErr};
 ghost use Rattle.std.specs.Io.KnownBytes.{Appends};
 ghost use Rattle.session_script.specs.declared.Event.{Event};
 ghost use Rattle.session_script.specs.declared.ScriptKind.TheVariants.{Bare};
@@ -8,13 +8,22 @@ ghost use Rattle.caster_replay.specs.World.{bare};
 ghost use Rattle.caster_replay.specs.Report.{report};
 ghost use Rattle.cast_io.specs.Causes.{Rose, HasCause};
 ghost use Rattle.cast_io.specs.Pieces.{AppendsPrefix, Loses};
-ghost use Rattle.caster_main.specs.Command.{AreBare, AreOfNoForm, texts};
-ghost use Rattle.caster_main.specs.Outcome.{read_fault_exit, memory_exit};
-ghost use Rattle.caster_main.specs.Told.{FollowsOutcome, HaveInput, IsNoSession, IsStatus, WritesPart};
+ghost use Rattle.cast_io.specs.Stores.{content_of};
+ghost use Rattle.cast_io.specs.Told.{Grew};
+ghost use Rattle.sourcetable.specs.Table.{table_text};
+ghost use Rattle.cast_config.specs.declared.config.Config.{Config};
+ghost use Rattle.cast_config.specs.Document.{IsRead};
+ghost use Rattle.config_table.specs.Table.{table_records};
+ghost use Rattle.config_write.specs.Written.{HasVersion};
+ghost use Rattle.caster_main.specs.declared.command.Aim.{Aim};
+ghost use Rattle.caster_main.specs.declared.command.Aim.TheVariants.{Check, Table, Migrate};
+ghost use Rattle.caster_main.specs.Command.{AreBare, AreOver, AreOfNoForm, NameNoFile, ReadNoInput, files_of, form_of, texts};
+ghost use Rattle.caster_main.specs.Outcome.{one_line, read_fault_exit, memory_exit};
+ghost use Rattle.caster_main.specs.Told.{FollowsOutcome, HaveCome, HaveFault, IsConfigAt, IsFaultyConfig, IsFaultyScript, IsStatus, IsTooLong, IsWhole, WritesPart};
 ghost use Rattle.caster_main.specs.Answers.{exit_of, Writes};
 
 use crate::answers::{Answer, answer_to};
-use cast_io::{Failed, Sink, Source};
+use cast_io::{Failed, Sink, Source, Store};
 use std::alloc::Global;
 
 /// The status where a write failed.
@@ -23,25 +32,38 @@ const WRITE_FAULT: u8 = 5;
 /// How many bytes are written at once.
 const PIECE: usize = 65_536;
 
-/// Runs the command that the words are, which have no program name, over the input and the output,
-/// and answers the status that the program ends with.
+/// Runs the command that the words are, which have no program name, over the files, the input and
+/// the output, and answers the status that the program ends with.
 ///
-/// `bare C`, with C from 1 to 4,096, reads a script from the input, plays it over one mountpoint
-/// `A` with a ring of C frames, and writes the report. Where that is not to be had, one line says
-/// why:
+/// | Words | What is done | Written with status 0 |
+/// |---|---|---|
+/// | `bare C` | plays the script from the input over one mountpoint `A` with a ring of C frames | the report |
+/// | `check CONFIG` | tests the configuration in the file CONFIG | `ok` |
+/// | `table CONFIG` | | its sourcetable |
+/// | `migrate CONFIG` | | a document of version 2 that says it |
+///
+/// C is from 1 to 4,096, CONFIG has 1 to 255 bytes. Where that is not to be had, one line says why:
 ///
 /// | Status | Line | Comes |
 /// |---|---|---|
 /// | 1 | `usage` | exactly where the words are of no form |
+/// | 2 | `configuration: toml`, or `configuration:` with the test and the key | where the file is no configuration |
 /// | 3 | `session: line N`, `session: state N`, `session: no stop` | where the input is no script |
-/// | 4 | `read fault` | only where a read failed |
+/// | 4 | `read fault` | only where a read of the input, or a call of the store, failed |
 /// | 5 | | only where a write failed |
 /// | 7 | `memory` | where there is no memory |
-/// | 8 | `too long` | where the input has more than 8 MiB |
+/// | 8 | `too long` | where the script or the configuration has more than 8 MiB |
 ///
-/// The words are tested first, then come the reading, the size, the grammar and the run. Nothing is
-/// written before the run has ended, and the text is written in pieces of 65,536 bytes.
-pub fn caster<I: Source, O: Sink>(alloc: Global, words: &[String], input: &mut I, out: &mut O) -> u8
+/// The words are tested first, then come the reading of the configuration, its size and its rules,
+/// or the reading of the script, its size, its grammar and the run. Nothing is written before the
+/// run has ended, and the text is written in pieces of 65,536 bytes.
+pub fn caster<S: Store, I: Source, O: Sink>(
+    alloc: Global,
+    words: &[String],
+    store: &mut S,
+    input: &mut I,
+    out: &mut O,
+) -> u8
     ensures report { result ≡ 0 → (capacity : ℕ) (bytes : List ℕ) (events : List Event)
         → AreBare (texts words.now) capacity
         → I.left input.old ≡ Some bytes → script_of Bare bytes ≡ Ok events
@@ -54,43 +76,76 @@ pub fn caster<I: Source, O: Sink>(alloc: Global, words: &[String], input: &mut I
         → (result ≡ 7) ⊎ ((result ≡ 0)
         × Appends (O.taken out.old) (O.taken out.new) (report (bare capacity) events)) }
 
+    // What is done with a configuration.
+    ensures checked { result ≡ 0 → (path : List ℕ) → AreOver Check (texts words.now) path
+        → (c : Config) × IsConfigAt (S.store store.old).files path c
+        × Appends (O.taken out.old) (O.taken out.new) (one_line (codes "ok")) }
+    ensures tabled { result ≡ 0 → (path : List ℕ) → AreOver Table (texts words.now) path
+        → (c : Config) × IsConfigAt (S.store store.old).files path c
+        × Appends (O.taken out.old) (O.taken out.new) (table_text (table_records c)) }
+    ensures migrated { result ≡ 0 → (path : List ℕ) → AreOver Migrate (texts words.now) path
+        → (c : Config) × (text : List ℕ) × IsConfigAt (S.store store.old).files path c
+        × IsRead text (Ok c) × HasVersion 2 text
+        × Appends (O.taken out.old) (O.taken out.new) text }
+    ensures complete_over { (aim : Aim) (path : List ℕ) (files : List (List ℕ × List ℕ))
+        (bytes : List ℕ) (c : Config)
+        → AreOver aim (texts words.now) path → (S.store store.old).files ≡ Some files
+        → content_of files path ≡ Some bytes → length bytes ≤ 8388608 → IsRead bytes (Ok c)
+        → ¬ Rose (S.faults store.old) (S.faults store.new)
+        → ¬ Rose (O.faults out.old) (O.faults out.new) → (result ≡ 7) ⊎ (result ≡ 0) }
+
     // When each status comes.
     ensures status { IsStatus result }
-    ensures whole { result ≡ 0
-        → HaveInput (λ bytes. IsOk (script_of Bare bytes)) (texts words.now) (I.left input.old) }
+    ensures whole { result ≡ 0 → HaveCome IsWhole
+        (texts words.now) (I.left input.old) (S.store store.old).files }
     ensures usage { result ≡ 1 → AreOfNoForm (texts words.now) }
     ensures no_form { AreOfNoForm (texts words.now) → (result ≡ 1) ⊎ (result ≡ 5) }
-    ensures no_session { result ≡ 3 → HaveInput (λ bytes. IsNoSession (script_of Bare bytes))
-        (texts words.now) (I.left input.old) }
-    ensures read_fault { result ≡ 4 → Rose (I.faults input.old) (I.faults input.new) }
+    ensures no_config { result ≡ 2 → HaveCome IsFaultyConfig
+        (texts words.now) (I.left input.old) (S.store store.old).files }
+    ensures no_session { result ≡ 3 → HaveCome IsFaultyScript
+        (texts words.now) (I.left input.old) (S.store store.old).files }
+    ensures read_fault { result ≡ 4 → HaveFault (texts words.now)
+        (Rose (I.faults input.old) (I.faults input.new))
+        (Rose (S.faults store.old) (S.faults store.new)) }
     ensures write_fault { result ≡ 5 → Rose (O.faults out.old) (O.faults out.new) }
-    ensures too_long { result ≡ 8
-        → HaveInput (λ bytes. 8388608 < length bytes) (texts words.now) (I.left input.old) }
+    ensures too_long { result ≡ 8 → HaveCome IsTooLong
+        (texts words.now) (I.left input.old) (S.store store.old).files }
+    ensures store_faults { S.faults store.old ≤ S.faults store.new }
     ensures input_faults { I.faults input.old ≤ I.faults input.new }
     ensures out_faults { O.faults out.old ≤ O.faults out.new }
     ensures unharmed { result ≢ 5 → O.faults out.new ≡ O.faults out.old }
 
-    // What is read: nothing for words of no form, and else at most once more than bytes came.
-    ensures unread { AreOfNoForm (texts words.now) → input.new ≡ input.old }
+    // What is read: of the input at most once more than bytes came, and nothing but for a bare
+    // session; of the store the named files, each asked for once, in their order, and no other.
+    ensures unread { ReadNoInput (texts words.now) → input.new ≡ input.old }
     ensures reads { Loses (λ came. I.reads input.new ≤ I.reads input.old + length came + 1)
         (I.left input.old) (I.left input.new) }
+    ensures unasked { NameNoFile (texts words.now) → store.new ≡ store.old }
+    ensures asked { Grew (S.store store.old).asked (S.store store.new).asked
+        (files_of (form_of (texts words.now))) }
+    ensures files { (S.store store.new).files ≡ (S.store store.old).files }
+    ensures few { S.reads store.new ≤ S.reads store.old + 8388610 }
 
     // What is written.
     ensures outcome { result ≢ 4 → result ≢ 5 → result ≢ 7
-        → FollowsOutcome (texts words.now) (I.left input.old)
+        → FollowsOutcome (texts words.now) (I.left input.old) (S.store store.old).files
         result (O.taken out.old) (O.taken out.new) }
-    ensures undisturbed { ¬ Rose (I.faults input.old) (I.faults input.new)
+    ensures undisturbed { ¬ HaveFault (texts words.now) (Rose (I.faults input.old) (I.faults input.new))
+        (Rose (S.faults store.old) (S.faults store.new))
         → ¬ Rose (O.faults out.old) (O.faults out.new) → result ≢ 7
-        → FollowsOutcome (texts words.now) (I.left input.old)
+        → FollowsOutcome (texts words.now) (I.left input.old) (S.store store.old).files
         result (O.taken out.old) (O.taken out.new) }
     ensures fault_line { result ≡ 4
         → Appends (O.taken out.old) (O.taken out.new) read_fault_exit.text }
     ensures memory_line { result ≡ 7
         → Appends (O.taken out.old) (O.taken out.new) memory_exit.text }
-    ensures torn { result ≡ 5 → WritesPart (texts words.now) (I.left input.old)
-        (I.faults input.old) (I.faults input.new) (O.taken out.old) (O.taken out.new) }
+    ensures torn { result ≡ 5 → WritesPart (texts words.now)
+        (I.left input.old) (S.store store.old).files
+        (Rose (I.faults input.old) (I.faults input.new))
+        (Rose (S.faults store.old) (S.faults store.new))
+        (O.taken out.old) (O.taken out.new) }
 {
-    let answer = answer_to(alloc, words, input);
+    let answer = answer_to(alloc, words, store, input);
     write_answer(&answer, out)
 }
 

@@ -1,55 +1,102 @@
 -- The clauses of the call, from its answer and from how that was written.
-use Rattle.std.proofs.Common.{◌<◌, length, IsOk, inl, inr, ◌∙◌, arith}
-use Rattle.session_script.specs.declared.ScriptKind.TheVariants.{Bare}
-use Rattle.session_script.specs.Script.{script_of}
-use Rattle.caster_main.specs.Told.{IsNoSession}
-use Rattle.caster_main.proofs.ScriptLemmas.{whole_script, faulty_script, long_script}
-use Rattle.caster_main.proofs.ClauseLemmas.{undisturbed_run, decided_run, have_input, no_form_run, script_run, usage_run}
+use Rattle.std.proofs.Common.{inl, inr, subst, ◌∙◌, arith}
+use Rattle.std.specs.Io.KnownBytes.{Appends}
+use Rattle.caster_main.specs.declared.command.Aim.TheVariants.{Check, Table, Migrate}
+use Rattle.caster_main.specs.Outcome.{Exit}
+use Rattle.caster_main.specs.Told.{IsWhole, IsFaultyConfig, IsFaultyScript, IsTooLong}
+use Rattle.caster_main.proofs.StatusLemmas.{whole_form, faulty_config_form, faulty_script_form, too_long_form}
+use Rattle.caster_main.proofs.ClauseLemmas.{undisturbed_run, decided_run, have_come, no_form_run, script_run, usage_run, bare_fault, over_fault, over_run, config_run}
 use Rattle.caster_main.proofs.top.caster.Goals as goal
 
 pub returns-clause-report : goal.returns-clause-report
 returns-clause-report g c zero capacity bytes events are told script =
-    (script_run _ _ _ _ _ capacity bytes events
-    (decided_run _ _ _ _ _ _ _ _ _ _ c.answer_to-answer.ensures.answer c.write_answer.ensures.writes
+    (script_run _ _ _ _ _ _ capacity bytes events
+    (decided_run _ _ _ _ _ _ _ _ _ _ _ c.answer_to-answer.ensures.answer c.write_answer.ensures.writes
     (λ e. omega (arith, zero, e)) (λ e. omega (arith, zero, e)) (λ e. omega (arith, zero, e)))
     are told script).1
 
 pub returns-clause-complete : goal.returns-clause-complete
 returns-clause-complete g c capacity bytes events are told script read write =
-    elim (undisturbed_run _ _ _ _ _ _ _ _ _ _ c.answer_to-answer.ensures.answer c.write_answer.ensures.writes
-    read write) [
+    elim (undisturbed_run _ _ _ _ _ _ _ _ _ _ _ c.answer_to-answer.ensures.answer c.write_answer.ensures.writes
+    (bare_fault _ _ _ capacity are read) write) [
       | inl memory ↦ inl memory
-      | inr follows ↦ inr (script_run _ _ _ _ _ capacity bytes events follows are told script)
+      | inr follows ↦ inr (script_run _ _ _ _ _ _ capacity bytes events follows are told script)
+    ]
+
+pub returns-clause-checked : goal.returns-clause-checked
+returns-clause-checked g c zero path are =
+    let sink = g.O.Sink in
+    let run = over_run _ _ _ _ _ _ Check path zero
+    (decided_run _ _ _ _ _ _ _ _ _ _ _ c.answer_to-answer.ensures.answer c.write_answer.ensures.writes
+    (λ e. omega (arith, zero, e)) (λ e. omega (arith, zero, e)) (λ e. omega (arith, zero, e)))
+    are in (
+      run.0,
+      run.2,
+      subst (λ (e : Exit). Appends (sink.taken c.args.out.now) (sink.taken c.write_answer.new.out) e.text) run.3 run.4,
+    )
+
+pub returns-clause-tabled : goal.returns-clause-tabled
+returns-clause-tabled g c zero path are =
+    let sink = g.O.Sink in
+    let run = over_run _ _ _ _ _ _ Table path zero
+    (decided_run _ _ _ _ _ _ _ _ _ _ _ c.answer_to-answer.ensures.answer c.write_answer.ensures.writes
+    (λ e. omega (arith, zero, e)) (λ e. omega (arith, zero, e)) (λ e. omega (arith, zero, e)))
+    are in (
+      run.0,
+      run.2,
+      subst (λ (e : Exit). Appends (sink.taken c.args.out.now) (sink.taken c.write_answer.new.out) e.text) run.3 run.4,
+    )
+
+pub returns-clause-migrated : goal.returns-clause-migrated
+returns-clause-migrated g c zero path are =
+    let run = over_run _ _ _ _ _ _ Migrate path zero
+    (decided_run _ _ _ _ _ _ _ _ _ _ _ c.answer_to-answer.ensures.answer c.write_answer.ensures.writes
+    (λ e. omega (arith, zero, e)) (λ e. omega (arith, zero, e)) (λ e. omega (arith, zero, e)))
+    are in (run.0, run.1.text, run.2, run.3.1.0, run.3.1.1, run.4)
+
+pub returns-clause-complete_over : goal.returns-clause-complete_over
+returns-clause-complete_over g c aim path files bytes config are told content short is read write =
+    elim (undisturbed_run _ _ _ _ _ _ _ _ _ _ _ c.answer_to-answer.ensures.answer c.write_answer.ensures.writes
+    (over_fault _ _ _ aim path are read) write) [
+      | inl memory ↦ inl memory
+      | inr follows ↦ inr (config_run _ _ _ _ _ _ aim path files bytes config follows are told content short is)
     ]
 
 pub returns-clause-whole : goal.returns-clause-whole
 returns-clause-whole g c is =
-    have_input (λ bytes. IsOk (script_of Bare bytes)) c.write_answer.result _ _ _ _ (λ e. omega (arith, is, e))
-    (λ capacity bytes h. whole_script capacity (script_of Bare bytes) (h ∙ is))
-    (decided_run _ _ _ _ _ _ _ _ _ _ c.answer_to-answer.ensures.answer c.write_answer.ensures.writes
+    have_come IsWhole _ _ _ _ _ c.write_answer.result (λ e. omega (arith, is, e))
+    (λ form came h. whole_form form came (h ∙ is))
+    (decided_run _ _ _ _ _ _ _ _ _ _ _ c.answer_to-answer.ensures.answer c.write_answer.ensures.writes
     (λ e. omega (arith, is, e)) (λ e. omega (arith, is, e)) (λ e. omega (arith, is, e)))
 
 pub returns-clause-usage : goal.returns-clause-usage
 returns-clause-usage g c is =
-    usage_run _ _ _ _ _
-    (decided_run _ _ _ _ _ _ _ _ _ _ c.answer_to-answer.ensures.answer c.write_answer.ensures.writes
+    usage_run _ _ _ _ _ _
+    (decided_run _ _ _ _ _ _ _ _ _ _ _ c.answer_to-answer.ensures.answer c.write_answer.ensures.writes
     (λ e. omega (arith, is, e)) (λ e. omega (arith, is, e)) (λ e. omega (arith, is, e)))
     is
 
 pub returns-clause-no_form : goal.returns-clause-no_form
 returns-clause-no_form g c =
-    no_form_run _ _ _ _ _ _ _ _ _ _ c.answer_to-answer.ensures.answer c.write_answer.ensures.writes
+    no_form_run _ _ _ _ _ _ _ _ _ _ _ c.answer_to-answer.ensures.answer c.write_answer.ensures.writes
+
+pub returns-clause-no_config : goal.returns-clause-no_config
+returns-clause-no_config g c is =
+    have_come IsFaultyConfig _ _ _ _ _ c.write_answer.result (λ e. omega (arith, is, e))
+    (λ form came h. faulty_config_form form came (h ∙ is))
+    (decided_run _ _ _ _ _ _ _ _ _ _ _ c.answer_to-answer.ensures.answer c.write_answer.ensures.writes
+    (λ e. omega (arith, is, e)) (λ e. omega (arith, is, e)) (λ e. omega (arith, is, e)))
 
 pub returns-clause-no_session : goal.returns-clause-no_session
 returns-clause-no_session g c is =
-    have_input (λ bytes. IsNoSession (script_of Bare bytes)) c.write_answer.result _ _ _ _ (λ e. omega (arith, is, e))
-    (λ capacity bytes h. faulty_script capacity (script_of Bare bytes) (h ∙ is))
-    (decided_run _ _ _ _ _ _ _ _ _ _ c.answer_to-answer.ensures.answer c.write_answer.ensures.writes
+    have_come IsFaultyScript _ _ _ _ _ c.write_answer.result (λ e. omega (arith, is, e))
+    (λ form came h. faulty_script_form form came (h ∙ is))
+    (decided_run _ _ _ _ _ _ _ _ _ _ _ c.answer_to-answer.ensures.answer c.write_answer.ensures.writes
     (λ e. omega (arith, is, e)) (λ e. omega (arith, is, e)) (λ e. omega (arith, is, e)))
 
 pub returns-clause-too_long : goal.returns-clause-too_long
 returns-clause-too_long g c is =
-    have_input (λ bytes. 8388608 < length bytes) c.write_answer.result _ _ _ _ (λ e. omega (arith, is, e))
-    (λ capacity bytes h. long_script capacity bytes (h ∙ is))
-    (decided_run _ _ _ _ _ _ _ _ _ _ c.answer_to-answer.ensures.answer c.write_answer.ensures.writes
+    have_come IsTooLong _ _ _ _ _ c.write_answer.result (λ e. omega (arith, is, e))
+    (λ form came h. too_long_form form came (h ∙ is))
+    (decided_run _ _ _ _ _ _ _ _ _ _ _ c.answer_to-answer.ensures.answer c.write_answer.ensures.writes
     (λ e. omega (arith, is, e)) (λ e. omega (arith, is, e)) (λ e. omega (arith, is, e)))

@@ -1,0 +1,125 @@
+//! What is decided by the configuration in a file.
+ghost use Rattle.std.specs.Prelude.{◌≡◌, ◌≤◌, ◌<◌, ◌+◌, ◌∷◌, [], ℕ, List, length, vec_len, IfOk, IsErrOf};
+ghost use Rattle.cast_io.specs.Causes.{Rose};
+ghost use Rattle.cast_io.specs.Told.{Grew};
+ghost use Rattle.sourcetable.specs.Table.{table_text};
+ghost use Rattle.cast_config.specs.Kept.{KeepsRules};
+ghost use Rattle.config_table.specs.Table.{table_records};
+ghost use Rattle.config_write.specs.Written.{WasRead};
+ghost use Rattle.caster_main.specs.Reading.{config_in};
+ghost use Rattle.caster_main.specs.Outcome.{IsDocumentOf, ending_of_config, ending_of_read, exactly, exit_of_config_fault};
+ghost use Rattle.caster_main.specs.Told.{Holds};
+ghost use Rattle.caster_main.specs.Answers.{GivesEnd, IsFileAnswer};
+
+use crate::answers::Answer;
+use crate::command::Aim;
+use cast_config::{Config, ConfigFault, read_config};
+use cast_io::{ReadAllFault, Store, read_all};
+use config_table::table_of;
+use config_write::write_config;
+use sourcetable::write_table;
+use std::alloc::{AllocError, Global};
+
+/// The most bytes that a configuration has: 8 MiB.
+const LONGEST_CONFIG: usize = 8_388_608;
+
+/// The answer to a command that does this with the configuration in the file of this path. The
+/// store is asked for that file once.
+pub fn answer_over<S: Store>(alloc: Global, aim: Aim, path: &str, store: &mut S) -> Answer
+    ensures answer { IsFileAnswer aim path.now (S.store store.old).files
+        (Rose (S.faults store.old) (S.faults store.new)) result }
+    ensures later { S.faults store.old ≤ S.faults store.new }
+    ensures asked { Grew (S.store store.old).asked (S.store store.new).asked (path.now ∷ []) }
+    ensures files { (S.store store.new).files ≡ (S.store store.old).files }
+    ensures few { S.reads store.new ≤ S.reads store.old + 8388610 }
+{
+    match read_file(alloc, path, store) {
+        Ok(bytes) => answer_to_bytes(alloc, aim, &bytes),
+        Err(ReadAllFault::Failed) => Answer::ReadFault,
+        Err(ReadAllFault::Long) => Answer::Long,
+        Err(ReadAllFault::Memory) => Answer::Memory,
+    }
+}
+
+// All bytes of the file of this path, at most those of a configuration.
+fn read_file<S: Store>(alloc: Global, path: &str, store: &mut S) -> Result<Vec<u8>, ReadAllFault>
+    ensures whole { IfOk result (λ v. Holds (S.store store.old).files path.now v.items) }
+    ensures within { IfOk result (λ v. length v.items ≤ 8388608) }
+    ensures long { IsErrOf result ReadAllFault.Long → (bytes : List ℕ)
+        × Holds (S.store store.old).files path.now bytes × (8388608 < length bytes) }
+    ensures failed { IsErrOf result ReadAllFault.Failed
+        → Rose (S.faults store.old) (S.faults store.new) }
+    ensures later { S.faults store.old ≤ S.faults store.new }
+    ensures asked { Grew (S.store store.old).asked (S.store store.new).asked (path.now ∷ []) }
+    ensures files { (S.store store.new).files ≡ (S.store store.old).files }
+    ensures few { S.reads store.new ≤ S.reads store.old + 8388610 }
+{
+    let Ok(()) = store.open(path) else {
+        return Err(ReadAllFault::Failed);
+    };
+    read_all(alloc, store, LONGEST_CONFIG)
+}
+
+// The answer to a configuration of these bytes, which are no more than one may have.
+fn answer_to_bytes(alloc: Global, aim: Aim, bytes: &[u8]) -> Answer
+    ensures { GivesEnd (ending_of_read aim (config_in bytes.now)) result }
+{
+    match read_config(alloc, bytes) {
+        Ok(config) => answer_to_config(alloc, aim, &config),
+        Err(fault) => answer_to_fault(alloc, &fault),
+    }
+}
+
+// The answer to bytes that have this fault.
+fn answer_to_fault(alloc: Global, fault: &ConfigFault) -> Answer
+    ensures { GivesEnd (exactly (exit_of_config_fault fault.now)) result }
+{
+    if matches!(fault, ConfigFault::Memory) {
+        return Answer::Memory;
+    }
+    let mut line = Vec::new(alloc);
+    match fault.push_line(&mut line) {
+        Ok(()) => Answer::NoConfig(line),
+        Err(AllocError) => Answer::Memory,
+    }
+}
+
+// The answer to this configuration.
+fn answer_to_config(alloc: Global, aim: Aim, config: &Config) -> Answer
+    requires keeps { KeepsRules 1000000 config.now }
+    requires was_read { WasRead config.now }
+    ensures { GivesEnd (ending_of_config aim config.now) result }
+{
+    match aim {
+        Aim::Check => Answer::Valid,
+        Aim::Table => match table_text(alloc, config) {
+            Ok(text) => Answer::Done(text),
+            Err(AllocError) => Answer::Memory,
+        },
+        Aim::Migrate => match document(alloc, config) {
+            Ok(text) => Answer::Done(text),
+            Err(AllocError) => Answer::Memory,
+        },
+    }
+}
+
+// The sourcetable of the configuration.
+fn table_text(alloc: Global, config: &Config) -> Result<Vec<u8>, AllocError>
+    requires { KeepsRules 1000000 config.now }
+    ensures { IfOk result (λ text. text.items ≡ table_text (table_records config.now)) }
+{
+    let table = table_of(alloc, config)?;
+    let mut text = Vec::new(alloc);
+    write_table(&table, &mut text)?;
+    Ok(text)
+}
+
+// A document of version 2 that says the configuration.
+fn document(alloc: Global, config: &Config) -> Result<Vec<u8>, AllocError>
+    requires { WasRead config.now }
+    ensures { IfOk result (λ text. IsDocumentOf config.now text.items) }
+{
+    let mut text = Vec::new(alloc);
+    write_config(config, &mut text)?;
+    Ok(text)
+}
