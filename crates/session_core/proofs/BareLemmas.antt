@@ -67,6 +67,7 @@ bare_begun c alone old now role name session after (inl b) none =
       added = [];
       out = refl;
       called = b.called;
+      no_read = b.no_read;
       stands = inl (stands_bare c alone old now role name session after b added);
     }
 bare_begun c alone old now role name session after (inr lost) none = record {
@@ -75,6 +76,7 @@ bare_begun c alone old now role name session after (inr lost) none = record {
   out = refl;
   called = subst (λ (h : Histories). Called c alone old h session.me []) (sym lost.uncalled)
       (called_none c alone old session.me);
+  no_read = refl;
   stands = inr (record {
     ended = lost.ended_is;
     stage = lost.stage_is;

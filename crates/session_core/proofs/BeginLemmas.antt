@@ -116,6 +116,7 @@ begins_refused c alone h me version reply end stage ended before after over (inl
   added = text_if version reply (setting.table c);
   out = replied.1;
   called = called_none c alone h me;
+  no_read = refl;
   owes = made_by (is_halted ended) _ [] refl;
   ends = inr replied.0;
   stage_is = λ opening text. rw over (record {
@@ -141,6 +142,7 @@ begins_table c alone h me version stage ended before after over (inl replied) = 
   added = reply_text version Table (setting.table c);
   out = replied.1;
   called = called_none c alone h me;
+  no_read = refl;
   owes = made_by (is_halted ended) _ [] refl;
   ends = inr replied.0;
   stage_is = λ opening text. rw over (record {

@@ -84,6 +84,7 @@ begins_claimed c alone old now book me mount version chunked session before afte
       added = text_if version replies.SourceOk [];
       out = out;
       called = record { rings = went; book = heard_none alone (book_answer c) book me };
+      no_read = refl;
       owes = (refl, none_published chunked mount session.claim);
       ends = inr (none_ended chunked session.claim);
       stage_is = λ opening text. record {
@@ -124,6 +125,7 @@ begins_unclaimed c alone old now book me mount version chunked (claims.Taken cal
       added = text_if version replies.Taken [];
       out = out;
       called = record { rings = went; book = heard_none alone (book_answer c) book me };
+      no_read = refl;
       owes = (refl, refl);
       ends = inr refl;
       stage_is = λ opening text.
@@ -138,6 +140,7 @@ begins_unclaimed c alone old now book me mount version chunked (claims.Worn give
       added = [];
       out = out;
       called = record { rings = went; book = heard_none alone (book_answer c) book me };
+      no_read = refl;
       owes = tt;
       ends = inl refl;
       stage_is = λ opening text.
@@ -152,6 +155,7 @@ begins_unclaimed c alone old now book me mount version chunked claims.Memory sta
       added = [];
       out = out;
       called = record { rings = went; book = heard_none alone (book_answer c) book me };
+      no_read = refl;
       owes = tt;
       ends = inl refl;
       stage_is = λ opening text.

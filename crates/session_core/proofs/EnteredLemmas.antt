@@ -183,6 +183,7 @@ begins_entered c alone old now me terms session before after heard inside told i
         book = subst (λ (l : List (BookCall × BookAnswer)). Heard alone (book_answer c) old.book now.book me
             ((Enter terms.admission.account, books.Entered) ∷ l)) (sym off) heard;
       };
+      no_read = ap (λ (l : List Step). entry ∷ l) told.no_read;
       owes = subst (λ (l : List Step). IsMadeBy (is_halted (ended_joining halt)) (entering_plan c terms []) (entry ∷ l))
           (sym told.no_read) (made_joining halt c terms [] told.more made);
       ends = ends_joining halt;
@@ -228,6 +229,7 @@ begins_full c alone old now me terms busy cap stage ended before after heard sam
             (went_none (shapes c) alone old.rings me));
         book = heard;
       };
+      no_read = refl;
       owes = (refl, refl);
       ends = inr refl;
       stage_is = λ opening text.
@@ -249,6 +251,7 @@ begins_unentered c alone old now me terms (turn_faults.Worn given) stage ended b
       added = [];
       out = out ∙ sym (append-nil before);
       called = called;
+      no_read = refl;
       owes = tt;
       ends = inl refl;
       stage_is = λ opening text.
@@ -262,6 +265,7 @@ begins_unentered c alone old now me terms turn_faults.Memory stage ended before 
       added = [];
       out = out ∙ sym (append-nil before);
       called = called;
+      no_read = refl;
       owes = tt;
       ends = inl refl;
       stage_is = λ opening text.

@@ -12,7 +12,8 @@ use Rattle.session_calls.specs.Steps.{Step, book_part, on_book}
 use Rattle.session_calls.specs.Rings.{all_alone, history_at}
 use Rattle.session_calls.proofs.PlaceLemmas.{alone_same}
 use Rattle.session_calls.proofs.WentLemmas.{went_both}
-use Rattle.rover_session.specs.Made.{segments_after}
+use Rattle.rover_session.specs.Made.{owed_among, segments_after}
+use Rattle.rover_session.proofs.MadeLemmas.{owed_both}
 use Rattle.ntrip_head.specs.declared.fault.HeadFault.{HeadFault}
 use Rattle.ntrip_head.specs.declared.request.Request.{Request}
 use Rattle.ntrip_head.specs.declared.request.Version.TheVariants.{One}
@@ -161,6 +162,7 @@ fed_waiting c alone h new opening text bytes steps sent head out is stage unende
   added = [];
   out = sym (append-nil out);
   called = called_none c alone h new.me;
+  no_read = refl;
   stands = rw is.opens (rw (sym is.text_is) (rw is.uncalled (rw is.unsent (inl (waits_for c new h (head ++ bytes) stage
       unended goes)))));
 }
@@ -200,6 +202,7 @@ fed_ended c alone old now me new opening text bytes steps sent head before after
       added = b.begins.added;
       out = b.begins.out;
       called = subst (λ (m : ℕ). Called c alone old now m b.begins.more) (sym same) b.begins.called;
+      no_read = b.begins.no_read;
       stands = rw is.opens (rw is.uncalled (rw is.unsent
           (rw (sym (front_and_rest text head bytes count is.text_is))
           (inl (ended_more c new sends_head (head ++ take count bytes) (drop count bytes) b.begins.more now
@@ -213,6 +216,7 @@ fed_ended c alone old now me new opening text bytes steps sent head before after
       out = lost.unsent ∙ sym (append-nil before);
       called = subst (λ (h : Histories). Called c alone old h new.me []) (sym lost.uncalled)
           (called_none c alone old new.me);
+      no_read = refl;
       stands = rw is.opens (rw is.uncalled (rw is.unsent (inr (record {
         ended = lost.ended_is;
         stage = lost.stage_is;
@@ -287,6 +291,7 @@ fed_behind c alone old mid_h now me mid new opening text bytes steps sent head b
       out = b.begins.out;
       called = called_both c alone old mid_h now new.me b.begins.more on.more
           (subst (λ (m : ℕ). Called c alone old mid_h m b.begins.more) (sym still) b.begins.called) on.called;
+      no_read = owed_both b.begins.more on.more b.begins.no_read on.no_read;
       stands = rw is.opens (rw is.uncalled (rw is.unsent
           (rw (sym (front_and_rest text head bytes count is.text_is)) (inl on.stands))));
     }
@@ -307,6 +312,7 @@ fed_on c alone old now session new opening text bytes steps histories sent out u
       added = [];
       out = sym (append-nil out);
       called = on.called;
+      no_read = on.no_read;
       stands = inl (subst (λ (l : List ℕ). Stands c new opening (text ++ bytes) (steps ++ on.more) now l)
           (sym (append-nil sent)) on.stands);
     }

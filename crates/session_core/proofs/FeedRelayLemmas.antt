@@ -494,6 +494,7 @@ relay_fed_on c alone old now histories session new opening text bytes steps sent
             (subst (λ (l : List (BookCall × BookAnswer)). Heard alone (book_answer c) old.book old.book new.me l)
             (sym (source_off_book given.more are)) (heard_none alone (book_answer c) old.book new.me));
       };
+      no_read = source_owed given.more are;
       stands = stands_fed c now new opening (text ++ bytes) (steps ++ given.more) sent at.number mount fed at.opens
           at.mount_is at.within (same_me ∙ me) new_stage new_ended given.stands none
           (subst (λ (m : ℕ). IsHoldingBy m (claim_at fed.stage) (history_at now.rings mount)) me holds) unsent;

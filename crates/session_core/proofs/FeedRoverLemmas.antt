@@ -236,6 +236,7 @@ rover_fed_on c alone old now histories session new opening text bytes steps sent
     record {
       more = more;
       called = subst (λ (m : ℕ). Called c alone old now m more) (sym me_is) called;
+      no_read = told.no_read;
       stands = record {
         heading = heading;
         is_heading = heading_goes c opening heading text bytes known stood.is_heading;

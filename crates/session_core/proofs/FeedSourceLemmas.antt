@@ -196,6 +196,7 @@ source_fed_on c alone old now histories session new opening text bytes steps sen
       more = more;
       called = called_publishing c alone old now new.me more
           (subst (λ (m : ℕ). Went (shapes c) alone old.rings now.rings m more) (at.caller ∙ sym me) p.went) are book;
+      no_read = source_owed more are;
       stands = record {
         heading = heading;
         is_heading = heading_goes c opening heading text bytes not stands.is_heading;

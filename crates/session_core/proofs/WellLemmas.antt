@@ -27,13 +27,13 @@ use Rattle.session_core.proofs.KeepLemmas.{Later, later_same, later_both, AllSou
 
 -- ---- one connection
 
-abbrev IsSoundOf : Config → List (History RingCall) → Connected → Type 0
+abbrev pub IsSoundOf : Config → List (History RingCall) → Connected → Type 0
 IsSoundOf c h d = AllSound c h (segments_after [] d.steps)
 
-record Moves (c : Config) (old : Histories) (m : Moved) : Type 0 where
-  later : Later old.rings m.histories.rings
-  frames : AreFrames m.histories.rings
-  sound : IsSoundOf c m.histories.rings m.connection
+pub record Moves (c : Config) (old : Histories) (m : Moved) : Type 0 where
+  pub later : Later old.rings m.histories.rings
+  pub frames : AreFrames m.histories.rings
+  pub sound : IsSoundOf c m.histories.rings m.connection
 
 -- more steps, and what they make of the segments
 more_steps : (c : Config) (old now : Histories) (d : Connected) (steps : List Step)
@@ -50,12 +50,12 @@ by_kept c h d plan kept =
     let all = more_steps c h (with_calls d.number h (made c d.number h plan)) d (made c d.number h plan) kept in
     record { later = all.later; frames = all.frames; sound = all.sound }
 
-makes_moves : (c : Config) (h : Histories) (d : Connected) (plan : Plan) → IsGood plan → AreFrames h.rings
+pub makes_moves : (c : Config) (h : Histories) (d : Connected) (plan : Plan) → IsGood plan → AreFrames h.rings
     → IsSoundOf c h.rings d → Moves c h (makes c h d plan)
 makes_moves c h d plan good frames sound =
     by_kept c h d plan (plan_keeps c d.number h (segments_after [] d.steps) plan good frames sound)
 
-closing_good : (j : Judged) (steps : List Step) → IsGood (closing j steps)
+pub closing_good : (j : Judged) (steps : List Step) → IsGood (closing j steps)
 closing_good j steps = good_closing j (received steps) (segments_after [] steps)
 
 closed_moves : (end : Option Ending) (c : Config) (j : Judged) (old : Histories) (m : Moved) → Moves c old m
@@ -70,7 +70,7 @@ closed_moves (Some end) c j old m moves =
       sound = more.sound;
     }
 
-moved_moves : (c : Config) (heading : Heading) (h : Histories) (d : Connected) (what : Happening) → AreFrames h.rings
+pub moved_moves : (c : Config) (heading : Heading) (h : Histories) (d : Connected) (what : Happening) → AreFrames h.rings
     → IsSoundOf c h.rings d → Moves c h (moved c heading h d what)
 moved_moves c heading h d (arrives more) frames sound =
     let now = with_text d (d.text ++ more) in
@@ -93,7 +93,7 @@ moved_if_moves false c heading h d what frames sound =
 
 -- ---- all of them
 
-abbrev AreSound : Config → List (History RingCall) → List Connected → Type 0
+abbrev pub AreSound : Config → List (History RingCall) → List Connected → Type 0
 AreSound c h ds = All (IsSoundOf c h) ds
 
 are_later : (c : Config) (old now : List (History RingCall)) (ds : List Connected) → Later old now
@@ -136,7 +136,7 @@ pub record IsWell (c : Config) (w : World) : Type 0 where
   pub frames : AreFrames w.histories.rings
   pub sound : AreSound c w.histories.rings w.connections
 
-happens_stays : (c : Config) (headings : ℕ → Heading) (w : World) (number : ℕ) (what : Happening) → IsWell c w
+pub happens_stays : (c : Config) (headings : ℕ → Heading) (w : World) (number : ℕ) (what : Happening) → IsWell c w
     → IsWell c (happens c headings w number what)
 happens_stays c headings w number what well =
     let now = happens_well c headings number what w.histories w.connections well.frames well.sound in
@@ -161,14 +161,14 @@ opened_well c false w m well moves = record {
       (are_later c w.histories.rings m.histories.rings w.connections moves.later well.sound);
 }
 
-opens_stays : (c : Config) (headings : ℕ → Heading) (w : World) (number : ℕ) (opening : Opening) → IsWell c w
+pub opens_stays : (c : Config) (headings : ℕ → Heading) (w : World) (number : ℕ) (opening : Opening) → IsWell c w
     → IsWell c (opens c headings w number opening)
 opens_stays c headings w number opening well =
     opened_well c (is_opened number w.connections) w (moved c (headings number) w.histories (fresh number opening)
     (arrives []))
     well (moved_moves c (headings number) w.histories (fresh number opening) (arrives []) well.frames (All-nil _))
 
-event_stays : (c : Config) (headings : ℕ → Heading) (w : World) (event : Event) → IsWell c w
+pub event_stays : (c : Config) (headings : ℕ → Heading) (w : World) (event : Event) → IsWell c w
     → IsWell c (after_event c headings w event)
 event_stays c headings w (events.Source number mount) well = opens_stays c headings w number (bare_source mount) well
 event_stays c headings w (events.Rover number mount) well = opens_stays c headings w number (bare_rover mount) well
@@ -201,13 +201,17 @@ none_called [] at = refl
 none_called (mount ∷ mounts) zero = refl
 none_called (mount ∷ mounts) (suc at) = none_called mounts at
 
-pub world_well : (c : Config) (headings : ℕ → Heading) (list : List Event) → IsWell c (world c headings list)
-world_well c headings list =
-    all_closed c headings (after_events c headings list)
-    (map (λ (d : Connected). d.number) (after_events c headings list).connections)
-    (all_events c headings (record { connections = []; histories = nothing_called c }) list
+pub events_well : (c : Config) (headings : ℕ → Heading) (list : List Event) → IsWell c (after_events c headings list)
+events_well c headings list =
+    all_events c headings (record { connections = []; histories = nothing_called c }) list
     (record {
       frames = λ mount. subst (λ (h : History RingCall). All (λ frame. IsTrue (is_frame frame)) (published_in h))
           (sym (none_called c.mount mount)) (All-nil _);
       sound = All-nil _;
-    }))
+    })
+
+pub world_well : (c : Config) (headings : ℕ → Heading) (list : List Event) → IsWell c (world c headings list)
+world_well c headings list =
+    all_closed c headings (after_events c headings list)
+    (map (λ (d : Connected). d.number) (after_events c headings list).connections)
+    (events_well c headings list)

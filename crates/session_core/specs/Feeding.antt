@@ -1,10 +1,11 @@
 -- What becomes of a connection that takes more bytes behind its head.
-use Rattle.std.specs.Prelude.{ℕ, ◌⊎◌, Bool, List, ◌++◌, Option, unwrap_or}
+use Rattle.std.specs.Prelude.{◌≡◌, ℕ, ◌⊎◌, Bool, List, ◌++◌, Option, unwrap_or}
 use Rattle.source_session.specs.declared.fault.SourceHalt.{SourceHalt}
 use Rattle.source_session.specs.declared.fault.SourceHalt.TheVariants as sources
 use Rattle.upstream_relay.specs.declared.fault.RelayHalt.{RelayHalt}
 use Rattle.upstream_relay.specs.declared.fault.RelayHalt.TheVariants as relays
 use Rattle.session_calls.specs.Steps.{Step}
+use Rattle.rover_session.specs.Made.{owed_among}
 use Rattle.cast_config.specs.declared.config.Config.{Config}
 use Rattle.session_core.specs.declared.ending.Ending.{Ending}
 use Rattle.session_core.specs.declared.ending.Ending.TheVariants as endings
@@ -59,10 +60,11 @@ HasBegunFor c alone old now me front stage ended before after =
     HasBegun c alone old now me front stage ended before after
     ⊎ IsLostAt old now stage ended before after
 
--- More bytes made further steps, and the session stands with them for all bytes so far. Nothing was
--- sent for them.
+-- More bytes made further steps, none of which is a read, and the session stands with them for all
+-- bytes so far. Nothing was sent for them.
 pub record FedOn (c : Config) (alone : Bool) (old now : Histories) (session : Session)
     (opening : Opening) (text : List ℕ) (steps : List Step) (sent : List ℕ) : Type 0 where
   pub more : List Step
   pub called : Called c alone old now session.me more
+  pub no_read : owed_among more ≡ more
   pub stands : Stands c session opening text (steps ++ more) now sent

@@ -199,7 +199,8 @@ Follows c session now more =
     × (sent : List ℕ) × StandsFor c session opening text steps histories sent
     × OthersCalled histories now session.me × (length text + more < 2 ^ 63)
 
--- A call made further steps and sent further bytes, and the session stands with them for this text.
+-- A call made further steps, none of which is a read, and sent further bytes, and the session stands
+-- with them for this text.
 pub record Fed (c : Config) (alone : Bool) (old now : Histories) (session : Session)
     (opening : Opening) (text : List ℕ) (steps : List Step) (sent before after : List ℕ)
     : Type 0 where
@@ -207,6 +208,7 @@ pub record Fed (c : Config) (alone : Bool) (old now : Histories) (session : Sess
   pub added : List ℕ
   pub out : after ≡ before ++ added
   pub called : Called c alone old now session.me more
+  pub no_read : owed_among more ≡ more
   pub stands : StandsFor c session opening text (steps ++ more) now (sent ++ added)
 
 -- what is sent of a connection that is so judged, behind its opening
@@ -223,6 +225,7 @@ pub record Begins (c : Config) (alone : Bool) (old now : Histories) (me : ℕ) (
   pub added : List ℕ
   pub out : after ≡ before ++ added
   pub called : Called c alone old now me more
+  pub no_read : owed_among more ≡ more
   pub owes : IsMadeBy (is_halted ended) (plan_of c j) (owed_among more)
   pub ends : EndsAs ended (ended_by j (received more))
   pub stage_is : (opening : Opening) (text : List ℕ)
