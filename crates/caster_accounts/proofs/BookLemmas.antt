@@ -17,18 +17,13 @@ use Rattle.caster_accounts.specs.declared.call.BookAnswer.{BookAnswer}
 use Rattle.turn_log.specs.Faults.{IsFault, worn_of}
 use Rattle.turn_log.specs.declared.place.TurnFault.{TurnFault}
 use Rattle.caster_accounts.specs.History.{cap_at, without, is_among, goes, callers_in, inside, fits, may_leave, answer, entry_answer}
-use Rattle.caster_accounts.specs.Sums.{nothing, added, after_call, total}
-use Rattle.caster_accounts.specs.Kept.{entered, left, KeepsAccount}
+use Rattle.caster_accounts.specs.Sums.{nothing, added, after_call, after_any, total, total_of_all}
+use Rattle.caster_accounts.specs.Kept.{entered, left, IsWithin, KeepsAccount, KeepsEach}
 use Rattle.caster_accounts.specs.StillFits.{callers_after, still_fits_one}
 
 -- the caps of these accounts
 abbrev pub caps : List Account → List ℕ
 caps accounts = map (λ (account : Account). account.cap) accounts
-
--- each of these accounts is kept
-abbrev pub KeepsEach : List Account → List (ℕ × BookCall) → Type 0
-KeepsEach accounts h =
-    (place : ℕ) (account : Account) → slice_get accounts place ≡ Some account → KeepsAccount h place account
 
 pub cap_found : (accounts : List Account) (place : ℕ) (account : Account) → slice_get accounts place ≡ Some account →
     cap_at (caps accounts) place ≡ account.cap
@@ -57,6 +52,38 @@ length_without me (caller ∷ callers) mine = by_test (length_without me callers
   by_test later true here = refl
   by_test later false here = ap suc (later here)
 
+-- ---- sums
+
+-- before the first call
+pub bounded_none : IsWithin [] nothing
+bounded_none = record { sessions = omega arith; sent = omega arith; overrun = omega arith }
+
+-- a longer history bounds what a shorter one did
+pub bounded_more : (h : List (ℕ × BookCall)) (entry : ℕ × BookCall) (sum : Sum) → IsWithin h sum →
+    IsWithin (h ++ entry ∷ []) sum
+bounded_more h entry sum within =
+    let longer : length (h ++ entry ∷ []) ≡ length h + 1 = length-append h (entry ∷ []) in
+    record {
+      sessions = omega (arith, within.sessions, longer);
+      sent = omega (arith, within.sent, longer);
+      overrun = omega (arith, within.overrun, longer);
+    }
+
+-- and one more session
+pub bounded_added : (h : List (ℕ × BookCall)) (entry : ℕ × BookCall) (sent overrun : ℕ) (sum : Sum) → IsWithin h sum →
+    sent < 2 ^ 64 → overrun < 2 ^ 64 → IsWithin (h ++ entry ∷ []) (added sum sent overrun)
+bounded_added h entry sent overrun sum within sent_small overrun_small =
+    let longer : length (h ++ entry ∷ []) ≡ length h + 1 = length-append h (entry ∷ []) in
+    record {
+      sessions = omega (arith, within.sessions, longer);
+      sent = omega (arith, within.sent, longer, sent_small);
+      overrun = omega (arith, within.overrun, longer, overrun_small);
+    }
+
+pub all_after : (h : List (ℕ × BookCall)) (by : ℕ) (call : BookCall) →
+    total_of_all (h ++ (by, call) ∷ []) ≡ after_any (total_of_all h) call
+all_after h by call = fold-append (λ sum entry. after_any sum entry.1) nothing h ((by, call) ∷ [])
+
 -- ---- one account
 
 -- an entry that changes neither who is inside nor the sums
@@ -64,14 +91,11 @@ kept_more : (h : List (ℕ × BookCall)) (entry : ℕ × BookCall) (place : ℕ)
     inside account.cap place (h ++ entry ∷ []) ≡ inside account.cap place h → total place (h ++ entry ∷ []) ≡ total place h →
     KeepsAccount (h ++ entry ∷ []) place account
 kept_more h entry place account keeps same_inside same_total =
-    let longer : length (h ++ entry ∷ []) ≡ length h + 1 = length-append h (entry ∷ []) in
     record {
       busy = keeps.busy ∙ sym same_inside;
       within = keeps.within;
       sum = keeps.sum ∙ sym same_total;
-      sessions = omega (arith, keeps.sessions, longer);
-      sent = omega (arith, keeps.sent, longer);
-      overrun = omega (arith, keeps.overrun, longer);
+      bounded = bounded_more h entry account.sum keeps.bounded;
     }
 
 -- who is inside after an Enter of this account
@@ -99,9 +123,6 @@ kept_entered h place me account keeps = by_test (account.busy == account.cap) re
       inside_entered account.cap place me h
       ∙ ap (λ (t : Bool). if t then inside account.cap place h else inside account.cap place h + 1) (same_test b is)
 
-  longer : length (h ++ (me, Enter place) ∷ []) ≡ length h + 1
-  longer = length-append h ((me, Enter place) ∷ [])
-
   by_test : (b : Bool) → (account.busy == account.cap) ≡ b →
       KeepsAccount (h ++ (me, Enter place) ∷ []) place (if b then account else record account { busy = account.busy + 1 })
   by_test true is = kept_more h (me, Enter place) place account keeps (inside_now true is) (total_after place h me (Enter place))
@@ -111,9 +132,7 @@ kept_entered h place me account keeps = by_test (account.busy == account.cap) re
         busy = ap (λ n. n + 1) keeps.busy ∙ sym (inside_now false is);
         within = omega (arith, keeps.within, apart);
         sum = keeps.sum ∙ sym (total_after place h me (Enter place));
-        sessions = omega (arith, keeps.sessions, longer);
-        sent = omega (arith, keeps.sent, longer);
-        overrun = omega (arith, keeps.overrun, longer);
+        bounded = bounded_more h (me, Enter place) account.sum keeps.bounded;
       }
 
 -- who is inside after a Leave of this account by one who was
@@ -143,15 +162,11 @@ kept_left : (h : List (ℕ × BookCall)) (place me sent overrun : ℕ) (account 
     is_among me (callers_in account.cap place h) ≡ true → sent < 2 ^ 64 → overrun < 2 ^ 64 →
     KeepsAccount (h ++ (me, Leave place sent overrun) ∷ []) place (left account sent overrun)
 kept_left h place me sent overrun account keeps mine sent_small overrun_small =
-    let longer : length (h ++ (me, Leave place sent overrun) ∷ []) ≡ length h + 1 =
-    length-append h ((me, Leave place sent overrun) ∷ []) in
     record {
       busy = omega (arith, keeps.busy, inside_left account.cap place me sent overrun h mine);
       within = omega (arith, keeps.within);
       sum = ap (λ (s : Sum). added s sent overrun) keeps.sum ∙ sym (total_left place me sent overrun h);
-      sessions = omega (arith, keeps.sessions, longer);
-      sent = omega (arith, keeps.sent, longer, sent_small);
-      overrun = omega (arith, keeps.overrun, longer, overrun_small);
+      bounded = bounded_added h (me, Leave place sent overrun) sent overrun account.sum keeps.bounded sent_small overrun_small;
     }
 
 -- ---- other accounts
@@ -290,9 +305,7 @@ each_opened accounts more last more_is nobody none keeps = λ place found there.
             busy = busy;
             within = omega (arith, busy);
             sum = sum;
-            sessions = omega (arith, ap (λ (s : Sum). s.sessions) sum);
-            sent = omega (arith, ap (λ (s : Sum). s.sent) sum);
-            overrun = omega (arith, ap (λ (s : Sum). s.overrun) sum);
+            bounded = subst (IsWithin []) (sym sum) bounded_none;
           }
 
 -- its caps are those of the list that were reached

@@ -4,7 +4,8 @@ use Rattle.caster_accounts.specs.declared.account.Account.{Account}
 use Rattle.caster_accounts.specs.declared.book.Book.{Book}
 use Rattle.caster_accounts.specs.declared.call.BookCall.{BookCall}
 use Rattle.caster_accounts.specs.History.{inside}
-use Rattle.caster_accounts.specs.Sums.{added, total}
+use Rattle.caster_accounts.specs.declared.account.Sum.{Sum}
+use Rattle.caster_accounts.specs.Sums.{added, total, total_of_all}
 pub use Rattle.caster_accounts.specs.History.{entry_answer}
 
 -- an account where one more asked to enter
@@ -21,17 +22,27 @@ left account sent overrun =
 abbrev pub caps_of : Book → List ℕ
 caps_of book = map (λ (account : Account). account.cap) book.accounts.items
 
--- One account is kept: how many are inside, never above the cap, and its sums, which are within
--- what a history of this length can add up to.
+-- a sum is within what a history of this length can add up to
+pub record IsWithin (h : List (ℕ × BookCall)) (sum : Sum) : Type 0 where
+  pub sessions : sum.sessions ≤ length h
+  pub sent : sum.sent ≤ length h * 2 ^ 64
+  pub overrun : sum.overrun ≤ length h * 2 ^ 64
+
+-- one account is kept: how many are inside, never above the cap, and its sums
 pub record KeepsAccount (h : List (ℕ × BookCall)) (place : ℕ) (account : Account) : Type 0 where
   pub busy : account.busy ≡ inside account.cap place h
   pub within : account.busy ≤ account.cap
   pub sum : account.sum ≡ total place h
-  pub sessions : account.sum.sessions ≤ length h
-  pub sent : account.sum.sent ≤ length h * 2 ^ 64
-  pub overrun : account.sum.overrun ≤ length h * 2 ^ 64
+  pub bounded : IsWithin h account.sum
 
--- the book keeps each of its accounts
-abbrev pub Keeps : Book → List (ℕ × BookCall) → Type 0
-Keeps book h = (place : ℕ) (account : Account)
-    → slice_get book.accounts.items place ≡ Some account → KeepsAccount h place account
+-- each of these accounts is kept
+abbrev pub KeepsEach : List Account → List (ℕ × BookCall) → Type 0
+KeepsEach accounts h =
+    (place : ℕ) (account : Account) → slice_get accounts place ≡ Some account
+    → KeepsAccount h place account
+
+-- the book keeps each of its accounts, and the sums of them all
+pub record Keeps (book : Book) (h : List (ℕ × BookCall)) : Type 0 where
+  pub each : KeepsEach book.accounts.items h
+  pub all : book.all ≡ total_of_all h
+  pub bounded : IsWithin h book.all

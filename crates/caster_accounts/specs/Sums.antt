@@ -1,4 +1,4 @@
--- What the sessions of an account add up to: the sums over its Leave entries.
+-- What the sessions of an account, and of all, add up to: the sums over their Leave entries.
 use Rattle.std.specs.Prelude.{ℕ, ◌+◌, ◌==◌, if◌then◌else◌, List, fold}
 use Rattle.caster_accounts.specs.declared.account.Sum.{Sum}
 use Rattle.caster_accounts.specs.declared.call.BookCall.{BookCall}
@@ -25,3 +25,12 @@ after_call account sum (Leave left sent overrun) =
 -- the sums of an account after all entries of a history
 abbrev pub total : ℕ → List (ℕ × BookCall) → Sum
 total account h = fold (λ sum entry. after_call account sum entry.1) nothing h
+
+-- after one more call of any account
+abbrev pub after_any : Sum → BookCall → Sum
+after_any sum (Enter entered) = sum
+after_any sum (Leave left sent overrun) = added sum sent overrun
+
+-- the sums of all accounts after all entries of a history
+abbrev pub total_of_all : List (ℕ × BookCall) → Sum
+total_of_all h = fold (λ sum entry. after_any sum entry.1) nothing h

@@ -1,5 +1,6 @@
 ghost use Rattle.std.specs.Prelude.{◌≡◌, ◌^◌, ◌<◌, ◌≤◌, ◌+◌};
 ghost use Rattle.caster_accounts.specs.Kept.{entered, entry_answer, left};
+ghost use Rattle.caster_accounts.specs.Sums.{added};
 
 use crate::call::BookAnswer;
 
@@ -12,6 +13,20 @@ pub struct Sum {
     pub sent: u128,
     /// How many frames were overwritten before they could read them.
     pub overrun: u128,
+}
+
+impl Sum {
+    /// Adds one more session.
+    pub(crate) fn add(&mut self, sent: u64, overrun: u64)
+        requires sessions { self.old.sessions < 2 ^ 63 }
+        requires sent { self.old.sent < 2 ^ 127 }
+        requires overrun { self.old.overrun < 2 ^ 127 }
+        ensures { self.new ≡ added self.old sent overrun }
+    {
+        self.sessions += 1;
+        self.sent += u128::from(sent);
+        self.overrun += u128::from(overrun);
+    }
 }
 
 /// What the book keeps of one account.
@@ -64,8 +79,6 @@ impl Account {
         ensures { self.new ≡ left self.old sent overrun }
     {
         self.busy -= 1;
-        self.sum.sessions += 1;
-        self.sum.sent += u128::from(sent);
-        self.sum.overrun += u128::from(overrun);
+        self.sum.add(sent, overrun);
     }
 }

@@ -14,10 +14,11 @@ use turn_log::Played;
 #[derive(Debug, Drop, PartialEq, Eq)]
 pub struct Book {
     accounts: Vec<Account>,
+    all: Sum,
 }
 
 impl Book {
-    ghost use Rattle.caster_accounts.specs.Sums.{total};
+    ghost use Rattle.caster_accounts.specs.Sums.{total, total_of_all};
 
     /// A book of accounts with these caps, on which no call was made.
     pub fn new(alloc: Global, caps: &[u32]) -> Result<Book, AllocError>
@@ -28,7 +29,10 @@ impl Book {
         for cap in caps {
             accounts.push(Account::new(*cap))?;
         }
-        Ok(Book { accounts })
+        Ok(Book {
+            accounts,
+            all: Sum::default(),
+        })
     }
 
     /// What the sessions of an account that ended add up to.
@@ -38,6 +42,14 @@ impl Book {
             → result ≡ total account h }
     {
         self.accounts[account as usize].sum
+    }
+
+    /// What the sessions of all accounts that ended add up to.
+    pub fn total_of_all(&self) -> Sum
+        ensures { (h : List (ℕ × BookCall)) → ⟦<Book as Played>⟧.stands self.now h
+            → result ≡ total_of_all h }
+    {
+        self.all
     }
 }
 
@@ -76,6 +88,7 @@ impl Played for Book {
                 overrun,
             } => {
                 self.accounts[account as usize].leave(sent, overrun);
+                self.all.add(sent, overrun);
                 BookAnswer::Left
             }
         }

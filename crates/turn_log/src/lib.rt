@@ -12,6 +12,6 @@ mod place;
 mod tests;
 
 pub use desk::Desk;
-pub use lock::{Note, Pass, Seat, Turn};
+pub use lock::{Leaves, Note, Pass, Seat, Turn};
 pub use object::Played;
 pub use place::{TurnFault, Turns};

@@ -12,3 +12,4 @@ mod steps;
 mod tests;
 
 pub use parts::{Note, Pass, Seat, Turn};
+pub use seats::Leaves;

@@ -80,6 +80,28 @@ impl<'a, V: Played, R: Wait + Sync> Seat<'a, V, R> {
     }
 }
 
+/// A place at a lock, as code knows it that is generic in its places: it gives its pass back.
+pub trait Leaves<V: Played>: Turns<V> {
+    /// Gives the pass back: of the same lock, for the same caller, with all that the place has seen.
+    fn give_back(self) -> Pass<V>
+        ensures number { (k : ℕ) → Self.speaks self k ≡ (k == pass_number result) }
+        ensures seen { pass_seen result ≡ Self.seen self }
+        ensures worn { pass_worn result ≡ Self.worn self }
+        ensures home { pass_home result ≡ Self.home self }
+        ensures shape { HasShape result (Self.shape self) };
+}
+
+impl<'a, V: Played, R: Wait + Sync> Leaves<V> for Seat<'a, V, R> {
+    fn give_back(self) -> Pass<V> {
+        let Seat {
+            turn: _,
+            rt: _,
+            pass,
+        } = self;
+        pass
+    }
+}
+
 impl<'a, V: Played, R: Wait + Sync> Turns<V> for Seat<'a, V, R> {
     ghost use Rattle.std.specs.Prelude.{◌==◌, false, unwrap_or};
     ghost use Rattle.atomic_table.specs.Seated.{table_id_coded};

@@ -1,5 +1,6 @@
 use Rattle.std.proofs.Common.{◌≡◌, [], take}
-use Rattle.caster_accounts.proofs.BookLemmas.{caps, KeepsEach}
+use Rattle.caster_accounts.specs.Kept.{KeepsEach}
+use Rattle.caster_accounts.proofs.BookLemmas.{caps}
 use Rattle.caster_accounts.proofs.book.Book.new.Given as goal
 
 abbrev pub invariant-loop-cap : goal.invariant-loop-cap

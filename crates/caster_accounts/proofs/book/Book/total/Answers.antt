@@ -9,5 +9,5 @@ returns c = λ h keeps.
     let accounts = c.args.self.now.accounts.items in
     let inside : c.args.account < length accounts =
     omega (arith, c.requires, length-map accounts (λ (a : Account). a.cap)) in
-    (keeps c.args.account c.index.result.now
+    (keeps.each c.args.account c.index.result.now
     (slice_get_read accounts (length accounts) c.args.account c.index.result.now refl inside c.index.ensures)).sum
