@@ -1,7 +1,9 @@
 -- A connection is closed.
-use Rattle.std.proofs.Common.{◌≡◌, ◌∙◌, ℕ, Bool, List, [], length, refl, sym, ap, subst, inl, inr, Option, None, Some, Result, Ok, Err}
-use Rattle.std.specs.Prelude.{reverse, unwrap_or, OnOk, OnErr, is_ok}
+use Rattle.std.proofs.Common.{◌≡◌, ◌∙◌, ◌++◌, ◌∷◌, ℕ, Bool, true, false, List, [], length, refl, sym, ap, subst, inl, inr, Option, None, Some, Result, Ok, Err}
+use Rattle.std.specs.Prelude.{reverse, unwrap_or, Contains, IfErr, OnOk, OnErr, is_ok}
+use Rattle.turn_log.specs.Faults.{IsFault}
 use Rattle.turn_log.specs.declared.place.TurnFault.{TurnFault}
+use Rattle.turn_log.specs.declared.place.TurnFault.TheVariants as turns
 use Rattle.mount_ring.specs.declared.shape.RingShape.{RingShape}
 use Rattle.session_calls.specs.Steps.{Step}
 use Rattle.session_calls.specs.Plans.{Plan, IsMade}
@@ -20,11 +22,13 @@ use Rattle.session_core.specs.Endings.{ended_last}
 use Rattle.session_core.specs.Reports.{IsHeadingOf, junk_of, is_entered}
 use Rattle.session_core.specs.Run.{Histories}
 use Rattle.session_core.specs.Called.{Called, OthersCalled}
+use Rattle.session_core.specs.Published.{IsTurnRefused, MayRefuse}
 use Rattle.session_core.specs.Standing.{IsLost, StandsFor, Follows, IsSettled, IsReceipt, IsClosed, IsAtStage}
 use Rattle.session_core.specs.Closing.{closing_at, received_at, segments_at, IsJunkAt, IsHeldBy, Makes}
 use Rattle.session_core.proofs.LawLemmas.{one_of}
 use Rattle.session_core.proofs.HeldLemmas.{held_at, length_shapes}
 use Rattle.session_core.proofs.CloseLemmas.{called_none}
+use Rattle.session_core.proofs.EnteredLemmas.{contains_left, contains_last}
 use Rattle.session_core.proofs.ClosingLemmas.{closing_unasked, junk_unasked}
 use Rattle.session_core.proofs.ReceiptLemmas.{closing_is, ending_is, receipt_is, IsTold, no_junk}
 
@@ -66,6 +70,33 @@ is_closed c alone old now me ended j steps plan last receipt (Err fault) due set
   settled = subst (λ (b : Bool). IsSettled b (closing j steps) []) (sym settled) refl;
   receipt_is = told;
 }
+
+-- all that was called is its own, whether its turn was taken or refused
+pub called_either : (c : Config) (alone : Bool) (old now : Histories) (me : ℕ) (plan : Plan)
+    (settled : Result (Unit {0}) TurnFault) → OnOk settled (Makes c alone old now me plan)
+    → OnErr settled (now ≡ old) → (more : List Step) × Called c alone old now me more
+called_either c alone old now me plan (Ok x) makes same = (makes.more, makes.called)
+called_either c alone old now me plan (Err fault) makes same =
+    ([], subst (λ (h : Histories). Called c alone old h me []) (sym same) (called_none c alone old me))
+
+-- ---- why its turn was refused
+
+pub refused_ring : (lacks : List Bool) (lack : Bool) (worn : List ℕ) (book : ℕ) (fault : TurnFault)
+    → IsTurnRefused lacks worn fault → IsTurnRefused (lacks ++ lack ∷ []) (worn ++ book ∷ []) fault
+refused_ring lacks lack worn book (turns.Worn given) is = (contains_left worn (book ∷ []) given is.0, is.1)
+refused_ring lacks lack worn book turns.Memory is = contains_left lacks (lack ∷ []) true is
+
+pub refused_book : (lacks : List Bool) (lack : Bool) (worn : List ℕ) (book : ℕ) (fault : TurnFault)
+    → IsFault lack book fault → IsTurnRefused (lacks ++ lack ∷ []) (worn ++ book ∷ []) fault
+refused_book lacks lack worn book (turns.Worn given) is =
+    (subst (λ (n : ℕ). Contains (worn ++ book ∷ []) n) is.0 (contains_last worn book), is.1)
+refused_book lacks lack worn book turns.Memory is =
+    subst (λ (b : Bool). Contains (lacks ++ lack ∷ []) b) is (contains_last lacks lack)
+
+pub unsettled_by : (settled : Result (Unit {0}) TurnFault) (told : Bool) (lacks : List Bool) (worn : List ℕ)
+    → told ≡ is_ok settled → IfErr settled (IsTurnRefused lacks worn) → told ≡ false → MayRefuse lacks worn
+unsettled_by (Ok x) told lacks worn is refused unsettled = absurd cc
+unsettled_by (Err fault) told lacks worn is refused unsettled = (fault, refused)
 
 -- ---- what is told
 

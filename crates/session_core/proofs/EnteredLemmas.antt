@@ -276,14 +276,15 @@ begins_unentered c alone old now me terms turn_faults.Memory stage ended before 
 
 -- ---- causes
 
-contains_left : (xs ys : List ℕ) (n : ℕ) → Contains xs n → Contains (xs ++ ys) n
+-- an element of the first of two lists, and the last one
+pub contains_left : {X : Type 0} (xs ys : List X) (n : X) → Contains xs n → Contains (xs ++ ys) n
 contains_left [] ys n there = absurd (omega (arith, there.1))
 contains_left (x ∷ xs) ys n (zero, low, is) = (zero, omega arith, is)
 contains_left (x ∷ xs) ys n (suc k, low, is) =
     let rest : Contains (xs ++ ys) n = contains_left xs ys n (k, omega (arith, low), is) in
     (suc rest.0, omega (arith, rest.1), rest.2)
 
-contains_last : (xs : List ℕ) (n : ℕ) → Contains (xs ++ n ∷ []) n
+pub contains_last : {X : Type 0} (xs : List X) (n : X) → Contains (xs ++ n ∷ []) n
 contains_last [] n = (zero, omega arith, refl)
 contains_last (x ∷ xs) n =
     let rest : Contains (xs ++ n ∷ []) n = contains_last xs n in (suc rest.0, omega (arith, rest.1), rest.2)

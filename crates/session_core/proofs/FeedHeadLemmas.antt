@@ -12,7 +12,7 @@ use Rattle.session_calls.specs.Steps.{Step, book_part, on_book}
 use Rattle.session_calls.specs.Rings.{all_alone, history_at}
 use Rattle.session_calls.proofs.PlaceLemmas.{alone_same}
 use Rattle.session_calls.proofs.WentLemmas.{went_both}
-use Rattle.rover_session.specs.Made.{owed_among, segments_after}
+use Rattle.rover_session.specs.Made.{segments_after}
 use Rattle.rover_session.proofs.MadeLemmas.{owed_both}
 use Rattle.ntrip_head.specs.declared.fault.HeadFault.{HeadFault}
 use Rattle.ntrip_head.specs.declared.request.Request.{Request}
@@ -236,7 +236,7 @@ called_both c alone a b d me first second x y = record {
 }
 
 -- nobody called in between
-others_none : (h : Histories) (me : ℕ) → OthersCalled h h me
+pub others_none : (h : Histories) (me : ℕ) → OthersCalled h h me
 others_none h me = record {
   rings = record { size = refl; rings = λ mount. ([], sym (append-nil (history_at h.rings mount)), refl) };
   book = ([], sym (append-nil h.book), refl);

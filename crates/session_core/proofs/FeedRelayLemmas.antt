@@ -16,12 +16,11 @@ use Rattle.turn_log.specs.Heard.{Heard}
 use Rattle.turn_log.proofs.HeardLaws.{heard_none}
 use Rattle.mount_ring.specs.declared.call.RingCall.{RingCall}
 use Rattle.mount_ring.specs.declared.call.RingCall.TheVariants as calls
-use Rattle.mount_ring.specs.declared.call.RingAnswer.{RingAnswer}
 use Rattle.mount_ring.specs.declared.call.RingAnswer.TheVariants as rings
 use Rattle.caster_accounts.specs.declared.call.BookCall.{BookCall}
 use Rattle.caster_accounts.specs.declared.call.BookAnswer.{BookAnswer}
 use Rattle.rover_cursor.specs.declared.segment.Segment.{Segment}
-use Rattle.session_calls.specs.Steps.{Ask, to_ring, Answer, of_ring, of_book, Step, at_ring, at_book, ask_of, answer_of, on_book}
+use Rattle.session_calls.specs.Steps.{Ask, to_ring, Answer, of_ring, of_book, Step, at_ring, ask_of, answer_of, on_book}
 use Rattle.session_calls.specs.Plans.{Plan, done}
 use Rattle.session_calls.specs.Rings.{Went, history_at}
 use Rattle.source_session.specs.declared.fault.SourceHalt.{SourceHalt}
@@ -43,7 +42,7 @@ use Rattle.upstream_relay.specs.Halts.{halt_of_source, is_refused_turn}
 use Rattle.upstream_relay.specs.Owed.{publishing, after_claim, owed, IsDone}
 use Rattle.upstream_relay.specs.Standing.{IsAccepted, IsClaimed, IsHaltedBy, HasBody, claim_at, halt_at, is_short_at}
 use Rattle.upstream_relay.specs.Standing as relay_standing
-use Rattle.rover_session.specs.Made.{segments_after, is_owed, owed_among}
+use Rattle.rover_session.specs.Made.{segments_after, owed_among}
 use Rattle.rover_session.proofs.MadeLemmas.{segments-append}
 use Rattle.cast_config.specs.declared.config.Config.{Config}
 use Rattle.session_core.specs.declared.ending.Ending.{Ending}
@@ -65,7 +64,8 @@ use Rattle.session_core.specs.Feeding.{FedOn, end_of_source, end_of_relay}
 use Rattle.session_core.specs.Standing.{EndsAs, EndsAt, IsMadeBy, IsSentBy, IsAtStage, IsRelay, Stands, is_halted}
 use Rattle.session_core.proofs.BeginLemmas.{sent_all}
 use Rattle.session_core.proofs.RelayLemmas.{done_is_none}
-use Rattle.session_core.proofs.QuietLemmas.{AreSource, is_source_ask, quiet_on}
+use Rattle.session_core.proofs.ClosingLemmas.{claimed_received}
+use Rattle.session_core.proofs.QuietLemmas.{AreSource, is_source_ask, source_owed, source_off, quiet_on}
 
 -- ---- how a body ends by itself
 
@@ -178,31 +178,6 @@ owed_source true mount (heads.Accepted at chunked) bytes (step ∷ steps) begun 
   behind_claim true mount _ (answer_of step) steps begun.1,
 )
 
--- none of them is a read or a call of the book
-call_owed : (mount : ℕ) (call : RingCall) (answer : RingAnswer) → IsTrue (is_source_ask (to_ring mount call))
-    → is_owed (at_ring mount call answer) ≡ true
-call_owed mount calls.Claim answer is = refl
-call_owed mount (calls.Release claim) answer is = refl
-call_owed mount (calls.Publish claim frame) answer is = refl
-call_owed mount (calls.Join filter) answer is = absurd cc
-call_owed mount calls.Look answer is = absurd cc
-call_owed mount (calls.Read cursor budget) answer is = absurd cc
-
-no_book : false ≡ true → ⊥
-no_book e = cc
-
-pub source_owed : (steps : List Step) → AreSource steps → owed_among steps ≡ steps
-source_owed [] are = refl
-source_owed (at_ring mount call answer ∷ steps) are =
-    rw (call_owed mount call answer are.0)
-    (ap (λ (l : List Step). at_ring mount call answer ∷ l) (source_owed steps are.1))
-source_owed (at_book call answer ∷ steps) are = absurd (no_book are.0)
-
-pub source_off_book : (steps : List Step) → AreSource steps → on_book steps ≡ []
-source_off_book [] are = refl
-source_off_book (at_ring mount call answer ∷ steps) are = source_off_book steps are.1
-source_off_book (at_book call answer ∷ steps) are = absurd (no_book are.0)
-
 -- ---- what the other caster's answer is to this one
 
 -- so it is judged
@@ -280,10 +255,6 @@ relay_halted claim (stages.Head head) = refl
 relay_halted claim (stages.Body session) = source_halted claim session.halt
 relay_halted claim (stages.Halted halt) = turn_halted claim halt
 
-done_made : (short : Bool) (plan : Plan) (steps : List Step) → IsDone short plan steps → IsMadeBy short plan steps
-done_made false plan steps made = made
-done_made true plan steps begun = begun
-
 -- and goes on where it has none
 goes_unended : (claim : Option ℕ) (halt : Option RelayHalt) → option_map (end_of_relay claim) halt ≡ None
     → IsTrue (is_none halt)
@@ -299,10 +270,6 @@ source_end claim (Some sources.Done) = refl
 source_end claim (Some (sources.BadChunk place)) = refl
 source_end claim (Some (sources.Worn given)) = refl
 source_end claim (Some sources.Memory) = refl
-
-first_claimed : (mount claim : ℕ) (steps : List Step) → IsClaimed mount claim steps → received steps ≡ claimed claim
-first_claimed mount claim [] is = absurd is
-first_claimed mount claim (step ∷ steps) is = ap (λ (s : Step). received (s ∷ steps)) is
 
 refused_ends : (mount : ℕ) (answer : HeadAnswer) (why : Refusal) (text : List ℕ) (steps : List Step)
     → answer ≡ heads.Refused why
@@ -343,7 +310,7 @@ body_ends mount me session answer text steps body =
     ≡ claimed_ending (source_standing.is_chunked session) session.claim (drop body.at text) =
     ap (λ (a : HeadAnswer). ended_by (answer_judged mount text a) (received steps)) body.accepted
     ∙ ap (source_ending (source_standing.is_chunked session) (drop body.at text))
-    (first_claimed mount session.claim steps body.claimed) in
+    (claimed_received mount session.claim steps body.claimed) in
     subst (λ (ended : Option Ending). EndsAs ended (ended_by (answer_judged mount text answer) (received steps)))
     (sym (source_end session.claim session.halt))
     (subst (EndsAs (option_map (end_of_source session.claim) session.halt)) (sym whole)
@@ -425,7 +392,7 @@ stands_fed c now new opening text steps sent n mount fed opens feeds within call
           (subst (λ (p : Plan). IsMadeBy (is_short_at fed.stage) p (owed_among steps))
           (sym (ap (plan_of c) judged_is ∙ answer_plan c mount text stands.answer))
           (subst (IsMadeBy (is_short_at fed.stage) (owed mount stands.answer text)) (sym quiet)
-          (done_made (is_short_at fed.stage) (owed mount stands.answer text) steps stands.made)));
+          stands.made));
       ends = subst (λ (e : Option Ending). EndsAs e (ended_by (judged c opening said.heading text) (received steps)))
           (sym is_ended)
           (subst (λ (j : Judged). EndsAs (option_map (end_of_relay (claim_at fed.stage)) (halt_at fed.stage))
@@ -492,7 +459,7 @@ relay_fed_on c alone old now histories session new opening text bytes steps sent
         book = subst (λ (h : History BookCall). Heard alone (book_answer c) old.book h new.me (on_book given.more))
             (sym same_book)
             (subst (λ (l : List (BookCall × BookAnswer)). Heard alone (book_answer c) old.book old.book new.me l)
-            (sym (source_off_book given.more are)) (heard_none alone (book_answer c) old.book new.me));
+            (sym (source_off given.more are)) (heard_none alone (book_answer c) old.book new.me));
       };
       no_read = source_owed given.more are;
       stands = stands_fed c now new opening (text ++ bytes) (steps ++ given.more) sent at.number mount fed at.opens

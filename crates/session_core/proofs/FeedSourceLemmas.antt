@@ -13,7 +13,7 @@ use Rattle.caster_accounts.specs.declared.call.BookCall.{BookCall}
 use Rattle.caster_accounts.specs.declared.call.BookAnswer.{BookAnswer}
 use Rattle.rover_cursor.specs.declared.segment.Segment.{Segment}
 use Rattle.session_calls.specs.Steps.{to_ring, of_ring, Step, at_ring, at_book, ask_of, answer_of}
-use Rattle.session_calls.specs.Plans.{Plan, IsMade}
+use Rattle.session_calls.specs.Plans.{IsMade}
 use Rattle.session_calls.specs.Rings.{Went, history_at}
 use Rattle.source_session.specs.declared.fault.SourceHalt.{SourceHalt}
 use Rattle.source_session.specs.declared.fault.SourceHalt.TheVariants as halts
@@ -106,10 +106,6 @@ goes_halted : (claim : ℕ) (halt : Option SourceHalt) → option_map (end_of_so
 goes_halted claim None none = refl
 goes_halted claim (Some halt) none = absurd cc
 
-made_by : (short : Bool) (plan : Plan) (steps : List Step) → IsDone short plan steps → IsMadeBy short plan steps
-made_by false plan steps made = made
-made_by true plan steps begun = begun
-
 -- ---- all of it
 
 -- the body goes on in a plan that was made
@@ -119,12 +115,11 @@ plan_on : (c : Config) (short : Bool) (terms : SourceTerms) (body bytes : List �
     → IsDone short (publishing mount claim (completed terms.chunked body bytes)) more
     → IsMadeBy short (plan_of c (source terms (body ++ bytes))) (steps ++ more)
 plan_on c short terms body bytes mount claim steps more same made is published =
-    made_by short (source_plan terms (body ++ bytes)) (steps ++ more)
-    (subst (λ (m : ℕ). IsDone short (owed m (heads.Accepted 0 terms.chunked) (body ++ bytes)) (steps ++ more))
+    subst (λ (m : ℕ). IsDone short (owed m (heads.Accepted 0 terms.chunked) (body ++ bytes)) (steps ++ more))
     (sym same)
     (body_on short mount claim 0 terms.chunked body bytes steps more (omega arith)
     (made_claimed terms body mount claim steps same made is)
-    (subst (λ (m : ℕ). IsMade (owed m (heads.Accepted 0 terms.chunked) body) steps) same made) published))
+    (subst (λ (m : ℕ). IsMade (owed m (heads.Accepted 0 terms.chunked) body) steps) same made) published)
 
 -- a source's session in place of the one before
 abbrev SourceOn : Config → Session → Session → ℕ → SourceSession → SourceSession → Type 0

@@ -1,18 +1,17 @@
 -- What is called keeps every segment sound, and publishes frames alone.
-use Rattle.std.proofs.Common.{◌≡◌, ◌∙◌, ◌⊎◌, ◌++◌, ℕ, zero, suc, IsTrue, List, [], ◌∷◌, fold, set, All, Option, None, Some, refl, sym, ap, subst, inl, inr, append_assoc}
+use Rattle.std.proofs.Common.{◌≡◌, ◌∙◌, ◌⊎◌, ◌++◌, ℕ, zero, suc, IsTrue, List, [], ◌∷◌, fold, set, All, refl, sym, ap, subst, inl, inr, append_assoc}
 use Rattle.std.proofs.lemmas.List.{append-nil}
 use Rattle.std.proofs.lemmas.List.Elements.{All-head, All-tail, All-cons, All-nil, All-append}
 use Rattle.rtcm_frame.specs.Transport.{is_frame}
 use Rattle.turn_log.specs.History.{History}
 use Rattle.mount_ring.specs.declared.call.RingCall.{RingCall}
 use Rattle.mount_ring.specs.declared.call.RingCall.TheVariants.{Claim, Release, Publish, Join, Look, Read}
-use Rattle.mount_ring.specs.declared.call.Holder.{Holder}
 use Rattle.mount_ring.specs.Places.{frames_of}
 use Rattle.mount_ring.specs.Reads.{read_report}
-use Rattle.mount_ring.specs.History.{State, state_of, claim_answer, permits_at, joined}
+use Rattle.mount_ring.specs.History.{state_of, permits_at, joined}
 use Rattle.mount_ring.proofs.HistoryLemmas.{published-append}
 use Rattle.rover_cursor.specs.declared.segment.Segment.{Segment}
-use Rattle.rover_cursor.specs.Segments.{begun, read_on, after_answer}
+use Rattle.rover_cursor.specs.Segments.{begun, read_on}
 use Rattle.rover_cursor.specs.Sound.{IsSound}
 use Rattle.rover_cursor.specs.Told.{published_in}
 use Rattle.rover_cursor.proofs.SoundLemmas.{IsSound-append, IsSound-begun, IsSound-read}
@@ -26,6 +25,7 @@ use Rattle.session_core.specs.Setting.{shapes}
 use Rattle.session_core.specs.Run.{Histories, with_call, with_calls, step_at, made}
 use Rattle.session_core.specs.Promises.{permits_of, IsSoundIn}
 use Rattle.session_core.proofs.GoodLemmas.{IsGoodCall, IsGoodAsk, IsGood}
+use Rattle.session_core.proofs.QuietLemmas.{claim_quiet}
 
 -- ---- the histories go on
 
@@ -126,11 +126,6 @@ ring_frames h mount me call good frames at =
 
 -- ---- what it makes of the segments
 
-claim_quiet : (mount : ℕ) (segments : List Segment) (state : State) (holder : Option Holder)
-    → after_answer mount segments (claim_answer state holder) ≡ segments
-claim_quiet mount segments state None = refl
-claim_quiet mount segments state (Some holder) = refl
-
 -- at one mountpoint of this shape and history
 abbrev after_ring : Config → Histories → ℕ → List Segment → ℕ → RingCall → List Segment
 after_ring c h me segments mount call = after_step segments (step_at c me h (to_ring mount call))
@@ -140,8 +135,8 @@ ring_sound : (c : Config) (h : Histories) (me : ℕ) (segments : List Segment) (
     → AllSound c h.rings segments → AllSound c h.rings (after_ring c h me segments mount call)
 ring_sound c h me segments mount Claim good all =
     subst (AllSound c h.rings)
-    (sym (claim_quiet mount segments (state_of (history_at h.rings mount)) (state_of
-    (history_at h.rings mount)).holder)) all
+    (sym (claim_quiet (state_of (history_at h.rings mount)) (state_of (history_at h.rings mount)).holder mount
+    segments)) all
 ring_sound c h me segments mount (Release claim) good all = all
 ring_sound c h me segments mount (Publish claim frame) good all = all
 ring_sound c h me segments mount (Join filter) good all =

@@ -34,3 +34,4 @@ pub mod FollowLemmas
 pub mod FeedBodyLemmas
 pub mod TurningLemmas
 pub mod FeedHeadLemmas
+pub mod DigitLemmas

@@ -56,10 +56,11 @@ source_off (at_book call answer ∷ steps) are = let no = are.0 in absurd cc
 -- ---- one call
 
 -- an answer that leaves all segments as they are
-abbrev IsQuiet : RingAnswer → Type 0
+abbrev pub IsQuiet : RingAnswer → Type 0
 IsQuiet answer = (mount : ℕ) (segments : List Segment) → after_answer mount segments answer ≡ segments
 
-claim_quiet : (state : ring.State) (holder : Option Holder) → IsQuiet (ring.claim_answer state holder)
+-- a claim, given or not
+pub claim_quiet : (state : ring.State) (holder : Option Holder) → IsQuiet (ring.claim_answer state holder)
 claim_quiet state None mount segments = refl
 claim_quiet state (Some holder) mount segments = refl
 

@@ -48,12 +48,13 @@ worn_there worn places mount new given within is most =
       most,
     )
 
-pub turn_refused_at : {P : Type 0} (may_lack : Bool) (worn : P → ℕ) (places : List P) (mount : ℕ) (new : P)
-    (fault : TurnFault) → mount < length places → IsFault may_lack (worn new) fault
-    → IsTurnRefused (map worn (set places mount new)) fault
-turn_refused_at may_lack worn places mount new (turns.Worn given) within is = worn_there worn places mount new given
-    within is.0 is.1
-turn_refused_at may_lack worn places mount new turns.Memory within is = tt
+pub turn_refused_at : {P : Type 0} (may_lack : P → Bool) (worn : P → ℕ) (places : List P) (mount : ℕ) (d new : P)
+    (fault : TurnFault) → mount < length places → IsFault (may_lack (get_or places mount d)) (worn new) fault
+    → IsTurnRefused (map may_lack places) (map worn (set places mount new)) fault
+turn_refused_at may_lack worn places mount d new (turns.Worn given) within is =
+    worn_there worn places mount new given within is.0 is.1
+turn_refused_at may_lack worn places mount d new turns.Memory within is =
+    (mount, omega (arith, within, length-map places may_lack), get_or-map may_lack places mount d true within ∙ is)
 
 pub claim_refused_at : {P : Type 0} (may_lack : Bool) (worn : P → ℕ) (places : List P) (mount : ℕ) (new : P)
     (fault : ClaimFault) → mount < length places → IsClaimFault may_lack (worn new) fault

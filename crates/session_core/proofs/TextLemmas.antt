@@ -17,6 +17,18 @@ line_pieces old kind name numbers =
     ∙ append_assoc old kind ((name ++ spaced numbers) ++ 10 ∷ [])
     ∙ ap (λ (l : List ℕ). old ++ (kind ++ (l ++ 10 ∷ []))) (sym (join_spaced name numbers))
 
+-- ---- a text, piece by piece
+
+pub two_pieces : (old mid now a b : List ℕ) → mid ≡ old ++ a → now ≡ mid ++ b → now ≡ old ++ (a ++ b)
+two_pieces old mid now a b first second = second ∙ ap (λ (l : List ℕ). l ++ b) first ∙ append_assoc old a b
+
+pub three_pieces : (old front mid now a b c : List ℕ) → front ≡ old ++ a → mid ≡ front ++ b → now ≡ mid ++ c
+    → now ≡ old ++ ((a ++ b) ++ c)
+three_pieces old front mid now a b c first second third =
+    two_pieces old mid now (a ++ b) c (two_pieces old front mid a b first second) third
+
+-- ---- lines of pairs
+
 abbrev none : (X : Type 0) → List X
 none X = []
 

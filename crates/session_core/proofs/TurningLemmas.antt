@@ -46,7 +46,7 @@ use Rattle.session_core.specs.Called.{OthersCalled, IsCause, is_halt, seen_at}
 use Rattle.session_core.specs.Beginnings.{ended_joining, histories_of}
 use Rattle.session_core.specs.Standing.{IsRover, IsAtStage, IsMadeBy, IsSentBy, EndsAs, EndsAt, Stands, StandsFor, Follows, is_halted}
 use Rattle.session_core.specs.Turned.{IsReadBy, ReadAt, RoverTurned, TurnedAt, Turned, is_rover}
-use Rattle.session_core.proofs.BeginLemmas.{sent_all}
+use Rattle.session_core.proofs.BeginLemmas.{made_by, sent_all}
 use Rattle.session_core.proofs.CloseLemmas.{called_rings}
 use Rattle.session_core.proofs.EnteredLemmas.{sent_kept}
 use Rattle.session_core.proofs.HeldLemmas.{inside_on}
@@ -56,10 +56,6 @@ use Rattle.session_core.proofs.HeldLemmas.{inside_on}
 begun_none : (plan : Plan) → IsBegun plan []
 begun_none done = tt
 begun_none (asks ask next) = tt
-
-made_by : (halted : Bool) (plan : Plan) (steps : List Step) → IsMade plan steps → IsMadeBy halted plan steps
-made_by false plan steps made = made
-made_by true plan steps made = made_begun plan steps made
 
 begun_by : (halted : Bool) (plan : Plan) (steps : List Step) → IsMadeBy halted plan steps → IsBegun plan steps
 begun_by false plan steps made = made_begun plan steps made

@@ -1,5 +1,5 @@
 -- What a connection is told and how it ended where its first call was refused.
-use Rattle.std.specs.Prelude.{◌≡◌, ℕ, ⊤, IfSome, List, [], ◌∷◌, ◌++◌, map, Option, None, Some}
+use Rattle.std.specs.Prelude.{◌≡◌, ℕ, ⊤, Bool, IfSome, List, [], ◌∷◌, ◌++◌, map, Option, None, Some}
 use Rattle.base_select.specs.Measure.{IsOnEarth}
 use Rattle.turn_log.specs.History.{History}
 use Rattle.turn_log.specs.declared.place.TurnFault.{TurnFault}
@@ -31,6 +31,10 @@ histories_of rings book = record { rings = rings; book = book }
 -- by how many turns each place is worn, that at the book the last
 abbrev pub worn_at : {P B : Type 0} → (P → ℕ) → (B → ℕ) → List P → B → List ℕ
 worn_at ring_worn book_worn rings book = map ring_worn rings ++ book_worn book ∷ []
+
+-- which of the places may lack memory, that at the book the last
+abbrev pub lacks_at : {P B : Type 0} → (P → Bool) → (B → Bool) → List P → B → List Bool
+lacks_at ring_lacks book_lacks rings book = map ring_lacks rings ++ book_lacks book ∷ []
 
 -- a source that is not given its claim
 abbrev pub end_unclaimed : ClaimFault → Ending

@@ -17,7 +17,7 @@ use Rattle.session_core.specs.Run.{Histories}
 -- what places have seen, the rings in the order of their mountpoints
 abbrev pub seen_at : {P B : Type 0} → (P → History RingCall) → (B → History BookCall) → List P → B
     → Histories
-seen_at ring_seen book_seen rings book = record { rings = map ring_seen rings; book = book_seen book }
+seen_at by_ring by_book rings book = record { rings = map by_ring rings; book = by_book book }
 
 -- nobody but the callers of these places takes turns at any of them
 abbrev pub alone_at : {P B : Type 0} → (P → Bool) → (B → Bool) → List P → B → Bool

@@ -1,5 +1,5 @@
 -- What a source adds at the ring of its mountpoint, one of several.
-use Rattle.std.specs.Prelude.{ℕ, ⊤, ◌^◌, ◌≤◌, Bool, List, [], ◌∷◌, ◌++◌, Contains}
+use Rattle.std.specs.Prelude.{ℕ, ⊤, ◌^◌, ◌≤◌, Bool, true, List, [], ◌∷◌, ◌++◌, Contains}
 use Rattle.turn_log.specs.History.{History}
 use Rattle.turn_log.specs.declared.place.TurnFault.{TurnFault}
 use Rattle.turn_log.specs.declared.place.TurnFault.TheVariants as turns
@@ -51,12 +51,16 @@ IsFeedRefused worn (sources.BadChunk place) = ⊤
 IsFeedRefused worn (sources.Worn given) = IsWornBy worn given
 IsFeedRefused worn sources.Memory = ⊤
 
-abbrev pub IsTurnRefused : List ℕ → TurnFault → Type 0
-IsTurnRefused worn (turns.Worn given) = IsWornBy worn given
-IsTurnRefused worn turns.Memory = ⊤
+abbrev pub IsTurnRefused : List Bool → List ℕ → TurnFault → Type 0
+IsTurnRefused lacks worn (turns.Worn given) = IsWornBy worn given
+IsTurnRefused lacks worn turns.Memory = Contains lacks true
 
--- what a relay adds where it is fed: its calls at the ring of its mountpoint, with which it stands for
--- the longer answer
+-- a turn may be refused at one of these places
+abbrev pub MayRefuse : List Bool → List ℕ → Type 0
+MayRefuse lacks worn = (fault : TurnFault) × IsTurnRefused lacks worn fault
+
+-- what a relay adds where it is fed: its calls at the ring of its mountpoint, with which it stands
+-- for the longer answer
 pub record RelayFed (shapes : List RingShape) (alone : Bool) (old now : List (History RingCall))
     (me mount : ℕ) (session : RelaySession) (answer : List ℕ) (steps : List Step) : Type 0 where
   pub more : List Step

@@ -1,4 +1,5 @@
--- What a connection is sent: its reply, and behind it, if it is a rover, the frames of its segments.
+-- What a connection is sent: its reply, and behind it, if it is a rover, the frames of its
+-- segments.
 use Rattle.std.specs.Prelude.{ℕ, List, [], ◌++◌, slice_get, Option, None, Some, unwrap_or}
 use Rattle.std.specs.List.{flat_map}
 use Rattle.turn_log.specs.History.{History}

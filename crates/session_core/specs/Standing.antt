@@ -5,13 +5,14 @@ use Rattle.caster_accounts.specs.declared.call.BookCall.TheVariants.{Enter}
 use Rattle.caster_accounts.specs.declared.call.BookAnswer.TheVariants.{Entered}
 use Rattle.caster_accounts.specs.History.{may_leave}
 use Rattle.session_calls.specs.Steps.{Step, at_book}
-use Rattle.session_calls.specs.Plans.{Plan, done, IsMade, IsBegun}
+use Rattle.session_calls.specs.Plans.{Plan, done, IsMade}
 use Rattle.session_calls.specs.Rings.{history_at}
 use Rattle.source_session.specs.declared.session.SourceSession.{SourceSession}
 use Rattle.source_session.specs.Calls.{IsHolding}
 use Rattle.source_session.specs.Standing as source_standing
 use Rattle.upstream_relay.specs.declared.session.RelaySession.{RelaySession}
 use Rattle.upstream_relay.specs.Called.{IsHoldingBy}
+use Rattle.upstream_relay.specs.Owed.{IsDone}
 use Rattle.upstream_relay.specs.Standing as relay_standing
 use Rattle.rover_session.specs.declared.session.RoverSession.{RoverSession}
 use Rattle.rover_session.specs.Made.{segments_after, owed_among, sent_in, overrun_in}
@@ -48,8 +49,7 @@ is_halted (Some end) = is_halt end
 
 -- all of a plan was made, and by a session that was halted the first of it
 abbrev pub IsMadeBy : Bool → Plan → List Step → Type 0
-IsMadeBy false plan steps = IsMade plan steps
-IsMadeBy true plan steps = IsBegun plan steps
+IsMadeBy halted plan steps = IsDone halted plan steps
 
 -- these bytes, and of a session that was halted the first of them
 abbrev pub IsSentBy : Bool → List ℕ → List ℕ → Type 0
@@ -199,8 +199,8 @@ Follows c session now more =
     × (sent : List ℕ) × StandsFor c session opening text steps histories sent
     × OthersCalled histories now session.me × (length text + more < 2 ^ 63)
 
--- A call made further steps, none of which is a read, and sent further bytes, and the session stands
--- with them for this text.
+-- A call made further steps, none of which is a read, and sent further bytes, and the session
+-- stands with them for this text.
 pub record Fed (c : Config) (alone : Bool) (old now : Histories) (session : Session)
     (opening : Opening) (text : List ℕ) (steps : List Step) (sent before after : List ℕ)
     : Type 0 where
@@ -233,8 +233,8 @@ pub record Begins (c : Config) (alone : Bool) (old now : Histories) (me : ℕ) (
   pub halts : EndsAt stage ended
   pub sent_is : IsSentBy (is_halted ended) added (due_by c now j more)
 
--- a connection that was just begun goes on, unless nothing is left to be closed, or it is a rover that
--- was halted as it joined
+-- a connection that was just begun goes on, unless nothing is left to be closed, or it is a rover
+-- that was halted as it joined
 abbrev pub StartsAs : Stage → Option Ending → Type 0
 StartsAs (Head head) ended = ended ≡ None
 StartsAs Over ended = ⊤

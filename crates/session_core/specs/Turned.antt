@@ -63,14 +63,14 @@ pub record ReadAt (shapes : List RingShape) (alone : Bool) (old now : List (Hist
 
 -- A turn of a rover's session: what its read took was sent, and it can be read on.
 pub record RoverTurned (shapes : List RingShape) (alone : Bool) (old now : List (History RingCall))
-    (budget : ℕ) (before after : Rover) (ended : Option Ending) (out_before out_after : List ℕ)
+    (budget : ℕ) (before after : Rover) (ended : Option Ending) (out_old out_new : List ℕ)
     : Type 0 where
   pub admission : SameAdmission before after
   pub halt : after.halt ≡ before.halt
   pub resumable : IsResumable shapes before.me now after.segments
   -- what the read took
   pub frames : List (List ℕ)
-  pub out : out_after ≡ out_before ++ body_of before.version frames
+  pub out : out_new ≡ out_old ++ body_of before.version frames
   pub sent : frames_sent shapes now after.segments
       ≡ frames_sent shapes old before.segments ++ frames
   pub read : (first : Option Position) (bytes : List ℕ) (steps : List Step)
@@ -80,14 +80,14 @@ pub record RoverTurned (shapes : List RingShape) (alone : Bool) (old now : List 
 -- a turn of a rover leaves it one of the same account
 abbrev pub TurnedAt : List RingShape → Bool → List (History RingCall) → List (History RingCall) → ℕ
     → Stage → Stage → Option Ending → List ℕ → List ℕ → Type 0
-TurnedAt shapes alone old now budget (stages.Head head) after ended out_before out_after = ⊤
-TurnedAt shapes alone old now budget stages.Over after ended out_before out_after = ⊤
-TurnedAt shapes alone old now budget (stages.Source mount session) after ended out_before out_after = ⊤
-TurnedAt shapes alone old now budget (stages.Relay mount session) after ended out_before out_after = ⊤
-TurnedAt shapes alone old now budget (stages.Rover account session) after ended out_before out_after =
+TurnedAt shapes alone old now budget (stages.Head head) after ended out_old out_new = ⊤
+TurnedAt shapes alone old now budget stages.Over after ended out_old out_new = ⊤
+TurnedAt shapes alone old now budget (stages.Source mount session) after ended out_old out_new = ⊤
+TurnedAt shapes alone old now budget (stages.Relay mount session) after ended out_old out_new = ⊤
+TurnedAt shapes alone old now budget (stages.Rover account session) after ended out_old out_new =
     (next : RoverSession) × (after ≡ stages.Rover account next)
-    × RoverTurned shapes alone old now budget (rover_of session) (rover_of next) ended out_before
-    out_after
+    × RoverTurned shapes alone old now budget (rover_of session) (rover_of next) ended out_old
+    out_new
 
 -- ---- the whole
 

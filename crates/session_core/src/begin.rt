@@ -40,8 +40,8 @@ fn unclaimed(version: Option<Version>, fault: ClaimFault, out: &mut Vec<u8>) -> 
     }
 }
 
-/// Lets a source in that is admitted to the mountpoint of this number: it claims the mountpoint, and
-/// is then replied to.
+/// Lets a source in that is admitted to the mountpoint of this number: it claims the mountpoint,
+/// and is then replied to.
 pub(crate) fn begin_source<T: Turns<Ring>>(
     me: u32,
     version: Option<Version>,

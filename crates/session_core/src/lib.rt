@@ -17,6 +17,7 @@ mod lists;
 mod places;
 mod relay_at;
 mod report;
+mod report_lines;
 mod rover_state;
 mod rovers;
 mod session;
@@ -29,9 +30,7 @@ pub use ending::{Bare, Ending, Flow, Last};
 pub use lists::{Connections, MountTotals, Segments, Sent, Sums};
 pub use places::Places;
 pub use report::{Closed, Connection, MountTotal, Receipt, Report};
+pub use report_lines::report_text;
 pub use rover_state::RoverState;
 pub use session::Session;
 pub use text::closed_text;
-
-#[cfg(test)]
-mod tests;

@@ -63,7 +63,7 @@ pub(crate) fn release_relay_at<T: Turns<Ring>>(
         (map T.seen rings.old) (map T.seen rings.new) session.old.me
         (at_ring mount (RingCall.Release claim) RingAnswer.Released ∷ []))) }
     ensures refused { OnErr result (map T.seen rings.new ≡ map T.seen rings.old) }
-    ensures cause { IfErr result (IsTurnRefused (map T.worn rings.new)) }
+    ensures cause { IfErr result (IsTurnRefused (map T.may_lack rings.old) (map T.worn rings.new)) }
 {
     session.release(&mut rings[mount as usize])
 }

@@ -1,14 +1,16 @@
 //! One connection, from its first byte to its receipt.
 
-ghost use Rattle.std.specs.Prelude.{◌≡◌, ◌<◌, ◌≤◌, ◌++◌, ℕ, List, [], length, map, IsTrue, IfOk, OnOk, OnErr, None, Some, is_some};
+ghost use Rattle.std.specs.Prelude.{◌≡◌, ◌<◌, ◌≤◌, ◌++◌, ℕ, List, [], length, map, IsTrue, IfOk, OnOk, OnErr, None, Some, false, is_some};
 ghost use Rattle.turn_log.specs.Turn.{SamePlace};
 ghost use Rattle.session_calls.specs.Steps.{Step};
 ghost use Rattle.session_calls.specs.Rings.{AllLater, AllSpeak, SamePlaces};
 ghost use Rattle.cast_config.specs.declared.config.Config.{Config as ConfigValue};
 ghost use Rattle.cast_config.specs.Kept.{KeepsRules};
-ghost use Rattle.session_core.specs.Called.{OthersCalled, alone_at, seen_at};
+ghost use Rattle.session_core.specs.Beginnings.{lacks_at, worn_at};
+ghost use Rattle.session_core.specs.Called.{Called, OthersCalled, alone_at, seen_at};
 ghost use Rattle.session_core.specs.Headings.{Heading};
 ghost use Rattle.session_core.specs.Judged.{Opening, judged, relays, sends_head};
+ghost use Rattle.session_core.specs.Published.{MayRefuse};
 ghost use Rattle.session_core.specs.Replies.{opening_text};
 ghost use Rattle.session_core.specs.Reports.{IsHeadingOf};
 ghost use Rattle.session_core.specs.Run.{Histories};
@@ -20,7 +22,7 @@ use crate::closing::receipt_of;
 use crate::ending::{Ending, Last};
 use crate::places::Places;
 use crate::report::Receipt;
-use crate::settle::settle;
+use crate::settle::settle_at;
 use crate::stage::Stage;
 use cast_config::{Config, Relay};
 use caster_accounts::Book;
@@ -111,9 +113,10 @@ impl Session {
         self.ended.is_some()
     }
 
-    /// Closes the connection, which came to its end or was broken so: a claim that it holds is given
-    /// back, or the account that it entered is left with what its segments count. One turn, or none
-    /// where nothing is held. Where the turn was refused, the receipt is not settled.
+    /// Closes the connection, which came to its end or was broken so: a claim that it holds is
+    /// given back, or the account that it entered is left with what its segments count. One turn,
+    /// or none where nothing is held. Where the turn was refused, the receipt is not settled, which
+    /// comes only where a place may lack memory or is worn.
     pub fn close<T: Turns<Ring>, B: Turns<Book>>(
         self,
         last: Last,
@@ -132,6 +135,14 @@ impl Session {
         ensures worn_rings { AllLater (map T.worn places.old.rings.items)
             (map T.worn places.new.rings.items) }
         ensures worn_book { B.worn places.old.book ≤ B.worn places.new.book }
+        ensures called { (c : ConfigValue) → map T.shape places.old.rings.items ≡ shapes c
+            → B.shape places.old.book ≡ caps c → (more : List Step)
+            × Called c (alone_at T.alone B.alone places.old.rings.items places.old.book)
+            (seen_at T.seen B.seen places.old.rings.items places.old.book)
+            (seen_at T.seen B.seen places.new.rings.items places.new.book) self.me more }
+        ensures unsettled { result.settled ≡ false → MayRefuse
+            (lacks_at T.may_lack B.may_lack places.old.rings.items places.old.book)
+            (worn_at T.worn B.worn places.new.rings.items places.new.book) }
         ensures closed { (c : ConfigValue) (opening : Opening) (heading : Heading) (text : List ℕ)
             (steps : List Step) (histories : Histories) (sent : List ℕ)
             → map T.shape places.old.rings.items ≡ shapes c → B.shape places.old.book ≡ caps c
@@ -145,8 +156,7 @@ impl Session {
             (judged c opening heading text) steps last result }
     {
         let mut stage = self.stage;
-        let rings = places.rings.as_mut_slice();
-        let settled = settle(self.me, &mut stage, rings, &mut places.book);
+        let settled = settle_at(self.me, &mut stage, places);
         receipt_of(self.alloc, stage, self.ended, last, settled.is_ok())
     }
 }

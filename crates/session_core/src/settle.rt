@@ -1,15 +1,18 @@
 //! How what a connection holds is given back.
 
-ghost use Rattle.std.specs.Prelude.{◌≡◌, ◌≤◌, ℕ, map, IsTrue, OnErr, OnOk};
+ghost use Rattle.std.specs.Prelude.{◌≡◌, ◌≤◌, ℕ, map, IfErr, IsTrue, OnErr, OnOk};
 ghost use Rattle.turn_log.specs.Turn.{SamePlace};
 ghost use Rattle.session_calls.specs.Rings.{AllLater, AllSpeak, SamePlaces};
 ghost use Rattle.cast_config.specs.declared.config.Config.{Config};
+ghost use Rattle.session_core.specs.Beginnings.{lacks_at, worn_at};
 ghost use Rattle.session_core.specs.Called.{alone_at, seen_at};
 ghost use Rattle.session_core.specs.Closing.{IsHeldBy, Makes, closing_at};
+ghost use Rattle.session_core.specs.Published.{IsTurnRefused};
 ghost use Rattle.session_core.specs.Setting.{caps, shapes};
 
 use crate::at::release_at;
 use crate::book::leave;
+use crate::places::Places;
 use crate::relay_at::release_relay_at;
 use crate::stage::Stage;
 use caster_accounts::Book;
@@ -19,7 +22,7 @@ use turn_log::{TurnFault, Turns};
 /// Gives back what a connection at this stage holds: the claim of a source or a relay, or the
 /// account of a rover, which is told what its segments count. One turn, or none where nothing is
 /// held.
-pub(crate) fn settle<T: Turns<Ring>, B: Turns<Book>>(
+fn settle<T: Turns<Ring>, B: Turns<Book>>(
     me: u32,
     stage: &mut Stage,
     rings: &mut [T],
@@ -41,6 +44,9 @@ pub(crate) fn settle<T: Turns<Ring>, B: Turns<Book>>(
         (closing_at stage.old)) }
     ensures refused { OnErr result (seen_at T.seen B.seen rings.new book.new
         ≡ seen_at T.seen B.seen rings.old book.old) }
+    ensures cause { IfErr result (IsTurnRefused
+        (lacks_at T.may_lack B.may_lack rings.old book.old)
+        (worn_at T.worn B.worn rings.new book.new)) }
 {
     match stage {
         Stage::Head(_) => Ok(()),
@@ -55,4 +61,38 @@ pub(crate) fn settle<T: Turns<Ring>, B: Turns<Book>>(
             leave(book, me, *account, sent, session.overrun())
         }
     }
+}
+
+/// Gives back, at these places, what a connection at this stage holds.
+pub(crate) fn settle_at<T: Turns<Ring>, B: Turns<Book>>(
+    me: u32,
+    stage: &mut Stage,
+    places: &mut Places<T, B>,
+) -> Result<(), TurnFault>
+    requires rings { AllSpeak T.speaks places.old.rings.items me }
+    requires book { IsTrue (B.speaks places.old.book me) }
+    requires held { IsHeldBy (B.shape places.old.book) me
+        (seen_at T.seen B.seen places.old.rings.items places.old.book) stage.old }
+    ensures same_rings { SamePlaces T.shape T.speaks T.may_lack T.alone T.home
+        places.old.rings.items places.new.rings.items }
+    ensures same_book { SamePlace B.shape B.speaks B.may_lack B.alone B.home
+        places.old.book places.new.book }
+    ensures worn_rings { AllLater (map T.worn places.old.rings.items)
+        (map T.worn places.new.rings.items) }
+    ensures worn_book { B.worn places.old.book ≤ B.worn places.new.book }
+    ensures stage { stage.new ≡ stage.old }
+    ensures settled { OnOk result ((c : Config) → map T.shape places.old.rings.items ≡ shapes c
+        → B.shape places.old.book ≡ caps c
+        → Makes c (alone_at T.alone B.alone places.old.rings.items places.old.book)
+        (seen_at T.seen B.seen places.old.rings.items places.old.book)
+        (seen_at T.seen B.seen places.new.rings.items places.new.book) me
+        (closing_at stage.old)) }
+    ensures refused { OnErr result (seen_at T.seen B.seen places.new.rings.items places.new.book
+        ≡ seen_at T.seen B.seen places.old.rings.items places.old.book) }
+    ensures cause { IfErr result (IsTurnRefused
+        (lacks_at T.may_lack B.may_lack places.old.rings.items places.old.book)
+        (worn_at T.worn B.worn places.new.rings.items places.new.book)) }
+{
+    let rings = places.rings.as_mut_slice();
+    settle(me, stage, rings, &mut places.book)
 }

@@ -1,6 +1,6 @@
 //! The text of what a caster came to.
 
-ghost use Rattle.std.specs.Prelude.{◌≡◌, ◌∷◌, ◌++◌, [], codes, length, map, OnErr, OnOk};
+ghost use Rattle.std.specs.Prelude.{◌≡◌, ℕ, List, ◌∷◌, ◌++◌, [], codes, length, map, OnErr, OnOk};
 ghost use Rattle.std.specs.List.{flat_map, zip};
 ghost use Rattle.std.specs.Fmt.{decimal};
 ghost use Rattle.session_core.specs.Text.{account_line, closed_text, line, mount_line, spaced};
@@ -11,9 +11,11 @@ use cast_text::push_decimal;
 use caster_accounts::Sum;
 use std::alloc::AllocError;
 
-/// Appends numbers, each with a space before it, and the end of their line.
+/// Appends numbers, each with a space before it, and the end of their line. A refusal may leave a
+/// part of them.
 fn end_line(out: &mut Vec<u8>, numbers: &[u128]) -> Result<(), AllocError>
-    ensures { OnOk result (out.new.items ≡ (out.old.items ++ spaced numbers.now) ++ 10 ∷ []) }
+    ensures ok { OnOk result (out.new.items ≡ (out.old.items ++ spaced numbers.now) ++ 10 ∷ []) }
+    ensures begins { (more : List ℕ) × (out.new.items ≡ out.old.items ++ more) }
 {
     for number in numbers {
         out.extend_from_slice(b" ")?;
@@ -22,15 +24,17 @@ fn end_line(out: &mut Vec<u8>, numbers: &[u128]) -> Result<(), AllocError>
     out.extend_from_slice(b"\n")
 }
 
-/// Appends a line of two words and numbers: a kind with the space behind it, and a name.
-fn push_line(
+/// Appends a line of two words and numbers: a kind with the space behind it, and a name. A refusal
+/// may leave a part of it.
+pub(crate) fn push_line(
     out: &mut Vec<u8>,
     kind: &[u8],
     name: &[u8],
     numbers: &[u128],
 ) -> Result<(), AllocError>
-    ensures { OnOk result (out.new.items
+    ensures ok { OnOk result (out.new.items
         ≡ out.old.items ++ (kind.now ++ line (name.now ∷ map decimal numbers.now))) }
+    ensures begins { (more : List ℕ) × (out.new.items ≡ out.old.items ++ more) }
 {
     out.extend_from_slice(kind)?;
     out.extend_from_slice(name)?;

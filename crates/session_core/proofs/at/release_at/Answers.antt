@@ -1,5 +1,4 @@
 -- The place at which the claim is given back changes as a turn changes it, and the others do not change.
-use Rattle.std.proofs.Common.{get_or}
 use Rattle.std.proofs.lemmas.Result.{on_ok_weaker, on_err_weaker, MatchResult-weaker}
 use Rattle.turn_log.specs.declared.place.TurnFault.{TurnFault}
 use Rattle.mount_ring.specs.declared.call.RingCall.TheVariants.{Release}
@@ -35,6 +34,5 @@ returns-clause-refused g c =
 pub returns-clause-cause : goal.returns-clause-cause
 returns-clause-cause g c =
     MatchResult-weaker c.release.result c.release.ensures.fault (λ session any. any)
-    (λ (fault : TurnFault) is. turn_refused_at
-    (g.T.Turns.may_lack (get_or c.args.rings.now c.args.mount c.index-rings-mount.result))
-    g.T.Turns.worn c.args.rings.now c.args.mount c.release.new.place fault c.requires.within is)
+    (λ (fault : TurnFault) is. turn_refused_at g.T.Turns.may_lack g.T.Turns.worn
+    c.args.rings.now c.args.mount c.index-rings-mount.result c.release.new.place fault c.requires.within is)

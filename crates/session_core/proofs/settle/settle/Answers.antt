@@ -1,7 +1,8 @@
 -- By stage.
 use Rattle.std.proofs.Common.{◌∙◌, ℕ, Option, [], ◌∷◌, map, sym, ap, subst}
 use Rattle.std.specs.Prelude.{IfSome}
-use Rattle.std.proofs.lemmas.Result.{on_ok_weaker}
+use Rattle.std.proofs.lemmas.Result.{on_ok_weaker, MatchResult-weaker}
+use Rattle.turn_log.specs.declared.place.TurnFault.{TurnFault}
 use Rattle.mount_ring.specs.declared.call.RingCall.TheVariants.{Release}
 use Rattle.mount_ring.specs.declared.call.RingAnswer.TheVariants.{Released}
 use Rattle.session_calls.specs.Steps.{at_ring}
@@ -11,6 +12,7 @@ use Rattle.rover_session.specs.Standing.{rover_of}
 use Rattle.session_core.specs.Called.{alone_at, seen_at}
 use Rattle.session_core.specs.Closing.{IsHeldBy, closing_at, releasing}
 use Rattle.session_core.proofs.CloseLemmas.{makes_none, makes_release, makes_leave}
+use Rattle.session_core.proofs.CloseLawLemmas.{refused_ring, refused_book}
 use Rattle.session_core.proofs.settle.settle.Goals as goal
 
 pub returns-in-Head-clause-settled : goal.returns-in-Head-clause-settled
@@ -70,3 +72,24 @@ returns-in-Rover-clause-settled g c =
     (sent_in (rover_of c.in-Rover.session).segments) (overrun_in (rover_of c.in-Rover.session).segments)
     (closing_at c.args.stage.now) capped (ap closing_at c.in-Rover.is)
     (rw (sym c.sent-sent.ensures) (rw (sym c.overrun.ensures) heard))) c.leave.ensures.heard
+
+pub returns-in-Source-clause-cause : goal.returns-in-Source-clause-cause
+returns-in-Source-clause-cause g c =
+    MatchResult-weaker c.release_at.result c.release_at.ensures.cause (λ done any. any)
+    (λ (fault : TurnFault) is. refused_ring (map g.T.Turns.may_lack c.args.rings.now)
+    (g.B.Turns.may_lack c.args.book.now) (map g.T.Turns.worn c.release_at.new.rings)
+    (g.B.Turns.worn c.args.book.now) fault is)
+
+pub returns-in-Some-clause-cause : goal.returns-in-Some-clause-cause
+returns-in-Some-clause-cause g c =
+    MatchResult-weaker c.release_relay_at.result c.release_relay_at.ensures.cause (λ done any. any)
+    (λ (fault : TurnFault) is. refused_ring (map g.T.Turns.may_lack c.args.rings.now)
+    (g.B.Turns.may_lack c.args.book.now) (map g.T.Turns.worn c.release_relay_at.new.rings)
+    (g.B.Turns.worn c.args.book.now) fault is)
+
+pub returns-in-Rover-clause-cause : goal.returns-in-Rover-clause-cause
+returns-in-Rover-clause-cause g c =
+    MatchResult-weaker c.leave.result c.leave.ensures.fault (λ done any. any)
+    (λ (fault : TurnFault) is. refused_book (map g.T.Turns.may_lack c.args.rings.now)
+    (g.B.Turns.may_lack c.args.book.now) (map g.T.Turns.worn c.args.rings.now)
+    (g.B.Turns.worn c.leave.new.book) fault is)

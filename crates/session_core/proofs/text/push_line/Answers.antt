@@ -3,9 +3,9 @@ use Rattle.session_core.specs.Text.{spaced}
 use Rattle.session_core.proofs.TextLemmas.{line_pieces}
 use Rattle.session_core.proofs.text.push_line.Goals as goal
 
-pub returns : goal.returns
-returns c =
-    c.in_ok-end_line.ensures
+pub returns-clause-ok : goal.returns-clause-ok
+returns-clause-ok c =
+    c.in_ok-end_line.ensures.ok
     ∙ ap (λ (l : List ℕ). (l ++ spaced c.args.numbers.now) ++ 10 ∷ [])
     (c.in_ok-extend_from_slice-2.ensures.items
     ∙ ap (λ (l : List ℕ). l ++ c.args.name.now) c.in_ok-extend_from_slice.ensures.items)

@@ -1,8 +1,8 @@
 //! The text of totals. What is expected is written by hand from the form of its lines.
 
-use super::*;
 use cast_config::{Config, read_config};
 use caster_accounts::Sum;
+use session_core::{Closed, MountTotal, MountTotals, Sums, closed_text};
 use std::test::Fail;
 
 const FILE: &[u8] = b"version = 1

@@ -1,0 +1,69 @@
+//! What other casters answer. What is expected is written by hand from the form of their answers.
+
+use crate::caster::{FRAME_A, SOURCE, Wanted, ends, expect_closed, expect_two_from};
+use crate::{Act, Start, Who};
+use session_core::{Ending, Last};
+use std::alloc::Global;
+use std::process::Abort;
+use std::test::Fail;
+
+const ASKED: &[u8] = b"GET /UP HTTP/1.0\r
+User-Agent: NTRIP lapcast/1.0\r
+\r
+";
+
+// A relay that is answered so ends so.
+fn expect_answered(
+    rt: &impl Abort,
+    alloc: Global,
+    answer: &[u8],
+    ending: Ending,
+) -> Result<(), Fail> {
+    let wanted = ends(ending, ASKED);
+    expect_closed(rt, alloc, Start::Relay, &[answer], Last::End, wanted)
+}
+
+// The empty line behind the answer's first line is no part of a frame.
+#[test]
+fn an_answer_is_published(rt: HostRuntime) -> Result<(), Fail> {
+    let alloc = rt.alloc();
+    let wanted = Wanted {
+        junk: 2,
+        ..ends(Ending::SourceEnd { claim: 1 }, ASKED)
+    };
+    let pieces = [b"ICY 200 OK\r\n\r\n".as_slice(), FRAME_A];
+    expect_closed(&rt, alloc, Start::Relay, &pieces, Last::End, wanted)?;
+    let answer = b"HTTP/1.1 200 OK\r\nTransfer-Encoding: chunked\r\n\r\nz";
+    expect_answered(&rt, alloc, answer, Ending::BadChunk { at: 0 })?;
+    let answer = b"HTTP/1.1 200 OK\r\nTransfer-Encoding: chunked\r\n\r\n0\r\n\r\n";
+    expect_answered(&rt, alloc, answer, Ending::SourceEnd { claim: 1 })
+}
+
+#[test]
+fn other_answers_end_a_relay(rt: HostRuntime) -> Result<(), Fail> {
+    let alloc = rt.alloc();
+    let answer = b"HTTP/1.1 404 Not Found\r\n\r\n";
+    expect_answered(&rt, alloc, answer, Ending::Upstream { status: 404 })?;
+    expect_answered(&rt, alloc, b"SOURCETABLE 200 OK\r\n", Ending::UpstreamTable)?;
+    expect_answered(&rt, alloc, b"HELLO\r\n", Ending::BadHead)?;
+    let answer = b"HTTP/1.1 200 OK\r\nTransfer-Encoding: gzip\r\n\r\n";
+    expect_answered(&rt, alloc, answer, Ending::Coding)?;
+    let answer = vec![in alloc; b'a'; 8192]?;
+    expect_answered(&rt, alloc, &answer, Ending::LongHead)?;
+    expect_answered(&rt, alloc, b"ICY 200 OK", Ending::NoHead)
+}
+
+#[test]
+fn a_relay_finds_its_mountpoint_held(rt: HostRuntime) -> Result<(), Fail> {
+    let script = [
+        (Who::Second, Act::In(SOURCE)),
+        (Who::First, Act::In(b"ICY 200 OK\r\n")),
+    ];
+    let taken = Ending::Taken {
+        caller: 2,
+        claim: 1,
+    };
+    let first = ends(taken, ASKED);
+    let second = ends(Ending::SourceEnd { claim: 1 }, b"ICY 200 OK\r\n\r\n");
+    expect_two_from(&rt, rt.alloc(), Start::Relay, &script, first, second)
+}
