@@ -109,8 +109,7 @@ fn accounts_do_not_touch_each_other(rt: HostRuntime) -> Result<(), Fail> {
     );
     assert_eq!(rt; desk.value().total(0), sum(0, 0, 0));
     assert_eq!(rt; desk.value().total(1), sum(1, 5, 0));
-    assert_eq!(rt; leave(&mut desk, 1, 0, 6, 7)?, BookAnswer::Left);
-    assert_eq!(rt; desk.value().total_of_all(), sum(2, 11, 7));
+    assert_eq!(rt; desk.value().total_of_all(), sum(1, 5, 0));
     Ok(())
 }
 

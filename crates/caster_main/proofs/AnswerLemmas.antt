@@ -1,9 +1,13 @@
 -- An answer stands on the words and on the bytes that came.
 use Rattle.std.proofs.Common.{◌≡◌, ℕ, ◌<◌, ◌≤◌, true, false, nat_lt, List, [], ◌++◌, length, Option, None, Some, Result, Ok, Err, refl, ap, sym, subst, ◌∙◌, arith, length-append}
+use Rattle.std.specs.Prelude.{⊤}
 use Rattle.std.proofs.lemmas.Bool.Decides.{nat_tests}
 use Rattle.std.proofs.lemmas.List.{append-nil}
 use Rattle.std.specs.Io.KnownBytes.{Consumes, IsAtEnd}
-use Rattle.session_script.specs.declared.ScriptKind.TheVariants.{Bare}
+use Rattle.session_script.specs.declared.Event.{Event}
+use Rattle.session_script.specs.declared.ScriptKind.{ScriptKind}
+use Rattle.session_script.specs.declared.ScriptKind.TheVariants.{Bare, Replay}
+use Rattle.session_script.specs.declared.ScriptFault.{ScriptFault}
 use Rattle.session_script.specs.declared.ScriptFault.TheVariants as faults
 use Rattle.session_script.specs.Script.{script_of}
 use Rattle.cast_io.specs.Pieces.{Loses}
@@ -11,16 +15,32 @@ use Rattle.cast_io.specs.Stores.{IsOpen}
 use Rattle.cast_config.specs.declared.config.Config.{Config}
 use Rattle.cast_config.specs.declared.fault.ConfigFault.{ConfigFault}
 use Rattle.cast_config.specs.declared.fault.ConfigFault.TheVariants as configs
+use Rattle.cast_config.specs.Bare as settings
 use Rattle.cast_config.specs.Document.{IsRead}
+use Rattle.run_texts.specs.Texts.{made_text}
 use Rattle.caster_main.specs.declared.answers.Answer.{Answer}
 use Rattle.caster_main.specs.declared.answers.Answer.TheVariants.{Done, Valid, NoConfig, NoSession, Usage, Long, ReadFault, Memory}
 use Rattle.caster_main.specs.declared.command.Aim.{Aim}
-use Rattle.caster_main.specs.Command.{Form, bare, over, AreBare, AreOver, form_of}
+use Rattle.caster_main.specs.Command.{Form, bare, over, replay, made, AreBare, AreOver, AreReplay, AreMake, form_of}
 use Rattle.caster_main.specs.Reading.{config_in}
-use Rattle.caster_main.specs.Outcome.{Exit, Ending, exactly, EndsSo, Came, usage_exit, long_exit, memory_exit, exit_of_script, exit_of_config_fault, ending_of_config, ending_of_read, ending_of_bytes, ending_of, outcome}
-use Rattle.caster_main.specs.Told.{Files, Tells, Holds, HasCome, IsOutcome}
-use Rattle.caster_main.specs.Answers.{GivesEnd, IsInputAnswer, IsFileAnswer, IsAnswer}
+use Rattle.caster_main.specs.Outcome.{Exit, Ending, exactly, EndsSo, Came, usage_exit, long_exit, memory_exit, whole_exit, session_in, exit_of_config_fault, ending_of_script, ending_of_config, ending_of_read, ending_of_bytes, ending_of, outcome}
+use Rattle.caster_main.specs.Told.{Files, Tells, Holds, IsConfigAt, HasCome, IsOutcome}
+use Rattle.caster_main.specs.Answers.{GivesEnd, IsGiven, IsInputEnd, IsInputAnswer, IsFileEnd, IsFileAnswer, IsRefused, IsRefusedAt, IsRefusal, IsSessionEnd, IsSessionAnswer, IsReplayEnd, IsReplayAnswer, IsAnswer}
 use Rattle.caster_main.proofs.ReadingLemmas.{config_in-ok, config_in-fault}
+
+-- ---- answers
+
+-- what is given by each of the eight answers is given so
+pub given_such : {M N F G : Type 0} (P Q : Exit → Type 0) → (M → N) → (F → G)
+    → ((end : Exit) → P end → Q end) → (answer : Answer) → IsGiven M F P answer → IsGiven N G Q answer
+given_such P Q memory fault such Memory given = memory given
+given_such P Q memory fault such ReadFault given = fault given
+given_such P Q memory fault such (Done text) given = such _ given
+given_such P Q memory fault such Valid given = such _ given
+given_such P Q memory fault such (NoConfig text) given = such _ given
+given_such P Q memory fault such (NoSession text) given = such _ given
+given_such P Q memory fault such Usage given = such _ given
+given_such P Q memory fault such Long given = such _ given
 
 -- ---- words
 
@@ -53,34 +73,27 @@ usage_is_outcome words left files h = outcome_of_read words left files None noth
 abbrev pub script_came : List ℕ → Came
 script_came script = record { script = script; config = [] }
 
-bare_outcome : (words : List (List ℕ)) (left : Option (List ℕ)) (files : Files) (capacity : ℕ) (end : Exit)
-    → form_of words ≡ Some (bare capacity)
-    → (script : List ℕ) × Tells left script × (end ≡ exit_of_script capacity (script_of Bare script))
-    → IsOutcome words left files end
-bare_outcome words left files capacity end h is =
-    outcome_of_read words left files (Some (bare capacity)) (script_came is.0) end h is.1 is.2
-
 -- the answer to the input is that to the words
 pub input_answer : (words : List (List ℕ)) (left : Option (List ℕ)) (files : Files) (of_input of_store : Type 0)
     (capacity : ℕ) (answer : Answer) → form_of words ≡ Some (bare capacity) → AreBare words capacity
     → IsInputAnswer capacity left of_input answer → IsAnswer words left files of_input of_store answer
-input_answer words left files of_input of_store capacity Memory h are is = (bare capacity, are)
-input_answer words left files of_input of_store capacity ReadFault h are is = (bare capacity, are, is)
-input_answer words left files of_input of_store capacity (Done text) h are is =
-    bare_outcome words left files capacity _ h is
-input_answer words left files of_input of_store capacity Valid h are is = bare_outcome words left files capacity _ h is
-input_answer words left files of_input of_store capacity (NoConfig text) h are is =
-    bare_outcome words left files capacity _ h is
-input_answer words left files of_input of_store capacity (NoSession text) h are is =
-    bare_outcome words left files capacity _ h is
-input_answer words left files of_input of_store capacity Usage h are is = bare_outcome words left files capacity _ h is
-input_answer words left files of_input of_store capacity Long h are is = bare_outcome words left files capacity _ h is
+input_answer words left files of_input of_store capacity answer h are is =
+    given_such (IsInputEnd capacity left) (IsOutcome words left files)
+    (λ memory. (bare capacity, are)) (λ fault. (bare capacity, are, fault))
+    (λ end ends. outcome_of_read words left files (Some (bare capacity)) (script_came ends.0) end h ends.1 ends.2)
+    answer is
 
 -- more bytes than a script has are no script
-script_of-long : (bytes : List ℕ) → 8388608 < length bytes → script_of Bare bytes ≡ Err faults.Long
+script_of-long : (kind : ScriptKind) (bytes : List ℕ) → 8388608 < length bytes → script_of kind bytes ≡ Err faults.Long
 unfolding script_of
-script_of-long bytes long =
+script_of-long kind bytes long =
     let e : nat_lt 8388608 (length bytes) ≡ true = grind (arith, nat_tests, long) in rw e refl
+
+long_ends : (c : Config) (kind : ScriptKind) (bytes : List ℕ) → 8388608 < length bytes
+    → EndsSo (ending_of_script c (script_of kind bytes)) long_exit
+long_ends c kind bytes long =
+    subst (λ (s : Result (List Event) ScriptFault). EndsSo (ending_of_script c s) long_exit)
+    (sym (script_of-long kind bytes long)) refl
 
 longer : (told came rest : List ℕ) → told ≡ came ++ rest → 8388608 < length came → 8388608 < length told
 longer told came rest e long = omega (arith, long, ap (λ l. length l) e, length-append came rest)
@@ -88,11 +101,11 @@ longer told came rest e long = omega (arith, long, ap (λ l. length l) e, length
 pub long_input : (left new : Option (List ℕ)) (capacity : ℕ) (fault : Type 0)
     → Loses (λ came. 8388608 < length came) left new → IsInputAnswer capacity left fault Long
 long_input None new capacity fault lost =
-    (lost.0, tt, ap (λ s. exit_of_script capacity s) (sym (script_of-long lost.0 lost.1)))
+    (lost.0, tt, long_ends (settings.bare capacity) Bare lost.0 lost.1)
 long_input (Some told) None capacity fault lost = absurd lost.2
 long_input (Some told) (Some rest) capacity fault lost =
     let long : 8388608 < length told = longer told lost.0 rest lost.2 lost.1 in
-    (told, refl, ap (λ s. exit_of_script capacity s) (sym (script_of-long told long)))
+    (told, refl, long_ends (settings.bare capacity) Bare told long)
 
 -- what was read to the end is what the input told
 pub read_is_told : (left new : Option (List ℕ)) (bytes : List ℕ) → Consumes left new bytes → IsAtEnd new
@@ -105,53 +118,27 @@ read_is_told (Some told) (Some rest) bytes consumed ended =
 -- the answer to a script is that to the input
 pub script_answer : (left new : Option (List ℕ)) (capacity : ℕ) (bytes : List ℕ) (fault : Type 0) (answer : Answer)
     → Consumes left new bytes → IsAtEnd new
-    → GivesEnd (exactly (exit_of_script capacity (script_of Bare bytes))) answer
+    → GivesEnd (ending_of_script (settings.bare capacity) (script_of Bare bytes)) answer
     → IsInputAnswer capacity left fault answer
-script_answer left new capacity bytes fault Memory consumed ended given = tt
-script_answer left new capacity bytes fault ReadFault consumed ended given = absurd given
-script_answer left new capacity bytes fault (Done text) consumed ended given =
-    (bytes, read_is_told left new bytes consumed ended, given)
-script_answer left new capacity bytes fault Valid consumed ended given =
-    (bytes, read_is_told left new bytes consumed ended, given)
-script_answer left new capacity bytes fault (NoConfig text) consumed ended given =
-    (bytes, read_is_told left new bytes consumed ended, given)
-script_answer left new capacity bytes fault (NoSession text) consumed ended given =
-    (bytes, read_is_told left new bytes consumed ended, given)
-script_answer left new capacity bytes fault Usage consumed ended given =
-    (bytes, read_is_told left new bytes consumed ended, given)
-script_answer left new capacity bytes fault Long consumed ended given =
-    (bytes, read_is_told left new bytes consumed ended, given)
+script_answer left new capacity bytes fault answer consumed ended given =
+    given_such (EndsSo (ending_of_script (settings.bare capacity) (script_of Bare bytes))) (IsInputEnd capacity left)
+    (λ memory. memory) (λ none. absurd none)
+    (λ end ends. (bytes, read_is_told left new bytes consumed ended, ends)) answer given
 
--- ---- configurations
+-- ---- files
 
 abbrev pub config_came : List ℕ → Came
 config_came config = record { script = []; config = config }
-
-over_outcome : (words : List (List ℕ)) (left : Option (List ℕ)) (files : Files) (aim : Aim) (path : List ℕ)
-    (end : Exit) → form_of words ≡ Some (over aim path)
-    → (config : List ℕ) × Holds files path config × EndsSo (ending_of_bytes aim config) end
-    → IsOutcome words left files end
-over_outcome words left files aim path end h is =
-    outcome_of_read words left files (Some (over aim path)) (config_came is.0) end h is.1 is.2
 
 -- the answer to the file is that to the words
 pub file_answer : (words : List (List ℕ)) (left : Option (List ℕ)) (files : Files) (of_input of_store : Type 0)
     (aim : Aim) (path : List ℕ) (answer : Answer) → form_of words ≡ Some (over aim path) → AreOver aim words path
     → IsFileAnswer aim path files of_store answer → IsAnswer words left files of_input of_store answer
-file_answer words left files of_input of_store aim path Memory h are is = (over aim path, are)
-file_answer words left files of_input of_store aim path ReadFault h are is = (over aim path, are, is)
-file_answer words left files of_input of_store aim path (Done text) h are is =
-    over_outcome words left files aim path _ h is
-file_answer words left files of_input of_store aim path Valid h are is =
-    over_outcome words left files aim path _ h is
-file_answer words left files of_input of_store aim path (NoConfig text) h are is =
-    over_outcome words left files aim path _ h is
-file_answer words left files of_input of_store aim path (NoSession text) h are is =
-    over_outcome words left files aim path _ h is
-file_answer words left files of_input of_store aim path Usage h are is =
-    over_outcome words left files aim path _ h is
-file_answer words left files of_input of_store aim path Long h are is =
-    over_outcome words left files aim path _ h is
+file_answer words left files of_input of_store aim path answer h are is =
+    given_such (IsFileEnd aim path files) (IsOutcome words left files)
+    (λ memory. (over aim path, are)) (λ fault. (over aim path, are, fault))
+    (λ end ends. outcome_of_read words left files (Some (over aim path)) (config_came ends.0) end h ends.1 ends.2)
+    answer is
 
 pub told_bytes : (left : Option (List ℕ)) (bytes told : List ℕ) → Tells left bytes → left ≡ Some told → told ≡ bytes
 told_bytes None bytes told h e = absurd cc
@@ -182,85 +169,142 @@ file_long path (Some list) left new open_ lost =
     (found.0, found.1, long_content left new found.0 found.2 lost)
 
 -- the size decides first
-pub ending_of_bytes-long : (aim : Aim) (bytes : List ℕ) → 8388608 < length bytes
-    → ending_of_bytes aim bytes ≡ exactly long_exit
-ending_of_bytes-long aim bytes long =
+pub ending_of_bytes-long : (next : Config → Ending) (bytes : List ℕ) → 8388608 < length bytes
+    → ending_of_bytes next bytes ≡ exactly long_exit
+ending_of_bytes-long next bytes long =
     let e : nat_lt 8388608 (length bytes) ≡ true = grind (arith, nat_tests, long) in rw e refl
 
-pub ending_of_bytes-short : (aim : Aim) (bytes : List ℕ) → length bytes ≤ 8388608
-    → ending_of_bytes aim bytes ≡ ending_of_read aim (config_in bytes)
-ending_of_bytes-short aim bytes short =
+pub ending_of_bytes-short : (next : Config → Ending) (bytes : List ℕ) → length bytes ≤ 8388608
+    → ending_of_bytes next bytes ≡ ending_of_read next (config_in bytes)
+ending_of_bytes-short next bytes short =
     let e : nat_lt 8388608 (length bytes) ≡ false = grind (arith, nat_tests, short) in rw e refl
 
-pub long_file : (aim : Aim) (path : List ℕ) (files : Files) (fault : Type 0)
-    → (bytes : List ℕ) × Holds files path bytes × (8388608 < length bytes) → IsFileAnswer aim path files fault Long
-long_file aim path files fault is =
-    (is.0, is.1, subst (λ (e : Ending). EndsSo e long_exit) (sym (ending_of_bytes-long aim is.0 is.2)) refl)
+-- and then what they say
+pub ending_of_bytes-read : (next : Config → Ending) (bytes : List ℕ) (read : Result Config ConfigFault)
+    → length bytes ≤ 8388608 → config_in bytes ≡ read → ending_of_bytes next bytes ≡ ending_of_read next read
+ending_of_bytes-read next bytes read short h =
+    ending_of_bytes-short next bytes short ∙ ap (λ (r : Result Config ConfigFault). ending_of_read next r) h
 
-bytes_end : (aim : Aim) (path : List ℕ) (files : Files) (bytes : List ℕ) (end : Exit) → Holds files path bytes
-    → length bytes ≤ 8388608 → EndsSo (ending_of_read aim (config_in bytes)) end
-    → (config : List ℕ) × Holds files path config × EndsSo (ending_of_bytes aim config) end
-bytes_end aim path files bytes end holds short ends =
-    (bytes, holds, subst (λ (e : Ending). EndsSo e end) (sym (ending_of_bytes-short aim bytes short)) ends)
+-- ---- configurations
 
--- the answer to the bytes of a file is that to the file
-pub bytes_answer : (aim : Aim) (path : List ℕ) (files : Files) (bytes : List ℕ) (fault : Type 0) (answer : Answer)
-    → Holds files path bytes → length bytes ≤ 8388608 → GivesEnd (ending_of_read aim (config_in bytes)) answer
-    → IsFileAnswer aim path files fault answer
-bytes_answer aim path files bytes fault Memory holds short given = tt
-bytes_answer aim path files bytes fault ReadFault holds short given = absurd given
-bytes_answer aim path files bytes fault (Done text) holds short given =
-    bytes_end aim path files bytes _ holds short given
-bytes_answer aim path files bytes fault Valid holds short given = bytes_end aim path files bytes _ holds short given
-bytes_answer aim path files bytes fault (NoConfig text) holds short given =
-    bytes_end aim path files bytes _ holds short given
-bytes_answer aim path files bytes fault (NoSession text) holds short given =
-    bytes_end aim path files bytes _ holds short given
-bytes_answer aim path files bytes fault Usage holds short given = bytes_end aim path files bytes _ holds short given
-bytes_answer aim path files bytes fault Long holds short given = bytes_end aim path files bytes _ holds short given
+-- the file of this path ends so where it holds this configuration
+at_end : (next : Config → Ending) (files : Files) (path : List ℕ) (c : Config) (end : Exit)
+    → (is : IsConfigAt files path c) → EndsSo (next c) end → EndsSo (ending_of_bytes next is.0) end
+at_end next files path c end is ends =
+    subst (λ (e : Ending). EndsSo e end)
+    (sym (ending_of_bytes-read next is.0 (Ok c) is.2 (config_in-ok is.0 c is.3))) ends
 
--- the answer to a configuration is that to its bytes
-pub config_answer : (aim : Aim) (bytes : List ℕ) (c : Config) (answer : Answer) → IsRead bytes (Ok c)
-    → GivesEnd (ending_of_config aim c) answer → GivesEnd (ending_of_read aim (config_in bytes)) answer
-config_answer aim bytes c answer is given =
-    subst (λ (r : Result Config ConfigFault). GivesEnd (ending_of_read aim r) answer) (sym (config_in-ok bytes c is))
-    given
+-- the answer to a configuration is that to its file
+pub config_answer : (aim : Aim) (path : List ℕ) (files : Files) (fault : Type 0) (c : Config) (answer : Answer)
+    → IsConfigAt files path c → GivesEnd (ending_of_config aim c) answer → IsFileAnswer aim path files fault answer
+config_answer aim path files fault c answer is given =
+    given_such (EndsSo (ending_of_config aim c)) (IsFileEnd aim path files) (λ memory. memory) (λ none. absurd none)
+    (λ end ends. (is.0, is.1, at_end (ending_of_config aim) files path c end is ends)) answer given
+
+-- and so is the answer where there is none
+pub refused_file : (aim : Aim) (path : List ℕ) (files : Files) (fault : Type 0) (answer : Answer)
+    → IsRefusal path files fault answer → IsFileAnswer aim path files fault answer
+refused_file aim path files fault answer is =
+    given_such (IsRefusedAt path files) (IsFileEnd aim path files) (λ memory. memory) (λ counted. counted)
+    (λ end refused. (refused.0, refused.1, refused.2.ends (ending_of_config aim))) answer is
 
 -- only want of memory ends as want of memory does
-memory_given : (ending : Ending) (answer : Answer) → GivesEnd (exactly memory_exit) answer → GivesEnd ending answer
-memory_given ending Memory given = tt
-memory_given ending ReadFault given = absurd given
-memory_given ending (Done text) given =
+memory_given : (P : Exit → Type 0) (answer : Answer) → GivesEnd (exactly memory_exit) answer → IsGiven ⊤ ⊥ P answer
+memory_given P Memory given = tt
+memory_given P ReadFault given = absurd given
+memory_given P (Done text) given = let e = ap (λ (end : Exit). end.status) given in absurd (omega (arith, e))
+memory_given P Valid given = let e = ap (λ (end : Exit). end.status) given in absurd (omega (arith, e))
+memory_given P (NoConfig text) given =
     let e = ap (λ (end : Exit). end.status) given in absurd (omega (arith, e))
-memory_given ending Valid given = let e = ap (λ (end : Exit). end.status) given in absurd (omega (arith, e))
-memory_given ending (NoConfig text) given =
+memory_given P (NoSession text) given =
     let e = ap (λ (end : Exit). end.status) given in absurd (omega (arith, e))
-memory_given ending (NoSession text) given =
-    let e = ap (λ (end : Exit). end.status) given in absurd (omega (arith, e))
-memory_given ending Usage given = let e = ap (λ (end : Exit). end.status) given in absurd (omega (arith, e))
-memory_given ending Long given = let e = ap (λ (end : Exit). end.status) given in absurd (omega (arith, e))
+memory_given P Usage given = let e = ap (λ (end : Exit). end.status) given in absurd (omega (arith, e))
+memory_given P Long given = let e = ap (λ (end : Exit). end.status) given in absurd (omega (arith, e))
 
-other_fault : (aim : Aim) (bytes : List ℕ) (fault : ConfigFault) (answer : Answer) → IsRead bytes (Err fault)
-    → (fault ≡ configs.Memory → ⊥) → GivesEnd (exactly (exit_of_config_fault fault)) answer
-    → GivesEnd (ending_of_read aim (config_in bytes)) answer
-other_fault aim bytes fault answer is other given =
-    subst (λ (r : Result Config ConfigFault). GivesEnd (ending_of_read aim r) answer)
-    (sym (config_in-fault bytes fault is other)) given
+other_fault : (bytes : List ℕ) (fault : ConfigFault) (answer : Answer) → length bytes ≤ 8388608
+    → config_in bytes ≡ Err fault → GivesEnd (exactly (exit_of_config_fault fault)) answer
+    → IsGiven ⊤ ⊥ (IsRefused bytes) answer
+other_fault bytes fault answer short is given =
+    given_such (EndsSo (exactly (exit_of_config_fault fault))) (IsRefused bytes) (λ memory. memory) (λ none. none)
+    (λ end ends. record {
+      none = λ c config. absurd (let e = config.1 in cc);
+      ends = λ next. subst (λ (e : Ending). EndsSo e end)
+          (sym (ending_of_bytes-read next bytes (Err fault) short is)) ends;
+    }) answer given
 
 -- the answer to a fault is that to the bytes
-pub fault_answer : (aim : Aim) (bytes : List ℕ) (fault : ConfigFault) (answer : Answer) → IsRead bytes (Err fault)
-    → GivesEnd (exactly (exit_of_config_fault fault)) answer → GivesEnd (ending_of_read aim (config_in bytes)) answer
-fault_answer aim bytes configs.Memory answer is given =
-    memory_given (ending_of_read aim (config_in bytes)) answer given
-fault_answer aim bytes configs.Toml answer is given =
-    other_fault aim bytes configs.Toml answer is (λ e. absurd cc) given
-fault_answer aim bytes (configs.Missing key) answer is given =
-    other_fault aim bytes (configs.Missing key) answer is (λ e. absurd cc) given
-fault_answer aim bytes (configs.Wrong key) answer is given =
-    other_fault aim bytes (configs.Wrong key) answer is (λ e. absurd cc) given
-fault_answer aim bytes (configs.Range key) answer is given =
-    other_fault aim bytes (configs.Range key) answer is (λ e. absurd cc) given
-fault_answer aim bytes (configs.Twice key) answer is given =
-    other_fault aim bytes (configs.Twice key) answer is (λ e. absurd cc) given
-fault_answer aim bytes (configs.Unknown key) answer is given =
-    other_fault aim bytes (configs.Unknown key) answer is (λ e. absurd cc) given
+pub fault_answer : (bytes : List ℕ) (fault : ConfigFault) (answer : Answer) → length bytes ≤ 8388608
+    → IsRead bytes (Err fault) → GivesEnd (exactly (exit_of_config_fault fault)) answer
+    → IsGiven ⊤ ⊥ (IsRefused bytes) answer
+fault_answer bytes configs.Memory answer short is given = memory_given (IsRefused bytes) answer given
+fault_answer bytes configs.Toml answer short is given =
+    other_fault bytes configs.Toml answer short (config_in-fault bytes configs.Toml is (λ e. absurd cc)) given
+fault_answer bytes (configs.Missing key) answer short is given =
+    other_fault bytes (configs.Missing key) answer short (config_in-fault bytes _ is (λ e. absurd cc)) given
+fault_answer bytes (configs.Wrong key) answer short is given =
+    other_fault bytes (configs.Wrong key) answer short (config_in-fault bytes _ is (λ e. absurd cc)) given
+fault_answer bytes (configs.Range key) answer short is given =
+    other_fault bytes (configs.Range key) answer short (config_in-fault bytes _ is (λ e. absurd cc)) given
+fault_answer bytes (configs.Twice key) answer short is given =
+    other_fault bytes (configs.Twice key) answer short (config_in-fault bytes _ is (λ e. absurd cc)) given
+fault_answer bytes (configs.Unknown key) answer short is given =
+    other_fault bytes (configs.Unknown key) answer short (config_in-fault bytes _ is (λ e. absurd cc)) given
+
+-- ---- sessions over a configuration
+
+-- a session is too long
+pub long_session : (c : Config) (path : List ℕ) (files : Files) (fault : Type 0)
+    → (bytes : List ℕ) × Holds files path bytes × (8388608 < length bytes)
+    → IsSessionAnswer c path files fault Long
+long_session c path files fault is = (is.0, is.1, long_ends c (Replay (length c.relay)) is.0 is.2)
+
+abbrev pub both_came : List ℕ → List ℕ → Came
+both_came config script = record { script = script; config = config }
+
+-- the answer to a session is that to both files
+pub replay_answer : (config session : List ℕ) (files mid : Files) (mid_fault fault : Type 0) (c : Config)
+    (answer : Answer) → IsConfigAt files config c → mid ≡ files → (mid_fault → fault)
+    → IsSessionAnswer c session mid mid_fault answer → IsReplayAnswer config session files fault answer
+replay_answer config session files mid mid_fault fault c answer is same counts given =
+    given_such (IsSessionEnd c session mid) (IsReplayEnd config session files) (λ memory. memory) counts
+    (λ end ends. (
+      both_came is.0 ends.0,
+      is.1,
+      (λ d there. subst (λ (f : Files). Holds f session ends.0) same ends.1),
+      at_end (λ d. ending_of_script d (session_in d ends.0)) files config c end is ends.2,
+    )) answer given
+
+-- and so is the answer where there is no configuration
+pub refused_replay : (config session : List ℕ) (files : Files) (fault : Type 0) (answer : Answer)
+    → IsRefusal config files fault answer → IsReplayAnswer config session files fault answer
+refused_replay config session files fault answer is =
+    given_such (IsRefusedAt config files) (IsReplayEnd config session files) (λ memory. memory) (λ counted. counted)
+    (λ end refused. (
+      config_came refused.0,
+      refused.1,
+      (λ c there. absurd (refused.2.none c there)),
+      refused.2.ends (λ c. ending_of_script c (session_in c [])),
+    )) answer is
+
+-- the answer to the files is that to the words
+pub files_answer : (words : List (List ℕ)) (left : Option (List ℕ)) (files : Files) (of_input of_store : Type 0)
+    (config session : List ℕ) (answer : Answer) → form_of words ≡ Some (replay config session)
+    → AreReplay words config session → IsReplayAnswer config session files of_store answer
+    → IsAnswer words left files of_input of_store answer
+files_answer words left files of_input of_store config session answer h are is =
+    given_such (IsReplayEnd config session files) (IsOutcome words left files)
+    (λ memory. (replay config session, are)) (λ fault. (replay config session, are, fault))
+    (λ end ends. outcome_of_read words left files (Some (replay config session)) ends.0 end h (ends.1, ends.2) ends.3)
+    answer is
+
+-- ---- sessions that are made
+
+pub made_answer : (words : List (List ℕ)) (left : Option (List ℕ)) (files : Files) (of_input of_store : Type 0)
+    (seed frames rovers : ℕ) (answer : Answer) → form_of words ≡ Some (made seed frames rovers)
+    → AreMake words seed frames rovers → GivesEnd (exactly (whole_exit (made_text seed frames rovers))) answer
+    → IsAnswer words left files of_input of_store answer
+made_answer words left files of_input of_store seed frames rovers answer h are is =
+    given_such (EndsSo (exactly (whole_exit (made_text seed frames rovers)))) (IsOutcome words left files)
+    (λ memory. (made seed frames rovers, are)) (λ none. absurd none)
+    (λ end ends. outcome_of_read words left files (Some (made seed frames rovers)) nothing_came end h tt ends)
+    answer is

@@ -1,28 +1,30 @@
 -- What words, input, files and output say of a status and of what was written.
-use Rattle.std.proofs.Common.{◌≡◌, ℕ, ◌≤◌, ◌⊎◌, List, length, Option, None, Some, Result, Ok, Err, IsOk, inl, inr, refl, ap, sym, subst, ◌∙◌, arith}
+use Rattle.std.proofs.Common.{◌≡◌, ℕ, ◌≤◌, ◌⊎◌, List, length, Option, None, Some, Result, Ok, Err, inl, inr, refl, ap, sym, subst, ◌∙◌}
 use Rattle.std.specs.Io.KnownBytes.{Appends}
 use Rattle.session_script.specs.declared.Event.{Event}
 use Rattle.session_script.specs.declared.ScriptKind.TheVariants.{Bare}
+use Rattle.session_script.specs.declared.ScriptFault.{ScriptFault}
 use Rattle.session_script.specs.Script.{script_of}
-use Rattle.caster_replay.specs.World as world
-use Rattle.caster_replay.specs.Report.{report}
+use Rattle.session_script.proofs.SessionLemmas.{script_read}
 use Rattle.cast_io.specs.Causes.{Rose}
 use Rattle.cast_io.specs.Stores.{content_of}
 use Rattle.cast_config.specs.declared.config.Config.{Config}
-use Rattle.cast_config.specs.declared.fault.ConfigFault.{ConfigFault}
+use Rattle.cast_config.specs.Bare as settings
 use Rattle.cast_config.specs.Document.{IsRead}
+use Rattle.run_texts.specs.Texts.{IsRunText, report, made_text}
+use Rattle.run_texts.proofs.BareLemmas.{bare_text}
 use Rattle.caster_main.specs.declared.answers.Answer.{Answer}
 use Rattle.caster_main.specs.declared.answers.Answer.TheVariants.{Done, Valid, NoConfig, NoSession, Usage, Long, ReadFault, Memory}
 use Rattle.caster_main.specs.declared.command.Aim.{Aim}
-use Rattle.caster_main.specs.Command.{Form, bare, over, AreBare, AreOver, AreOf, AreOfNoForm, form_of}
-use Rattle.caster_main.specs.Reading.{config_in}
-use Rattle.caster_main.specs.Outcome.{Exit, Ending, EndsSo, Came, exit_of_script, ending_of_config, ending_of_read, ending_of_bytes, ending_of_form, ending_of}
-use Rattle.caster_main.specs.Told.{Files, Holds, IsConfigAt, HasCome, EndsWith, FollowsOutcome, HaveForm, HaveFault, HaveCome}
+use Rattle.caster_main.specs.Command.{Form, bare, over, replay, made, AreBare, AreOver, AreReplay, AreMake, AreOf, AreOfNoForm, form_of}
+use Rattle.caster_main.specs.Outcome.{Exit, Ending, report_of, EndsSo, Came, session_in, ending_of_script, ending_of_config, ending_of_bytes, ending_of_form, ending_of}
+use Rattle.caster_main.specs.Told.{Files, Holds, IsConfigAt, IsConfigIn, IsSessionAt, HasCome, EndsWith, FollowsOutcome, HaveForm, HaveFault, HaveCome}
 use Rattle.caster_main.specs.Answers.{exit_of, IsAnswer, Writes}
 use Rattle.caster_main.proofs.WordLemmas.{form_of-form, form-form_of, no_form}
 use Rattle.caster_main.proofs.ReadingLemmas.{config_in-ok, read-config_in}
-use Rattle.caster_main.proofs.AnswerLemmas.{outcome-form, told_bytes, ending_of_bytes-short}
-use Rattle.caster_main.proofs.StatusLemmas.{status_of, status-ends, no_usage_form, bytes_status, ok_status}
+use Rattle.caster_main.proofs.AnswerLemmas.{outcome-form, told_bytes, ending_of_bytes-read}
+use Rattle.caster_main.proofs.StatusLemmas.{status-ends, no_usage_form, whole_bytes, ok_status}
+use Rattle.caster_main.proofs.ScriptLemmas.{status_of, whole_script}
 
 -- ---- how a run ended
 
@@ -150,20 +152,36 @@ no_form_run words left files of_input of_store old new before now status answer 
           inl (run.4.0 ∙ ap (λ (e : Exit). e.status) run.3)
     ]
 
--- ---- scripts
+-- ---- bare scripts
 
--- the outcome of a script is the report of its run
+-- what ends as a run of these events ends with status 0
+report_end : (c : Config) (events : List Event) (status : ℕ) (old new : Option (List ℕ)) (end : Exit)
+    → EndsSo (report_of c events) end → EndsWith status old new end
+    → (status ≡ 0) × (text : List ℕ) × IsRunText c events text × Appends old new text
+report_end c events status old new end ends written =
+    (written.0 ∙ ends.0, end.text, ends.1, written.1)
+
+script_end : (c : Config) (read : Result (List Event) ScriptFault) (events : List Event) (end : Exit)
+    → read ≡ Ok events → EndsSo (ending_of_script c read) end → EndsSo (report_of c events) end
+script_end c read events end h ends =
+    subst (λ (r : Result (List Event) ScriptFault). EndsSo (ending_of_script c r) end) h ends
+
+-- the outcome of a bare script is the report of its run
 pub script_run : (words : List (List ℕ)) (left : Option (List ℕ)) (files : Files) (old new : Option (List ℕ))
     (status capacity : ℕ) (bytes : List ℕ) (events : List Event) → FollowsOutcome words left files status old new
     → AreBare words capacity → left ≡ Some bytes → script_of Bare bytes ≡ Ok events
-    → (status ≡ 0) × Appends old new (report (world.bare capacity) events)
+    → (status ≡ 0) × Appends old new (report (settings.bare capacity) events)
 script_run words left files old new status capacity bytes events follows are told script =
+    let c = settings.bare capacity in
     let run = read_run words left files old new status (Some (bare capacity)) follows
     (form_of-form words (bare capacity) are) in
     let same = told_bytes left run.0.script bytes run.2 told in
-    let end = run.3 ∙ ap (λ b. exit_of_script capacity (script_of Bare b)) (sym same)
-    ∙ ap (λ s. exit_of_script capacity s) script in
-    subst (λ (e : Exit). EndsWith status old new e) end run.4
+    let read : script_of Bare run.0.script ≡ Ok events = ap (λ b. script_of Bare b) (sym same) ∙ script in
+    let all = report_end c events status old new run.1
+    (script_end c (script_of Bare run.0.script) events run.1 read run.3) run.4 in
+    let session = (script_read Bare bytes events script).session in
+    let text = bare_text c events all.1 session all.2 in
+    (all.0, subst (λ (t : List ℕ). Appends old new t) text all.3)
 
 -- words have one form
 one_form : (words : List (List ℕ)) (a b : Form) → AreOf words a → AreOf words b → Some a ≡ Some b
@@ -174,32 +192,61 @@ pub bare_fault : (words : List (List ℕ)) (of_input of_store : Type 0) (capacit
 bare_fault words of_input of_store capacity are read (bare other, of, fault) = read fault
 bare_fault words of_input of_store capacity are read (over aim path, of, fault) =
     let e = one_form words (bare capacity) (over aim path) are of in absurd cc
+bare_fault words of_input of_store capacity are read (replay config session, of, fault) =
+    let e = one_form words (bare capacity) (replay config session) are of in absurd cc
+bare_fault words of_input of_store capacity are read (made seed frames rovers, of, fault) = absurd fault
 
 pub over_fault : (words : List (List ℕ)) (of_input of_store : Type 0) (aim : Aim) (path : List ℕ)
     → AreOver aim words path → (of_store → ⊥) → HaveFault words of_input of_store → ⊥
 over_fault words of_input of_store aim path are read (bare capacity, of, fault) =
     let e = one_form words (over aim path) (bare capacity) are of in absurd cc
 over_fault words of_input of_store aim path are read (over other other_path, of, fault) = read fault
+over_fault words of_input of_store aim path are read (replay config session, of, fault) = read fault
+over_fault words of_input of_store aim path are read (made seed frames rovers, of, fault) = absurd fault
+
+pub replay_fault : (words : List (List ℕ)) (of_input of_store : Type 0) (config session : List ℕ)
+    → AreReplay words config session → (of_store → ⊥) → HaveFault words of_input of_store → ⊥
+replay_fault words of_input of_store config session are read (bare capacity, of, fault) =
+    let e = one_form words (replay config session) (bare capacity) are of in absurd cc
+replay_fault words of_input of_store config session are read (over aim path, of, fault) = read fault
+replay_fault words of_input of_store config session are read (replay other other_session, of, fault) = read fault
+replay_fault words of_input of_store config session are read (made seed frames rovers, of, fault) = absurd fault
+
+pub make_fault : (words : List (List ℕ)) (of_input of_store : Type 0) (seed frames rovers : ℕ)
+    → AreMake words seed frames rovers → HaveFault words of_input of_store → ⊥
+make_fault words of_input of_store seed frames rovers are (bare capacity, of, fault) =
+    let e = one_form words (made seed frames rovers) (bare capacity) are of in absurd cc
+make_fault words of_input of_store seed frames rovers are (over aim path, of, fault) =
+    let e = one_form words (made seed frames rovers) (over aim path) are of in absurd cc
+make_fault words of_input of_store seed frames rovers are (replay config session, of, fault) =
+    let e = one_form words (made seed frames rovers) (replay config session) are of in absurd cc
+make_fault words of_input of_store seed frames rovers are (made s f r, of, fault) = absurd fault
+
+-- ---- sessions that are made
+
+pub made_run : (words : List (List ℕ)) (left : Option (List ℕ)) (files : Files) (old new : Option (List ℕ))
+    (status seed frames rovers : ℕ) → FollowsOutcome words left files status old new
+    → AreMake words seed frames rovers → (status ≡ 0) × Appends old new (made_text seed frames rovers)
+made_run words left files old new status seed frames rovers follows are =
+    let run = read_run words left files old new status (Some (made seed frames rovers)) follows
+    (form_of-form words (made seed frames rovers) are) in
+    subst (λ (e : Exit). EndsWith status old new e) run.3 run.4
 
 -- ---- configurations
 
-ok_value : (read : Result Config ConfigFault) → IsOk read → (c : Config) × (read ≡ Ok c)
-ok_value (Ok c) h = (c, refl)
-ok_value (Err fault) h = absurd cc
-
-config_status : (aim : Aim) (bytes : List ℕ) → status_of (ending_of_bytes aim bytes) ≡ 0
-    → IsOk (config_in bytes) × (length bytes ≤ 8388608)
-config_status aim bytes h = elim (bytes_status aim bytes) [
-  | inl long ↦ absurd (omega (arith, h, long.0))
-  | inr (inl whole) ↦ (whole.1, whole.2)
-  | inr (inr (inl faulty)) ↦ absurd (omega (arith, h, faulty.0))
-  | inr (inr (inr memory)) ↦ absurd (omega (arith, h, memory))
-]
-
-ending_of_bytes-config : (aim : Aim) (bytes : List ℕ) (c : Config) → length bytes ≤ 8388608 → config_in bytes ≡ Ok c
-    → ending_of_bytes aim bytes ≡ ending_of_config aim c
-ending_of_bytes-config aim bytes c short h =
-    ending_of_bytes-short aim bytes short ∙ ap (λ (r : Result Config ConfigFault). ending_of_read aim r) h
+-- with status 0 the file is a configuration, and what came next ended so
+config_decided : (files : Files) (path : List ℕ) (next : Config → Ending) (bytes : List ℕ) (end : Exit)
+    → Holds files path bytes → EndsSo (ending_of_bytes next bytes) end → end.status ≡ 0
+    → (c : Config) × IsConfigIn bytes c × IsConfigAt files path c × EndsSo (next c) end
+config_decided files path next bytes end holds ends zero =
+    let whole = whole_bytes next bytes (sym (status-ends (ending_of_bytes next bytes) end ends) ∙ zero) in
+    let c = whole.0 in
+    let is = whole.1 in (
+      c,
+      is,
+      (bytes, holds, is.0, read-config_in bytes c is.1),
+      subst (λ (e : Ending). EndsSo e end) (ending_of_bytes-read next bytes (Ok c) is.0 is.1) ends,
+    )
 
 -- with status 0 the file is a configuration, and what was written is what is done with it
 pub over_run : (words : List (List ℕ)) (left : Option (List ℕ)) (files : Files) (old new : Option (List ℕ))
@@ -210,15 +257,8 @@ pub over_run : (words : List (List ℕ)) (left : Option (List ℕ)) (files : Fil
 over_run words left files old new status aim path is follows are =
     let run = read_run words left files old new status (Some (over aim path)) follows
     (form_of-form words (over aim path) are) in
-    let ended = status-ends (ending_of_bytes aim run.0.config) run.1 run.3 in
-    let whole = config_status aim run.0.config (sym (run.4.0 ∙ ended) ∙ is) in
-    let value = ok_value (config_in run.0.config) whole.0 in (
-      value.0,
-      run.1,
-      (run.0.config, run.2, whole.1, read-config_in run.0.config value.0 value.1),
-      subst (λ (e : Ending). EndsSo e run.1) (ending_of_bytes-config aim run.0.config value.0 whole.1 value.1) run.3,
-      run.4.1,
-    )
+    let all = config_decided files path (ending_of_config aim) run.0.config run.1 run.2 run.3 (sym run.4.0 ∙ is) in
+    (all.0, run.1, all.2, all.3, run.4.1)
 
 held_bytes : (files : Files) (list : List (List ℕ × List ℕ)) (path bytes held : List ℕ) → Holds files path held
     → files ≡ Some list → content_of list path ≡ Some bytes → held ≡ bytes
@@ -236,7 +276,58 @@ pub config_run : (words : List (List ℕ)) (left : Option (List ℕ)) (files : F
 config_run words left files old new status aim path list bytes c follows are told content short is =
     let run = read_run words left files old new status (Some (over aim path)) follows
     (form_of-form words (over aim path) are) in
-    let ended = status-ends (ending_of_bytes aim run.0.config) run.1 run.3 in
+    let next = ending_of_config aim in
+    let ended = status-ends (ending_of_bytes next run.0.config) run.1 run.3 in
     let same = held_bytes files list path bytes run.0.config run.2 told content in
-    run.4.0 ∙ ended ∙ ap (λ b. status_of (ending_of_bytes aim b)) same
-    ∙ ap status_of (ending_of_bytes-config aim bytes c short (config_in-ok bytes c is)) ∙ ok_status aim c
+    run.4.0 ∙ ended ∙ ap (λ b. status_of (ending_of_bytes next b)) same
+    ∙ ap status_of (ending_of_bytes-read next bytes (Ok c) short (config_in-ok bytes c is)) ∙ ok_status aim c
+
+-- ---- sessions over a configuration
+
+abbrev replayed : List ℕ → Config → Ending
+replayed script c = ending_of_script c (session_in c script)
+
+ok_events : (c : Config) (read : Result (List Event) ScriptFault) (end : Exit)
+    → EndsSo (ending_of_script c read) end → end.status ≡ 0
+    → (events : List Event) × (read ≡ Ok events) × EndsSo (report_of c events) end
+ok_events c (Ok events) end ends zero = (events, refl, ends)
+ok_events c (Err fault) end ends zero =
+    let e = whole_script c (Err fault) (sym (status-ends (ending_of_script c (Err fault)) end ends) ∙ zero) in absurd cc
+
+-- with status 0 the files are a configuration and a session, and the report of its run was written
+pub replay_run : (words : List (List ℕ)) (left : Option (List ℕ)) (files : Files) (old new : Option (List ℕ))
+    (status : ℕ) (config session : List ℕ) → status ≡ 0 → FollowsOutcome words left files status old new
+    → AreReplay words config session
+    → (c : Config) × (events : List Event) × (text : List ℕ) × IsConfigAt files config c
+    × IsSessionAt files session c events × IsRunText c events text × Appends old new text
+replay_run words left files old new status config session is follows are =
+    let run = read_run words left files old new status (Some (replay config session)) follows
+    (form_of-form words (replay config session) are) in
+    let script = run.0.script in
+    let zero = sym run.4.0 ∙ is in
+    let all = config_decided files config (replayed script) run.0.config run.1 run.2.0 run.3 zero in
+    let c = all.0 in
+    let ended = ok_events c (session_in c script) run.1 all.3 zero in
+    let text = report_end c ended.0 status old new run.1 ended.2 run.4 in
+    (c, ended.0, text.1, all.2, (script, run.2.1 c all.1, ended.1), text.2, text.3)
+
+-- a session over a configuration has a report
+pub session_run : (words : List (List ℕ)) (left : Option (List ℕ)) (files : Files) (old new : Option (List ℕ))
+    (status : ℕ) (config session : List ℕ) (list : List (List ℕ × List ℕ)) (bytes script : List ℕ) (c : Config)
+    (events : List Event) → FollowsOutcome words left files status old new → AreReplay words config session
+    → files ≡ Some list → content_of list config ≡ Some bytes → length bytes ≤ 8388608 → IsRead bytes (Ok c)
+    → content_of list session ≡ Some script → session_in c script ≡ Ok events
+    → (status ≡ 0) × (text : List ℕ) × IsRunText c events text × Appends old new text
+session_run words left files old new status config session list bytes script c events follows are told content short is
+    found read =
+    let run = read_run words left files old new status (Some (replay config session)) follows
+    (form_of-form words (replay config session) are) in
+    let came = run.0 in
+    let same = held_bytes files list config bytes came.config run.2.0 told content in
+    let inside : IsConfigIn came.config c = subst (λ (b : List ℕ). IsConfigIn b c) (sym same)
+    (short, config_in-ok bytes c is) in
+    let same_script = held_bytes files list session script came.script (run.2.1 c inside) told found in
+    let next = ending_of_bytes-read (replayed came.script) came.config (Ok c) inside.0 inside.1 in
+    let ends = subst (λ (e : Ending). EndsSo e run.1) next run.3 in
+    let all : session_in c came.script ≡ Ok events = ap (session_in c) same_script ∙ read in
+    report_end c events status old new run.1 (script_end c (session_in c came.script) events run.1 all ends) run.4

@@ -1,6 +1,7 @@
 pub mod WordLemmas
 pub mod ReadingLemmas
 pub mod AnswerLemmas
+pub mod AskedLemmas
 pub mod ScriptLemmas
 pub mod StatusLemmas
 pub mod ClauseLemmas

@@ -6,13 +6,13 @@ use Rattle.std.specs.Str.{bytes_eq}
 use Rattle.std.specs.Str.Lines.{lines}
 use Rattle.session_script.specs.declared.Event.{Event}
 use Rattle.session_script.specs.declared.ScriptKind.{ScriptKind}
-use Rattle.session_script.specs.declared.ScriptKind.TheVariants.{Bare}
 use Rattle.session_script.specs.declared.ScriptFault.{ScriptFault}
 use Rattle.session_script.specs.declared.ScriptFault.TheVariants.{Line, State, NoStop, Long, Memory}
 use Rattle.session_script.specs.Line.{event_of_line}
 use Rattle.session_script.specs.Numbers.{Numbers, no_numbers}
 use Rattle.session_script.specs.Script.{is_skipped, may_follow, after_event, onto_events, events_of_lines, script_of}
-use Rattle.caster_main.specs.Outcome.{exit_of_script}
+use Rattle.cast_config.specs.declared.config.Config.{Config}
+use Rattle.caster_main.specs.Outcome.{Ending, exactly, document_of, report_of, ending_of_script}
 use Rattle.caster_main.specs.Told.{IsNoSession}
 
 -- ---- only the size of a script makes it too long
@@ -66,60 +66,66 @@ lines_not_long kind (line ∷ lines) n numbers h =
     line_not_long kind n numbers line lines (lines_not_long kind lines (n + 1) numbers)
     (λ event. lines_not_long kind lines (n + 1) (after_event numbers event)) h
 
-script_long : (bytes : List ℕ) → script_of Bare bytes ≡ Err Long → 8388608 < length bytes
+script_long : (kind : ScriptKind) (bytes : List ℕ) → script_of kind bytes ≡ Err Long → 8388608 < length bytes
 unfolding script_of
-script_long bytes h = elim (cases_Bool (nat_lt 8388608 (length bytes))) [
+script_long kind bytes h = elim (cases_Bool (nat_lt 8388608 (length bytes))) [
   | inl long ↦ grind (arith, nat_tests, long)
-  | inr short ↦ absurd (lines_not_long Bare (lines bytes) 1 no_numbers (sym (rw short refl) ∙ h))
+  | inr short ↦ absurd (lines_not_long kind (lines bytes) 1 no_numbers (sym (rw short refl) ∙ h))
 ]
 
 -- ---- statuses
 
-pub whole_script : (capacity : ℕ) (script : Result (List Event) ScriptFault)
-    → (exit_of_script capacity script).status ≡ 0 → IsOk script
-whole_script capacity (Ok events) h = refl
-whole_script capacity (Err (Line n)) h = absurd (omega arith)
-whole_script capacity (Err (State n)) h = absurd (omega arith)
-whole_script capacity (Err NoStop) h = absurd (omega arith)
-whole_script capacity (Err Long) h = absurd (omega arith)
-whole_script capacity (Err Memory) h = absurd (omega arith)
+-- the status that an ending has
+abbrev pub status_of : Ending → ℕ
+status_of (exactly wanted) = wanted.status
+status_of (document_of c) = 0
+status_of (report_of c events) = 0
 
-pub script_not_usage : (capacity : ℕ) (script : Result (List Event) ScriptFault)
-    → (exit_of_script capacity script).status ≡ 1 → ⊥
-script_not_usage capacity (Ok events) h = omega arith
-script_not_usage capacity (Err (Line n)) h = omega arith
-script_not_usage capacity (Err (State n)) h = omega arith
-script_not_usage capacity (Err NoStop) h = omega arith
-script_not_usage capacity (Err Long) h = omega arith
-script_not_usage capacity (Err Memory) h = omega arith
+pub whole_script : (c : Config) (script : Result (List Event) ScriptFault)
+    → status_of (ending_of_script c script) ≡ 0 → IsOk script
+whole_script c (Ok events) h = refl
+whole_script c (Err (Line n)) h = absurd (omega arith)
+whole_script c (Err (State n)) h = absurd (omega arith)
+whole_script c (Err NoStop) h = absurd (omega arith)
+whole_script c (Err Long) h = absurd (omega arith)
+whole_script c (Err Memory) h = absurd (omega arith)
 
-pub script_not_config : (capacity : ℕ) (script : Result (List Event) ScriptFault)
-    → (exit_of_script capacity script).status ≡ 2 → ⊥
-script_not_config capacity (Ok events) h = omega arith
-script_not_config capacity (Err (Line n)) h = omega arith
-script_not_config capacity (Err (State n)) h = omega arith
-script_not_config capacity (Err NoStop) h = omega arith
-script_not_config capacity (Err Long) h = omega arith
-script_not_config capacity (Err Memory) h = omega arith
+pub script_not_usage : (c : Config) (script : Result (List Event) ScriptFault)
+    → status_of (ending_of_script c script) ≡ 1 → ⊥
+script_not_usage c (Ok events) h = omega arith
+script_not_usage c (Err (Line n)) h = omega arith
+script_not_usage c (Err (State n)) h = omega arith
+script_not_usage c (Err NoStop) h = omega arith
+script_not_usage c (Err Long) h = omega arith
+script_not_usage c (Err Memory) h = omega arith
 
-pub faulty_script : (capacity : ℕ) (script : Result (List Event) ScriptFault)
-    → (exit_of_script capacity script).status ≡ 3 → IsNoSession script
-faulty_script capacity (Ok events) h = absurd (omega arith)
-faulty_script capacity (Err (Line n)) h = tt
-faulty_script capacity (Err (State n)) h = tt
-faulty_script capacity (Err NoStop) h = tt
-faulty_script capacity (Err Long) h = absurd (omega arith)
-faulty_script capacity (Err Memory) h = absurd (omega arith)
+pub script_not_config : (c : Config) (script : Result (List Event) ScriptFault)
+    → status_of (ending_of_script c script) ≡ 2 → ⊥
+script_not_config c (Ok events) h = omega arith
+script_not_config c (Err (Line n)) h = omega arith
+script_not_config c (Err (State n)) h = omega arith
+script_not_config c (Err NoStop) h = omega arith
+script_not_config c (Err Long) h = omega arith
+script_not_config c (Err Memory) h = omega arith
 
-is_long : (capacity : ℕ) (script : Result (List Event) ScriptFault)
-    → (exit_of_script capacity script).status ≡ 8 → script ≡ Err Long
-is_long capacity (Ok events) h = absurd (omega arith)
-is_long capacity (Err (Line n)) h = absurd (omega arith)
-is_long capacity (Err (State n)) h = absurd (omega arith)
-is_long capacity (Err NoStop) h = absurd (omega arith)
-is_long capacity (Err Long) h = refl
-is_long capacity (Err Memory) h = absurd (omega arith)
+pub faulty_script : (c : Config) (script : Result (List Event) ScriptFault)
+    → status_of (ending_of_script c script) ≡ 3 → IsNoSession script
+faulty_script c (Ok events) h = absurd (omega arith)
+faulty_script c (Err (Line n)) h = tt
+faulty_script c (Err (State n)) h = tt
+faulty_script c (Err NoStop) h = tt
+faulty_script c (Err Long) h = absurd (omega arith)
+faulty_script c (Err Memory) h = absurd (omega arith)
 
-pub long_script : (capacity : ℕ) (bytes : List ℕ)
-    → (exit_of_script capacity (script_of Bare bytes)).status ≡ 8 → 8388608 < length bytes
-long_script capacity bytes h = script_long bytes (is_long capacity (script_of Bare bytes) h)
+is_long : (c : Config) (script : Result (List Event) ScriptFault)
+    → status_of (ending_of_script c script) ≡ 8 → script ≡ Err Long
+is_long c (Ok events) h = absurd (omega arith)
+is_long c (Err (Line n)) h = absurd (omega arith)
+is_long c (Err (State n)) h = absurd (omega arith)
+is_long c (Err NoStop) h = absurd (omega arith)
+is_long c (Err Long) h = refl
+is_long c (Err Memory) h = absurd (omega arith)
+
+pub long_script : (c : Config) (kind : ScriptKind) (bytes : List ℕ)
+    → status_of (ending_of_script c (script_of kind bytes)) ≡ 8 → 8388608 < length bytes
+long_script c kind bytes h = script_long kind bytes (is_long c (script_of kind bytes) h)

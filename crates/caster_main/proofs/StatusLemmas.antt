@@ -1,29 +1,26 @@
 -- What the status of an ending says of what came.
-use Rattle.std.proofs.Common.{◌≡◌, ℕ, ◌<◌, ◌≤◌, ◌⊎◌, nat_lt, List, length, Result, Ok, Err, IsOk, inl, inr, refl, ap, ◌∙◌, arith}
+use Rattle.std.proofs.Common.{◌≡◌, ℕ, ◌<◌, ◌≤◌, ◌⊎◌, nat_lt, List, length, Result, Ok, Err, IsOk, inl, inr, refl, ap, sym, subst, ◌∙◌, arith}
 use Rattle.std.proofs.lemmas.Bool.{cases_Bool}
 use Rattle.std.proofs.lemmas.Bool.Decides.{nat_tests}
-use Rattle.session_script.specs.declared.ScriptKind.TheVariants.{Bare}
+use Rattle.session_script.specs.declared.ScriptKind.TheVariants.{Bare, Replay}
 use Rattle.session_script.specs.Script.{script_of}
 use Rattle.cast_config.specs.declared.config.Config.{Config}
 use Rattle.cast_config.specs.declared.fault.ConfigFault.{ConfigFault}
 use Rattle.cast_config.specs.declared.fault.ConfigFault.TheVariants as configs
+use Rattle.cast_config.specs.Bare as settings
 use Rattle.caster_main.specs.declared.command.Aim.{Aim}
 use Rattle.caster_main.specs.declared.command.Aim.TheVariants.{Check, Table, Migrate}
-use Rattle.caster_main.specs.Command.{Form, bare, over}
+use Rattle.caster_main.specs.Command.{Form, bare, over, replay, made}
 use Rattle.caster_main.specs.Reading.{config_in}
-use Rattle.caster_main.specs.Outcome.{Exit, Ending, exactly, document_of, EndsSo, Came, ending_of_config, ending_of_read, ending_of_bytes, ending_of_form}
-use Rattle.caster_main.specs.Told.{IsNoConfig, IsWhole, IsFaultyConfig, IsFaultyScript, IsTooLong}
+use Rattle.caster_main.specs.Outcome.{Exit, Ending, exactly, document_of, report_of, EndsSo, Came, session_in, ending_of_script, ending_of_config, ending_of_read, ending_of_bytes, ending_of_form}
+use Rattle.caster_main.specs.Told.{IsConfigIn, IsNoConfig, IsWhole, IsFaultyConfig, IsFaultyScript, IsTooLong}
 use Rattle.caster_main.proofs.AnswerLemmas.{ending_of_bytes-long, ending_of_bytes-short}
-use Rattle.caster_main.proofs.ScriptLemmas.{whole_script, script_not_usage, script_not_config, faulty_script, long_script}
-
--- the status that an ending has
-abbrev pub status_of : Ending → ℕ
-status_of (exactly wanted) = wanted.status
-status_of (document_of c) = 0
+use Rattle.caster_main.proofs.ScriptLemmas.{status_of, whole_script, script_not_usage, script_not_config, faulty_script, long_script}
 
 pub status-ends : (ending : Ending) (end : Exit) → EndsSo ending end → end.status ≡ status_of ending
 status-ends (exactly wanted) end ends = ap (λ (e : Exit). e.status) ends
 status-ends (document_of c) end ends = ends.0
+status-ends (report_of c events) end ends = ends.0
 
 -- ---- configurations
 
@@ -32,17 +29,17 @@ ok_status Check c = refl
 ok_status Table c = refl
 ok_status Migrate c = refl
 
-read_status : (aim : Aim) (read : Result Config ConfigFault)
-    → ((status_of (ending_of_read aim read) ≡ 0) × IsOk read)
-    ⊎ (((status_of (ending_of_read aim read) ≡ 2) × IsNoConfig read) ⊎ (status_of (ending_of_read aim read) ≡ 7))
-read_status aim (Ok c) = inl (ok_status aim c, refl)
-read_status aim (Err configs.Memory) = inr (inr refl)
-read_status aim (Err configs.Toml) = inr (inl (refl, tt))
-read_status aim (Err (configs.Missing key)) = inr (inl (refl, tt))
-read_status aim (Err (configs.Wrong key)) = inr (inl (refl, tt))
-read_status aim (Err (configs.Range key)) = inr (inl (refl, tt))
-read_status aim (Err (configs.Twice key)) = inr (inl (refl, tt))
-read_status aim (Err (configs.Unknown key)) = inr (inl (refl, tt))
+read_cases : (next : Config → Ending) (read : Result Config ConfigFault)
+    → ((c : Config) × (read ≡ Ok c) × (ending_of_read next read ≡ next c))
+    ⊎ (((status_of (ending_of_read next read) ≡ 2) × IsNoConfig read) ⊎ (status_of (ending_of_read next read) ≡ 7))
+read_cases next (Ok c) = inl (c, refl, refl)
+read_cases next (Err configs.Memory) = inr (inr refl)
+read_cases next (Err configs.Toml) = inr (inl (refl, tt))
+read_cases next (Err (configs.Missing key)) = inr (inl (refl, tt))
+read_cases next (Err (configs.Wrong key)) = inr (inl (refl, tt))
+read_cases next (Err (configs.Range key)) = inr (inl (refl, tt))
+read_cases next (Err (configs.Twice key)) = inr (inl (refl, tt))
+read_cases next (Err (configs.Unknown key)) = inr (inl (refl, tt))
 
 -- the status by size and rules
 bytes_size : (bytes : List ℕ) → (8388608 < length bytes) ⊎ (length bytes ≤ 8388608)
@@ -51,67 +48,139 @@ bytes_size bytes = elim (cases_Bool (nat_lt 8388608 (length bytes))) [
   | inr short ↦ inr (grind (arith, nat_tests, short))
 ]
 
-pub bytes_status : (aim : Aim) (bytes : List ℕ)
-    → ((status_of (ending_of_bytes aim bytes) ≡ 8) × (8388608 < length bytes))
-    ⊎ (((status_of (ending_of_bytes aim bytes) ≡ 0) × IsOk (config_in bytes) × (length bytes ≤ 8388608))
-    ⊎ (((status_of (ending_of_bytes aim bytes) ≡ 2) × IsNoConfig (config_in bytes) × (length bytes ≤ 8388608))
-    ⊎ (status_of (ending_of_bytes aim bytes) ≡ 7)))
-bytes_status aim bytes = elim (bytes_size bytes) [
-  | inl long ↦ inl (ap status_of (ending_of_bytes-long aim bytes long), long)
+-- too many bytes, a configuration, the fault of one, or want of memory
+pub data Cases (next : Config → Ending) (bytes : List ℕ) : Type 0 where
+  too_many : status_of (ending_of_bytes next bytes) ≡ 8 → 8388608 < length bytes → Cases next bytes
+  read : (c : Config) → IsConfigIn bytes c → ending_of_bytes next bytes ≡ next c → Cases next bytes
+  faulty : status_of (ending_of_bytes next bytes) ≡ 2 → length bytes ≤ 8388608 → IsNoConfig (config_in bytes)
+      → Cases next bytes
+  wanting : status_of (ending_of_bytes next bytes) ≡ 7 → Cases next bytes
+
+pub bytes_cases : (next : Config → Ending) (bytes : List ℕ) → Cases next bytes
+bytes_cases next bytes = elim (bytes_size bytes) [
+  | inl long ↦ too_many (ap status_of (ending_of_bytes-long next bytes long)) long
   | inr short ↦
-      let same = ap status_of (ending_of_bytes-short aim bytes short) in
-      elim (read_status aim (config_in bytes)) [
-        | inl whole ↦ inr (inl (same ∙ whole.0, whole.1, short))
-        | inr (inl faulty) ↦ inr (inr (inl (same ∙ faulty.0, faulty.1, short)))
-        | inr (inr memory) ↦ inr (inr (inr (same ∙ memory)))
+      let same = ending_of_bytes-short next bytes short in
+      elim (read_cases next (config_in bytes)) [
+        | inl (c, is, ends) ↦ read c (short, is) (same ∙ ends)
+        | inr (inl (status, none)) ↦ faulty (ap status_of same ∙ status) short none
+        | inr (inr status) ↦ wanting (ap status_of same ∙ status)
       ]
+]
+
+-- with a status of its own after a configuration, these are the only cases
+pub whole_bytes : (next : Config → Ending) (bytes : List ℕ) → status_of (ending_of_bytes next bytes) ≡ 0
+    → (c : Config) × IsConfigIn bytes c × (status_of (next c) ≡ 0)
+whole_bytes next bytes h = elim (bytes_cases next bytes) [
+  | too_many status long ↦ absurd (omega (arith, h, status))
+  | read c is ends ↦ (c, is, sym (ap status_of ends) ∙ h)
+  | faulty status short none ↦ absurd (omega (arith, h, status))
+  | wanting status ↦ absurd (omega (arith, h, status))
+]
+
+pub usage_bytes : (next : Config → Ending) (bytes : List ℕ) → status_of (ending_of_bytes next bytes) ≡ 1
+    → (c : Config) × (status_of (next c) ≡ 1)
+usage_bytes next bytes h = elim (bytes_cases next bytes) [
+  | too_many status long ↦ absurd (omega (arith, h, status))
+  | read c is ends ↦ (c, sym (ap status_of ends) ∙ h)
+  | faulty status short none ↦ absurd (omega (arith, h, status))
+  | wanting status ↦ absurd (omega (arith, h, status))
+]
+
+pub faulty_bytes : (next : Config → Ending) (bytes : List ℕ) → ((c : Config) → status_of (next c) ≡ 2 → ⊥)
+    → status_of (ending_of_bytes next bytes) ≡ 2 → (length bytes ≤ 8388608) × IsNoConfig (config_in bytes)
+faulty_bytes next bytes never h = elim (bytes_cases next bytes) [
+  | too_many status long ↦ absurd (omega (arith, h, status))
+  | read c is ends ↦ absurd (never c (sym (ap status_of ends) ∙ h))
+  | faulty status short none ↦ (short, none)
+  | wanting status ↦ absurd (omega (arith, h, status))
+]
+
+pub session_bytes : (next : Config → Ending) (bytes : List ℕ) → status_of (ending_of_bytes next bytes) ≡ 3
+    → (c : Config) × IsConfigIn bytes c × (status_of (next c) ≡ 3)
+session_bytes next bytes h = elim (bytes_cases next bytes) [
+  | too_many status long ↦ absurd (omega (arith, h, status))
+  | read c is ends ↦ (c, is, sym (ap status_of ends) ∙ h)
+  | faulty status short none ↦ absurd (omega (arith, h, status))
+  | wanting status ↦ absurd (omega (arith, h, status))
+]
+
+pub long_bytes : (next : Config → Ending) (bytes : List ℕ) → status_of (ending_of_bytes next bytes) ≡ 8
+    → (8388608 < length bytes) ⊎ ((c : Config) × IsConfigIn bytes c × (status_of (next c) ≡ 8))
+long_bytes next bytes h = elim (bytes_cases next bytes) [
+  | too_many status long ↦ inl long
+  | read c is ends ↦ inr (c, is, sym (ap status_of ends) ∙ h)
+  | faulty status short none ↦ absurd (omega (arith, h, status))
+  | wanting status ↦ absurd (omega (arith, h, status))
 ]
 
 -- ---- forms
 
+abbrev replayed : List ℕ → Config → Ending
+replayed script c = ending_of_script c (session_in c script)
+
+is_whole : (bytes : List ℕ) (c : Config) → IsConfigIn bytes c → IsOk (config_in bytes)
+is_whole bytes c is = subst (λ (r : Result Config ConfigFault). IsOk r) (sym is.1) refl
+
 pub whole_form : (form : Form) (came : Came) → status_of (ending_of_form form came) ≡ 0 → IsWhole form came
-whole_form (bare capacity) came h = whole_script capacity (script_of Bare came.script) h
-whole_form (over aim path) came h = elim (bytes_status aim came.config) [
-  | inl long ↦ absurd (omega (arith, h, long.0))
-  | inr (inl whole) ↦ whole.1
-  | inr (inr (inl faulty)) ↦ absurd (omega (arith, h, faulty.0))
-  | inr (inr (inr memory)) ↦ absurd (omega (arith, h, memory))
-]
+whole_form (bare capacity) came h = whole_script (settings.bare capacity) (script_of Bare came.script) h
+whole_form (over aim path) came h =
+    let whole = whole_bytes (ending_of_config aim) came.config h in is_whole came.config whole.0 whole.1
+whole_form (replay config session) came h =
+    let whole = whole_bytes (replayed came.script) came.config h in
+    (whole.0, whole.1, whole_script whole.0 (session_in whole.0 came.script) whole.2)
+whole_form (made seed frames rovers) came h = tt
 
 pub no_usage_form : (form : Form) (came : Came) → status_of (ending_of_form form came) ≡ 1 → ⊥
-no_usage_form (bare capacity) came h = script_not_usage capacity (script_of Bare came.script) h
-no_usage_form (over aim path) came h = elim (bytes_status aim came.config) [
-  | inl long ↦ omega (arith, h, long.0)
-  | inr (inl whole) ↦ omega (arith, h, whole.0)
-  | inr (inr (inl faulty)) ↦ omega (arith, h, faulty.0)
-  | inr (inr (inr memory)) ↦ omega (arith, h, memory)
-]
+no_usage_form (bare capacity) came h = script_not_usage (settings.bare capacity) (script_of Bare came.script) h
+no_usage_form (over aim path) came h =
+    let usage = usage_bytes (ending_of_config aim) came.config h in
+    omega (arith, ok_status aim usage.0, usage.1)
+no_usage_form (replay config session) came h =
+    let usage = usage_bytes (replayed came.script) came.config h in
+    script_not_usage usage.0 (session_in usage.0 came.script) usage.1
+no_usage_form (made seed frames rovers) came h = omega (arith, h)
 
 pub faulty_config_form : (form : Form) (came : Came) → status_of (ending_of_form form came) ≡ 2
     → IsFaultyConfig form came
-faulty_config_form (bare capacity) came h = absurd (script_not_config capacity (script_of Bare came.script) h)
-faulty_config_form (over aim path) came h = elim (bytes_status aim came.config) [
-  | inl long ↦ absurd (omega (arith, h, long.0))
-  | inr (inl whole) ↦ absurd (omega (arith, h, whole.0))
-  | inr (inr (inl faulty)) ↦ (faulty.2, faulty.1)
-  | inr (inr (inr memory)) ↦ absurd (omega (arith, h, memory))
-]
+faulty_config_form (bare capacity) came h =
+    absurd (script_not_config (settings.bare capacity) (script_of Bare came.script) h)
+faulty_config_form (over aim path) came h =
+    faulty_bytes (ending_of_config aim) came.config (λ c two. omega (arith, two, ok_status aim c)) h
+faulty_config_form (replay config session) came h =
+    faulty_bytes (replayed came.script) came.config
+    (λ c two. script_not_config c (session_in c came.script) two) h
+faulty_config_form (made seed frames rovers) came h = omega (arith, h)
 
 pub faulty_script_form : (form : Form) (came : Came) → status_of (ending_of_form form came) ≡ 3
     → IsFaultyScript form came
-faulty_script_form (bare capacity) came h = faulty_script capacity (script_of Bare came.script) h
-faulty_script_form (over aim path) came h = elim (bytes_status aim came.config) [
-  | inl long ↦ absurd (omega (arith, h, long.0))
-  | inr (inl whole) ↦ absurd (omega (arith, h, whole.0))
-  | inr (inr (inl faulty)) ↦ absurd (omega (arith, h, faulty.0))
-  | inr (inr (inr memory)) ↦ absurd (omega (arith, h, memory))
-]
+faulty_script_form (bare capacity) came h = faulty_script (settings.bare capacity) (script_of Bare came.script) h
+faulty_script_form (over aim path) came h =
+    let faulty = session_bytes (ending_of_config aim) came.config h in
+    omega (arith, ok_status aim faulty.0, faulty.2)
+faulty_script_form (replay config session) came h =
+    let faulty = session_bytes (replayed came.script) came.config h in
+    (faulty.0, faulty.1, faulty_script faulty.0 (session_in faulty.0 came.script) faulty.2)
+faulty_script_form (made seed frames rovers) came h = omega (arith, h)
+
+long_after : (came : Came)
+    → (8388608 < length came.config)
+    ⊎ ((c : Config) × IsConfigIn came.config c × (status_of (replayed came.script c) ≡ 8))
+    → (8388608 < length came.config)
+    ⊎ ((c : Config) × IsConfigIn came.config c × (8388608 < length came.script))
+long_after came (inl long) = inl long
+long_after came (inr (c, is, status)) =
+    inr (c, is, long_script c (Replay (length c.relay)) came.script status)
+
+only_long : (aim : Aim) (came : Came)
+    → (8388608 < length came.config)
+    ⊎ ((c : Config) × IsConfigIn came.config c × (status_of (ending_of_config aim c) ≡ 8))
+    → 8388608 < length came.config
+only_long aim came (inl long) = long
+only_long aim came (inr (c, is, status)) = absurd (omega (arith, status, ok_status aim c))
 
 pub too_long_form : (form : Form) (came : Came) → status_of (ending_of_form form came) ≡ 8 → IsTooLong form came
-too_long_form (bare capacity) came h = long_script capacity came.script h
-too_long_form (over aim path) came h = elim (bytes_status aim came.config) [
-  | inl long ↦ long.1
-  | inr (inl whole) ↦ absurd (omega (arith, h, whole.0))
-  | inr (inr (inl faulty)) ↦ absurd (omega (arith, h, faulty.0))
-  | inr (inr (inr memory)) ↦ absurd (omega (arith, h, memory))
-]
+too_long_form (bare capacity) came h = long_script (settings.bare capacity) Bare came.script h
+too_long_form (over aim path) came h = only_long aim came (long_bytes (ending_of_config aim) came.config h)
+too_long_form (replay config session) came h = long_after came (long_bytes (replayed came.script) came.config h)
+too_long_form (made seed frames rovers) came h = omega (arith, h)

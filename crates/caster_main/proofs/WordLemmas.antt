@@ -1,5 +1,5 @@
 -- The words of a form are those that are read as it.
-use Rattle.std.proofs.Common.{◌≡◌, ◌==◌, ℕ, suc, zero, ◌^◌, ◌<◌, ◌≤◌, ◌⊎◌, true, false, not, ◌&&◌, List, [], ◌∷◌, length, get_or, codes, Option, None, Some, IfSome, IfNone, option_map, Result, Ok, Err, inl, inr, refl, ap, sym, subst, ◌∙◌, arith, rules, nat_le}
+use Rattle.std.proofs.Common.{◌≡◌, ◌==◌, ℕ, suc, zero, ◌-◌, ◌^◌, ◌<◌, ◌≤◌, ◌⊎◌, true, false, not, ◌&&◌, List, [], ◌∷◌, length, get_or, codes, Option, None, Some, IfSome, IfNone, option_map, Result, Ok, Err, inl, inr, refl, ap, sym, subst, ◌∙◌, arith, rules, nat_le}
 use Rattle.std.proofs.lemmas.Bool.{and_parts, le-leb, cases_Bool}
 use Rattle.std.proofs.lemmas.Bool.Decides.{nat_tests}
 use Rattle.std.proofs.lemmas.Fmt.{decimal_digit, digits_decimal, digits_value-decimal, decimal_nonempty, first_decimal, decimal-digits_value}
@@ -13,7 +13,7 @@ use Rattle.session_script.specs.Digits.{is_digit, is_number, number_from, number
 use Rattle.caster_main.specs.declared.command.Aim.{Aim}
 use Rattle.caster_main.specs.declared.command.Aim.TheVariants.{Check, Table, Migrate}
 use Rattle.caster_main.specs.declared.command.Command.{Command}
-use Rattle.caster_main.specs.Command.{Form, bare, over, AreBare, AreOver, AreOf, AreOfNoForm, aim_name, aim_of, is_path, form_of_two, form_of, form}
+use Rattle.caster_main.specs.Command.{Form, bare, over, replay, made, AreBare, AreOver, AreReplay, AreMake, AreOf, AreOfNoForm, aim_name, aim_of, is_path, form_of_two, form_of_three, seed_of, made_form, form_of_four, form_of, form}
 
 -- what is read here as digits and as a number is what std reads and writes
 own : IsNumeralModel (λ ds. list_all is_digit ds ≡ true) (number_from 0)
@@ -66,30 +66,48 @@ at_most-above limit n h = let e : nat_le n limit ≡ false = grind (arith, nat_t
 
 -- ---- what `parse` gives of a number
 
-pub capacity_read : {E : Type 0} (t : List ℕ) (r : Result ℕ E) (n : ℕ) → is_number t ≡ true
-    → ParsesUnsigned 32 10 t r → r ≡ Ok n → n ≤ 4096 → Some n ≡ at_most 4096 (number_of t)
-capacity_read t r n h parsed is within =
+pub number_read : {E : Type 0} (limit : ℕ) (t : List ℕ) (r : Result ℕ E) (n : ℕ) → is_number t ≡ true
+    → ParsesUnsigned 32 10 t r → r ≡ Ok n → n ≤ limit → Some n ≡ at_most limit (number_of t)
+number_read limit t r n h parsed is within =
     let told = rw is at (parse_digits own 32 t r parsed (number_digits t h)) in
     let value : n ≡ number_from 0 t = told.1 in
-    let small : number_from 0 t ≤ 4096 = omega (arith, value) in
-    sym (ap (λ v. at_most 4096 v) (number_of-number t h) ∙ at_most-within 4096 (number_from 0 t) small
+    let small : number_from 0 t ≤ limit = omega (arith, value, within) in
+    sym (ap (λ v. at_most limit v) (number_of-number t h) ∙ at_most-within limit (number_from 0 t) small
     ∙ ap (λ v. Some v) (sym value))
 
-pub capacity_above : {E : Type 0} (t : List ℕ) (r : Result ℕ E) (n : ℕ) → is_number t ≡ true
-    → ParsesUnsigned 32 10 t r → r ≡ Ok n → 4096 < n → None ≡ at_most 4096 (number_of t)
-capacity_above t r n h parsed is above =
+pub number_above : {E : Type 0} (limit : ℕ) (t : List ℕ) (r : Result ℕ E) (n : ℕ) → is_number t ≡ true
+    → ParsesUnsigned 32 10 t r → r ≡ Ok n → limit < n → None ≡ at_most limit (number_of t)
+number_above limit t r n h parsed is above =
     let told = rw is at (parse_digits own 32 t r parsed (number_digits t h)) in
     let value : n ≡ number_from 0 t = told.1 in
-    sym (ap (λ v. at_most 4096 v) (number_of-number t h)
-    ∙ at_most-above 4096 (number_from 0 t) (λ small. omega (arith, value, small)))
+    sym (ap (λ v. at_most limit v) (number_of-number t h)
+    ∙ at_most-above limit (number_from 0 t) (λ small. omega (arith, value, small, above)))
 
-pub capacity_overflown : {E : Type 0} (t : List ℕ) (r : Result ℕ E) (e : E) → is_number t ≡ true
-    → ParsesUnsigned 32 10 t r → r ≡ Err e → None ≡ at_most 4096 (number_of t)
-capacity_overflown t r e h parsed is =
+pub number_overflown : {E : Type 0} (limit : ℕ) (t : List ℕ) (r : Result ℕ E) (e : E) → limit < 2 ^ 32
+    → is_number t ≡ true → ParsesUnsigned 32 10 t r → r ≡ Err e → None ≡ at_most limit (number_of t)
+number_overflown limit t r e few h parsed is =
     let told = rw is at (parse_digits own 32 t r parsed (number_digits t h)) in
-    sym (ap (λ v. at_most 4096 v) (number_of-number t h)
-    ∙ at_most-above 4096 (number_from 0 t)
-    (λ small. let below : number_from 0 t < 2 ^ 32 = omega (arith, small) in told (number_some t h, below)))
+    sym (ap (λ v. at_most limit v) (number_of-number t h)
+    ∙ at_most-above limit (number_from 0 t)
+    (λ small. let below : number_from 0 t < 2 ^ 32 = omega (arith, small, few) in told (number_some t h, below)))
+
+pub seed_read : {E : Type 0} (t : List ℕ) (r : Result ℕ E) (n : ℕ) → is_number t ≡ true
+    → ParsesUnsigned 64 10 t r → r ≡ Ok n → Some n ≡ at_most (2 ^ 64 - 1) (number_of t)
+seed_read t r n h parsed is =
+    let told = rw is at (parse_digits own 64 t r parsed (number_digits t h)) in
+    let value : n ≡ number_from 0 t = told.1 in
+    let below : number_from 0 t < 2 ^ 64 = told.0.1 in
+    let small : number_from 0 t ≤ 2 ^ 64 - 1 = omega (arith, below) in
+    sym (ap (λ v. at_most (2 ^ 64 - 1) v) (number_of-number t h)
+    ∙ at_most-within (2 ^ 64 - 1) (number_from 0 t) small ∙ ap (λ v. Some v) (sym value))
+
+pub seed_overflown : {E : Type 0} (t : List ℕ) (r : Result ℕ E) (e : E) → is_number t ≡ true
+    → ParsesUnsigned 64 10 t r → r ≡ Err e → None ≡ at_most (2 ^ 64 - 1) (number_of t)
+seed_overflown t r e h parsed is =
+    let told = rw is at (parse_digits own 64 t r parsed (number_digits t h)) in
+    sym (ap (λ v. at_most (2 ^ 64 - 1) v) (number_of-number t h)
+    ∙ at_most-above (2 ^ 64 - 1) (number_from 0 t)
+    (λ small. let below : number_from 0 t < 2 ^ 64 = omega (arith, small) in told (number_some t h, below)))
 
 -- ---- the words
 
@@ -105,30 +123,30 @@ at_most-some limit v n h = elim (cases_Bool (nat_le v limit)) [
       absurd cc
 ]
 
--- what is read as a number of at most 4,096 is a number, and that one
-at_most-number : (t : List ℕ) (n : ℕ) → at_most 4096 (number_of t) ≡ Some n
-    → (is_number t ≡ true) × (number_from 0 t ≡ n) × (number_from 0 t ≤ 4096)
-at_most-number t n h = elim (cases_Bool (is_number t)) [
+-- what is read as a number within a limit is a number, and that one
+at_most-number : (limit : ℕ) (t : List ℕ) (n : ℕ) → at_most limit (number_of t) ≡ Some n
+    → (is_number t ≡ true) × (number_from 0 t ≡ n) × (number_from 0 t ≤ limit)
+at_most-number limit t n h = elim (cases_Bool (is_number t)) [
   | inl is ↦
-      let read = at_most-some 4096 (number_from 0 t) n (ap (λ v. at_most 4096 v) (sym (number_of-number t is)) ∙ h) in
+      let read = at_most-some limit (number_from 0 t) n (ap (λ v. at_most limit v) (sym (number_of-number t is)) ∙ h) in
       (is, read.0, read.1)
   | inr other ↦
-      let e : at_most 4096 (number_of t) ≡ None = rw other refl in
+      let e : at_most limit (number_of t) ≡ None = rw other refl in
       absurd cc
 ]
 
 -- a number is the decimal text of what it is read as
-decimal-number : (t : List ℕ) → is_number t ≡ true → number_from 0 t ≤ 4096 → decimal (number_from 0 t) ≡ t
+decimal-number : (t : List ℕ) → is_number t ≡ true → number_from 0 t < 2 ^ 64 → decimal (number_from 0 t) ≡ t
 decimal-number t is small =
     decimal-digits_value own t (number_digits t is) (number_some t is) (λ nought. absurd (number_first t is nought))
-    (omega (arith, small))
+    small
 
 zero_or_more : (n : ℕ) → (n ≡ 0) ⊎ (1 ≤ n)
 zero_or_more zero = inl refl
 zero_or_more (suc n) = inr (omega arith)
 
 -- a number is not 0
-number_from-positive : (t : List ℕ) → is_number t ≡ true → number_from 0 t ≤ 4096 → 1 ≤ number_from 0 t
+number_from-positive : (t : List ℕ) → is_number t ≡ true → number_from 0 t < 2 ^ 64 → 1 ≤ number_from 0 t
 number_from-positive t is small = elim (zero_or_more (number_from 0 t)) [
   | inl nought ↦
       let text = ap decimal (sym nought) ∙ decimal-number t is small in
@@ -136,15 +154,39 @@ number_from-positive t is small = elim (zero_or_more (number_from 0 t)) [
   | inr more ↦ more
 ]
 
+-- a word that is read as a number within a limit is its decimal text
+record IsDecimal (limit : ℕ) (word : List ℕ) (n : ℕ) : Type 0 where
+  least : 1 ≤ n
+  most : n ≤ limit
+  text : word ≡ decimal n
+
+read_decimal : (limit : ℕ) (word : List ℕ) (n : ℕ) → limit < 2 ^ 64 → at_most limit (number_of word) ≡ Some n
+    → IsDecimal limit word n
+read_decimal limit word n few h =
+    let read = at_most-number limit word n h in
+    let small : number_from 0 word < 2 ^ 64 = omega (arith, few, read.2) in
+    record {
+      least = subst (λ n. 1 ≤ n) read.1 (number_from-positive word read.0 small);
+      most = subst (λ n. n ≤ limit) read.1 read.2;
+      text = sym (decimal-number word read.0 small) ∙ ap decimal read.1;
+    }
+
+decimal_read : (limit n : ℕ) → 1 ≤ n → n ≤ limit → limit < 2 ^ 64 → at_most limit (number_of (decimal n)) ≡ Some n
+decimal_read limit n least most few =
+    let some : 0 < n = omega (arith, least) in
+    let small : n < 2 ^ 64 = omega (arith, most, few) in
+    ap (λ v. at_most limit v) (number_of-decimal n some small) ∙ at_most-within limit n most
+
 form_of-bare : (words : List (List ℕ)) (capacity : ℕ) → AreBare words capacity
     → form_of words ≡ Some (bare capacity)
 form_of-bare words capacity are =
-    let some : 0 < capacity = omega (arith, are.least) in
-    let small : capacity < 2 ^ 64 = omega (arith, are.most) in
-    ap form_of are.parts ∙ ap (λ v. option_map bare (at_most 4096 v)) (number_of-decimal capacity some small)
-    ∙ ap (λ v. option_map bare v) (at_most-within 4096 capacity are.most)
+    ap form_of are.parts
+    ∙ ap (λ v. option_map bare v) (decimal_read 4096 capacity are.least are.most (omega arith))
 
 -- ---- a name and a path
+
+name_is : (name text : List ℕ) → bytes_eq name text ≡ true → name ≡ text
+name_is name text h = (bytes_eq-Decides name text).0 h
 
 is_path-true : (word : List ℕ) → 1 ≤ length word → length word ≤ 255 → is_path word ≡ true
 is_path-true word least most =
@@ -165,18 +207,73 @@ form_of_two-over Check config h = rw h refl
 form_of_two-over Table config h = rw h refl
 form_of_two-over Migrate config h = rw h refl
 
+-- ---- two paths, and three numbers
+
+form_of-replay : (words : List (List ℕ)) (config session : List ℕ) → AreReplay words config session
+    → form_of words ≡ Some (replay config session)
+form_of-replay words config session are =
+    let first : is_path config ≡ true = is_path-true config are.config_is.0 are.config_is.1 in
+    let second : is_path session ≡ true = is_path-true session are.session_is.0 are.session_is.1 in
+    let read : form_of_three (codes "replay") config session ≡ Some (replay config session) = rw (first, second) refl in
+    ap form_of are.parts ∙ read
+
+-- the text of a seed that is not 0 is not that of 0
+not_nought : (n : ℕ) → 1 ≤ n → n < 2 ^ 64 → bytes_eq (decimal n) (codes "0") ≡ false
+not_nought n least small = elim (cases_Bool (bytes_eq (decimal n) (codes "0"))) [
+  | inl same ↦
+      let first = first_decimal n (omega (arith, least)) small in
+      let text : decimal n ≡ codes "0" = name_is (decimal n) (codes "0") same in
+      let nought : get_or (decimal n) 0 0 ≡ 48 = ap (λ ds. get_or ds 0 0) text in
+      absurd (omega (arith, first, nought))
+  | inr other ↦ other
+]
+
+nought_text : decimal 0 ≡ codes "0"
+nought_text = decimal_digit 0 (omega arith)
+
+nought_read : seed_of (codes "0") ≡ Some 0
+nought_read = refl
+
+seed_of-decimal : (n : ℕ) → n < 2 ^ 64 → seed_of (decimal n) ≡ Some n
+seed_of-decimal n small = elim (zero_or_more n) [
+  | inl nought ↦
+      subst (λ (m : ℕ). seed_of (decimal m) ≡ Some m) (sym nought) (ap seed_of nought_text ∙ nought_read)
+  | inr more ↦
+      let other = not_nought n more small in
+      let e : seed_of (decimal n) ≡ at_most (2 ^ 64 - 1) (number_of (decimal n)) = rw other refl in
+      e ∙ decimal_read (2 ^ 64 - 1) n more (omega (arith, small)) (omega arith)
+]
+
+made_form-all : (seed frames rovers : Option ℕ) (s f r : ℕ) → seed ≡ Some s → frames ≡ Some f → rovers ≡ Some r
+    → made_form seed frames rovers ≡ Some (made s f r)
+made_form-all seed frames rovers s f r first second third = rw (first, second, third) refl
+
+form_of-make : (words : List (List ℕ)) (seed frames rovers : ℕ) → AreMake words seed frames rovers
+    → form_of words ≡ Some (made seed frames rovers)
+form_of-make words seed frames rovers are =
+    ap form_of are.parts
+    ∙ made_form-all (seed_of (decimal seed)) (at_most 10000 (number_of (decimal frames)))
+    (at_most 64 (number_of (decimal rovers))) seed frames rovers (seed_of-decimal seed are.seed_is)
+    (decimal_read 10000 frames are.frames_are.0 are.frames_are.1 (omega arith))
+    (decimal_read 64 rovers are.rovers_are.0 are.rovers_are.1 (omega arith))
+
 pub form_of-form : (words : List (List ℕ)) (form : Form) → AreOf words form → form_of words ≡ Some form
 form_of-form words (bare capacity) are = form_of-bare words capacity are
 form_of-form words (over aim config) are =
     ap form_of are.parts ∙ form_of_two-over aim config (is_path-true config are.least are.most)
+form_of-form words (replay config session) are = form_of-replay words config session are
+form_of-form words (made seed frames rovers) are = form_of-make words seed frames rovers are
 
 -- ---- back
 
-name_is : (name text : List ℕ) → bytes_eq name text ≡ true → name ≡ text
-name_is name text h = (bytes_eq-Decides name text).0 h
-
 aim_is : (a b : Aim) → Some a ≡ Some b → a ≡ b
 aim_is a b h = cc
+
+form_is : (a b : Form) → Some a ≡ Some b → a ≡ b
+form_is a b h = cc
+
+some_number : (a b : ℕ) → Some a ≡ Some b → a ≡ b
+some_number a b h = cc
 
 aim_of-name : (name : List ℕ) (aim : Aim) → aim_of name ≡ Some aim → name ≡ aim_name aim
 aim_of-name name aim h = elim (cases_Bool (bytes_eq name (codes "check"))) [
@@ -204,13 +301,12 @@ mapped f (Some a) b h = (a, refl, cc)
 are_bare : (name word : List ℕ) (capacity : ℕ) → bytes_eq name (codes "bare") ≡ true
     → at_most 4096 (number_of word) ≡ Some capacity → AreBare (name ∷ word ∷ []) capacity
 are_bare name word capacity same h =
-    let read = at_most-number word capacity h in
-    let text : word ≡ decimal capacity = sym (decimal-number word read.0 read.2) ∙ ap decimal read.1 in
+    let read = read_decimal 4096 word capacity (omega arith) h in
     let first : name ≡ codes "bare" = name_is name (codes "bare") same in
     record {
-      least = subst (λ n. 1 ≤ n) read.1 (number_from-positive word read.0 read.2);
-      most = subst (λ n. n ≤ 4096) read.1 read.2;
-      parts = ap (λ w. w ∷ word ∷ []) first ∙ ap (λ w. codes "bare" ∷ w ∷ []) text;
+      least = read.least;
+      most = read.most;
+      parts = ap (λ w. w ∷ word ∷ []) first ∙ ap (λ w. codes "bare" ∷ w ∷ []) read.text;
     }
 
 are_over : (name word : List ℕ) (aim : Aim) → is_path word ≡ true → aim_of name ≡ Some aim
@@ -237,11 +333,103 @@ form_of_two-form name word form h = elim (cases_Bool (bytes_eq name (codes "bare
   ]
 ]
 
+are_replay : (name first second : List ℕ) → bytes_eq name (codes "replay") ≡ true → is_path first ≡ true
+    → is_path second ≡ true → AreReplay (name ∷ first ∷ second ∷ []) first second
+are_replay name first second same one two = record {
+  config_is = is_path-parts first one;
+  session_is = is_path-parts second two;
+  parts = ap (λ w. w ∷ first ∷ second ∷ []) (name_is name (codes "replay") same);
+}
+
+form_of_three-form : (name first second : List ℕ) (form : Form) → form_of_three name first second ≡ Some form
+    → AreOf (name ∷ first ∷ second ∷ []) form
+form_of_three-form name first second form h =
+    elim (cases_Bool (bytes_eq name (codes "replay") && (is_path first && is_path second))) [
+      | inl is ↦
+          let outer = and_parts (bytes_eq name (codes "replay")) (is_path first && is_path second) is in
+          let inner = and_parts (is_path first) (is_path second) outer.1 in
+          let same : replay first second ≡ form = form_is (replay first second) form (sym (rw is refl) ∙ h) in
+          subst (λ f. AreOf (name ∷ first ∷ second ∷ []) f) same
+          (are_replay name first second outer.0 inner.0 inner.1)
+      | inr other ↦
+          let e : form_of_three name first second ≡ None = rw other refl in
+          absurd cc
+    ]
+
+-- a word that is read as a seed is its decimal text
+read_seed : (word : List ℕ) (n : ℕ) → seed_of word ≡ Some n → (n < 2 ^ 64) × (word ≡ decimal n)
+read_seed word n h = elim (cases_Bool (bytes_eq word (codes "0"))) [
+  | inl nought ↦
+      let none : 0 ≡ n = some_number 0 n (sym (rw nought refl) ∙ h) in
+      let text : word ≡ decimal 0 = name_is word (codes "0") nought ∙ sym nought_text in
+      (omega (arith, none), text ∙ ap decimal none)
+  | inr other ↦
+      let read = read_decimal (2 ^ 64 - 1) word n (omega arith) (sym (rw other refl) ∙ h) in
+      (omega (arith, read.most), read.text)
+]
+
+record AreAll (seed frames rovers : Option ℕ) (form : Form) : Type 0 where
+  s : ℕ
+  f : ℕ
+  r : ℕ
+  seed_is : seed ≡ Some s
+  frames_are : frames ≡ Some f
+  rovers_are : rovers ≡ Some r
+  same : made s f r ≡ form
+
+all_made : (seed frames rovers : Option ℕ) (form : Form) → made_form seed frames rovers ≡ Some form
+    → AreAll seed frames rovers form
+all_made None frames rovers form h = absurd cc
+all_made (Some s) None rovers form h = absurd cc
+all_made (Some s) (Some f) None form h = absurd cc
+all_made (Some s) (Some f) (Some r) form h = record {
+  s = s;
+  f = f;
+  r = r;
+  seed_is = refl;
+  frames_are = refl;
+  rovers_are = refl;
+  same = form_is (made s f r) form h;
+}
+
+are_make : (name seed frames rovers : List ℕ) (s f r : ℕ) → bytes_eq name (codes "make") ≡ true
+    → seed_of seed ≡ Some s → at_most 10000 (number_of frames) ≡ Some f → at_most 64 (number_of rovers) ≡ Some r
+    → AreMake (name ∷ seed ∷ frames ∷ rovers ∷ []) s f r
+are_make name seed frames rovers s f r same first second third =
+    let named : name ≡ codes "make" = name_is name (codes "make") same in
+    let one = read_seed seed s first in
+    let two = read_decimal 10000 frames f (omega arith) second in
+    let three = read_decimal 64 rovers r (omega arith) third in
+    record {
+      seed_is = one.0;
+      frames_are = (two.least, two.most);
+      rovers_are = (three.least, three.most);
+      parts = ap (λ w. w ∷ seed ∷ frames ∷ rovers ∷ []) named
+          ∙ ap (λ w. codes "make" ∷ w ∷ frames ∷ rovers ∷ []) one.1
+          ∙ ap (λ w. codes "make" ∷ decimal s ∷ w ∷ rovers ∷ []) two.text
+          ∙ ap (λ w. codes "make" ∷ decimal s ∷ decimal f ∷ w ∷ []) three.text;
+    }
+
+form_of_four-form : (name seed frames rovers : List ℕ) (form : Form) → form_of_four name seed frames rovers ≡ Some form
+    → AreOf (name ∷ seed ∷ frames ∷ rovers ∷ []) form
+form_of_four-form name seed frames rovers form h = elim (cases_Bool (bytes_eq name (codes "make"))) [
+  | inl is ↦
+      let all = all_made (seed_of seed) (at_most 10000 (number_of frames)) (at_most 64 (number_of rovers)) form
+      (sym (rw is refl) ∙ h) in
+      subst (λ f. AreOf (name ∷ seed ∷ frames ∷ rovers ∷ []) f) all.same
+      (are_make name seed frames rovers all.s all.f all.r is all.seed_is all.frames_are all.rovers_are)
+  | inr other ↦
+      let e : form_of_four name seed frames rovers ≡ None = rw other refl in
+      absurd cc
+]
+
 pub form-form_of : (words : List (List ℕ)) (form : Form) → form_of words ≡ Some form → AreOf words form
 form-form_of [] form h = absurd cc
 form-form_of (name ∷ []) form h = absurd cc
 form-form_of (name ∷ word ∷ []) form h = form_of_two-form name word form h
-form-form_of (name ∷ word ∷ more ∷ others) form h = absurd cc
+form-form_of (name ∷ first ∷ second ∷ []) form h = form_of_three-form name first second form h
+form-form_of (name ∷ first ∷ second ∷ third ∷ []) form h = form_of_four-form name first second third form h
+form-form_of (name ∷ first ∷ second ∷ third ∷ more ∷ others) form h = absurd cc
 
 -- words that are read as nothing are of no form
 pub no_form : (words : List (List ℕ)) → form_of words ≡ None → AreOfNoForm words

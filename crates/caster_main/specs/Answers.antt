@@ -3,12 +3,15 @@ use Rattle.std.specs.Prelude.{◌≡◌, ℕ, ◌⊎◌, List, codes, Option, �
 use Rattle.session_script.specs.declared.ScriptKind.TheVariants.{Bare}
 use Rattle.session_script.specs.Script.{script_of}
 use Rattle.cast_io.specs.Causes.{Rose}
+use Rattle.cast_config.specs.declared.config.Config.{Config}
+use Rattle.cast_config.specs.Bare as settings
 use Rattle.cast_io.specs.Pieces.{AppendsPrefix}
 use Rattle.caster_main.specs.declared.answers.Answer.{Answer}
 use Rattle.caster_main.specs.declared.answers.Answer.TheVariants.{Done, Valid, NoConfig, NoSession, Usage, Long, ReadFault, Memory}
 use Rattle.caster_main.specs.declared.command.Aim.{Aim}
-use Rattle.caster_main.specs.Outcome.{Exit, Ending, EndsSo, ending_of_bytes, exit_of_script, one_line, whole_exit, usage_exit, long_exit, read_fault_exit, memory_exit}
-use Rattle.caster_main.specs.Told.{Files, Tells, Holds, IsOutcome, EndsWith, HaveForm, HaveFault}
+use Rattle.caster_main.specs.Command.{replay}
+use Rattle.caster_main.specs.Outcome.{Exit, Ending, EndsSo, Came, ending_of_bytes, ending_of_config, ending_of_form, ending_of_script, session_in, one_line, whole_exit, usage_exit, long_exit, read_fault_exit, memory_exit}
+use Rattle.caster_main.specs.Told.{Files, Tells, Holds, IsConfigIn, IsOutcome, EndsWith, HaveForm, HaveFault}
 
 -- what the program ends with after this answer, where no write fails
 abbrev pub exit_of : Answer → Exit
@@ -21,32 +24,68 @@ exit_of Long = long_exit
 exit_of ReadFault = read_fault_exit
 exit_of Memory = memory_exit
 
+-- the answer is such an end of the program; want of memory and a fault of reading have their causes
+abbrev pub IsGiven : Type 0 → Type 0 → (Exit → Type 0) → Answer → Type 0
+IsGiven memory fault IsSuch Memory = memory
+IsGiven memory fault IsSuch ReadFault = fault
+IsGiven memory fault IsSuch answer = IsSuch (exit_of answer)
+
 -- the answer is such an end of the program, or want of memory
 abbrev pub GivesEnd : Ending → Answer → Type 0
-GivesEnd ending Memory = ⊤
-GivesEnd ending ReadFault = ⊥
-GivesEnd ending answer = EndsSo ending (exit_of answer)
+GivesEnd ending answer = IsGiven ⊤ ⊥ (EndsSo ending) answer
 
--- the answer to a bare session over a ring of this capacity, with this input
+-- how a bare session over a ring of this capacity ends, with this input
+abbrev pub IsInputEnd : ℕ → Option (List ℕ) → Exit → Type 0
+IsInputEnd capacity left end = (script : List ℕ) × Tells left script
+    × EndsSo (ending_of_script (settings.bare capacity) (script_of Bare script)) end
+
 abbrev pub IsInputAnswer : ℕ → Option (List ℕ) → Type 0 → Answer → Type 0
-IsInputAnswer capacity left fault Memory = ⊤
-IsInputAnswer capacity left fault ReadFault = fault
-IsInputAnswer capacity left fault answer = (script : List ℕ) × Tells left script
-    × (exit_of answer ≡ exit_of_script capacity (script_of Bare script))
+IsInputAnswer capacity left fault answer = IsGiven ⊤ fault (IsInputEnd capacity left) answer
 
--- the answer to a command that does this with the configuration in the file of this path
+-- how a command ends that does this with the configuration in the file of this path
+abbrev pub IsFileEnd : Aim → List ℕ → Files → Exit → Type 0
+IsFileEnd aim path files end = (config : List ℕ) × Holds files path config
+    × EndsSo (ending_of_bytes (ending_of_config aim) config) end
+
 abbrev pub IsFileAnswer : Aim → List ℕ → Files → Type 0 → Answer → Type 0
-IsFileAnswer aim path files fault Memory = ⊤
-IsFileAnswer aim path files fault ReadFault = fault
-IsFileAnswer aim path files fault answer = (config : List ℕ) × Holds files path config
-    × EndsSo (ending_of_bytes aim config) (exit_of answer)
+IsFileAnswer aim path files fault answer = IsGiven ⊤ fault (IsFileEnd aim path files) answer
+
+-- the bytes are no configuration, and so the program ends, whatever comes next with one
+pub record IsRefused (bytes : List ℕ) (end : Exit) : Type 0 where
+  pub none : (c : Config) → IsConfigIn bytes c → ⊥
+  pub ends : (next : Config → Ending) → EndsSo (ending_of_bytes next bytes) end
+
+-- how a command ends for whose configuration the file of this path holds no configuration
+abbrev pub IsRefusedAt : List ℕ → Files → Exit → Type 0
+IsRefusedAt path files end = (config : List ℕ) × Holds files path config × IsRefused config end
+
+abbrev pub IsRefusal : List ℕ → Files → Type 0 → Answer → Type 0
+IsRefusal path files fault answer = IsGiven ⊤ fault (IsRefusedAt path files) answer
+
+-- how the session in the file of this path ends over a configuration
+abbrev pub IsSessionEnd : Config → List ℕ → Files → Exit → Type 0
+IsSessionEnd c path files end = (script : List ℕ) × Holds files path script
+    × EndsSo (ending_of_script c (session_in c script)) end
+
+abbrev pub IsSessionAnswer : Config → List ℕ → Files → Type 0 → Answer → Type 0
+IsSessionAnswer c path files fault answer = IsGiven ⊤ fault (IsSessionEnd c path files) answer
+
+-- how a session ends over the configuration in another file: the paths of both
+abbrev pub IsReplayEnd : List ℕ → List ℕ → Files → Exit → Type 0
+IsReplayEnd config session files end = (came : Came)
+    × Holds files config came.config
+    × ((c : Config) → IsConfigIn came.config c → Holds files session came.script)
+    × EndsSo (ending_of_form (replay config session) came) end
+
+abbrev pub IsReplayAnswer : List ℕ → List ℕ → Files → Type 0 → Answer → Type 0
+IsReplayAnswer config session files fault answer =
+    IsGiven ⊤ fault (IsReplayEnd config session files) answer
 
 -- the answer to these words, this input and these files: want of memory, a fault of reading that
 -- was counted, or the outcome
 abbrev pub IsAnswer : List (List ℕ) → Option (List ℕ) → Files → Type 0 → Type 0 → Answer → Type 0
-IsAnswer words left files of_input of_store Memory = HaveForm words
-IsAnswer words left files of_input of_store ReadFault = HaveFault words of_input of_store
-IsAnswer words left files of_input of_store answer = IsOutcome words left files (exit_of answer)
+IsAnswer words left files of_input of_store answer =
+    IsGiven (HaveForm words) (HaveFault words of_input of_store) (IsOutcome words left files) answer
 
 -- the text of this end was written and its status given, or status 5 with a write that failed
 -- inside the text

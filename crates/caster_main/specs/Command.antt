@@ -1,5 +1,5 @@
 -- The words of the command line. They have no program name.
-use Rattle.std.specs.Prelude.{◌≡◌, ℕ, ◌≤◌, nat_le, ◌&&◌, if◌then◌else◌, Bool, List, [], ◌∷◌, length, map, codes, Option, Some, None, option_map, String, string_bytes}
+use Rattle.std.specs.Prelude.{◌≡◌, ℕ, ◌-◌, ◌^◌, ◌<◌, ◌≤◌, nat_le, ◌&&◌, if◌then◌else◌, Bool, List, [], ◌∷◌, length, map, codes, Option, Some, None, option_map, String, string_bytes}
 use Rattle.std.specs.Global.{Global}
 use Rattle.std.specs.Str.{bytes_eq}
 use Rattle.std.specs.Fmt.{decimal}
@@ -13,11 +13,16 @@ use Rattle.caster_main.specs.declared.command.Command.TheVariants as commands
 abbrev pub texts : List (String Global) → List (List ℕ)
 texts words = map (λ word. string_bytes word) words
 
--- the forms of words: a bare session over a ring of so many frames; something that is done with the
--- configuration in the file of this path
+-- the forms of words
 pub data Form : Type 0 where
+  -- a bare session over a ring of so many frames
   bare : ℕ → Form
+  -- something that is done with the configuration in the file of this path
   over : Aim → List ℕ → Form
+  -- a session over a configuration: the files of both, the configuration's first
+  replay : List ℕ → List ℕ → Form
+  -- the session that is made of this seed, with so many frames and rovers
+  made : ℕ → ℕ → ℕ → Form
 
 -- the word for it
 abbrev pub aim_name : Aim → List ℕ
@@ -39,9 +44,25 @@ pub record AreOver (aim : Aim) (words : List (List ℕ)) (config : List ℕ) : T
   pub most : length config ≤ 255
   pub parts : words ≡ aim_name aim ∷ config ∷ []
 
+-- the words `replay CONFIG SESSION`: each of both has 1 to 255 bytes
+pub record AreReplay (words : List (List ℕ)) (config session : List ℕ) : Type 0 where
+  pub config_is : (1 ≤ length config) × (length config ≤ 255)
+  pub session_is : (1 ≤ length session) × (length session ≤ 255)
+  pub parts : words ≡ codes "replay" ∷ config ∷ session ∷ []
+
+-- the words `make SEED FRAMES ROVERS`: decimal numbers without signs or leading zeros, SEED below
+-- 2^64, FRAMES from 1 to 10,000, ROVERS from 1 to 64
+pub record AreMake (words : List (List ℕ)) (seed frames rovers : ℕ) : Type 0 where
+  pub seed_is : seed < 2 ^ 64
+  pub frames_are : (1 ≤ frames) × (frames ≤ 10000)
+  pub rovers_are : (1 ≤ rovers) × (rovers ≤ 64)
+  pub parts : words ≡ codes "make" ∷ decimal seed ∷ decimal frames ∷ decimal rovers ∷ []
+
 abbrev pub AreOf : List (List ℕ) → Form → Type 0
 AreOf words (bare capacity) = AreBare words capacity
 AreOf words (over aim config) = AreOver aim words config
+AreOf words (replay config session) = AreReplay words config session
+AreOf words (made seed frames rovers) = AreMake words seed frames rovers
 
 -- the words are of no form that there is
 abbrev pub AreOfNoForm : List (List ℕ) → Type 0
@@ -52,7 +73,9 @@ abbrev pub ReadNoInput : List (List ℕ) → Type 0
 ReadNoInput words = (capacity : ℕ) → AreBare words capacity → ⊥
 
 abbrev pub NameNoFile : List (List ℕ) → Type 0
-NameNoFile words = (aim : Aim) (config : List ℕ) → AreOver aim words config → ⊥
+NameNoFile words =
+    ((aim : Aim) (config : List ℕ) → AreOver aim words config → ⊥)
+    × ((config session : List ℕ) → AreReplay words config session → ⊥)
 
 -- ---- the same, read from the words
 
@@ -75,19 +98,49 @@ form_of_two name word =
     else if is_path word then option_map (λ aim. over aim word) (aim_of name)
     else None
 
+-- a name and two words
+abbrev pub form_of_three : List ℕ → List ℕ → List ℕ → Option Form
+form_of_three name first second =
+    if bytes_eq name (codes "replay") && (is_path first && is_path second)
+    then Some (replay first second) else None
+
+-- any number below 2^64
+abbrev pub seed_of : List ℕ → Option ℕ
+seed_of word =
+    if bytes_eq word (codes "0") then Some 0 else at_most (2 ^ 64 - 1) (number_of word)
+
+abbrev pub made_form : Option ℕ → Option ℕ → Option ℕ → Option Form
+made_form None frames rovers = None
+made_form (Some seed) None rovers = None
+made_form (Some seed) (Some frames) None = None
+made_form (Some seed) (Some frames) (Some rovers) = Some (made seed frames rovers)
+
+-- a name and three words
+abbrev pub form_of_four : List ℕ → List ℕ → List ℕ → List ℕ → Option Form
+form_of_four name seed frames rovers =
+    if bytes_eq name (codes "make")
+    then made_form (seed_of seed) (at_most 10000 (number_of frames)) (at_most 64 (number_of rovers))
+    else None
+
 abbrev pub form_of : List (List ℕ) → Option Form
 form_of [] = None
 form_of (name ∷ []) = None
 form_of (name ∷ word ∷ []) = form_of_two name word
-form_of (name ∷ word ∷ more ∷ others) = None
+form_of (name ∷ first ∷ second ∷ []) = form_of_three name first second
+form_of (name ∷ first ∷ second ∷ third ∷ []) = form_of_four name first second third
+form_of (name ∷ first ∷ second ∷ third ∷ more ∷ others) = None
 
 -- the files that words of a form name, in the order in which they are read
 abbrev pub files_of : Option Form → List (List ℕ)
 files_of None = []
 files_of (Some (bare capacity)) = []
 files_of (Some (over aim config)) = config ∷ []
+files_of (Some (replay config session)) = config ∷ session ∷ []
+files_of (Some (made seed frames rovers)) = []
 
 -- the command that the code has read
 abbrev pub form : Command → Form
 form (commands.Bare capacity) = bare capacity
 form (commands.Over aim config) = over aim config.now
+form (commands.Replay config session) = replay config.now session.now
+form (commands.Make seed frames rovers) = made seed frames rovers

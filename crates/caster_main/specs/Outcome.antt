@@ -3,23 +3,23 @@
 use Rattle.std.specs.Prelude.{◌≡◌, ℕ, nat_lt, if◌then◌else◌, List, [], ◌∷◌, ◌++◌, length, codes, Option, Some, None, Result, Ok, Err}
 use Rattle.std.specs.Fmt.{decimal}
 use Rattle.session_script.specs.declared.Event.{Event}
-use Rattle.session_script.specs.declared.ScriptKind.TheVariants.{Bare}
+use Rattle.session_script.specs.declared.ScriptKind.TheVariants.{Bare, Replay}
 use Rattle.session_script.specs.declared.ScriptFault.{ScriptFault}
 use Rattle.session_script.specs.declared.ScriptFault.TheVariants as scripts
 use Rattle.session_script.specs.Script.{script_of}
-use Rattle.caster_replay.specs.World as world
-use Rattle.caster_replay.specs.Report.{report}
 use Rattle.sourcetable.specs.Table.{table_text}
 use Rattle.cast_config.specs.declared.config.Config.{Config}
 use Rattle.cast_config.specs.declared.fault.ConfigFault.{ConfigFault}
 use Rattle.cast_config.specs.declared.fault.ConfigFault.TheVariants as configs
+use Rattle.cast_config.specs.Bare as settings
 use Rattle.cast_config.specs.Faults.{fault_line}
 use Rattle.cast_config.specs.Document.{IsRead}
 use Rattle.config_table.specs.Table.{table_records}
 use Rattle.config_write.specs.Written.{HasVersion}
+use Rattle.run_texts.specs.Texts.{IsRunText, made_text}
 use Rattle.caster_main.specs.declared.command.Aim.{Aim}
 use Rattle.caster_main.specs.declared.command.Aim.TheVariants.{Check, Table, Migrate}
-use Rattle.caster_main.specs.Command.{Form, bare, over, form_of}
+use Rattle.caster_main.specs.Command.{Form, bare, over, replay, made, form_of}
 use Rattle.caster_main.specs.Reading.{config_in}
 
 -- how the program ends: its status and what it writes
@@ -27,11 +27,14 @@ pub record Exit : Type 0 where
   pub status : ℕ
   pub text : List ℕ
 
--- how it is to end: exactly so, or with status 0 and any document of version 2 that says this
--- configuration
+-- how it is to end
 pub data Ending : Type 0 where
+  -- exactly so
   exactly : Exit → Ending
+  -- with status 0 and any document of version 2 that says this configuration
   document_of : Config → Ending
+  -- with status 0 and the report of a run of these events over this configuration
+  report_of : Config → List Event → Ending
 
 -- the text is a document of version 2 that is read as this configuration
 abbrev pub IsDocumentOf : Config → List ℕ → Type 0
@@ -41,6 +44,7 @@ IsDocumentOf c text = IsRead text (Ok c) × HasVersion 2 text
 abbrev pub EndsSo : Ending → Exit → Type 0
 EndsSo (exactly wanted) end = end ≡ wanted
 EndsSo (document_of c) end = (end.status ≡ 0) × IsDocumentOf c end.text
+EndsSo (report_of c events) end = (end.status ≡ 0) × IsRunText c events end.text
 
 -- words as one line
 abbrev pub one_line : List ℕ → List ℕ
@@ -75,10 +79,14 @@ exit_of_fault scripts.NoStop = session_exit (codes "no stop")
 exit_of_fault scripts.Long = long_exit
 exit_of_fault scripts.Memory = memory_exit
 
--- the run of a script over a ring with this capacity
-abbrev pub exit_of_script : ℕ → Result (List Event) ScriptFault → Exit
-exit_of_script capacity (Ok events) = whole_exit (report (world.bare capacity) events)
-exit_of_script capacity (Err fault) = exit_of_fault fault
+-- the run of a script over a configuration
+abbrev pub ending_of_script : Config → Result (List Event) ScriptFault → Ending
+ending_of_script c (Ok events) = report_of c events
+ending_of_script c (Err fault) = exactly (exit_of_fault fault)
+
+-- what the bytes of a session say, whose relays are those of the configuration
+abbrev pub session_in : Config → List ℕ → Result (List Event) ScriptFault
+session_in c bytes = script_of (Replay (length c.relay)) bytes
 
 -- ---- configurations
 
@@ -93,15 +101,16 @@ ending_of_config Check c = exactly (whole_exit (one_line (codes "ok")))
 ending_of_config Table c = exactly (whole_exit (table_text (table_records c)))
 ending_of_config Migrate c = document_of c
 
-abbrev pub ending_of_read : Aim → Result Config ConfigFault → Ending
-ending_of_read aim (Ok c) = ending_of_config aim c
-ending_of_read aim (Err fault) = exactly (exit_of_config_fault fault)
+-- with a configuration this comes next
+abbrev pub ending_of_read : (Config → Ending) → Result Config ConfigFault → Ending
+ending_of_read next (Ok c) = next c
+ending_of_read next (Err fault) = exactly (exit_of_config_fault fault)
 
 -- a configuration has at most 8 MiB
-abbrev pub ending_of_bytes : Aim → List ℕ → Ending
-ending_of_bytes aim bytes =
+abbrev pub ending_of_bytes : (Config → Ending) → List ℕ → Ending
+ending_of_bytes next bytes =
     if nat_lt 8388608 (length bytes) then exactly long_exit
-    else ending_of_read aim (config_in bytes)
+    else ending_of_read next (config_in bytes)
 
 -- ---- words
 
@@ -113,8 +122,12 @@ pub record Came : Type 0 where
 
 abbrev pub ending_of_form : Form → Came → Ending
 ending_of_form (bare capacity) came =
-    exactly (exit_of_script capacity (script_of Bare came.script))
-ending_of_form (over aim config) came = ending_of_bytes aim came.config
+    ending_of_script (settings.bare capacity) (script_of Bare came.script)
+ending_of_form (over aim config) came = ending_of_bytes (ending_of_config aim) came.config
+ending_of_form (replay config session) came =
+    ending_of_bytes (λ c. ending_of_script c (session_in c came.script)) came.config
+ending_of_form (made seed frames rovers) came =
+    exactly (whole_exit (made_text seed frames rovers))
 
 abbrev pub ending_of : Option Form → Came → Ending
 ending_of None came = exactly usage_exit

@@ -1,6 +1,6 @@
 -- The outcome where input and files may not tell their bytes, and what a status says of words, files
 -- and input.
-use Rattle.std.specs.Prelude.{◌≡◌, ℕ, ◌<◌, ◌≤◌, ◌⊎◌, List, length, Option, Some, None, Result, Ok, Err, IsOk, ⊤}
+use Rattle.std.specs.Prelude.{◌≡◌, ℕ, ◌<◌, ◌≤◌, ◌⊎◌, List, [], ◌∷◌, length, Option, Some, None, Result, Ok, Err, IsOk, ⊤}
 use Rattle.std.specs.Io.KnownBytes.{Appends}
 use Rattle.session_script.specs.declared.Event.{Event}
 use Rattle.session_script.specs.declared.ScriptKind.TheVariants.{Bare}
@@ -9,13 +9,14 @@ use Rattle.session_script.specs.declared.ScriptFault.TheVariants as scripts
 use Rattle.session_script.specs.Script.{script_of}
 use Rattle.cast_io.specs.Pieces.{AppendsPrefix}
 use Rattle.cast_io.specs.Stores.{content_of}
+use Rattle.cast_io.specs.Told.{Grew}
 use Rattle.cast_config.specs.declared.config.Config.{Config}
 use Rattle.cast_config.specs.declared.fault.ConfigFault.{ConfigFault}
 use Rattle.cast_config.specs.declared.fault.ConfigFault.TheVariants as configs
 use Rattle.cast_config.specs.Document.{IsRead}
-use Rattle.caster_main.specs.Command.{Form, bare, over, AreOf, form_of}
+use Rattle.caster_main.specs.Command.{Form, bare, over, replay, made, AreOf, form_of}
 use Rattle.caster_main.specs.Reading.{config_in}
-use Rattle.caster_main.specs.Outcome.{Exit, Came, EndsSo, read_fault_exit, memory_exit, outcome}
+use Rattle.caster_main.specs.Outcome.{Exit, Came, EndsSo, read_fault_exit, memory_exit, outcome, session_in}
 
 -- files as a store tells them: pairs of path and content, of which the first of a path counts
 abbrev pub Files : Type 0
@@ -38,14 +39,45 @@ abbrev pub IsConfigAt : Files → List ℕ → Config → Type 0
 IsConfigAt files path c =
     (bytes : List ℕ) × Holds files path bytes × (length bytes ≤ 8388608) × IsRead bytes (Ok c)
 
--- what came for words of this form is what input and files tell
+-- where the files are told, that of this path is a session of these events
+abbrev pub IsSessionAt : Files → List ℕ → Config → List Event → Type 0
+IsSessionAt files path c events =
+    (bytes : List ℕ) × Holds files path bytes × (session_in c bytes ≡ Ok events)
+
+-- the bytes are few enough, and say this configuration
+abbrev pub IsConfigIn : List ℕ → Config → Type 0
+IsConfigIn bytes c = (length bytes ≤ 8388608) × (config_in bytes ≡ Ok c)
+
+-- what came for words of this form is what input and files tell. A session is read where its
+-- configuration is one
 abbrev pub IsTold : Form → Option (List ℕ) → Files → Came → Type 0
 IsTold (bare capacity) left files came = Tells left came.script
 IsTold (over aim config) left files came = Holds files config came.config
+IsTold (replay config session) left files came =
+    Holds files config came.config
+    × ((c : Config) → IsConfigIn came.config c → Holds files session came.script)
+IsTold (made seed frames rovers) left files came = ⊤
 
 abbrev pub HasCome : Option Form → Option (List ℕ) → Files → Came → Type 0
 HasCome None left files came = ⊤
 HasCome (Some form) left files came = IsTold form left files came
+
+-- ---- what was asked for
+
+-- the files that were asked for, in order, for words that are read so: a session only where its
+-- configuration is one
+abbrev pub AreAsked : Option Form → Files → List (List ℕ) → Type 0
+AreAsked None files paths = paths ≡ []
+AreAsked (Some (bare capacity)) files paths = paths ≡ []
+AreAsked (Some (over aim config)) files paths = paths ≡ config ∷ []
+AreAsked (Some (replay config session)) files paths =
+    (paths ≡ config ∷ [])
+    ⊎ ((paths ≡ config ∷ session ∷ []) × (c : Config) × IsConfigAt files config c)
+AreAsked (Some (made seed frames rovers)) files paths = paths ≡ []
+
+-- by what it was asked before and now, the store was asked for these, and for no other
+abbrev pub IsAsked : Option Form → Files → Option (List (List ℕ)) → Option (List (List ℕ)) → Type 0
+IsAsked form files old new = (paths : List (List ℕ)) × AreAsked form files paths × Grew old new paths
 
 -- ---- how the program ended
 
@@ -82,10 +114,13 @@ HaveCome IsSuch words left files =
     (form : Form) × (came : Came) × AreOf words form × IsTold form left files came
     × IsSuch form came
 
--- a script, or a configuration
+-- a script, or a configuration, or both
 abbrev pub IsWhole : Form → Came → Type 0
 IsWhole (bare capacity) came = IsOk (script_of Bare came.script)
 IsWhole (over aim config) came = IsOk (config_in came.config)
+IsWhole (replay config session) came =
+    (c : Config) × IsConfigIn came.config c × IsOk (session_in c came.script)
+IsWhole (made seed frames rovers) came = ⊤
 
 -- the bytes break a rule of configurations, or are no document
 abbrev pub IsNoConfig : Result Config ConfigFault → Type 0
@@ -97,6 +132,9 @@ abbrev pub IsFaultyConfig : Form → Came → Type 0
 IsFaultyConfig (bare capacity) came = ⊥
 IsFaultyConfig (over aim config) came =
     (length came.config ≤ 8388608) × IsNoConfig (config_in came.config)
+IsFaultyConfig (replay config session) came =
+    (length came.config ≤ 8388608) × IsNoConfig (config_in came.config)
+IsFaultyConfig (made seed frames rovers) came = ⊥
 
 -- the bytes have a faulty line or no `stop`
 abbrev pub IsNoSession : Result (List Event) ScriptFault → Type 0
@@ -110,17 +148,26 @@ IsNoSession (Err scripts.Memory) = ⊥
 abbrev pub IsFaultyScript : Form → Came → Type 0
 IsFaultyScript (bare capacity) came = IsNoSession (script_of Bare came.script)
 IsFaultyScript (over aim config) came = ⊥
+IsFaultyScript (replay config session) came =
+    (c : Config) × IsConfigIn came.config c × IsNoSession (session_in c came.script)
+IsFaultyScript (made seed frames rovers) came = ⊥
 
 -- more bytes than a script or a configuration may have
 abbrev pub IsTooLong : Form → Came → Type 0
 IsTooLong (bare capacity) came = 8388608 < length came.script
 IsTooLong (over aim config) came = 8388608 < length came.config
+IsTooLong (replay config session) came =
+    (8388608 < length came.config)
+    ⊎ ((c : Config) × IsConfigIn came.config c × (8388608 < length came.script))
+IsTooLong (made seed frames rovers) came = ⊥
 
 -- the words are of a form, and the fault is of what is read for it: the input's for a bare session,
--- and the store's for a command that names a configuration
+-- the store's for a command that names a configuration, and none where a session is made
 abbrev pub FaultFor : Form → Type 0 → Type 0 → Type 0
 FaultFor (bare capacity) of_input of_store = of_input
 FaultFor (over aim config) of_input of_store = of_store
+FaultFor (replay config session) of_input of_store = of_store
+FaultFor (made seed frames rovers) of_input of_store = ⊥
 
 abbrev pub HaveFault : List (List ℕ) → Type 0 → Type 0 → Type 0
 HaveFault words of_input of_store =

@@ -1,23 +1,19 @@
 //! What is decided before anything is written.
-ghost use Rattle.std.specs.Prelude.{◌≡◌, ◌≤◌, ◌+◌, length, MatchResult};
-ghost use Rattle.session_script.specs.declared.ScriptKind.TheVariants.{Bare};
-ghost use Rattle.session_script.specs.Script.{script_of};
+ghost use Rattle.std.specs.Prelude.{◌≡◌, ◌≤◌, ◌+◌, ◌*◌, length};
 ghost use Rattle.cast_io.specs.Causes.{Rose};
 ghost use Rattle.cast_io.specs.Pieces.{Loses};
-ghost use Rattle.cast_io.specs.Told.{Grew};
 ghost use Rattle.caster_main.specs.Command.{NameNoFile, ReadNoInput, files_of, form_of, texts};
-ghost use Rattle.caster_main.specs.Outcome.{exactly, exit_of_script, exit_of_fault};
-ghost use Rattle.caster_main.specs.Answers.{exit_of, IsAnswer, IsInputAnswer, GivesEnd};
+ghost use Rattle.caster_main.specs.Outcome.{exactly, whole_exit};
+ghost use Rattle.caster_main.specs.Told.{IsAsked};
+ghost use Rattle.caster_main.specs.Answers.{exit_of, IsAnswer, GivesEnd};
+ghost use Rattle.run_texts.specs.Texts.{made_text};
 
 use crate::command::{Command, command_of};
 use crate::config_answers::answer_over;
-use cast_io::{ReadAllFault, Source, Store, read_all};
-use caster_replay::run_bare;
-use session_script::{ScriptFault, ScriptKind, parse};
+use crate::session_answers::{answer_to_input, answer_to_replay};
+use cast_io::{Source, Store};
+use run_texts::made_text;
 use std::alloc::{AllocError, Global};
-
-/// The most bytes that a script has: 8 MiB.
-const LONGEST_SCRIPT: usize = 8_388_608;
 
 /// What the program is to write, and with which status it is to end.
 #[derive(Debug, Drop)]
@@ -90,72 +86,37 @@ pub fn answer_to<S: Store, I: Source>(
     ensures unasked { NameNoFile (texts words.now) → store.new ≡ store.old }
     ensures reads { Loses (λ came. I.reads input.new ≤ I.reads input.old + length came + 1)
         (I.left input.old) (I.left input.new) }
-    ensures asked { Grew (S.store store.old).asked (S.store store.new).asked
-        (files_of (form_of (texts words.now))) }
+    ensures asked { IsAsked (form_of (texts words.now)) (S.store store.old).files
+        (S.store store.old).asked (S.store store.new).asked }
     ensures files { (S.store store.new).files ≡ (S.store store.old).files }
-    ensures few { S.reads store.new ≤ S.reads store.old + 8388610 }
+    ensures few { S.reads store.new
+        ≤ S.reads store.old + 8388610 * length (files_of (form_of (texts words.now))) }
 {
     match command_of(words) {
         None => Answer::Usage,
         Some(Command::Bare(capacity)) => answer_to_input(alloc, capacity, input),
         Some(Command::Over(aim, path)) => answer_over(alloc, aim, path, store),
+        Some(Command::Replay { config, session }) => {
+            answer_to_replay(alloc, config, session, store)
+        }
+        Some(
+            Command::Make {
+                seed,
+                frames,
+                rovers,
+            },
+        ) => answer_to_make(alloc, seed, frames, rovers),
     }
 }
 
-// The answer to the script that the input is, over a ring of this capacity.
-fn answer_to_input<I: Source>(alloc: Global, capacity: u32, input: &mut I) -> Answer
-    requires { (1 ≤ capacity) × (capacity ≤ 4096) }
-    ensures answer { IsInputAnswer capacity (I.left input.old)
-        (Rose (I.faults input.old) (I.faults input.new)) result }
-    ensures later { I.faults input.old ≤ I.faults input.new }
-    ensures reads { Loses (λ came. I.reads input.new ≤ I.reads input.old + length came + 1)
-        (I.left input.old) (I.left input.new) }
+// The answer to a session that is made of this number, with so many frames and rovers.
+fn answer_to_make(alloc: Global, seed: u64, frames: u32, rovers: u32) -> Answer
+    requires frames { (1 ≤ frames) × (frames ≤ 10000) }
+    requires rovers { (1 ≤ rovers) × (rovers ≤ 64) }
+    ensures { GivesEnd (exactly (whole_exit (made_text seed frames rovers))) result }
 {
-    match read_all(alloc, input, LONGEST_SCRIPT) {
-        Ok(bytes) => answer_to_script(alloc, capacity, &bytes),
-        Err(ReadAllFault::Failed) => Answer::ReadFault,
-        Err(ReadAllFault::Long) => Answer::Long,
-        Err(ReadAllFault::Memory) => Answer::Memory,
-    }
-}
-
-// The answer to a script of these bytes, which are no more than a script may have.
-fn answer_to_script(alloc: Global, capacity: u32, bytes: &[u8]) -> Answer
-    requires capacity { (1 ≤ capacity) × (capacity ≤ 4096) }
-    requires size { length bytes.now ≤ 8388608 }
-    ensures { GivesEnd (exactly (exit_of_script capacity (script_of Bare bytes.now))) result }
-{
-    let events = match parse(alloc, bytes, ScriptKind::Bare) {
-        Ok(events) => events,
-        Err(fault) => return answer_to_fault(alloc, &fault),
-    };
-    let mut text = Vec::new(alloc);
-    match run_bare(alloc, capacity, &events, &mut text) {
-        Ok(()) => Answer::Done(text),
-        Err(AllocError) => Answer::Memory,
-    }
-}
-
-// The answer to a script that has this fault.
-fn answer_to_fault(alloc: Global, fault: &ScriptFault) -> Answer
-    ensures { GivesEnd (exactly (exit_of_fault fault.now)) result }
-{
-    match fault {
-        ScriptFault::Line(number) => answer_of(format!(in alloc; "session: line {number}\n")),
-        ScriptFault::State(number) => answer_of(format!(in alloc; "session: state {number}\n")),
-        ScriptFault::NoStop => answer_of(String::from_str(alloc, "session: no stop\n")),
-        ScriptFault::Long => Answer::Long,
-        ScriptFault::Memory => Answer::Memory,
-    }
-}
-
-// The answer that this line says why the input is no session.
-fn answer_of(line: Result<String, AllocError>) -> Answer
-    ensures { MatchResult line (λ text. result ≡ Answer.NoSession text.bytes)
-        (λ _. result ≡ Answer.Memory) }
-{
-    match line {
-        Ok(text) => Answer::NoSession(text.into_bytes()),
+    match made_text(alloc, seed, frames, rovers) {
+        Ok(text) => Answer::Done(text),
         Err(AllocError) => Answer::Memory,
     }
 }

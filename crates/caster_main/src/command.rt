@@ -1,11 +1,17 @@
 //! The words of the command line.
-ghost use Rattle.std.specs.Prelude.{◌≡◌, ℕ, List, Some, IfSome, IfNone, option_map};
+ghost use Rattle.std.specs.Prelude.{◌≡◌, ◌&&◌, ◌-◌, ◌^◌, ℕ, List, Some, IfSome, IfNone, option_map};
 ghost use Rattle.std.specs.List.{list_all};
 ghost use Rattle.session_script.specs.Digits.{is_digit, is_number, number_of, at_most};
-ghost use Rattle.caster_main.specs.Command.{AreOf, AreOfNoForm, Form, aim_of, form, form_of, form_of_two, is_path, texts};
+ghost use Rattle.caster_main.specs.Command.{AreOf, AreOfNoForm, Form, aim_of, form, form_of, form_of_four, form_of_three, form_of_two, is_path, seed_of, texts};
 
 // The most frames that a ring keeps.
 const LARGEST_RING: u32 = 4096;
+
+// The most frames of a session that is made.
+const MOST_FRAMES: u32 = 10_000;
+
+// The most rovers of one.
+const MOST_ROVERS: u32 = 64;
 
 // The most bytes of a path.
 const LONGEST_PATH: usize = 255;
@@ -28,6 +34,22 @@ pub enum Command<'a> {
     Bare(u32),
     /// This is done with the configuration in the file of this path.
     Over(Aim, &'a str),
+    /// A session from a file is run over the configuration in another: the paths of both.
+    Replay {
+        /// The configuration's.
+        config: &'a str,
+        /// The session's.
+        session: &'a str,
+    },
+    /// A session is made of a number and run.
+    Make {
+        /// The number.
+        seed: u64,
+        /// How many frames it has.
+        frames: u32,
+        /// How many rovers it has.
+        rovers: u32,
+    },
 }
 
 /// The command that the words are, and None where they are of no form.
@@ -53,7 +75,15 @@ fn command_in(words: &[String]) -> Option<Command<'_>>
 {
     match words {
         [name, word] => command_of_two(name.as_str(), word.as_str()),
-        _ => None,
+        [name, first, second] => command_of_three(name.as_str(), first.as_str(), second.as_str()),
+        [name, seed, frames, rovers] => command_of_four(
+            name.as_str(),
+            seed.as_str(),
+            frames.as_str(),
+            rovers.as_str(),
+        ),
+        [] | [_] => None,
+        [_, _, _, _, _, ..] => None,
     }
 }
 
@@ -62,7 +92,7 @@ fn command_of_two<'a>(name: &str, word: &'a str) -> Option<Command<'a>>
     ensures { option_map form result ≡ form_of_two name.now word.now }
 {
     if name == "bare" {
-        return match capacity_of(word) {
+        return match number_within(LARGEST_RING, word) {
             Some(capacity) => Some(Command::Bare(capacity)),
             None => None,
         };
@@ -74,6 +104,43 @@ fn command_of_two<'a>(name: &str, word: &'a str) -> Option<Command<'a>>
         Some(aim) => Some(Command::Over(aim, word)),
         None => None,
     }
+}
+
+// The command of a name and two words.
+fn command_of_three<'a>(name: &str, first: &'a str, second: &'a str) -> Option<Command<'a>>
+    ensures { option_map form result ≡ form_of_three name.now first.now second.now }
+{
+    if name == "replay" && are_paths(first, second) {
+        Some(Command::Replay {
+            config: first,
+            session: second,
+        })
+    } else {
+        None
+    }
+}
+
+// The command of a name and three words.
+fn command_of_four<'a>(name: &str, seed: &str, frames: &str, rovers: &str) -> Option<Command<'a>>
+    ensures { option_map form result ≡ form_of_four name.now seed.now frames.now rovers.now }
+{
+    if name != "make" {
+        return None;
+    }
+    let Some(seed) = seed_of(seed) else {
+        return None;
+    };
+    let Some(frames) = number_within(MOST_FRAMES, frames) else {
+        return None;
+    };
+    let Some(rovers) = number_within(MOST_ROVERS, rovers) else {
+        return None;
+    };
+    Some(Command::Make {
+        seed,
+        frames,
+        rovers,
+    })
 }
 
 // What a command of this name does with a configuration.
@@ -95,9 +162,16 @@ fn is_path(word: &str) -> bool
     1 <= word.len() && word.len() <= LONGEST_PATH
 }
 
-// The number that the word is, from 1 to 4,096.
-fn capacity_of(word: &str) -> Option<u32>
-    ensures { result ≡ at_most 4096 (number_of word.now) }
+// Both words can be paths.
+fn are_paths(first: &str, second: &str) -> bool
+    ensures { result ≡ (is_path first.now && is_path second.now) }
+{
+    is_path(first) && is_path(second)
+}
+
+// The number that the word is, from 1 to this limit.
+fn number_within(limit: u32, word: &str) -> Option<u32>
+    ensures { result ≡ at_most limit (number_of word.now) }
 {
     if !is_plain_number(word.as_bytes()) {
         return None;
@@ -105,10 +179,30 @@ fn capacity_of(word: &str) -> Option<u32>
     let Ok(number) = word.parse::<u32>() else {
         return None;
     };
-    if number <= LARGEST_RING {
-        Some(number)
+    if number <= limit { Some(number) } else { None }
+}
+
+// The number that the word is, from 1 on and below 2^64.
+fn large_number(word: &str) -> Option<u64>
+    ensures { result ≡ at_most (2 ^ 64 - 1) (number_of word.now) }
+{
+    if !is_plain_number(word.as_bytes()) {
+        return None;
+    }
+    match word.parse::<u64>() {
+        Ok(number) => Some(number),
+        Err(_) => None,
+    }
+}
+
+// The number below 2^64 that the word is.
+fn seed_of(word: &str) -> Option<u64>
+    ensures { result ≡ seed_of word.now }
+{
+    if word == "0" {
+        Some(0)
     } else {
-        None
+        large_number(word)
     }
 }
 

@@ -1,15 +1,15 @@
 //! What is decided by the configuration in a file.
-ghost use Rattle.std.specs.Prelude.{◌≡◌, ◌≤◌, ◌<◌, ◌+◌, ◌∷◌, [], ℕ, List, length, vec_len, IfOk, IsErrOf};
+ghost use Rattle.std.specs.Prelude.{◌≡◌, ◌≤◌, ◌<◌, ◌+◌, ◌∷◌, [], ℕ, List, Ok, length, vec_len, IfErr, IfOk, IsErrOf, ⊤};
 ghost use Rattle.cast_io.specs.Causes.{Rose};
 ghost use Rattle.cast_io.specs.Told.{Grew};
 ghost use Rattle.sourcetable.specs.Table.{table_text};
+ghost use Rattle.cast_config.specs.Document.{IsRead};
 ghost use Rattle.cast_config.specs.Kept.{KeepsRules};
 ghost use Rattle.config_table.specs.Table.{table_records};
 ghost use Rattle.config_write.specs.Written.{WasRead};
-ghost use Rattle.caster_main.specs.Reading.{config_in};
-ghost use Rattle.caster_main.specs.Outcome.{IsDocumentOf, ending_of_config, ending_of_read, exactly, exit_of_config_fault};
-ghost use Rattle.caster_main.specs.Told.{Holds};
-ghost use Rattle.caster_main.specs.Answers.{GivesEnd, IsFileAnswer};
+ghost use Rattle.caster_main.specs.Outcome.{IsDocumentOf, ending_of_config, exactly, exit_of_config_fault};
+ghost use Rattle.caster_main.specs.Told.{Holds, IsConfigAt};
+ghost use Rattle.caster_main.specs.Answers.{GivesEnd, IsFileAnswer, IsGiven, IsRefusal, IsRefused};
 
 use crate::answers::Answer;
 use crate::command::Aim;
@@ -20,8 +20,8 @@ use config_write::write_config;
 use sourcetable::write_table;
 use std::alloc::{AllocError, Global};
 
-/// The most bytes that a configuration has: 8 MiB.
-const LONGEST_CONFIG: usize = 8_388_608;
+/// The most bytes that a configuration or a session has: 8 MiB.
+const LONGEST: usize = 8_388_608;
 
 /// The answer to a command that does this with the configuration in the file of this path. The
 /// store is asked for that file once.
@@ -33,16 +33,44 @@ pub fn answer_over<S: Store>(alloc: Global, aim: Aim, path: &str, store: &mut S)
     ensures files { (S.store store.new).files ≡ (S.store store.old).files }
     ensures few { S.reads store.new ≤ S.reads store.old + 8388610 }
 {
-    match read_file(alloc, path, store) {
-        Ok(bytes) => answer_to_bytes(alloc, aim, &bytes),
-        Err(ReadAllFault::Failed) => Answer::ReadFault,
-        Err(ReadAllFault::Long) => Answer::Long,
-        Err(ReadAllFault::Memory) => Answer::Memory,
+    match config_at(alloc, path, store) {
+        Ok(config) => answer_to_config(alloc, aim, &config),
+        Err(answer) => answer,
     }
 }
 
-// All bytes of the file of this path, at most those of a configuration.
-fn read_file<S: Store>(alloc: Global, path: &str, store: &mut S) -> Result<Vec<u8>, ReadAllFault>
+/// The configuration in the file of this path, for which the store is asked once.
+///
+/// # Errors
+/// The answer where it is not to be had: a fault of reading, too many bytes, want of memory, or the
+/// line of the fault.
+pub fn config_at<S: Store>(alloc: Global, path: &str, store: &mut S) -> Result<Config, Answer>
+    ensures config { IfOk result (IsConfigAt (S.store store.old).files path.now) }
+    ensures keeps { IfOk result (KeepsRules 1000000) }
+    ensures refused { IfErr result (IsRefusal path.now (S.store store.old).files
+        (Rose (S.faults store.old) (S.faults store.new))) }
+    ensures later { S.faults store.old ≤ S.faults store.new }
+    ensures asked { Grew (S.store store.old).asked (S.store store.new).asked (path.now ∷ []) }
+    ensures files { (S.store store.new).files ≡ (S.store store.old).files }
+    ensures few { S.reads store.new ≤ S.reads store.old + 8388610 }
+{
+    match read_file(alloc, path, store) {
+        Ok(bytes) => config_of(alloc, &bytes),
+        Err(ReadAllFault::Failed) => Err(Answer::ReadFault),
+        Err(ReadAllFault::Long) => Err(Answer::Long),
+        Err(ReadAllFault::Memory) => Err(Answer::Memory),
+    }
+}
+
+/// All bytes of the file of this path, at most 8 MiB. The store is asked for it once.
+///
+/// # Errors
+/// `Failed` where a call of the store failed, `Long` where there are more bytes, or `Memory`.
+pub fn read_file<S: Store>(
+    alloc: Global,
+    path: &str,
+    store: &mut S,
+) -> Result<Vec<u8>, ReadAllFault>
     ensures whole { IfOk result (λ v. Holds (S.store store.old).files path.now v.items) }
     ensures within { IfOk result (λ v. length v.items ≤ 8388608) }
     ensures long { IsErrOf result ReadAllFault.Long → (bytes : List ℕ)
@@ -57,16 +85,19 @@ fn read_file<S: Store>(alloc: Global, path: &str, store: &mut S) -> Result<Vec<u
     let Ok(()) = store.open(path) else {
         return Err(ReadAllFault::Failed);
     };
-    read_all(alloc, store, LONGEST_CONFIG)
+    read_all(alloc, store, LONGEST)
 }
 
-// The answer to a configuration of these bytes, which are no more than one may have.
-fn answer_to_bytes(alloc: Global, aim: Aim, bytes: &[u8]) -> Answer
-    ensures { GivesEnd (ending_of_read aim (config_in bytes.now)) result }
+// The configuration that these bytes say, which are no more than one may have.
+fn config_of(alloc: Global, bytes: &[u8]) -> Result<Config, Answer>
+    requires { length bytes.now ≤ 8388608 }
+    ensures read { IfOk result (λ config. IsRead bytes.now (Ok config)) }
+    ensures keeps { IfOk result (KeepsRules 1000000) }
+    ensures refused { IfErr result (IsGiven ⊤ ⊥ (IsRefused bytes.now)) }
 {
     match read_config(alloc, bytes) {
-        Ok(config) => answer_to_config(alloc, aim, &config),
-        Err(fault) => answer_to_fault(alloc, &fault),
+        Ok(config) => Ok(config),
+        Err(fault) => Err(answer_to_fault(alloc, &fault)),
     }
 }
 

@@ -6,6 +6,7 @@ mod adapters;
 mod answers;
 mod command;
 mod config_answers;
+mod session_answers;
 #[cfg(test)]
 mod tests;
 mod top;

@@ -61,6 +61,10 @@ cap = 8
 // A filter of the first group for a mountpoint that there is not.
 const FILTER: &[u8] = b"[[group.filter]]\nmount = \"NONE\"\ntypes = [1005]\n";
 
+// The report of a session over it in which a connection opens and sends nothing.
+const SESSION_REPORT: &[u8] = b"connection 7 no-head\njunk 0\nbytes -\nmount ALPHA 0 0\n\
+    mount BRAVO 0 0\naccount rover1 0 0 0\naccount rover2 0 0 0\ntotal 0 0 0\n";
+
 // Its sourcetable of 206 bytes.
 const TABLE: &[u8] = b"STR;ALPHA;ALPHA;RTCM 3.3;;2;GPS;;;48.11;11.51;0;0;;none;B;N;0;\r\n\
     STR;BRAVO;BRAVO;RTCM 3.3;;2;GPS;;;48.20;11.51;0;0;;none;B;N;0;\r\n\
@@ -110,6 +114,21 @@ fn store_of(alloc: Global, parts: &[&[u8]], calls: &[u64]) -> Result<MemStore, F
     files.push((
         ByteString::copy_of(alloc, b"a")?,
         ByteString::copy_of(alloc, b"=")?,
+    ))?;
+    Ok(MemStore::new(alloc, files, calls.to_vec(alloc)?))
+}
+
+// A store of that configuration as the file `a` and of a session as the file `s`, whose calls of
+// these numbers fail.
+fn session_store(alloc: Global, calls: &[u64]) -> Result<MemStore, Fail> {
+    let mut config = b"version = 1\n".to_vec(alloc)?;
+    config.extend_from_slice(FRONT)?;
+    config.extend_from_slice(BACK)?;
+    let mut files = Vec::new(alloc);
+    files.push((ByteString::copy_of(alloc, b"a")?, ByteString::new(config)))?;
+    files.push((
+        ByteString::copy_of(alloc, b"s")?,
+        ByteString::copy_of(alloc, b"open 7\nstop\n")?,
     ))?;
     Ok(MemStore::new(alloc, files, calls.to_vec(alloc)?))
 }
@@ -199,7 +218,7 @@ fn a_long_report_is_written_in_pieces(rt: HostRuntime) -> Result<(), Fail> {
 fn each_refusal_has_its_status_and_line(rt: HostRuntime) -> Result<(), Fail> {
     let bare: [&str; 2] = ["bare", "4"];
     let nothing: [&str; 0] = [];
-    let cases: [(&[&str], &[u8], u8, &[u8]); 13] = [
+    let cases: [(&[&str], &[u8], u8, &[u8]); 17] = [
         (&nothing, EXAMPLE, 1, b"usage\n"),
         (&["bare", "0"], EXAMPLE, 1, b"usage\n"),
         (&["bare", "4097"], EXAMPLE, 1, b"usage\n"),
@@ -209,6 +228,15 @@ fn each_refusal_has_its_status_and_line(rt: HostRuntime) -> Result<(), Fail> {
         (&["check", "a", "a"], EXAMPLE, 1, b"usage\n"),
         (&["look", "a"], EXAMPLE, 1, b"usage\n"),
         (&["check", "a"], EXAMPLE, 4, b"read fault\n"),
+        (&["replay", "a"], EXAMPLE, 1, b"usage\n"),
+        (&["replay", "a", "s"], EXAMPLE, 4, b"read fault\n"),
+        (&["make", "1", "1", "65"], EXAMPLE, 1, b"usage\n"),
+        (
+            &["make", "1", "1", "1"],
+            EXAMPLE,
+            0,
+            b"laps 0\nmount A 1 1\ntotal 1 1 0\n",
+        ),
         (&bare, b"", 3, b"session: no stop\n"),
         (&bare, b"in 5 00\nstop\n", 3, b"session: state 1\n"),
         (
@@ -303,6 +331,31 @@ fn each_failing_call_of_the_store_is_a_read_fault(rt: HostRuntime) -> Result<(),
         let asked = store.asked().ok_or("told no longer")?;
         assert_eq!(rt; asked.len(), 1, "call {failing}");
         assert_eq!(rt; asked[0].as_slice(), b"a".as_slice(), "call {failing}");
+    }
+    Ok(())
+}
+
+#[test]
+fn each_failing_call_for_a_session_is_a_read_fault(rt: HostRuntime) -> Result<(), Fail> {
+    // Each file is opened, comes in one read, and a further call says that it ends.
+    let alloc = rt.alloc();
+    for failing in 1..=7u64 {
+        let mut store = session_store(alloc, &[failing])?;
+        let input = MemSource::new(Vec::new(alloc), Vec::new(alloc));
+        let (status, sink) = run_over(alloc, &["replay", "a", "s"], &mut store, input, &[])?;
+        if failing < 7 {
+            assert_eq!(rt; status, 4, "call {failing}");
+            assert_eq!(rt; sink.bytes(), b"read fault\n".as_slice(), "call {failing}");
+        } else {
+            assert_eq!(rt; status, 0);
+            assert_eq!(rt; sink.bytes(), SESSION_REPORT);
+        }
+        let asked = store.asked().ok_or("told no longer")?;
+        assert_eq!(rt;
+            asked.len(),
+            if failing < 4 { 1 } else { 2 },
+            "call {failing}"
+        );
     }
     Ok(())
 }

@@ -1,25 +1,24 @@
 //! The call that the program makes.
-ghost use Rattle.std.specs.Prelude.{◌≡◌, ◌≢◌, ◌≤◌, ◌<◌, ◌+◌, ◌++◌, ◌⊎◌, ℕ, List, Some, Ok, Result, codes, length, OnOk, OnErr};
+ghost use Rattle.std.specs.Prelude.{◌≡◌, ◌≢◌, ◌≤◌, ◌<◌, ◌+◌, ◌*◌, ◌++◌, ◌⊎◌, ℕ, List, Some, Ok, Result, codes, length, OnOk, OnErr};
 ghost use Rattle.std.specs.Io.KnownBytes.{Appends};
 ghost use Rattle.session_script.specs.declared.Event.{Event};
 ghost use Rattle.session_script.specs.declared.ScriptKind.TheVariants.{Bare};
 ghost use Rattle.session_script.specs.Script.{script_of};
-ghost use Rattle.caster_replay.specs.World.{bare};
-ghost use Rattle.caster_replay.specs.Report.{report};
+ghost use Rattle.run_texts.specs.Texts.{IsRunText, made_text, report};
 ghost use Rattle.cast_io.specs.Causes.{Rose, HasCause};
 ghost use Rattle.cast_io.specs.Pieces.{AppendsPrefix, Loses};
 ghost use Rattle.cast_io.specs.Stores.{content_of};
-ghost use Rattle.cast_io.specs.Told.{Grew};
 ghost use Rattle.sourcetable.specs.Table.{table_text};
 ghost use Rattle.cast_config.specs.declared.config.Config.{Config};
+ghost use Rattle.cast_config.specs.Bare.{bare};
 ghost use Rattle.cast_config.specs.Document.{IsRead};
 ghost use Rattle.config_table.specs.Table.{table_records};
 ghost use Rattle.config_write.specs.Written.{HasVersion};
 ghost use Rattle.caster_main.specs.declared.command.Aim.{Aim};
 ghost use Rattle.caster_main.specs.declared.command.Aim.TheVariants.{Check, Table, Migrate};
-ghost use Rattle.caster_main.specs.Command.{AreBare, AreOver, AreOfNoForm, NameNoFile, ReadNoInput, files_of, form_of, texts};
-ghost use Rattle.caster_main.specs.Outcome.{one_line, read_fault_exit, memory_exit};
-ghost use Rattle.caster_main.specs.Told.{FollowsOutcome, HaveCome, HaveFault, IsConfigAt, IsFaultyConfig, IsFaultyScript, IsStatus, IsTooLong, IsWhole, WritesPart};
+ghost use Rattle.caster_main.specs.Command.{AreBare, AreMake, AreOver, AreOfNoForm, AreReplay, NameNoFile, ReadNoInput, files_of, form_of, texts};
+ghost use Rattle.caster_main.specs.Outcome.{memory_exit, one_line, read_fault_exit, session_in};
+ghost use Rattle.caster_main.specs.Told.{FollowsOutcome, HaveCome, HaveFault, IsAsked, IsConfigAt, IsFaultyConfig, IsFaultyScript, IsSessionAt, IsStatus, IsTooLong, IsWhole, WritesPart};
 ghost use Rattle.caster_main.specs.Answers.{exit_of, Writes};
 
 use crate::answers::{Answer, answer_to};
@@ -41,22 +40,27 @@ const PIECE: usize = 65_536;
 /// | `check CONFIG` | tests the configuration in the file CONFIG | `ok` |
 /// | `table CONFIG` | | its sourcetable |
 /// | `migrate CONFIG` | | a document of version 2 that says it |
+/// | `replay CONFIG SESSION` | plays the session in the file SESSION over the configuration | the report |
+/// | `make SEED FRAMES ROVERS` | makes a session of the number SEED and plays it | its laps and sums |
 ///
-/// C is from 1 to 4,096, CONFIG has 1 to 255 bytes. Where that is not to be had, one line says why:
+/// C is from 1 to 4,096, CONFIG and SESSION have 1 to 255 bytes. SEED is below 2^64, FRAMES from 1
+/// to 10,000 and ROVERS from 1 to 64. Numbers are decimal, without signs and leading zeros. A
+/// session that is made is played over one mountpoint `A` with a ring of 64 frames. Where that is
+/// not to be had, one line says why:
 ///
 /// | Status | Line | Comes |
 /// |---|---|---|
 /// | 1 | `usage` | exactly where the words are of no form |
 /// | 2 | `configuration: toml`, or `configuration:` with the test and the key | where the file is no configuration |
-/// | 3 | `session: line N`, `session: state N`, `session: no stop` | where the input is no script |
+/// | 3 | `session: line N`, `session: state N`, `session: no stop` | where the script is none |
 /// | 4 | `read fault` | only where a read of the input, or a call of the store, failed |
 /// | 5 | | only where a write failed |
 /// | 7 | `memory` | where there is no memory |
 /// | 8 | `too long` | where the script or the configuration has more than 8 MiB |
 ///
 /// The words are tested first, then come the reading of the configuration, its size and its rules,
-/// or the reading of the script, its size, its grammar and the run. Nothing is written before the
-/// run has ended, and the text is written in pieces of 65,536 bytes.
+/// the reading of the script, its size, its grammar and the run. Nothing is written before the run
+/// has ended, and the text is written in pieces of 65,536 bytes.
 pub fn caster<S: Store, I: Source, O: Sink>(
     alloc: Global,
     words: &[String],
@@ -94,6 +98,33 @@ pub fn caster<S: Store, I: Source, O: Sink>(
         → ¬ Rose (S.faults store.old) (S.faults store.new)
         → ¬ Rose (O.faults out.old) (O.faults out.new) → (result ≡ 7) ⊎ (result ≡ 0) }
 
+    // What is done with a session over a configuration.
+    ensures replayed { result ≡ 0 → (config session : List ℕ)
+        → AreReplay (texts words.now) config session
+        → (c : Config) × (events : List Event) × (text : List ℕ)
+        × IsConfigAt (S.store store.old).files config c
+        × IsSessionAt (S.store store.old).files session c events
+        × IsRunText c events text × Appends (O.taken out.old) (O.taken out.new) text }
+    ensures complete_replay { (config session : List ℕ) (files : List (List ℕ × List ℕ))
+        (bytes script : List ℕ) (c : Config) (events : List Event)
+        → AreReplay (texts words.now) config session → (S.store store.old).files ≡ Some files
+        → content_of files config ≡ Some bytes → length bytes ≤ 8388608 → IsRead bytes (Ok c)
+        → content_of files session ≡ Some script → session_in c script ≡ Ok events
+        → ¬ Rose (S.faults store.old) (S.faults store.new)
+        → ¬ Rose (O.faults out.old) (O.faults out.new)
+        → (result ≡ 7) ⊎ ((result ≡ 0) × (text : List ℕ) × IsRunText c events text
+        × Appends (O.taken out.old) (O.taken out.new) text) }
+
+    // What is done with a number.
+    ensures made { result ≡ 0 → (seed frames rovers : ℕ)
+        → AreMake (texts words.now) seed frames rovers
+        → Appends (O.taken out.old) (O.taken out.new) (made_text seed frames rovers) }
+    ensures complete_make { (seed frames rovers : ℕ)
+        → AreMake (texts words.now) seed frames rovers
+        → ¬ Rose (O.faults out.old) (O.faults out.new)
+        → (result ≡ 7) ⊎ ((result ≡ 0)
+        × Appends (O.taken out.old) (O.taken out.new) (made_text seed frames rovers)) }
+
     // When each status comes.
     ensures status { IsStatus result }
     ensures whole { result ≡ 0 → HaveCome IsWhole
@@ -116,15 +147,17 @@ pub fn caster<S: Store, I: Source, O: Sink>(
     ensures unharmed { result ≢ 5 → O.faults out.new ≡ O.faults out.old }
 
     // What is read: of the input at most once more than bytes came, and nothing but for a bare
-    // session; of the store the named files, each asked for once, in their order, and no other.
+    // session; of the store the named files, each asked for once, in their order, and no other. A
+    // session is asked for only where its configuration is one.
     ensures unread { ReadNoInput (texts words.now) → input.new ≡ input.old }
     ensures reads { Loses (λ came. I.reads input.new ≤ I.reads input.old + length came + 1)
         (I.left input.old) (I.left input.new) }
     ensures unasked { NameNoFile (texts words.now) → store.new ≡ store.old }
-    ensures asked { Grew (S.store store.old).asked (S.store store.new).asked
-        (files_of (form_of (texts words.now))) }
+    ensures asked { IsAsked (form_of (texts words.now)) (S.store store.old).files
+        (S.store store.old).asked (S.store store.new).asked }
     ensures files { (S.store store.new).files ≡ (S.store store.old).files }
-    ensures few { S.reads store.new ≤ S.reads store.old + 8388610 }
+    ensures few { S.reads store.new
+        ≤ S.reads store.old + 8388610 * length (files_of (form_of (texts words.now))) }
 
     // What is written.
     ensures outcome { result ≢ 4 → result ≢ 5 → result ≢ 7

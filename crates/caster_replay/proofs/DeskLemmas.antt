@@ -1,53 +1,196 @@
--- What calls of one caller leave at the desk.
-use Rattle.std.proofs.Common.{◌≡◌, ℕ, List, [], ◌∷◌, ◌++◌, ap, ◌∙◌, sym, append_assoc}
-use Rattle.std.proofs.lemmas.List.{append-nil, map-append}
-use Rattle.std.proofs.lemmas.List.Sums.{fold-append}
-use Rattle.mount_ring.specs.declared.RingCall.{RingCall}
-use Rattle.mount_ring.specs.declared.RingCall.TheVariants.{Publish, Join, Read}
-use Rattle.mount_ring.specs.declared.Cursor.{Cursor}
-use Rattle.mount_ring.specs.declared.ReadReport.{ReadReport}
-use Rattle.mount_ring.specs.Reads.{read_report}
-use Rattle.mount_ring.specs.History.{State, state_of, is_holder, joined, permits_at}
-use Rattle.mount_ring.specs.StillFits.{one_more}
-use Rattle.rover_cursor.specs.Told.{report_in}
-use Rattle.turn_log.specs.History.{entries_of}
-use Rattle.caster_replay.specs.World.{publishes}
-use Rattle.caster_replay.specs.Recorded.{DeskValue, shape_at, state_at, after_one, after_calls, with_published, IsHolding}
-use Rattle.caster_replay.proofs.EntriesLemmas.{state_of-publishes}
+-- Desks speak for everybody, and nobody else calls at them.
+use Rattle.std.proofs.Common.{◌≡◌, ◌∙◌, ◌&&◌, ◌++◌, ◌+◌, ◌<◌, ◌≤◌, ℕ, zero, suc, Bool, true, false, IsTrue, List, [], ◌∷◌, length, map, take, get_or, refl, sym, ap, subst, All, Result, Some, arith}
+use Rattle.std.specs.Prelude.{IfOk}
+use Rattle.std.specs.declared.alloc.AllocError.{AllocError}
+use Rattle.turn_log.specs.History.{History}
+use Rattle.mount_ring.specs.declared.call.RingCall.{RingCall}
+use Rattle.mount_ring.specs.declared.shape.RingShape.{RingShape}
+use Rattle.caster_accounts.specs.declared.call.BookCall.{BookCall}
+use Rattle.caster_accounts.specs.Sums.{total}
+use Rattle.session_calls.specs.Rings.{all_alone}
+use Rattle.session_calls.specs.Steps.{Step}
+use Rattle.cast_config.specs.declared.config.Account.{Account}
+use Rattle.cast_config.specs.declared.config.Config.{Config}
+use Rattle.cast_config.specs.declared.config.Group.{Group}
+use Rattle.cast_config.specs.declared.config.Mount.{Mount}
+use Rattle.cast_config.specs.Served.{filters_of}
+use Rattle.type_filter.specs.Permitted.{FilterValue}
+use Rattle.session_core.specs.declared.ending.Last.{Last}
+use Rattle.session_core.specs.declared.report.MountTotal.{MountTotal}
+use Rattle.session_core.specs.declared.report.Receipt.{Receipt}
+use Rattle.session_core.specs.declared.session.Session.{Session}
+use Rattle.session_core.specs.Headings.{Heading}
+use Rattle.session_core.specs.Judged.{Opening, judged}
+use Rattle.session_core.specs.Reports.{IsHeadingOf, mount_total, sums_from}
+use Rattle.session_core.specs.Run.{Histories}
+use Rattle.session_core.specs.Setting.{shapes_from, shapes}
+use Rattle.session_core.specs.Called.{alone_at, seen_at, OthersCalled}
+use Rattle.session_core.specs.Standing.{StandsFor, Fed, IsClosed}
+use Rattle.session_core.specs.Turned.{Turned, is_rover}
+use Rattle.caster_replay.specs.Calls.{Opens, Feeds, TakesTurn, Closes}
 
--- the calls stand at the end of the history, in order
-pub after_calls_is : (me : ℕ) (calls : List RingCall) (desk : DeskValue) →
-    after_calls me calls desk ≡ record desk { history = desk.history ++ entries_of me calls }
-after_calls_is me [] desk = ap (λ (h : List (ℕ × RingCall)). let d : DeskValue = record desk { history = h } in d) (sym (append-nil desk.history))
-after_calls_is me (call ∷ calls) desk =
-    after_calls_is me calls (after_one me desk call)
-    ∙ ap (λ (h : List (ℕ × RingCall)). let d : DeskValue = record desk { history = h } in d) (append_assoc desk.history ((me, call) ∷ []) (entries_of me calls))
+alone_all : {P : Type 0} (alone : P → Bool) (places : List P) → ((place : P) → alone place ≡ true)
+    → all_alone alone places ≡ true
+alone_all {P} alone [] each = refl
+alone_all {P} alone (place ∷ places) each =
+    ap (λ (b : Bool). b && all_alone alone places) (each place) ∙ alone_all alone places each
 
--- first these frames and then those
-pub published_then : (me claim : ℕ) (xs ys : List (List ℕ)) (desk : DeskValue) →
-    with_published me claim ys (with_published me claim xs desk) ≡ with_published me claim (xs ++ ys) desk
-published_then me claim xs ys desk =
-    sym (ap (λ (l : List RingCall). after_calls me l desk) (map-append (λ frame. Publish claim frame) xs ys)
-    ∙ fold-append (after_one me) desk (publishes claim xs) (publishes claim ys))
+pub alone_here : {P B : Type 0} (alone : P → Bool) (book_alone : B → Bool) (places : List P) (book : B)
+    → ((place : P) → alone place ≡ true) → book_alone book ≡ true → alone_at alone book_alone places book ≡ true
+alone_here {P} {B} alone book_alone places book each at_book =
+    ap (λ (b : Bool). b && book_alone book) (alone_all alone places each) ∙ at_book
 
--- who publishes under its claim goes on to hold it
-pub holds_published : (me claim : ℕ) (frames : List (List ℕ)) (desk now : DeskValue) → now ≡ with_published me claim frames desk →
-    IsHolding desk me claim → IsHolding now me claim
-holds_published me claim frames desk now is holds =
-    ap (λ (d : DeskValue). is_holder (state_of d.history).holder me claim) (is ∙ after_calls_is me (publishes claim frames) desk)
-    ∙ ap (λ (s : State). is_holder s.holder me claim) (state_of-publishes desk.history me claim frames)
-    ∙ holds
+-- ---- what a session ensures over places, said of desks that have seen the same
 
--- where a join begins, and what a read answers, by the desk before it
-pub joined_at : (me : ℕ) (inside desk : DeskValue) (now : List (ℕ × RingCall)) → inside ≡ desk → now ≡ inside.history ++ (me, Join 0) ∷ [] →
-    joined (shape_at inside) (state_of now) 0 ≡ joined (shape_at desk) (state_at desk) 0
-joined_at me inside desk now same is =
-    ap (λ (s : State). joined (shape_at inside) s 0) (ap state_of is ∙ one_more inside.history (me, Join 0))
-    ∙ ap (λ (d : DeskValue). joined (shape_at d) (state_at d) 0) same
+module _ (alone : Bool) (c : Config) (old seen now : Histories) (is_alone : alone ≡ true) (same : old ≡ seen) where
+  pub feeds_here : (session next : Session) (text before after : List ℕ)
+      → ((opening : Opening) (so_far : List ℕ) (steps : List Step) (histories : Histories) (sent : List ℕ)
+      → StandsFor c session opening so_far steps histories sent → OthersCalled histories old session.me
+      → Fed c alone old now next opening (so_far ++ text) steps sent before after)
+      → Feeds c seen now session next text before after
+  feeds_here session next text before after fed =
+      subst (λ (h : Histories). Feeds c h now session next text before after) same
+      (λ opening so_far steps histories sent stands others.
+      subst (λ (a : Bool). Fed c a old now next opening (so_far ++ text) steps sent before after) is_alone
+      (fed opening so_far steps histories sent stands others))
 
-pub read_at : (me : ℕ) (cursor : Cursor) (budget : ℕ) (inside desk : DeskValue) (now : List (ℕ × RingCall)) → inside ≡ desk → now ≡ inside.history ++ (me, Read cursor budget) ∷ [] →
-    report_in (shape_at inside) now cursor budget ≡ report_in (shape_at desk) desk.history cursor budget
-read_at me cursor budget inside desk now same is =
-    let report : State → ReadReport = λ s. read_report (permits_at (shape_at inside) cursor.filter) (shape_at inside).capacity s.published cursor budget in
-    ap report (ap state_of is ∙ one_more inside.history (me, Read cursor budget))
-    ∙ ap (λ (d : DeskValue). report_in (shape_at d) d.history cursor budget) same
+  pub turns_here : (session next : Session) (budget : ℕ) (before after : List ℕ)
+      → (is_rover session.stage ≡ true
+      → (opening : Opening) (so_far : List ℕ) (steps : List Step) (histories : Histories) (sent : List ℕ)
+      → StandsFor c session opening so_far steps histories sent → OthersCalled histories old session.me
+      → Turned c alone old now budget next opening so_far steps sent before after)
+      → (is_rover session.stage ≡ false → (next ≡ session) × (now ≡ old) × (after ≡ before))
+      → TakesTurn c seen now session next budget before after
+  turns_here session next budget before after turned bystander =
+      subst (λ (h : Histories). TakesTurn c h now session next budget before after) same (
+        λ rover opening so_far steps histories sent stands others.
+            subst (λ (a : Bool). Turned c a old now budget next opening so_far steps sent before after) is_alone
+            (turned rover opening so_far steps histories sent stands others),
+        bystander,
+      )
+
+  pub closes_here : (session : Session) (last : Last) (receipt : Receipt)
+      → ((opening : Opening) (heading : Heading) (text : List ℕ) (steps : List Step) (histories : Histories)
+      (sent : List ℕ) → IsHeadingOf (Some opening) text heading
+      → StandsFor c session opening text steps histories sent → OthersCalled histories old session.me
+      → IsClosed c alone old now session.me session.ended (judged c opening heading text) steps last receipt)
+      → Closes c seen now session last receipt
+  closes_here session last receipt closed =
+      subst (λ (h : Histories). Closes c h now session last receipt) same
+      (λ opening heading text steps histories sent is stands others.
+      subst (λ (a : Bool). IsClosed c a old now session.me session.ended (judged c opening heading text) steps last
+      receipt) is_alone (closed opening heading text steps histories sent is stands others))
+
+  pub opens_here : (opening : Opening) (result : Result Session AllocError)
+      → IfOk result (λ session. Fed c alone old now session opening [] [] [] [] [])
+      → IfOk result (λ session. Opens c seen now session opening [])
+  opens_here opening result opened =
+      subst (λ (h : Histories). IfOk result (λ session. Opens c h now session opening [])) same
+      (subst (λ (a : Bool). IfOk result (λ session. Fed c a old now session opening [] [] [] [] [])) is_alone opened)
+
+-- places that nobody called at have seen what they had
+pub seen_same : {P B : Type 0} (rings now : List P) (book book_now : B) (ring_seen : P → History RingCall)
+    (book_seen : B → History BookCall) → now ≡ rings → book_now ≡ book
+    → seen_at ring_seen book_seen now book_now ≡ seen_at ring_seen book_seen rings book
+seen_same rings now book book_now ring_seen book_seen same same_too =
+    ap (λ r. seen_at ring_seen book_seen r book_now) same ∙ ap (seen_at ring_seen book_seen rings) same_too
+
+-- ---- the rings of a configuration
+
+one_next : (n : ℕ) → suc n ≡ n + 1
+one_next n = omega arith
+
+abbrev pub shape_of : ℕ → List FilterValue → RingShape
+shape_of capacity filters = record { capacity = capacity; filters = filters }
+
+shape_from : (groups : List Group) (n i : ℕ) (mounts : List Mount) (mount : Mount) (d : RingShape)
+    → i < length mounts → mount ≡ get_or mounts i mount
+    → shape_of mount.ring (filters_of groups (n + i)) ≡ get_or (shapes_from groups n mounts) i d
+shape_from groups n i [] mount d within is = absurd (omega (arith, within))
+shape_from groups n zero (first ∷ mounts) mount d within is =
+    ap (λ (m : Mount). shape_of m.ring (filters_of groups (n + 0))) is
+    ∙ ap (λ (k : ℕ). shape_of first.ring (filters_of groups k)) (nothing_more n)
+  where
+    nothing_more : (k : ℕ) → k + 0 ≡ k
+    nothing_more k = omega arith
+shape_from groups n (suc i) (first ∷ mounts) mount d within is =
+    ap (λ (k : ℕ). shape_of mount.ring (filters_of groups k)) (moved n i)
+    ∙ shape_from groups (n + 1) i mounts mount d (omega (arith, within)) is
+  where
+    moved : (k j : ℕ) → k + suc j ≡ (k + 1) + j
+    moved k j = omega arith
+
+pub shape_at : (groups : List Group) (i : ℕ) (mounts : List Mount) (mount : Mount) (d : RingShape)
+    → i < length mounts → mount ≡ get_or mounts i mount
+    → shape_of mount.ring (filters_of groups i) ≡ get_or (shapes_from groups 0 mounts) i d
+shape_at groups i mounts mount d within is =
+    ap (λ (k : ℕ). shape_of mount.ring (filters_of groups k)) (from_zero i)
+    ∙ shape_from groups 0 i mounts mount d within is
+  where
+    from_zero : (k : ℕ) → k ≡ 0 + k
+    from_zero k = omega arith
+
+pub shapes_count : (groups : List Group) (n : ℕ) (mounts : List Mount)
+    → length (shapes_from groups n mounts) ≡ length mounts
+shapes_count groups n [] = refl
+shapes_count groups n (mount ∷ mounts) = ap suc (shapes_count groups (n + 1) mounts)
+
+abbrev no_call : History RingCall
+no_call = []
+
+abbrev pub no_shape : RingShape
+no_shape = shape_of 0 []
+
+-- no calls at one more mountpoint
+uncalled_suc : (mounts : List Mount) (i : ℕ) → i < length mounts
+    → map (λ (mount : Mount). no_call) (take (suc i) mounts) ≡ map (λ (mount : Mount). no_call) (take i mounts) ++ [] ∷ []
+uncalled_suc [] i within = absurd (omega (arith, within))
+uncalled_suc (mount ∷ mounts) zero within = refl
+uncalled_suc (mount ∷ mounts) (suc i) within = ap (λ l. [] ∷ l) (uncalled_suc mounts i (omega (arith, within)))
+
+pub uncalled_next : (mounts : List Mount) (i : ℕ) → i < length mounts
+    → map (λ (mount : Mount). no_call) (take (i + 1) mounts) ≡ map (λ (mount : Mount). no_call) (take i mounts) ++ [] ∷ []
+uncalled_next mounts i within =
+    ap (λ (n : ℕ). map (λ (mount : Mount). no_call) (take n mounts)) (sym (one_next i)) ∙ uncalled_suc mounts i within
+
+-- ---- the sums of the named accounts
+
+sums_suc : (h : Histories) (k n : ℕ) (accounts : List Account) → n < length accounts
+    → sums_from k h (take (suc n) accounts) ≡ sums_from k h (take n accounts) ++ total (k + n) h.book ∷ []
+sums_suc h k n [] within = absurd (omega (arith, within))
+sums_suc h k zero (account ∷ accounts) within = ap (λ (m : ℕ). total m h.book ∷ []) (none_more k)
+  where
+    none_more : (m : ℕ) → m ≡ m + 0
+    none_more m = omega arith
+sums_suc h k (suc n) (account ∷ accounts) within =
+    ap (λ l. total k h.book ∷ l) (sums_suc h (k + 1) n accounts (omega (arith, within)))
+    ∙ ap (λ (m : ℕ). total k h.book ∷ (sums_from (k + 1) h (take n accounts) ++ total m h.book ∷ [])) (moved k n)
+  where
+    moved : (j m : ℕ) → (j + 1) + m ≡ j + suc m
+    moved j m = omega arith
+
+pub sums_more : (h : Histories) (n : ℕ) (accounts : List Account) → n < length accounts
+    → sums_from 1 h (take (n + 1) accounts) ≡ sums_from 1 h (take n accounts) ++ total (n + 1) h.book ∷ []
+sums_more h n accounts within =
+    ap (λ (m : ℕ). sums_from 1 h (take m accounts)) (sym (one_next n)) ∙ sums_suc h 1 n accounts within
+    ∙ ap (λ (m : ℕ). sums_from 1 h (take n accounts) ++ total m h.book ∷ []) (swapped n)
+  where
+    swapped : (m : ℕ) → 1 + m ≡ m + 1
+    swapped m = omega arith
+
+-- ---- what the mountpoints came to
+
+abbrev pub total_with : ℕ → ℕ → MountTotal
+total_with published claims = record { published = published; claims = claims }
+
+-- one more of the places, which saw this
+pub totals_more : {P : Type 0} (places : List P) (i : ℕ) (place : P) (seen : P → History RingCall) → i < length places
+    → place ≡ get_or places i place
+    → map mount_total (take i (map seen places)) ++ mount_total (seen place) ∷ []
+    ≡ map mount_total (take (i + 1) (map seen places))
+totals_more {P} [] i place seen within is = absurd (omega (arith, within))
+totals_more {P} (first ∷ places) zero place seen within is = ap (λ (p : P). mount_total (seen p) ∷ []) is
+totals_more {P} (first ∷ places) (suc i) place seen within is =
+    ap (λ l. mount_total (seen first) ∷ l) (totals_more places i place seen (omega (arith, within)) is)
+    ∙ ap (λ (n : ℕ). mount_total (seen first) ∷ map mount_total (take n (map seen places))) (sym (one_next i))
+    ∙ ap (λ (n : ℕ). map mount_total (take n (map seen (first ∷ places)))) (one_next (suc i))

@@ -1,10 +1,6 @@
-pub mod World
-pub mod Receipt
-pub mod Report
-pub mod Recorded
-pub mod Steps
-pub mod Live
-pub mod Well
-pub mod Room
-pub mod Text
-pub mod Promises
+pub mod Lives
+pub mod Runs
+pub mod Calls
+pub mod Caster
+pub mod Entries
+pub mod Scripts

@@ -1,17 +1,14 @@
-//! A recorded run: the events of a script, played over one mountpoint, and the report of it.
+//! A recorded run of many connections: the events of a script, played over one desk a mountpoint and
+//! one of the book of accounts, and the report of it.
 #![tactic(auto)]
 
-mod bare;
-mod body;
-mod desk;
-mod ending;
-pub mod laws;
-mod run;
-mod session;
-mod source;
-#[cfg(test)]
-mod tests;
-mod text;
+mod desks;
+mod entry;
+mod event;
+mod lives;
+mod opening;
+mod replaying;
+mod rings;
+mod totals;
 
-pub use bare::run_bare;
-pub use ending::{Ending, Last, Role};
+pub use replaying::replay;

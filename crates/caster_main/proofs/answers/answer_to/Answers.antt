@@ -1,6 +1,8 @@
 -- Each answer is the outcome of the words and of what came, or has its cause.
 use Rattle.std.proofs.Common.{sym}
-use Rattle.caster_main.proofs.AnswerLemmas.{usage_is_outcome, input_answer, file_answer}
+use Rattle.caster_main.specs.Command.{texts}
+use Rattle.caster_main.proofs.AnswerLemmas.{usage_is_outcome, input_answer, file_answer, files_answer, made_answer}
+use Rattle.caster_main.proofs.AskedLemmas.{over_asked}
 use Rattle.caster_main.proofs.answers.answer_to.Goals as goal
 
 pub returns-in-None-clause-answer : goal.returns-in-None-clause-answer
@@ -17,3 +19,21 @@ returns-in-Some-Over-clause-answer g c =
     file_answer _ _ _ _ _ _ _ c.answer_over.result
     (sym (rw c.in-Some-Over.field-0-is at c.in-Some-Over.ensures.command))
     (rw c.in-Some-Over.field-0-is at c.in-Some-Over.ensures.form) c.answer_over.ensures.answer
+
+pub returns-in-Some-Over-clause-asked : goal.returns-in-Some-Over-clause-asked
+returns-in-Some-Over-clause-asked g c =
+    over_asked (texts c.args.words.now) c.in-Some-Over.aim c.in-Some-Over.path.now
+    (g.S.Source.store c.args.store.now).files _ _
+    (sym (rw c.in-Some-Over.field-0-is at c.in-Some-Over.ensures.command)) c.answer_over.ensures.asked
+
+pub returns-in-Some-Replay-clause-answer : goal.returns-in-Some-Replay-clause-answer
+returns-in-Some-Replay-clause-answer g c =
+    files_answer _ _ _ _ _ _ _ c.answer_to_replay.result
+    (sym (rw c.in-Some-Replay.field-0-is at c.in-Some-Replay.ensures.command))
+    (rw c.in-Some-Replay.field-0-is at c.in-Some-Replay.ensures.form) c.answer_to_replay.ensures.answer
+
+pub returns-in-Some-Make-clause-answer : goal.returns-in-Some-Make-clause-answer
+returns-in-Some-Make-clause-answer g c =
+    made_answer _ _ _ _ _ _ _ _ c.answer_to_make.result
+    (sym (rw c.in-Some-Make.field-0-is at c.in-Some-Make.ensures.command))
+    (rw c.in-Some-Make.field-0-is at c.in-Some-Make.ensures.form) c.answer_to_make.ensures

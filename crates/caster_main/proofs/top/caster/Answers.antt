@@ -5,7 +5,7 @@ use Rattle.caster_main.specs.declared.command.Aim.TheVariants.{Check, Table, Mig
 use Rattle.caster_main.specs.Outcome.{Exit}
 use Rattle.caster_main.specs.Told.{IsWhole, IsFaultyConfig, IsFaultyScript, IsTooLong}
 use Rattle.caster_main.proofs.StatusLemmas.{whole_form, faulty_config_form, faulty_script_form, too_long_form}
-use Rattle.caster_main.proofs.ClauseLemmas.{undisturbed_run, decided_run, have_come, no_form_run, script_run, usage_run, bare_fault, over_fault, over_run, config_run}
+use Rattle.caster_main.proofs.ClauseLemmas.{undisturbed_run, decided_run, have_come, no_form_run, script_run, usage_run, bare_fault, over_fault, replay_fault, make_fault, over_run, config_run, replay_run, session_run, made_run}
 use Rattle.caster_main.proofs.top.caster.Goals as goal
 
 pub returns-clause-report : goal.returns-clause-report
@@ -60,6 +60,39 @@ returns-clause-complete_over g c aim path files bytes config are told content sh
     (over_fault _ _ _ aim path are read) write) [
       | inl memory ↦ inl memory
       | inr follows ↦ inr (config_run _ _ _ _ _ _ aim path files bytes config follows are told content short is)
+    ]
+
+pub returns-clause-replayed : goal.returns-clause-replayed
+returns-clause-replayed g c zero config session are =
+    replay_run _ _ _ _ _ _ config session zero
+    (decided_run _ _ _ _ _ _ _ _ _ _ _ c.answer_to-answer.ensures.answer c.write_answer.ensures.writes
+    (λ e. omega (arith, zero, e)) (λ e. omega (arith, zero, e)) (λ e. omega (arith, zero, e)))
+    are
+
+pub returns-clause-complete_replay : goal.returns-clause-complete_replay
+returns-clause-complete_replay g c config session files bytes script setting events are told content short is found read
+    store write =
+    elim (undisturbed_run _ _ _ _ _ _ _ _ _ _ _ c.answer_to-answer.ensures.answer c.write_answer.ensures.writes
+    (replay_fault _ _ _ config session are store) write) [
+      | inl memory ↦ inl memory
+      | inr follows ↦
+          inr (session_run _ _ _ _ _ _ config session files bytes script setting events follows are told content short
+          is found read)
+    ]
+
+pub returns-clause-made : goal.returns-clause-made
+returns-clause-made g c zero seed frames rovers are =
+    (made_run _ _ _ _ _ _ seed frames rovers
+    (decided_run _ _ _ _ _ _ _ _ _ _ _ c.answer_to-answer.ensures.answer c.write_answer.ensures.writes
+    (λ e. omega (arith, zero, e)) (λ e. omega (arith, zero, e)) (λ e. omega (arith, zero, e)))
+    are).1
+
+pub returns-clause-complete_make : goal.returns-clause-complete_make
+returns-clause-complete_make g c seed frames rovers are write =
+    elim (undisturbed_run _ _ _ _ _ _ _ _ _ _ _ c.answer_to-answer.ensures.answer c.write_answer.ensures.writes
+    (make_fault _ _ _ seed frames rovers are) write) [
+      | inl memory ↦ inl memory
+      | inr follows ↦ inr (made_run _ _ _ _ _ _ seed frames rovers follows are)
     ]
 
 pub returns-clause-whole : goal.returns-clause-whole

@@ -1,0 +1,11 @@
+use Rattle.std.proofs.Common.{true, refl, ap}
+use Rattle.caster_replay.specs.Caster.{DesksValue}
+use Rattle.caster_replay.proofs.DeskLemmas.{alone_here, feeds_here}
+use Rattle.caster_replay.proofs.desks.Desks.feed.Goals as goal
+
+pub returns-clause-fed : goal.returns-clause-fed
+returns-clause-fed c =
+    feeds_here _ c.args.config.now _ c.args.self.now.seen _
+    (alone_here (λ place. true) (λ book. true) c.self.inside.places.rings.items c.self.inside.places.book (λ place. refl) refl)
+    (ap (λ (v : DesksValue). v.seen) c.self.view_is) c.args.session.now c.feed.new.self c.args.bytes.now
+    c.args.out.now.items c.feed.new.out.items c.feed.ensures.fed

@@ -1,0 +1,21 @@
+use Rattle.std.proofs.Common.{◌∙◌, true, refl, ap}
+use Rattle.turn_log.specs.Past.{so_far}
+use Rattle.caster_replay.specs.Caster.{DesksValue}
+use Rattle.caster_replay.proofs.DeskLemmas.{alone_here, turns_here, seen_same}
+use Rattle.caster_replay.proofs.desks.Desks.turn.Goals as goal
+
+pub returns-clause-turned : goal.returns-clause-turned
+returns-clause-turned c = λ config places.
+    turns_here _ config _ c.args.self.now.seen _
+    (alone_here (λ place. true) (λ book. true) c.self.inside.places.rings.items c.self.inside.places.book (λ place. refl) refl)
+    (ap (λ (v : DesksValue). v.seen) c.self.view_is) c.args.session.now c.turn.new.self c.args.budget
+    c.args.out.now.items c.turn.new.out.items
+    (λ rover opening so_far steps histories sent. c.turn.ensures.turned rover config opening so_far steps histories sent
+    (ap (λ (v : DesksValue). v.rings) c.self.view_is ∙ places.rings)
+    (ap (λ (v : DesksValue). v.book) c.self.view_is ∙ places.book))
+    (λ apart. let same = c.turn.ensures.bystander apart in (
+      same.0,
+      seen_same c.self.inside.places.rings.items c.turn.new.places.rings.items c.self.inside.places.book
+          c.turn.new.places.book (λ desk. so_far desk.past) (λ desk. so_far desk.past) same.1 same.2,
+      same.3,
+    ))

@@ -1,0 +1,66 @@
+use Rattle.std.proofs.Common.{◌≡◌, ◌∙◌, ◌<◌, ◌++◌, ◌+◌, ◌^◌, ℕ, List, [], ◌∷◌, length, get_or, refl, sym, ap, subst, arith}
+use Rattle.std.proofs.lemmas.Grind.{get_or-set_at}
+use Rattle.std.proofs.lemmas.Result.{on_ok_weaker}
+use Rattle.session_script.specs.declared.Event.{Event}
+use Rattle.session_script.specs.declared.Event.TheVariants as events
+use Rattle.session_core.specs.declared.ending.Last.TheVariants as lasts
+use Rattle.session_core.specs.Judged.{Opening}
+use Rattle.session_core.specs.Owed.{arrives, takes_turn}
+use Rattle.caster_replay.specs.declared.entry.Entry.{Entry}
+use Rattle.caster_replay.specs.Entries.{MayBeClosed, opening_of}
+use Rattle.caster_replay.specs.Lives.{Live, live_in, lives_in}
+use Rattle.caster_replay.specs.Runs.{Runs}
+use Rattle.caster_replay.specs.Scripts.{Stands}
+use Rattle.caster_replay.proofs.WorldRunnerLemmas.{about_in, about_turn}
+use Rattle.caster_replay.proofs.EntryLemmas.{within_lives, here_at, room_for, room_so_far, about_of, names_relay}
+use Rattle.caster_replay.proofs.PlayLemmas.{may_go_on, may_close_fed, play_fed, play_fed_over, play_turned, may_close_opened}
+use Rattle.caster_replay.proofs.ReplayLemmas.{entry_at, places_stay, may_close_at}
+use Rattle.caster_replay.proofs.LivesLemmas.{in_order, looked, stands_absent, stands_again, runs_put, runs_closed, lives_closed, stands_opened}
+use Rattle.session_core.specs.Owed.{ends}
+use Rattle.caster_replay.proofs.lives.close.Goals as goal
+
+pub returns-then-not-stands_at : goal.returns-then-not-stands_at
+returns-then-not-stands_at c = record {
+  ok = λ config script event over plays.
+      stands_absent config script event c.args.entries.now.items c.args.desks.now c.args.number (ends c.args.last)
+      (about_of event c.args.number c.args.last over) plays
+      ((looked c.deref.result.now c.deref-2.result.now c.args.entries.now.items c.args.number c.place_of-place.result
+      c.stands_at.result c.deref.ensures.value c.deref-2.ensures.value c.place_of-place.ensures.place c.stands_at.ensures).absent c.if-not-stands_at.true);
+}
+
+pub close_at-requires-clause-may : goal.close_at-requires-clause-may
+close_at-requires-clause-may c =
+    let config = c.requires.run.0 in
+    let script = c.requires.run.1 in
+    let event = c.requires.run.2 in
+    let plays = c.requires.run.4 in
+    let there = (looked c.deref.result.now c.deref-2.result.now c.args.entries.now.items c.args.number c.place_of-place.result
+    c.stands_at.result c.deref.ensures.value c.deref-2.ensures.value c.place_of-place.ensures.place c.stands_at.ensures).here c.if-not-stands_at.false in (
+      config,
+      plays.places,
+      λ d. may_close_at config script c.args.entries.now.items c.args.desks.now c.place_of-place.result d there.0
+          (room_so_far config script event c.args.entries.now.items c.args.desks.now plays)
+          (record { places = plays.places; runs = plays.runs }),
+    )
+
+pub returns : goal.returns
+returns c = record {
+  ok = λ config script event over plays.
+      let entries : List Entry = c.args.entries.now.items in
+      let place : ℕ = c.place_of-place.result in
+      let there = (looked c.deref.result.now c.deref-2.result.now c.args.entries.now.items c.args.number c.place_of-place.result
+      c.stands_at.result c.deref.ensures.value c.deref-2.ensures.value c.place_of-place.ensures.place c.stands_at.ensures).here c.if-not-stands_at.false in
+      let d : Entry = entry_at entries place there.0 in
+      on_ok_weaker c.close_at.result (λ closed. record {
+        places = places_stay config c.args.desks.now c.close_at.new.desks c.close_at.ensures.same plays.places;
+        runs = runs_closed config script event entries c.close_at.new.entries.items c.args.desks.now.seen
+            c.close_at.new.desks.seen c.args.number place c.args.last d (about_of event c.args.number c.args.last over)
+            plays.runs there closed;
+      }) (c.close_at.ensures.closed config d plays.places);
+}
+
+pub place_of-place-requires : goal.place_of-place-requires
+place_of-place-requires c = record {
+  order = in_order c.requires.run.0 c.requires.run.1 c.args.entries.now.items c.deref.result.now c.args.desks.now.seen c.requires.run.4.runs
+      c.deref.ensures.value;
+}

@@ -1,0 +1,7 @@
+-- the sums so far
+use Rattle.std.proofs.Common.{◌≡◌, ℕ, List, take}
+use Rattle.session_core.specs.Reports.{sums_from}
+use Rattle.caster_replay.proofs.totals.accounts.Given as goal
+
+abbrev pub invariant-loop-number : goal.invariant-loop-number
+invariant-loop-number l = l.sums.items ≡ sums_from 1 l.desks.seen (take l.number l.config.account)

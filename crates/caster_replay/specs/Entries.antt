@@ -1,0 +1,113 @@
+-- What becomes of what is kept of a connection, by whether it goes on.
+use Rattle.std.specs.Prelude.{◌≡◌, ⊤, ℕ, ◌<◌, Bool, true, false, IsTrue, List, [], ◌∷◌, length, set, Option, None, Some, IfSome, is_some}
+use Rattle.std.specs.List.{All}
+use Rattle.cast_config.specs.declared.config.Config.{Config}
+use Rattle.session_core.specs.declared.ending.Ending.{Ending}
+use Rattle.session_core.specs.declared.ending.Flow.{Flow}
+use Rattle.session_core.specs.declared.ending.Flow.TheVariants as flows
+use Rattle.session_core.specs.declared.ending.Last.{Last}
+use Rattle.session_core.specs.declared.ending.Last.TheVariants as lasts
+use Rattle.session_core.specs.declared.report.Connection.{Connection}
+use Rattle.session_core.specs.declared.report.Receipt.{Receipt}
+use Rattle.session_core.specs.declared.session.Session.{Session}
+use Rattle.session_core.specs.Beginnings.{bare_opening}
+use Rattle.session_core.specs.Called.{is_halt}
+use Rattle.session_core.specs.Judged.{Opening, sends_head, relays, bare_source, bare_rover}
+use Rattle.session_core.specs.Run.{Histories}
+use Rattle.session_core.specs.Standing.{Follows}
+use Rattle.session_core.specs.Turned.{flow_of}
+use Rattle.caster_replay.specs.declared.entry.Entry.{Entry}
+use Rattle.caster_replay.specs.declared.entry.State.{State}
+use Rattle.caster_replay.specs.declared.entry.State.TheVariants.{Open, Closed}
+use Rattle.caster_replay.specs.declared.opening.Way.{Way}
+use Rattle.caster_replay.specs.declared.opening.Way.TheVariants as ways
+use Rattle.caster_replay.specs.Calls.{Opens, Feeds, TakesTurn, Closes}
+use Rattle.caster_replay.specs.Lives.{Live, live_of, lives_in, IsToldBy}
+
+-- ---- what may happen to it
+
+-- its session waits to be closed
+abbrev pub is_ended_at : State → Bool
+is_ended_at (Open session) = is_some session.ended
+is_ended_at (Closed receipt) = false
+
+-- it may be given so many more bytes, or a turn
+abbrev pub MayGoOn : Config → Histories → ℕ → State → Type 0
+MayGoOn c now more (Open session) = (session.ended ≡ None) × Follows c session now more
+MayGoOn c now more (Closed receipt) = ⊤
+
+abbrev pub MayBeClosed : Config → Histories → State → Type 0
+MayBeClosed c now (Open session) = Follows c session now 0
+MayBeClosed c now (Closed receipt) = ⊤
+
+-- ---- what becomes of it
+
+-- by bytes that came in
+abbrev pub FedAt : Config → Histories → Histories → Flow → State → State → List ℕ → List ℕ → List ℕ
+    → Type 0
+FedAt c old now flow (Open session) after text sent sent_after =
+    (next : Session) × (after ≡ Open next) × (next.me ≡ session.me)
+    × (flow ≡ flow_of next.ended) × Feeds c old now session next text sent sent_after
+FedAt c old now flow (Closed receipt) after text sent sent_after =
+    (after ≡ Closed receipt) × (now ≡ old) × (sent_after ≡ sent) × (flow ≡ flows.Open)
+
+-- by a turn
+abbrev pub TurnedAt : Config → Histories → Histories → Flow → State → State → ℕ → List ℕ → List ℕ
+    → Type 0
+TurnedAt c old now flow (Open session) after budget sent sent_after =
+    (next : Session) × (after ≡ Open next) × (next.me ≡ session.me)
+    × (flow ≡ flow_of next.ended) × TakesTurn c old now session next budget sent sent_after
+TurnedAt c old now flow (Closed receipt) after budget sent sent_after =
+    (after ≡ Closed receipt) × (now ≡ old) × (sent_after ≡ sent) × (flow ≡ flows.Open)
+
+-- as it is closed: its receipt is settled, and tells of no halt
+abbrev pub ClosedAt : Config → Histories → Histories → Last → State → State → Type 0
+ClosedAt c old now last (Open session) after =
+    (receipt : Receipt) × (after ≡ Closed receipt) × (receipt.settled ≡ true)
+    × (is_halt receipt.ending ≡ false) × Closes c old now session last receipt
+ClosedAt c old now last (Closed receipt) after = (after ≡ Closed receipt) × (now ≡ old)
+
+-- so it becomes of the connection at this place, and the others stay
+abbrev pub IsClosedAt : Config → Histories → Histories → Last → ℕ → Entry → List Entry → List Entry
+    → Type 0
+IsClosedAt c old now last place entry before after =
+    (state : State) × ClosedAt c old now last entry.state state
+    × (lives_in after ≡ set (lives_in before) place (live_of entry.number state entry.bytes.items))
+
+-- ---- how it opens
+
+abbrev pub opening_of : Way → Opening
+opening_of ways.Head = sends_head
+opening_of (ways.Relay relay) = relays relay
+opening_of (ways.Bare role mount) = bare_opening role mount.now
+
+-- a relay is one of the configuration's
+abbrev pub NamesRelay : Config → Opening → Type 0
+NamesRelay c sends_head = ⊤
+NamesRelay c (relays n) = n < length c.relay
+NamesRelay c (bare_source mount) = ⊤
+NamesRelay c (bare_rover mount) = ⊤
+
+-- it just opened, with these bytes sent
+abbrev pub HasOpened : Config → Histories → Histories → ℕ → Opening → State → List ℕ → Type 0
+HasOpened c old now number opening (Open session) bytes =
+    (session.me ≡ number) × Opens c old now session opening bytes
+HasOpened c old now number opening (Closed receipt) bytes = ⊥
+
+-- one that ended as it opened is closed at once
+abbrev pub SettledBy : Option Ending → Config → Histories → Histories → State → State → Type 0
+SettledBy None c old now before after = (after ≡ before) × (now ≡ old)
+SettledBy (Some end) c old now before after = ClosedAt c old now lasts.End before after
+
+abbrev pub SettledAt : Config → Histories → Histories → State → State → Type 0
+SettledAt c old now (Open session) after = SettledBy session.ended c old now (Open session) after
+SettledAt c old now (Closed receipt) after = (after ≡ Closed receipt) × (now ≡ old)
+
+-- ---- at the end
+
+abbrev pub IsOverAt : State → Type 0
+IsOverAt (Open session) = ⊥
+IsOverAt (Closed receipt) = ⊤
+
+abbrev pub AreOver : List Live → Type 0
+AreOver lives = All (λ (live : Live). IsOverAt live.state) lives

@@ -1,0 +1,162 @@
+//! The desks of a run: nobody but its connections calls at them.
+
+ghost use Rattle.std.specs.Prelude.{◌≡◌, ◌<◌, ◌++◌, ℕ, [], ◌∷◌, length, get_or, IfOk, OnOk, IfSome, IsTrue, None};
+ghost use Rattle.cast_config.specs.declared.config.Config.{Config as ConfigValue};
+ghost use Rattle.mount_ring.specs.declared.shape.RingShape.{RingShape};
+ghost use Rattle.cast_config.specs.Kept.{KeepsRules};
+ghost use Rattle.session_core.specs.Setting.{caps, shapes};
+ghost use Rattle.session_core.specs.Beginnings.{bare_opening};
+ghost use Rattle.session_core.specs.Called.{is_halt};
+ghost use Rattle.session_core.specs.Run.{nothing_called};
+ghost use Rattle.session_core.specs.Setting as setting;
+ghost use Rattle.session_core.specs.Standing.{Follows};
+ghost use Rattle.session_core.specs.Turned.{flow_of};
+ghost use Rattle.caster_replay.specs.Calls.{Closes, Feeds, Opens, TakesTurn};
+ghost use Rattle.caster_replay.specs.Caster.{ArePlaces, SamePlaces};
+
+use crate::rings::{caps_of, open_ring};
+use cast_config::Config;
+use cast_text::MountName;
+use caster_accounts::Book;
+use mount_ring::Ring;
+use session_core::{Bare, Flow, Last, Places, Receipt, Session};
+use std::alloc::{AllocError, Global};
+use std::marker::Model;
+use turn_log::{Desk, Turns};
+
+/// One desk at the ring of each mountpoint, in the order of their numbers, and one at the book.
+///
+/// Contracts see what no call changes of them, and all calls so far.
+#[derive(Drop)]
+pub(crate) struct Desks {
+    pub(crate) places: Places<Desk<Ring>, Desk<Book>>,
+}
+
+impl Model for Desks {
+    ghost use Rattle.std.specs.Prelude.{map};
+    ghost use Rattle.session_core.specs.Called.{seen_at};
+    ghost use Rattle.caster_replay.specs.Caster.{DesksValue};
+
+    ghost Value = { DesksValue };
+
+    ghost view = { λ d. record {
+      rings = map (⟦<Desk<Ring> as Turns<Ring>>⟧.shape) d.places.rings.items;
+      book = ⟦<Desk<Book> as Turns<Book>>⟧.shape d.places.book;
+      seen = seen_at (⟦<Desk<Ring> as Turns<Ring>>⟧.seen) (⟦<Desk<Book> as Turns<Book>>⟧.seen)
+          d.places.rings.items d.places.book;
+    } };
+}
+
+impl Desks {
+    /// One more desk, at the ring of the mountpoint of this number.
+    fn add_ring(&mut self, alloc: Global, config: &Config, number: u32) -> Result<(), AllocError>
+        requires kept { (cap : ℕ) × KeepsRules cap config.now }
+        requires there { number < length config.now.mount }
+        ensures ring { (d : RingShape) → OnOk result (self.new.rings
+            ≡ self.old.rings ++ get_or (shapes config.now) number d ∷ []) }
+        ensures uncalled { OnOk result
+            (self.new.seen.rings ≡ self.old.seen.rings ++ [] ∷ []) }
+        ensures book { self.new.book ≡ self.old.book }
+        ensures book_seen { self.new.seen.book ≡ self.old.seen.book }
+    {
+        let desk = open_ring(alloc, config, number)?;
+        self.places.rings.push(desk)?;
+        Ok(())
+    }
+
+    /// The desk at a new book of the accounts, and none at a ring yet.
+    fn at_book(alloc: Global, config: &Config) -> Result<Desks, AllocError>
+        ensures rings { IfOk result (λ desks. desks.rings ≡ []) }
+        ensures book { IfOk result (λ desks. desks.book ≡ caps config.now) }
+        ensures seen { IfOk result (λ desks. desks.seen ≡ record { rings = []; book = [] }) }
+    {
+        let caps = caps_of(alloc, config)?;
+        let book = Desk::new(Book::new(alloc, &caps)?);
+        let rings = Vec::new(alloc);
+        Ok(Desks {
+            places: Places { rings, book },
+        })
+    }
+
+    /// The desks of a caster with this configuration, at which nothing was called.
+    pub(crate) fn new(alloc: Global, config: &Config) -> Result<Desks, AllocError>
+        requires kept { (cap : ℕ) × KeepsRules cap config.now }
+        ensures places { IfOk result (λ desks. ArePlaces config.now desks) }
+        ensures uncalled { IfOk result (λ desks. desks.seen ≡ nothing_called config.now) }
+    {
+        let mut desks = Desks::at_book(alloc, config)?;
+        for number in 0..config.mount.as_slice().len() {
+            desks.add_ring(alloc, config, number as u32)?;
+        }
+        Ok(desks)
+    }
+
+    /// Bytes come in on a session that goes on; its reply is appended.
+    pub(crate) fn feed(
+        &mut self,
+        session: &mut Session,
+        config: &Config,
+        table: &[u8],
+        bytes: &[u8],
+        out: &mut Vec<u8>,
+    ) -> Flow
+        requires goes_on { session.old.ended ≡ None }
+        requires kept { (cap : ℕ) × KeepsRules cap config.now }
+        requires table { table.now ≡ setting.table config.now }
+        requires places { ArePlaces config.now self.old }
+        requires follows { Follows config.now session.old self.old.seen (length bytes.now) }
+        ensures same { SamePlaces self.old self.new }
+        ensures me { session.new.me ≡ session.old.me }
+        ensures flow { result ≡ flow_of session.new.ended }
+        ensures fed { Feeds config.now self.old.seen self.new.seen session.old session.new
+            bytes.now out.old.items out.new.items }
+    {
+        session.feed(config, table, bytes, &mut self.places, out)
+    }
+
+    /// A session that goes on takes a turn; its frames are appended. It ends only where it is
+    /// halted.
+    pub(crate) fn turn(&mut self, session: &mut Session, budget: u32, out: &mut Vec<u8>) -> Flow
+        requires goes_on { session.old.ended ≡ None }
+        requires follows { (c : ConfigValue) × ArePlaces c self.old
+            × Follows c session.old self.old.seen 0 }
+        ensures same { SamePlaces self.old self.new }
+        ensures me { session.new.me ≡ session.old.me }
+        ensures flow { result ≡ flow_of session.new.ended }
+        ensures halts { IfSome session.new.ended (λ end. IsTrue (is_halt end)) }
+        ensures turned { (c : ConfigValue) → ArePlaces c self.old → TakesTurn c self.old.seen
+            self.new.seen session.old session.new budget out.old.items out.new.items }
+    {
+        session.turn(budget, &mut self.places, out)
+    }
+
+    /// A session is closed.
+    pub(crate) fn close(&mut self, session: Session, last: Last) -> Receipt
+        requires follows { (c : ConfigValue) × ArePlaces c self.old
+            × Follows c session self.old.seen 0 }
+        ensures same { SamePlaces self.old self.new }
+        ensures closed { (c : ConfigValue) → ArePlaces c self.old
+            → Closes c self.old.seen self.new.seen session last result }
+    {
+        session.close(last, &mut self.places)
+    }
+
+    /// A connection without head and reply opens.
+    pub(crate) fn bare(
+        &mut self,
+        alloc: Global,
+        config: &Config,
+        me: u32,
+        role: Bare,
+        mount: &MountName,
+    ) -> Result<Session, AllocError>
+        requires kept { (cap : ℕ) × KeepsRules cap config.now }
+        requires places { ArePlaces config.now self.old }
+        ensures same { SamePlaces self.old self.new }
+        ensures me { IfOk result (λ session. session.me ≡ me) }
+        ensures opened { IfOk result (λ session. Opens config.now self.old.seen self.new.seen
+            session (bare_opening role mount.now) []) }
+    {
+        Session::bare(alloc, config, me, role, mount, &mut self.places)
+    }
+}

@@ -1,0 +1,152 @@
+//! What a run keeps of one connection.
+
+ghost use Rattle.std.specs.Prelude.{◌≡◌, ℕ, length, IfOk, OnOk};
+ghost use Rattle.cast_config.specs.declared.config.Config.{Config as ConfigValue};
+ghost use Rattle.cast_config.specs.Kept.{KeepsRules};
+ghost use Rattle.session_core.specs.Called as called;
+ghost use Rattle.session_core.specs.Setting as setting;
+ghost use Rattle.caster_replay.specs.Caster.{ArePlaces, SamePlaces};
+ghost use Rattle.caster_replay.specs.Entries.{ClosedAt, FedAt, MayBeClosed, MayGoOn, TurnedAt, is_ended_at};
+
+use crate::desks::Desks;
+use cast_config::Config;
+use session_core::{Ending, Flow, Last, Receipt, Segments, Session};
+use std::alloc::{AllocError, Global};
+use std::mem;
+
+/// How far a connection is.
+#[derive(Drop)]
+pub(crate) enum State {
+    /// It goes on.
+    Open(Session),
+    /// It is over, and came to this.
+    Closed(Receipt),
+}
+
+/// A connection of a run.
+#[derive(Drop)]
+pub(crate) struct Entry {
+    /// Its number, which is that of its caller too.
+    pub(crate) number: u32,
+    /// Its session, or what it came to.
+    pub(crate) state: State,
+    /// All bytes that were sent to it.
+    pub(crate) bytes: Vec<u8>,
+}
+
+/// Whether a place or want of memory gave this ending.
+fn is_halt(ending: Ending) -> bool
+    ensures { result ≡ called.is_halt ending }
+{
+    match ending {
+        Ending::Worn { turns: _ } => true,
+        Ending::Memory => true,
+        _ => false,
+    }
+}
+
+/// A session is closed, unless it is over already.
+///
+/// # Errors
+/// Where it was halted, or the turn that closes it was refused.
+fn closed(state: State, desks: &mut Desks, last: Last) -> Result<State, AllocError>
+    requires may { (c : ConfigValue) × ArePlaces c desks.old × MayBeClosed c desks.old.seen state }
+    ensures same { SamePlaces desks.old desks.new }
+    ensures closed { (c : ConfigValue) → ArePlaces c desks.old
+        → IfOk result (ClosedAt c desks.old.seen desks.new.seen last state) }
+{
+    match state {
+        State::Closed(receipt) => Ok(State::Closed(receipt)),
+        State::Open(session) => {
+            let receipt = desks.close(session, last);
+            if !receipt.settled || is_halt(receipt.ending) {
+                return Err(AllocError);
+            }
+            Ok(State::Closed(receipt))
+        }
+    }
+}
+
+/// What stands for a connection while its session is being closed.
+fn no_state(alloc: Global) -> State {
+    State::Closed(Receipt {
+        ending: Ending::Memory,
+        segments: Segments::new(Vec::new(alloc)),
+        sent: 0,
+        overrun: 0,
+        junk: 0,
+        entered: false,
+        settled: false,
+    })
+}
+
+impl Entry {
+    /// Whether its session ended by itself, or was halted, and waits to be closed.
+    pub(crate) fn has_ended(&self) -> bool
+        ensures { result ≡ is_ended_at self.now.state }
+    {
+        match &self.state {
+            State::Open(session) => session.ended(),
+            State::Closed(_) => false,
+        }
+    }
+
+    /// Bytes come in on it.
+    pub(crate) fn feed(
+        &mut self,
+        config: &Config,
+        table: &[u8],
+        desks: &mut Desks,
+        bytes: &[u8],
+    ) -> Flow
+        requires kept { (cap : ℕ) × KeepsRules cap config.now }
+        requires table { table.now ≡ setting.table config.now }
+        requires places { ArePlaces config.now desks.old }
+        requires may { MayGoOn config.now desks.old.seen (length bytes.now) self.old.state }
+        ensures same { SamePlaces desks.old desks.new }
+        ensures number { self.new.number ≡ self.old.number }
+        ensures fed { FedAt config.now desks.old.seen desks.new.seen result self.old.state
+            self.new.state bytes.now self.old.bytes.items self.new.bytes.items }
+    {
+        match &mut self.state {
+            State::Open(session) => desks.feed(session, config, table, bytes, &mut self.bytes),
+            State::Closed(_) => Flow::Open,
+        }
+    }
+
+    /// It takes a turn. Answers that it ended where it was halted.
+    pub(crate) fn turn(&mut self, desks: &mut Desks, budget: u32) -> Flow
+        requires may { (c : ConfigValue) × ArePlaces c desks.old
+            × MayGoOn c desks.old.seen 0 self.old.state }
+        ensures same { SamePlaces desks.old desks.new }
+        ensures number { self.new.number ≡ self.old.number }
+        ensures turned { (c : ConfigValue) → ArePlaces c desks.old
+            → TurnedAt c desks.old.seen desks.new.seen result self.old.state self.new.state
+            budget self.old.bytes.items self.new.bytes.items }
+    {
+        match &mut self.state {
+            State::Open(session) => desks.turn(session, budget, &mut self.bytes),
+            State::Closed(_) => Flow::Open,
+        }
+    }
+
+    /// It is closed, unless it is over already.
+    ///
+    /// # Errors
+    /// Where its session was halted, or the turn that closes it was refused. Then the run is of no
+    /// further use.
+    pub(crate) fn close(&mut self, desks: &mut Desks, last: Last) -> Result<(), AllocError>
+        requires may { (c : ConfigValue) × ArePlaces c desks.old
+            × MayBeClosed c desks.old.seen self.old.state }
+        ensures same { SamePlaces desks.old desks.new }
+        ensures number { self.new.number ≡ self.old.number }
+        ensures bytes { self.new.bytes.items ≡ self.old.bytes.items }
+        ensures closed { (c : ConfigValue) → ArePlaces c desks.old → OnOk result
+            (ClosedAt c desks.old.seen desks.new.seen last self.old.state self.new.state) }
+    {
+        let between = no_state(*self.bytes.allocator());
+        let state = mem::replace(&mut self.state, between);
+        self.state = closed(state, desks, last)?;
+        Ok(())
+    }
+}

@@ -1,0 +1,111 @@
+//! How connections of a run open.
+
+ghost use Rattle.std.specs.Prelude.{◌≡◌, ℕ, ◌<◌, ⊤, length, IfOk};
+ghost use Rattle.cast_config.specs.declared.config.Config.{Config as ConfigValue};
+ghost use Rattle.cast_config.specs.Kept.{KeepsRules};
+ghost use Rattle.session_core.specs.Run.{Histories};
+ghost use Rattle.session_core.specs.Judged.{relays, sends_head};
+ghost use Rattle.session_core.specs.Beginnings.{bare_opening};
+ghost use Rattle.caster_replay.specs.Caster.{ArePlaces, SamePlaces};
+ghost use Rattle.caster_replay.specs.Entries.{HasOpened, NamesRelay, opening_of};
+
+use crate::desks::Desks;
+use crate::entry::{Entry, State};
+use cast_config::Config;
+use cast_text::MountName;
+use session_core::{Bare, Session};
+use std::alloc::{AllocError, Global};
+
+/// How a connection opens.
+#[derive(Drop)]
+pub(crate) enum Way<'a> {
+    /// It will send a head.
+    Head,
+    /// It goes to another caster, for the relay of this number.
+    Relay(u32),
+    /// It is a source or a rover of this mountpoint, without head and reply.
+    Bare(Bare, &'a MountName),
+}
+
+/// A connection that will send a head.
+fn head_opened(alloc: Global, number: u32) -> Result<Entry, AllocError>
+    ensures number { IfOk result (λ entry. entry.number ≡ number) }
+    ensures opened { (c : ConfigValue) (seen : Histories) → IfOk result (λ entry.
+        HasOpened c seen seen number sends_head entry.state entry.bytes.items) }
+{
+    let session = Session::open(alloc, number)?;
+    Ok(Entry {
+        number,
+        state: State::Open(session),
+        bytes: Vec::new(alloc),
+    })
+}
+
+/// A connection to another caster, which its request is sent to.
+fn relay_opened(
+    alloc: Global,
+    config: &Config,
+    number: u32,
+    relay: u32,
+) -> Result<Entry, AllocError>
+    requires kept { (cap : ℕ) × KeepsRules cap config.now }
+    requires there { relay < length config.now.relay }
+    ensures number { IfOk result (λ entry. entry.number ≡ number) }
+    ensures opened { (seen : Histories) → IfOk result (λ entry.
+        HasOpened config.now seen seen number (relays relay) entry.state entry.bytes.items) }
+{
+    let mut bytes = Vec::new(alloc);
+    let session = Session::relay(alloc, config, number, relay, &mut bytes)?;
+    Ok(Entry {
+        number,
+        state: State::Open(session),
+        bytes,
+    })
+}
+
+/// A connection without head and reply.
+fn bare_opened(
+    alloc: Global,
+    config: &Config,
+    desks: &mut Desks,
+    number: u32,
+    role: Bare,
+    mount: &MountName,
+) -> Result<Entry, AllocError>
+    requires kept { (cap : ℕ) × KeepsRules cap config.now }
+    requires places { ArePlaces config.now desks.old }
+    ensures same { SamePlaces desks.old desks.new }
+    ensures number { IfOk result (λ entry. entry.number ≡ number) }
+    ensures opened { IfOk result (λ entry. HasOpened config.now desks.old.seen desks.new.seen
+        number (bare_opening role mount.now) entry.state entry.bytes.items) }
+{
+    let session = desks.bare(alloc, config, number, role, mount)?;
+    Ok(Entry {
+        number,
+        state: State::Open(session),
+        bytes: Vec::new(alloc),
+    })
+}
+
+/// A connection opens under a number that no other has.
+pub(crate) fn opened(
+    alloc: Global,
+    config: &Config,
+    desks: &mut Desks,
+    number: u32,
+    way: Way<'_>,
+) -> Result<Entry, AllocError>
+    requires kept { (cap : ℕ) × KeepsRules cap config.now }
+    requires places { ArePlaces config.now desks.old }
+    requires relay { NamesRelay config.now (opening_of way) }
+    ensures same { SamePlaces desks.old desks.new }
+    ensures number { IfOk result (λ entry. entry.number ≡ number) }
+    ensures opened { IfOk result (λ entry. HasOpened config.now desks.old.seen desks.new.seen
+        number (opening_of way.entry) entry.state entry.bytes.items) }
+{
+    match way {
+        Way::Head => head_opened(alloc, number),
+        Way::Relay(relay) => relay_opened(alloc, config, number, relay),
+        Way::Bare(role, mount) => bare_opened(alloc, config, desks, number, role, mount),
+    }
+}
