@@ -1,0 +1,12 @@
+pub mod CalledLemmas
+pub mod CourseLemmas
+pub mod ReachLemmas
+pub mod LinkLemmas
+pub mod PlaceLemmas
+pub mod ServingLemmas
+pub mod SoundLemmas
+pub mod ClosedLemmas
+pub mod LeaveLemmas
+pub mod PublishLemmas
+pub mod WorkLemmas
+pub mod SharingLemmas

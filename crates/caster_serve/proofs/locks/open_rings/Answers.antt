@@ -1,0 +1,22 @@
+-- One lock more.
+use Rattle.std.proofs.Common.{◌∙◌, ◌++◌, [], ◌∷◌, length, map, sym, ap, subst, arith}
+use Rattle.mount_ring.specs.Kept.{ring_shape}
+use Rattle.turn_log.specs.Lock.{turn_value}
+use Rattle.caster_serve.proofs.SharingLemmas.{AllDealt, matched-snoc, shapes_all, shapes_more}
+use Rattle.caster_serve.proofs.locks.open_rings.Goals as goal
+
+pub loop-mount-preserved : goal.loop-mount-preserved
+loop-mount-preserved c =
+    let was = c.loop-mount.invariant in record {
+      shapes_so_far = ap (map (λ turn. ring_shape (turn_value turn))) c.in_ok-push.ensures.items
+          ∙ shapes_more _ c.args.config.now _ _ c.loop-mount.mount (omega (arith, ap length c.as_slice-mount-end.ensures)) was.shapes_so_far
+          c.in_ok-turn.ensures.shape;
+      dealt = subst (λ l. AllDealt c.args.passes l c.push.new.self.items) (sym c.in_ok-push-2.ensures.items)
+          (subst (λ l. AllDealt c.args.passes (c.loop-mount.piles.items ++ c.in_ok-turn.pile ∷ []) l)
+          (sym c.in_ok-push.ensures.items)
+          (matched-snoc _ _ _ _ _ was.dealt c.in_ok-turn.ensures.dealt));
+    }
+
+pub returns-clause-shapes : goal.returns-clause-shapes
+returns-clause-shapes c =
+    shapes_all _ c.args.config.now _ c.loop-mount.mount (omega (arith, ap length c.as_slice-mount-end.ensures)) c.loop-mount.invariant.shapes_so_far

@@ -1,0 +1,9 @@
+pub mod Known
+pub mod Courses
+pub mod Links
+pub mod Sending
+pub mod Served
+pub mod Sharing
+pub mod Leaves
+pub mod Works
+pub mod Publishes

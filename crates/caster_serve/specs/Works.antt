@@ -1,0 +1,89 @@
+-- What a worker did: the links that came back to its door, one after the other.
+use Rattle.std.specs.Prelude.{◌≡◌, ℕ, ◌+◌, ◌*◌, ◌^◌, ◌≤◌, ◌&&◌, ◌⊎◌, if◌then◌else◌, List, [], ◌∷◌, length, map, fold, Option, Some}
+use Rattle.cast_io.specs.declared.steps.Step.{Step as LinkTook}
+use Rattle.cast_io.specs.Causes.{Rose}
+use Rattle.cast_io.specs.Told.{LinkTold, DoorTold, Grew}
+use Rattle.caster_accounts.specs.declared.account.Sum.{Sum}
+use Rattle.cast_config.specs.declared.config.Config.{Config}
+use Rattle.session_core.specs.declared.ending.Last.{Last}
+use Rattle.session_core.specs.declared.report.Receipt.{Receipt}
+use Rattle.session_core.specs.Judged.{Opening, sends_head}
+use Rattle.session_core.specs.Run.{Histories}
+use Rattle.caster_serve.specs.Links.{IsCausedBy}
+use Rattle.caster_serve.specs.Served.{LinkGoes}
+use Rattle.caster_serve.specs.Leaves.{Leaves}
+
+-- what a link told when it came back, and the receipt of its connection
+pub record Record : Type 0 where
+  pub link : LinkTold
+  pub receipt : Receipt
+
+-- where the list is told, it is this one
+abbrev pub IsTold : {X : Type 0} → Option (List X) → List X → Type 0
+IsTold {X} told list = (is : List X) → told ≡ Some is → is ≡ list
+
+-- The connection of the link went by what the link tells from these histories to those.
+pub record RecordGoes (c : Config) (opening : Opening) (me : ℕ) (entry : Record)
+    (start now : Histories) : Type 0 where
+  pub taken : List LinkTook
+  pub written : List ℕ
+  pub last : Last
+  pub taken_is : IsTold entry.link.taken taken
+  pub bytes_is : IsTold entry.link.bytes written
+  pub goes : LinkGoes c opening me start now taken written last entry.receipt
+  pub caused : IsCausedBy last 0 entry.link.faults
+
+-- so did each of these, one after the other, from the histories that the one before it left
+abbrev pub Followed : Config → ℕ → List Record → Histories → Histories → Type 0
+Followed c me [] start now = now ≡ start
+Followed c me (entry ∷ entries) start now =
+    (between : Histories) × RecordGoes c sends_head me entry start between
+    × Followed c me entries between now
+
+-- no more than so many sessions can count
+abbrev pub IsWithin : Sum → Type 0
+IsWithin sum = (sum.sent ≤ sum.sessions * 2 ^ 64) × (sum.overrun ≤ sum.sessions * 2 ^ 64)
+
+-- a tally with one receipt more: it counts those of rovers that entered an account and left it
+abbrev pub tallied : Sum → Receipt → Sum
+tallied sum receipt = if receipt.entered && receipt.settled then record {
+  sessions = sum.sessions + 1;
+  sent = sum.sent + receipt.sent;
+  overrun = sum.overrun + receipt.overrun;
+} else sum
+
+abbrev pub links_of : List Record → List LinkTold
+links_of entries = map (λ (entry : Record). entry.link) entries
+
+abbrev pub receipts_of : List Record → List Receipt
+receipts_of entries = map (λ (entry : Record). entry.receipt) entries
+
+-- So many links were given, each was served to its receipt and came back, and the tally counts
+-- their receipts.
+pub record Works (c : Config) (me : ℕ) (start now : Histories) (before after : DoorTold)
+    (old new : Sum) (count : ℕ) : Type 0 where
+  pub entries : List Record
+  pub back : Grew before.back after.back (links_of entries)
+  pub followed : Followed c me entries start now
+  pub counted : length entries ≡ count
+  pub tally : new ≡ fold tallied old (receipts_of entries)
+  -- these are the sessions that it ended in the book
+  pub leaves : Leaves me start.book now.book old new
+  pub later : before.faults ≤ after.faults
+
+-- The worker stopped after so many links as it was to serve, or where its door failed.
+pub record Worked (c : Config) (me : ℕ) (start now : Histories) (before after : DoorTold)
+    (old new : Sum) (limit : ℕ) : Type 0 where
+  pub count : ℕ
+  pub works : Works c me start now before after old new count
+  pub done : (count ≡ limit) ⊎ Rose before.faults after.faults
+
+-- one link more was served and came back, and the tally counts its receipt
+pub record OneServed (c : Config) (me : ℕ) (start now : Histories) (before after : DoorTold)
+    (old new : Sum) : Type 0 where
+  pub entry : Record
+  pub left : after.left ≡ before.left
+  pub back : Grew before.back after.back (entry.link ∷ [])
+  pub faults : after.faults ≡ before.faults
+  pub goes : RecordGoes c sends_head me entry start now
+  pub tally : new ≡ tallied old entry.receipt

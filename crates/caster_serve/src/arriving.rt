@@ -1,0 +1,76 @@
+//! What a session does for a step of its link.
+
+ghost use Rattle.std.specs.Prelude.{◌≡◌, ℕ, List, [], ◌∷◌, length, None};
+ghost use Rattle.cast_config.specs.declared.config.Config.{Config as ConfigValue};
+ghost use Rattle.cast_config.specs.Kept.{KeepsRules};
+ghost use Rattle.session_core.specs.Judged.{Opening};
+ghost use Rattle.session_core.specs.Owed.{Happening, arrives, takes_turn};
+ghost use Rattle.session_core.specs.Run.{Histories};
+ghost use Rattle.session_core.specs.Setting as setting;
+ghost use Rattle.session_core.specs.Standing.{Follows};
+ghost use Rattle.caster_serve.specs.Known.{Fit};
+ghost use Rattle.caster_serve.specs.Served.{Arrived, Reached};
+
+use crate::known::AllPlaces;
+use cast_config::Config;
+use caster_accounts::Book;
+use mount_ring::Ring;
+use session_core::{Flow, Places, Session};
+use turn_log::Turns;
+
+/// How many frames a served connection reads in one turn at most.
+const BUDGET: u32 = 16;
+
+/// One turn of a session that goes on.
+pub(crate) fn take_turn<T: Turns<Ring>, B: Turns<Book>>(
+    session: &mut Session,
+    places: &mut Places<T, B>,
+    out: &mut Vec<u8>,
+)
+    requires goes_on { session.old.ended ≡ None }
+    requires ready { (c : ConfigValue)
+        × Fit c session.old.me (⟦<Places<T, B> as AllPlaces>⟧.known places.old)
+        × Follows c session.old (⟦<Places<T, B> as AllPlaces>⟧.seen places.old) 0 }
+    ensures known { ⟦<Places<T, B> as AllPlaces>⟧.known places.new
+        ≡ ⟦<Places<T, B> as AllPlaces>⟧.known places.old }
+    ensures turned { (c : ConfigValue) (opening : Opening) (me : ℕ) (start : Histories)
+        (sent : List ℕ) (whats : List Happening)
+        → Fit c me (⟦<Places<T, B> as AllPlaces>⟧.known places.old)
+        → Reached c opening me start (⟦<Places<T, B> as AllPlaces>⟧.seen places.old) session.old
+        sent whats
+        → Arrived c opening me start (⟦<Places<T, B> as AllPlaces>⟧.seen places.new) session.new
+        sent out.old.items out.new.items whats (takes_turn 16 ∷ []) }
+{
+    session.turn(BUDGET, places, out);
+}
+
+/// Bytes of a connection that goes on, and then a turn, unless they ended it.
+pub(crate) fn arrive<T: Turns<Ring>, B: Turns<Book>>(
+    config: &Config,
+    table: &[u8],
+    session: &mut Session,
+    bytes: &[u8],
+    places: &mut Places<T, B>,
+    out: &mut Vec<u8>,
+)
+    requires goes_on { session.old.ended ≡ None }
+    requires kept { (cap : ℕ) × KeepsRules cap config.now }
+    requires table { table.now ≡ setting.table config.now }
+    requires fit { Fit config.now session.old.me (⟦<Places<T, B> as AllPlaces>⟧.known places.old) }
+    requires follows { Follows config.now session.old
+        (⟦<Places<T, B> as AllPlaces>⟧.seen places.old) (length bytes.now) }
+    ensures known { ⟦<Places<T, B> as AllPlaces>⟧.known places.new
+        ≡ ⟦<Places<T, B> as AllPlaces>⟧.known places.old }
+    ensures arrived { (opening : Opening) (me : ℕ) (start : Histories) (sent : List ℕ)
+        (whats : List Happening)
+        → Reached config.now opening me start (⟦<Places<T, B> as AllPlaces>⟧.seen places.old)
+        session.old sent whats
+        → Arrived config.now opening me start (⟦<Places<T, B> as AllPlaces>⟧.seen places.new)
+        session.new sent out.old.items out.new.items whats
+        (arrives bytes.now ∷ takes_turn 16 ∷ []) }
+{
+    match session.feed(config, table, bytes, places, out) {
+        Flow::Ended => {}
+        Flow::Open => take_turn(session, places, out),
+    }
+}

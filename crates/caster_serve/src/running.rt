@@ -1,0 +1,159 @@
+//! A connection over its link, from its first byte to its receipt.
+
+ghost use Rattle.std.specs.Prelude.{◌≡◌, ◌<◌, ℕ, List, [], length, None, Some, IfOk, true};
+ghost use Rattle.cast_config.specs.Kept.{KeepsRules};
+ghost use Rattle.session_core.specs.Judged.{waiting};
+ghost use Rattle.session_core.specs.Run.{Histories};
+ghost use Rattle.session_core.specs.Setting as setting;
+ghost use Rattle.session_core.specs.Standing.{IsReceipt, StandsFor};
+ghost use Rattle.caster_serve.specs.Known.{Fit};
+ghost use Rattle.caster_serve.specs.Links.{opening_of};
+ghost use Rattle.caster_serve.specs.Served.{Came, LinkServed, Reached};
+
+use crate::arriving::{arrive, take_turn};
+use crate::known::AllPlaces;
+use crate::role::Role;
+use crate::sending::{rest_if_idle, send};
+use cast_config::Config;
+use cast_io::{Got, Link};
+use caster_accounts::Book;
+use mount_ring::Ring;
+use session_core::{Ending, Last, Places, Receipt, Segments, Session};
+use std::alloc::{AllocError, Global};
+use std::sync::Wait;
+use turn_log::Turns;
+
+/// How many bytes of one link are taken; then it is closed as if it had ended.
+const MOST: u64 = 1 << 62;
+
+/// How many bytes one read takes at most.
+const PIECE: usize = 4096;
+
+/// Serves the link until it ends, a read or write of it fails, or the session ends by itself; and
+/// says how the session is to be closed.
+fn run<T: Turns<Ring>, B: Turns<Book>, L: Link, R: Wait>(
+    rt: &R,
+    config: &Config,
+    table: &[u8],
+    role: Role,
+    session: &mut Session,
+    places: &mut Places<T, B>,
+    out: &mut Vec<u8>,
+    link: &mut L,
+) -> Last
+    requires kept { (cap : ℕ) × KeepsRules cap config.now }
+    requires table { table.now ≡ setting.table config.now }
+    requires fit { Fit config.now session.old.me (⟦<Places<T, B> as AllPlaces>⟧.known places.old) }
+    requires goes_on { session.old.ended ≡ None }
+    requires begun { Reached config.now (opening_of role) session.old.me
+        (⟦<Places<T, B> as AllPlaces>⟧.seen places.old)
+        (⟦<Places<T, B> as AllPlaces>⟧.seen places.old) session.old out.old.items [] }
+    ensures me { session.new.me ≡ session.old.me }
+    ensures known { ⟦<Places<T, B> as AllPlaces>⟧.known places.new
+        ≡ ⟦<Places<T, B> as AllPlaces>⟧.known places.old }
+    ensures came { Came config.now (opening_of role) session.old.me
+        (⟦<Places<T, B> as AllPlaces>⟧.seen places.old)
+        (⟦<Places<T, B> as AllPlaces>⟧.seen places.new) session.new (L.told link.old)
+        (L.told link.new) result }
+{
+    let mut given: u64 = 0;
+    let mut piece = [0u8; PIECE];
+    for _ in rt.forever() {
+        let Ok(()) = send(link, out) else {
+            return Last::WriteFault;
+        };
+        if session.ended() || given >= MOST {
+            return Last::End;
+        }
+        match link.read(&mut piece) {
+            Got::Bytes(count) => {
+                given += count as u64;
+                arrive(config, table, session, &piece[..count], places, out);
+            }
+            Got::Idle => {
+                take_turn(session, places, out);
+                rest_if_idle(link, out);
+            }
+            Got::End => return Last::End,
+            Got::Failed => return Last::ReadFault,
+        }
+    }
+    unreachable!()
+}
+
+/// Opens the session of a connection that is served so. What it asks of another caster is appended.
+fn open_as(
+    alloc: Global,
+    config: &Config,
+    me: u32,
+    role: Role,
+    out: &mut Vec<u8>,
+) -> Result<Session, AllocError>
+    requires kept { (cap : ℕ) × KeepsRules cap config.now }
+    requires relay { (number : ℕ) → role ≡ Role.Relay number → number < length config.now.relay }
+    requires empty { out.old.items ≡ [] }
+    ensures me { IfOk result (λ session. session.me ≡ me) }
+    ensures goes_on { IfOk result (λ session. session.ended ≡ None) }
+    ensures stands { IfOk result (λ session. (histories : Histories)
+        → StandsFor config.now session (opening_of role) [] [] histories out.new.items) }
+{
+    match role {
+        Role::Caller => Session::open(alloc, me),
+        Role::Relay(number) => Session::relay(alloc, config, me, number, out),
+    }
+}
+
+/// The receipt of a connection for whose session there was no memory.
+fn not_opened(alloc: Global) -> Receipt
+    ensures settled { result.settled ≡ true }
+    ensures receipt { IsReceipt (Some Ending.Memory) waiting [] Last.End result }
+{
+    Receipt {
+        ending: Ending::Memory,
+        segments: Segments::new(Vec::new(alloc)),
+        sent: 0,
+        overrun: 0,
+        junk: 0,
+        entered: false,
+        settled: true,
+    }
+}
+
+/// Serves one connection at any places, as `serve_link` does at seats.
+pub fn serve_places<T: Turns<Ring>, B: Turns<Book>, L: Link, R: Wait>(
+    rt: &R,
+    alloc: Global,
+    config: &Config,
+    table: &[u8],
+    me: u32,
+    places: &mut Places<T, B>,
+    role: Role,
+    link: &mut L,
+) -> Receipt
+    requires kept { (cap : ℕ) × KeepsRules cap config.now }
+    requires table { table.now ≡ setting.table config.now }
+    requires fit { Fit config.now me (⟦<Places<T, B> as AllPlaces>⟧.known places.old) }
+    requires relay { (number : ℕ) → role ≡ Role.Relay number → number < length config.now.relay }
+    ensures known { ⟦<Places<T, B> as AllPlaces>⟧.known places.new
+        ≡ ⟦<Places<T, B> as AllPlaces>⟧.known places.old }
+    ensures served { LinkServed config.now (opening_of role) me
+        (⟦<Places<T, B> as AllPlaces>⟧.seen places.old)
+        (⟦<Places<T, B> as AllPlaces>⟧.seen places.new) (L.told link.old) (L.told link.new)
+        result }
+{
+    let mut out = Vec::new(alloc);
+    let Ok(mut session) = open_as(alloc, config, me, role, &mut out) else {
+        return not_opened(alloc);
+    };
+    let last = run(
+        rt,
+        config,
+        table,
+        role,
+        &mut session,
+        places,
+        &mut out,
+        link,
+    );
+    session.close(last, places)
+}
