@@ -14,7 +14,7 @@ use Rattle.session_core.specs.Replies.{opening_text, text_if}
 use Rattle.session_core.specs.Run.{Histories}
 use Rattle.session_core.specs.Called.{Called}
 use Rattle.session_core.specs.Beginnings.{bare_opening}
-use Rattle.session_core.specs.Standing.{Begins, BeginsFor, Fed, IsSentBy, Stands, due_by, is_halted}
+use Rattle.session_core.specs.Standing.{Begins, BeginsFor, Fed, IsSentBy, Stands, due_by, is_halted_uncalled}
 use Rattle.session_core.proofs.CloseLemmas.{called_none}
 
 -- what is sent to nobody
@@ -38,7 +38,7 @@ stands_bare c alone old now bare.Source name session after b none = record {
   ends = b.ends;
   stage = b.stage_is (bare_opening bare.Source name) [];
   halts = b.halts;
-  sent_is = subst (λ (l : List ℕ). IsSentBy (is_halted session.ended) l (due_by c now
+  sent_is = subst (λ (l : List ℕ). IsSentBy (is_halted_uncalled session.ended b.more) l (due_by c now
       (judged c (bare_opening bare.Source name) incomplete []) b.more)) none b.sent_is;
 }
 stands_bare c alone old now bare.Rover name session after b none = record {
@@ -48,7 +48,7 @@ stands_bare c alone old now bare.Rover name session after b none = record {
   ends = b.ends;
   stage = b.stage_is (bare_opening bare.Rover name) [];
   halts = b.halts;
-  sent_is = subst (λ (l : List ℕ). IsSentBy (is_halted session.ended) l (due_by c now
+  sent_is = subst (λ (l : List ℕ). IsSentBy (is_halted_uncalled session.ended b.more) l (due_by c now
       (judged c (bare_opening bare.Rover name) incomplete []) b.more)) none b.sent_is;
 }
 

@@ -22,7 +22,7 @@ use Rattle.session_core.specs.Setting as setting
 use Rattle.session_core.specs.Judged.{refused, table}
 use Rattle.session_core.specs.Replies.{text_if}
 use Rattle.session_core.specs.Run.{Histories}
-use Rattle.session_core.specs.Standing.{IsMadeBy, IsSentBy, BeginsFor, IsRepliedLast, EndsAt, is_refused_at, is_halted}
+use Rattle.session_core.specs.Standing.{IsMadeBy, IsSentBy, BeginsFor, IsRepliedLast, EndsAt, is_refused_at, is_halted, is_halted_uncalled}
 use Rattle.session_core.proofs.CloseLemmas.{called_none}
 
 -- ---- room for a reply
@@ -88,7 +88,7 @@ pub made_by : (halted : Bool) (plan : Plan) (steps : List Step) → IsMade plan 
 made_by false plan steps made = made
 made_by true plan steps made = made_begun plan steps made
 
-pub sent_all : (halted : Bool) (sent due : List ℕ) → sent ≡ due → IsSentBy halted sent due
+pub sent_all : (cut : Bool) (sent due : List ℕ) → sent ≡ due → IsSentBy cut sent due
 sent_all false sent due all = all
 sent_all true sent due all = ([], sym all ∙ sym (append-nil sent))
 
@@ -128,7 +128,7 @@ begins_refused c alone h me version reply end stage ended before after over (inl
     no_read = refl;
   });
   halts = over_ends stage ended end over replied.0;
-  sent_is = sent_all (is_halted ended) _ _ (sym (append-nil (text_if version reply (setting.table c))));
+  sent_is = sent_all (is_halted_uncalled ended []) _ _ (sym (append-nil (text_if version reply (setting.table c))));
 })
 begins_refused c alone h me version reply end stage ended before after over (inr lost) =
     inr (record { uncalled = refl; unsent = lost.1; stage_is = over; ended_is = lost.0 })
@@ -154,7 +154,7 @@ begins_table c alone h me version stage ended before after over (inl replied) = 
     no_read = refl;
   });
   halts = over_ends stage ended endings.TableSent over replied.0;
-  sent_is = sent_all (is_halted ended) _ _ (sym (append-nil (reply_text version Table (setting.table c))));
+  sent_is = sent_all (is_halted_uncalled ended []) _ _ (sym (append-nil (reply_text version Table (setting.table c))));
 })
 begins_table c alone h me version stage ended before after over (inr lost) =
     inr (record { uncalled = refl; unsent = lost.1; stage_is = over; ended_is = lost.0 })

@@ -48,7 +48,7 @@ use Rattle.session_core.specs.Replies.{text_if, kept_of, kept_frames}
 use Rattle.session_core.specs.Run.{Histories}
 use Rattle.session_core.specs.Called.{Called, book_answer, IsCause, seen_at}
 use Rattle.session_core.specs.Beginnings.{histories_of, worn_at, end_unentered, ended_joining}
-use Rattle.session_core.specs.Standing.{BeginsFor, IsMadeBy, is_halted, EndsAs}
+use Rattle.session_core.specs.Standing.{BeginsFor, IsMadeBy, is_halted, is_halted_uncalled, EndsAs}
 use Rattle.session_core.proofs.BeginLemmas.{over_ends, sent_all}
 use Rattle.session_core.proofs.BegunLemmas.{went_as}
 
@@ -202,7 +202,7 @@ begins_entered c alone old now me terms session before after heard inside told i
         inside = inside;
       };
       halts = record { goes = joined_goes halt; refused = λ short. absurd cc };
-      sent_is = sent_all (is_halted (ended_joining halt)) _ _
+      sent_is = sent_all (is_halted_uncalled (ended_joining halt) (entry ∷ told.more)) _ _
           (sym (ap (λ (l : List (List ℕ)). text_if terms.version replies.RoverOk [] ++ body_of
           (unwrap_or terms.version One) l) none
           ∙ append-nil (text_if terms.version replies.RoverOk [])));

@@ -35,7 +35,7 @@ use Rattle.session_core.specs.Reports.{IsHeadingOf}
 use Rattle.session_core.specs.Run.{Histories}
 use Rattle.session_core.specs.Called.{Called, OthersCalled, alone_at, book_answer}
 use Rattle.session_core.specs.Feeding.{FedOn, HasBegun, HasBegunFor, IsBehindHead}
-use Rattle.session_core.specs.Standing.{Begins, BeginsFor, EndsAt, Fed, Follows, IsAtStage, IsLostAt, IsMadeBy, IsSentBy, Stands, StandsFor, StartsAs, is_going, is_halted}
+use Rattle.session_core.specs.Standing.{Begins, BeginsFor, EndsAt, Fed, Follows, IsAtStage, IsLostAt, IsMadeBy, IsSentBy, Stands, StandsFor, StartsAs, is_going, is_halted, is_halted_uncalled}
 use Rattle.session_core.proofs.CloseLemmas.{called_none}
 use Rattle.session_core.proofs.HeadingLemmas.{one_heading}
 use Rattle.session_core.proofs.FollowLemmas.{GoesOnFrom, goes_from}
@@ -133,7 +133,7 @@ is_awaited c session opening text steps h sent head is unended (inr lost) =
 is_awaited c session opening text steps h sent head is unended (inl s) =
     let at = subst (IsAtStage c session.me h opening (judged c opening s.heading text) text steps) is s.stage in
     awaited_at c session opening text steps h sent head s.heading at.0 at.1 at.2 at.3 s.is_heading
-    (subst (λ (e : Option Ending). IsSentBy (is_halted e) sent (sent_by c h.rings opening
+    (subst (λ (e : Option Ending). IsSentBy (is_halted_uncalled e steps) sent (sent_by c h.rings opening
     (judged c opening s.heading text) (received steps) (reverse (segments_after [] steps)))) unended s.sent_is)
 
 -- it stands for the bytes of its head so far
@@ -149,7 +149,7 @@ waits_for c session h head is unended goes = record {
     goes = λ none. refl;
     refused = λ short. absurd cc;
   });
-  sent_is = subst (λ (e : Option Ending). IsSentBy (is_halted e) [] []) (sym unended) refl;
+  sent_is = subst (λ (e : Option Ending). IsSentBy (is_halted_uncalled e []) [] []) (sym unended) refl;
 }
 
 -- the head goes on with all of the bytes

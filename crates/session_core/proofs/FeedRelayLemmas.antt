@@ -61,7 +61,7 @@ use Rattle.session_core.specs.Run.{Histories}
 use Rattle.session_core.specs.Called.{book_answer, is_halt}
 use Rattle.session_core.specs.Published.{RelayFed}
 use Rattle.session_core.specs.Feeding.{FedOn, end_of_source, end_of_relay}
-use Rattle.session_core.specs.Standing.{EndsAs, EndsAt, IsMadeBy, IsSentBy, IsAtStage, IsRelay, Stands, is_halted}
+use Rattle.session_core.specs.Standing.{EndsAs, EndsAt, IsMadeBy, IsSentBy, IsAtStage, IsRelay, Stands, is_halted, is_halted_uncalled}
 use Rattle.session_core.proofs.BeginLemmas.{sent_all}
 use Rattle.session_core.proofs.RelayLemmas.{done_is_none}
 use Rattle.session_core.proofs.ClosingLemmas.{claimed_received}
@@ -413,7 +413,7 @@ stands_fed c now new opening text steps sent n mount fed opens feeds within call
         goes = λ unended. goes_unended (claim_at fed.stage) (halt_at fed.stage) (sym is_ended ∙ unended);
         refused = λ refused. subst IsTrue (sym short) refused;
       });
-      sent_is = sent_all (is_halted new.ended) sent _
+      sent_is = sent_all (is_halted_uncalled new.ended steps) sent _
           (unsent ∙ sym (relay_unsent c now.rings opening n said.heading text (received steps)
           (segments_after [] steps) opens none));
     }
@@ -448,7 +448,7 @@ relay_fed_on c alone old now histories session new opening text bytes steps sent
     ∙ ap (λ (s : List Segment). segments_after s given.more) at.segments
     ∙ quiet_on (shapes c) alone old.rings now.rings new.me given.more [] went are in
     let unsent : sent ≡ opening_text c opening =
-    subst (λ (e : Option Ending). IsSentBy (is_halted e) sent (sent_by c histories.rings opening
+    subst (λ (e : Option Ending). IsSentBy (is_halted_uncalled e steps) sent (sent_by c histories.rings opening
     (judged c opening stands.heading text) (received steps) (reverse (segments_after [] steps)))) unended stands.sent_is
     ∙ relay_unsent c histories.rings opening at.number stands.heading text (received steps)
     (segments_after [] steps) at.opens at.segments in

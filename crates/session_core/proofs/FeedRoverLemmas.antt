@@ -39,7 +39,7 @@ use Rattle.session_core.specs.Replies.{opening_text, reply_of, kept_frames, sent
 use Rattle.session_core.specs.Run.{Histories}
 use Rattle.session_core.specs.Called.{Called, OthersCalled, book_answer}
 use Rattle.session_core.specs.Beginnings.{ended_joining}
-use Rattle.session_core.specs.Standing.{Stands, IsAtStage, IsRover, IsMadeBy, IsSentBy, EndsAs, EndsAt, is_halted}
+use Rattle.session_core.specs.Standing.{Stands, IsAtStage, IsRover, IsMadeBy, IsSentBy, EndsAs, EndsAt, is_halted, is_halted_uncalled}
 use Rattle.session_core.specs.Feeding.{FedOn}
 use Rattle.session_core.proofs.BeginLemmas.{sent_all}
 use Rattle.session_core.proofs.MoreLemmas.{with_more, judged_more, heading_goes}
@@ -231,7 +231,7 @@ rover_fed_on c alone old now histories session new opening text bytes steps sent
     sent_still c session.me histories.rings old.rings now.rings (rover_of inner).segments (rover_of fed).segments
     at.behind (at.behind ++ more) others.rings at.resumes at.stands.segments told.stands.segments unsent in
     let before : sent ≡ sent_by c histories.rings opening j (received steps) (reverse (segments_after [] steps)) =
-    subst (λ (e : Option Ending). IsSentBy (is_halted e) sent
+    subst (λ (e : Option Ending). IsSentBy (is_halted_uncalled e steps) sent
     (sent_by c histories.rings opening j (received steps) (reverse (segments_after [] steps)))) going stood.sent_is in
     record {
       more = more;
@@ -249,7 +249,7 @@ rover_fed_on c alone old now histories session new opening text bytes steps sent
             (subst (λ (s : Stage). IsAtStage c session.me now opening later (text ++ bytes) (steps ++ more) s)
             (sym stage_is) still);
         halts = halts_still new.stage account fed new.ended stage_is ended_is;
-        sent_is = sent_all (is_halted new.ended) sent _
+        sent_is = sent_all (is_halted_uncalled new.ended (steps ++ more)) sent _
             (before
             ∙ text_of c histories.rings opening j at.terms at.tail account steps at.behind at.judged_is at.steps_are
             ∙ ap (rover_text c opening at.terms) (sym frames)

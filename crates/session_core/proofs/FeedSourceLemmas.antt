@@ -42,7 +42,7 @@ use Rattle.session_core.specs.Run.{Histories}
 use Rattle.session_core.specs.Called.{Called, book_answer}
 use Rattle.session_core.specs.Published.{Published}
 use Rattle.session_core.specs.Feeding.{end_of_source, FedOn}
-use Rattle.session_core.specs.Standing.{IsMadeBy, IsSentBy, EndsAs, EndsAt, IsSource, IsAtStage, Stands, is_halted}
+use Rattle.session_core.specs.Standing.{IsMadeBy, IsSentBy, EndsAs, EndsAt, IsSource, IsAtStage, Stands, is_halted, is_halted_uncalled}
 use Rattle.session_core.proofs.BeginLemmas.{sent_all}
 use Rattle.session_core.proofs.MoreLemmas.{with_more, judged_more, heading_goes}
 use Rattle.session_core.proofs.QuietLemmas.{AreSource, source_owed, source_off, quiet_on}
@@ -233,8 +233,8 @@ source_fed_on c alone old now histories session new opening text bytes steps sen
           goes = λ none. goes_halted fed.claim fed.halt (sym ended ∙ none);
           refused = λ short. halted ∙ short;
         });
-        sent_is = sent_all (is_halted new.ended) sent _
-            (subst (λ (e : Option Ending). IsSentBy (is_halted e) sent (sent_by c histories.rings opening j
+        sent_is = sent_all (is_halted_uncalled new.ended (steps ++ more)) sent _
+            (subst (λ (e : Option Ending). IsSentBy (is_halted_uncalled e steps) sent (sent_by c histories.rings opening j
             (received steps) (reverse (segments_after [] steps)))) unended stands.sent_is
             ∙ ap (λ (x : Judged). sent_by c histories.rings opening x (received steps)
             (reverse (segments_after [] steps))) at.judged_is

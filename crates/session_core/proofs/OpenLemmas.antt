@@ -23,7 +23,7 @@ use Rattle.session_core.specs.Headings.{incomplete}
 use Rattle.session_core.specs.Judged.{relays, mount_fed, judged, waiting}
 use Rattle.session_core.specs.Replies.{opening_text, sent_by}
 use Rattle.session_core.specs.Run.{Histories}
-use Rattle.session_core.specs.Standing.{StandsFor, IsNewRelay, IsMadeBy, IsSentBy, IsAtStage, EndsAt, is_halted}
+use Rattle.session_core.specs.Standing.{StandsFor, IsNewRelay, IsMadeBy, IsSentBy, IsAtStage, EndsAt, is_halted, is_halted_uncalled}
 use Rattle.session_core.specs.Owed.{unasked}
 
 -- a relay that nothing halts was refused no turn
@@ -70,7 +70,7 @@ relay_opens c session n relay h here kept unended new = by_stage session.stage r
       goes = λ e. ap is_none new.3;
       refused = λ short. absurd (not_short inner new.3 short);
     });
-    sent_is = subst (λ ended. IsSentBy (is_halted ended) (opening_text c (relays n)) (sent_by c h.rings
+    sent_is = subst (λ ended. IsSentBy (is_halted_uncalled ended []) (opening_text c (relays n)) (sent_by c h.rings
         (relays n) waiting unasked [])) (sym unended)
         (sym (append-nil (opening_text c (relays n) ++ []) ∙ append-nil (opening_text c (relays n))));
   })

@@ -30,7 +30,7 @@ use Rattle.session_core.specs.Replies.{sent_by}
 use Rattle.session_core.specs.Reports.{junk_of, is_entered}
 use Rattle.session_core.specs.Run.{Histories}
 use Rattle.session_core.specs.Beginnings.{ended_joining}
-use Rattle.session_core.specs.Standing.{IsMadeBy, IsSentBy, EndsAs, IsOver, IsRover, IsAtStage, Stands, StartsAs, is_halted}
+use Rattle.session_core.specs.Standing.{IsMadeBy, IsSentBy, EndsAs, IsOver, IsRover, IsAtStage, Stands, StartsAs, is_halted, is_halted_uncalled}
 use Rattle.session_core.proofs.GrowLemmas.{plan_grows}
 use Rattle.session_core.proofs.MoreLemmas.{with_more, judged_more, heading_goes}
 
@@ -185,6 +185,7 @@ over_more c session opening text rest steps h sent is s =
     let more : judged c opening s.heading (text ++ rest) ≡ with_more j rest =
     judged_more c opening s.heading text rest at.known in
     let halted : Bool = is_halted session.ended in
+    let cut : Bool = is_halted_uncalled session.ended steps in
     let grows : Begins (plan_of c j) (plan_of c (with_more j rest)) =
     subst (λ (x : Judged). Begins (plan_of c j) (plan_of c x)) more (plan_grows c opening s.heading text rest) in
     record {
@@ -208,9 +209,9 @@ over_more c session opening text rest steps h sent is s =
             no_read = at.no_read;
           }));
       halts = s.halts;
-      sent_is = subst (λ (x : Judged). IsSentBy halted sent (sent_by c h.rings opening x (received steps)
+      sent_is = subst (λ (x : Judged). IsSentBy cut sent (sent_by c h.rings opening x (received steps)
           (reverse (segments_after [] steps)))) (sym more)
-          (subst (IsSentBy halted sent) (sym (sent_more c h.rings opening j rest (received steps)
+          (subst (IsSentBy cut sent) (sym (sent_more c h.rings opening j rest (received steps)
           (reverse (segments_after [] steps)))) s.sent_is);
     }
 
@@ -250,6 +251,7 @@ rover_more c session opening text rest steps h sent end account inner is ended j
     let j : Judged = judged c opening s.heading text in
     let at : IsRover c session.me h j steps account inner =
     subst (IsAtStage c session.me h opening j text steps) is s.stage in
+    let cut : Bool = is_halted_uncalled session.ended steps in
     let known : j ≢ waiting = rover_known j at.terms at.tail at.judged_is in
     let later : Judged = judged c opening s.heading (text ++ rest) in
     let more : later ≡ with_more j rest = judged_more c opening s.heading text rest known in
@@ -276,9 +278,9 @@ rover_more c session opening text rest steps h sent end account inner is ended j
         inside = at.inside;
       });
       halts = s.halts;
-      sent_is = subst (λ (x : Judged). IsSentBy (is_halted session.ended) sent (sent_by c h.rings opening x
+      sent_is = subst (λ (x : Judged). IsSentBy cut sent (sent_by c h.rings opening x
           (received steps) (reverse (segments_after [] steps)))) (sym more)
-          (subst (IsSentBy (is_halted session.ended) sent) (sym (sent_more c h.rings opening j rest (received steps)
+          (subst (IsSentBy cut sent) (sym (sent_more c h.rings opening j rest (received steps)
           (reverse (segments_after [] steps)))) s.sent_is);
     }
 

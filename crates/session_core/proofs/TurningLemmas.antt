@@ -44,7 +44,7 @@ use Rattle.session_core.specs.Replies.{opening_text, reply_of, version_of, kept_
 use Rattle.session_core.specs.Run.{Histories}
 use Rattle.session_core.specs.Called.{OthersCalled, IsCause, is_halt, seen_at}
 use Rattle.session_core.specs.Beginnings.{ended_joining, histories_of}
-use Rattle.session_core.specs.Standing.{IsRover, IsAtStage, IsMadeBy, IsSentBy, EndsAs, EndsAt, Stands, StandsFor, Follows, is_halted}
+use Rattle.session_core.specs.Standing.{IsRover, IsAtStage, IsMadeBy, IsSentBy, EndsAs, EndsAt, Stands, StandsFor, Follows, is_halted, is_halted_uncalled}
 use Rattle.session_core.specs.Turned.{IsReadBy, ReadAt, RoverTurned, TurnedAt, Turned, is_rover}
 use Rattle.session_core.proofs.BeginLemmas.{made_by, sent_all}
 use Rattle.session_core.proofs.CloseLemmas.{called_rings}
@@ -400,10 +400,10 @@ turned_rover c ring_alone book_alone old now book budget session o text steps h 
         stage = rover_on c session.me h (record { rings = now; book = book }) j steps more account was next at
             turned.admission turned.resumable others.book read.stands;
         halts = halts_at account was next ended halts turned.halt;
-        sent_is = sent_all (is_halted ended) _ _
+        sent_is = sent_all (is_halted_uncalled ended (steps ++ more)) _ _
             (sent_on c session.me h old now o j steps more account was (rover_of next).segments turned.frames sent at
             (λ mount. ((others.rings.rings mount).0, (others.rings.rings mount).1)) turned.sent read.stands.segments
-            (subst (λ (e : Option Ending). IsSentBy (is_halted e) sent (sent_by c h.rings o j (received steps)
+            (subst (λ (e : Option Ending). IsSentBy (is_halted_uncalled e steps) sent (sent_by c h.rings o j (received steps)
             (reverse (segments_after [] steps)))) going stands.sent_is));
       });
     }

@@ -1,6 +1,6 @@
 -- What a session stands for: how its connection opened, the bytes that came in, the calls that were
 -- made, the histories that the last of them left, and the bytes that were sent.
-use Rattle.std.specs.Prelude.{◌≡◌, ◌≢◌, ℕ, ◌+◌, ◌^◌, ◌<◌, ◌≤◌, ◌⊎◌, ⊤, Bool, true, false, IsTrue, List, [], ◌∷◌, ◌++◌, length, reverse, Option, None, Some, unwrap_or, slice_get, is_none}
+use Rattle.std.specs.Prelude.{◌≡◌, ◌≢◌, ℕ, ◌+◌, ◌^◌, ◌<◌, ◌≤◌, ◌⊎◌, ⊤, Bool, true, false, ◌&&◌, IsTrue, List, [], ◌∷◌, ◌++◌, length, reverse, Option, None, Some, unwrap_or, slice_get, is_none}
 use Rattle.caster_accounts.specs.declared.call.BookCall.TheVariants.{Enter}
 use Rattle.caster_accounts.specs.declared.call.BookAnswer.TheVariants.{Entered}
 use Rattle.caster_accounts.specs.History.{may_leave}
@@ -47,11 +47,20 @@ abbrev pub is_halted : Option Ending → Bool
 is_halted None = false
 is_halted (Some end) = is_halt end
 
+-- whether no call was made
+abbrev pub is_uncalled : List Step → Bool
+is_uncalled [] = true
+is_uncalled (step ∷ steps) = false
+
+-- whether a session was halted before its first call
+abbrev pub is_halted_uncalled : Option Ending → List Step → Bool
+is_halted_uncalled ended steps = is_halted ended && is_uncalled steps
+
 -- all of a plan was made, and by a session that was halted the first of it
 abbrev pub IsMadeBy : Bool → Plan → List Step → Type 0
 IsMadeBy halted plan steps = IsDone halted plan steps
 
--- these bytes, and of a session that was halted the first of them
+-- all of these bytes, or the first of them where it was cut
 abbrev pub IsSentBy : Bool → List ℕ → List ℕ → Type 0
 IsSentBy false sent due = sent ≡ due
 IsSentBy true sent due = (rest : List ℕ) × (due ≡ sent ++ rest)
@@ -173,7 +182,7 @@ pub record Stands (c : Config) (session : Session) (opening : Opening) (text : L
   pub stage : IsAtStage c session.me histories opening (judged c opening heading text) text steps
       session.stage
   pub halts : EndsAt session.stage session.ended
-  pub sent_is : IsSentBy (is_halted session.ended) sent
+  pub sent_is : IsSentBy (is_halted_uncalled session.ended steps) sent
       (sent_by c histories.rings opening (judged c opening heading text) (received steps)
       (reverse (segments_after [] steps)))
 
@@ -231,7 +240,7 @@ pub record Begins (c : Config) (alone : Bool) (old now : Histories) (me : ℕ) (
   pub stage_is : (opening : Opening) (text : List ℕ)
       → IsAtStage c me now opening j text more stage
   pub halts : EndsAt stage ended
-  pub sent_is : IsSentBy (is_halted ended) added (due_by c now j more)
+  pub sent_is : IsSentBy (is_halted_uncalled ended more) added (due_by c now j more)
 
 -- a connection that was just begun goes on, unless nothing is left to be closed, or it is a rover
 -- that was halted as it joined

@@ -87,6 +87,12 @@ pub(crate) struct Refused {
 /// No turn that a test takes.
 pub(crate) const NEVER: u64 = u64::MAX;
 
+/// No turn is refused.
+pub(crate) const NONE: Refused = Refused {
+    ring: NEVER,
+    book: NEVER,
+};
+
 /// What is wanted of a connection.
 #[derive(Clone, Copy)]
 pub(crate) struct Wanted<'a> {
@@ -196,7 +202,7 @@ fn book_place(alloc: Global, config: &Config, refused: u64) -> Result<Tired<Desk
 
 /// What became of two connections at the caster, of which the first starts so and the second sends
 /// a head.
-fn served(
+pub(crate) fn served(
     alloc: Global,
     how: Start,
     refused: Refused,
@@ -238,11 +244,7 @@ pub(crate) fn expect_two_from(
     first: Wanted,
     second: Wanted,
 ) -> Result<(), Fail> {
-    let refused = Refused {
-        ring: NEVER,
-        book: NEVER,
-    };
-    let told = served(alloc, how, refused, script, Last::End)?;
+    let told = served(alloc, how, NONE, script, Last::End)?;
     expect_told(rt, &told.0, first);
     expect_told(rt, &told.1, second);
     Ok(())
@@ -273,11 +275,7 @@ pub(crate) fn expect_closed(
     for piece in pieces {
         script.push((Who::First, Act::In(*piece)))?;
     }
-    let refused = Refused {
-        ring: NEVER,
-        book: NEVER,
-    };
-    let told = served(alloc, how, refused, &script, last)?;
+    let told = served(alloc, how, NONE, &script, last)?;
     expect_told(rt, &told.0, wanted);
     expect_told(rt, &told.1, silent());
     Ok(())

@@ -233,6 +233,28 @@ fn a_rover_is_sent_what_a_source_sends(rt: HostRuntime) -> Result<(), Fail> {
     expect_two(&rt, alloc, &script, first, second)
 }
 
+// Three hundred frames, each of which is read before the next one comes.
+#[test]
+fn long_sessions_are_served_to_their_end(rt: HostRuntime) -> Result<(), Fail> {
+    let alloc = rt.alloc();
+    let mut sent = Vec::from_slice(alloc, ICY)?;
+    let mut script = Vec::new(alloc);
+    script.push((Who::Second, Act::In(ROVER)))?;
+    script.push((Who::First, Act::In(SOURCE)))?;
+    for _ in 0..300 {
+        script.push((Who::First, Act::In(FRAME_A)))?;
+        script.push((Who::Second, Act::Turn(1)))?;
+        sent.extend_from_slice(FRAME_A)?;
+    }
+    let first = ends(Ending::SourceEnd { claim: 1 }, ICY);
+    let second = Wanted {
+        entered: true,
+        frames: 300,
+        ..ends(Ending::RoverEnd, &sent)
+    };
+    expect_two(&rt, alloc, &script, first, second)
+}
+
 // The seventh digit of a size breaks a body, and size 0 ends one.
 #[test]
 fn chunked_bodies_end_by_themselves(rt: HostRuntime) -> Result<(), Fail> {

@@ -20,6 +20,8 @@ mod relay_tests;
 #[cfg(test)]
 mod report_tests;
 #[cfg(test)]
+mod rover_tests;
+#[cfg(test)]
 mod text_tests;
 #[cfg(test)]
 mod worn_tests;

@@ -2,6 +2,7 @@
 
 ghost use Rattle.std.specs.Prelude.{◌≡◌, IfOk, length};
 
+use crate::text_tests::{bare_config, sizes};
 use cast_config::Config;
 use caster_accounts::Sum;
 use mount_ring::{Cursor, Lap};
@@ -34,28 +35,34 @@ mount A 7 1
 total 1 2 5
 ";
 
-// A connection of this number, of which this is told.
-fn told(
-    number: u32,
-    ending: Ending,
-    junk: u64,
-    segments: Vec<Segment>,
-    bytes: Vec<u8>,
-) -> Connection {
-    let receipt = Receipt {
+// A receipt of this ending.
+fn receipt(ending: Ending, junk: u64, segments: Segments) -> Receipt {
+    Receipt {
         ending,
-        segments: Segments::new(segments),
+        segments,
         sent: 0,
         overrun: 0,
         junk,
         entered: false,
         settled: true,
-    };
-    Connection {
-        number,
-        receipt,
-        bytes: Sent::new(bytes),
     }
+}
+
+// Adds a connection without segments to which nothing was sent.
+fn push_silent(
+    alloc: Global,
+    connections: &mut Vec<Connection>,
+    number: u32,
+    ending: Ending,
+    junk: u64,
+) -> Result<(), Fail> {
+    let segments = Segments::new(Vec::new(alloc));
+    connections.push(Connection {
+        number,
+        receipt: receipt(ending, junk, segments),
+        bytes: Sent::new(Vec::new(alloc)),
+    })?;
+    Ok(())
 }
 
 // A segment at the first mountpoint, with a lap.
@@ -66,13 +73,15 @@ fn segment(alloc: Global) -> Result<Segment, Fail> {
         published: 6,
         overrun: 5,
     };
+    let mut laps = Vec::new(alloc);
+    laps.push(lap)?;
     Ok(Segment {
         mount: 0,
         from: 0,
         to: 7,
         sent: 2,
         overrun: 5,
-        laps: Laps::new(vec![in alloc; lap]?),
+        laps: Laps::new(laps),
         cursor: Cursor {
             next: 7,
             passed: 7,
@@ -90,8 +99,10 @@ fn closed(alloc: Global) -> Result<Closed, Fail>
         published: 7,
         claims: 1,
     };
+    let mut mounts = Vec::new(alloc);
+    mounts.push(total)?;
     Ok(Closed {
-        mounts: MountTotals::new(vec![in alloc; total]?),
+        mounts: MountTotals::new(mounts),
         accounts: Sums::new(Vec::new(alloc)),
         total: Sum {
             sessions: 1,
@@ -101,19 +112,84 @@ fn closed(alloc: Global) -> Result<Closed, Fail>
     })
 }
 
+// Adds a rover with a segment.
+fn push_rover(alloc: Global, connections: &mut Vec<Connection>) -> Result<(), Fail> {
+    let mut segments = Vec::new(alloc);
+    segments.push(segment(alloc)?)?;
+    let bytes = Vec::from_slice(alloc, &FRAMES)?;
+    connections.push(Connection {
+        number: 2,
+        receipt: receipt(Ending::RoverEnd, 0, Segments::new(segments)),
+        bytes: Sent::new(bytes),
+    })?;
+    Ok(())
+}
+
+// A source, a rover, and one that was refused.
+fn connections(alloc: Global) -> Result<Connections, Fail> {
+    let mut connections = Vec::new(alloc);
+    let claim = Ending::SourceEnd { claim: 1 };
+    push_silent(alloc, &mut connections, 1, claim, 3)?;
+    push_rover(alloc, &mut connections)?;
+    let full = Ending::Full { busy: 8, cap: 8 };
+    push_silent(alloc, &mut connections, 10, full, 0)?;
+    Ok(Connections::new(connections))
+}
+
+const ROVER: &[u8] = b"connection 2 rover-end
+junk 0
+segment A 0 7 2 5
+lap 0 5 6 5
+segment A 0 7 2 5
+lap 0 5 6 5
+segment A 0 7 2 5
+lap 0 5 6 5
+bytes d300023ed0a4e000d30002435006a27e
+";
+
+// A rover with three segments.
+fn rover(alloc: Global) -> Result<Connection, Fail> {
+    let mut segments = Vec::new(alloc);
+    for _ in 0..3 {
+        segments.push(segment(alloc)?)?;
+    }
+    let bytes = Vec::from_slice(alloc, &FRAMES)?;
+    Ok(Connection {
+        number: 2,
+        receipt: receipt(Ending::RoverEnd, 0, Segments::new(segments)),
+        bytes: Sent::new(bytes),
+    })
+}
+
+#[test]
+fn long_reports_are_written_whole(rt: HostRuntime) -> Result<(), Fail> {
+    let alloc = rt.alloc();
+    let config = Config::bare(alloc, 2)?;
+    let mut connections = Vec::new(alloc);
+    let mut wanted = Vec::new(alloc);
+    for _ in 0..100 {
+        connections.push(rover(alloc)?)?;
+        wanted.extend_from_slice(ROVER)?;
+    }
+    wanted.extend_from_slice(b"mount A 7 1\ntotal 1 2 5\n")?;
+    let report = Report {
+        connections: Connections::new(connections),
+        closed: closed(alloc)?,
+    };
+    let mut text = Vec::new(alloc);
+    report_text(&config, &report, &mut text)?;
+    assert_eq!(rt; text.as_slice(), wanted.as_slice());
+    Ok(())
+}
+
 #[test]
 fn each_connection_has_its_lines(rt: HostRuntime) -> Result<(), Fail> {
     let alloc = rt.alloc();
-    let config = Config::bare(alloc, 2)?;
-    let claim = Ending::SourceEnd { claim: 1 };
-    let source = told(1, claim, 3, Vec::new(alloc), Vec::new(alloc));
-    let segments = vec![in alloc; segment(alloc)?]?;
-    let bytes = Vec::from_slice(alloc, &FRAMES)?;
-    let rover = told(2, Ending::RoverEnd, 0, segments, bytes);
-    let full = Ending::Full { busy: 8, cap: 8 };
-    let refused = told(10, full, 0, Vec::new(alloc), Vec::new(alloc));
+    let config = bare_config(alloc, 2)?;
+    let (mounts, accounts) = sizes(&config);
+    assert!(rt; mounts == 1 && accounts == 0);
     let report = Report {
-        connections: Connections::new(vec![in alloc; source, rover, refused]?),
+        connections: connections(alloc)?,
         closed: closed(alloc)?,
     };
     let mut text = Vec::from_slice(alloc, b"x\n")?;

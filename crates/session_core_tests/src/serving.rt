@@ -12,7 +12,7 @@ ghost use Rattle.session_core.specs.Standing.{Follows};
 use cast_config::Config;
 use caster_accounts::Book;
 use mount_ring::Ring;
-use session_core::{Last, Places, Receipt, Session};
+use session_core::{Last, Places, Receipt, RoverState, Session};
 use turn_log::Turns;
 
 /// How many bytes may come in all on two connections.
@@ -170,6 +170,8 @@ fn close_at<T: Turns<Ring>, B: Turns<Book>>(
 /// What became of a connection, and what it was sent.
 #[derive(Debug, Drop)]
 pub struct Told {
+    /// Where it stood as a rover before it was closed.
+    pub rover: Option<RoverState>,
     /// What became of it.
     pub receipt: Receipt,
     /// What it was sent.
@@ -209,13 +211,17 @@ pub fn serve_two<T: Turns<Ring>, B: Turns<Book>>(
         room = happen_to(config, table, &mut two, who, act, room, places);
     }
     let Two { first, second } = two;
+    let rover = first.session.rover();
     let receipt = close_at(config, first.session, last, places);
     let first = Told {
+        rover,
         receipt,
         sent: first.sent,
     };
+    let rover = second.session.rover();
     let receipt = close_at(config, second.session, Last::End, places);
     let second = Told {
+        rover,
         receipt,
         sent: second.sent,
     };

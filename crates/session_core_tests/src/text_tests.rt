@@ -1,8 +1,11 @@
 //! The text of totals. What is expected is written by hand from the form of its lines.
 
+ghost use Rattle.std.specs.Prelude.{◌≡◌, ◌≤◌, IfOk, length};
+
 use cast_config::{Config, read_config};
 use caster_accounts::Sum;
 use session_core::{Closed, MountTotal, MountTotals, Sums, closed_text};
+use std::alloc::Global;
 use std::test::Fail;
 
 const FILE: &[u8] = b"version = 1
@@ -35,17 +38,36 @@ account rover1 7 1 0
 total 8 1 340282366920938463463374607431768211455
 ";
 
-#[test]
-fn the_smallest_caster_has_two_lines(rt: HostRuntime) -> Result<(), Fail> {
-    let alloc = rt.alloc();
-    let config = Config::bare(alloc, 4)?;
-    let mounts = vec![in alloc;
-        MountTotal {
-            published: 2,
-            claims: 1
-        },
-    ]?;
-    let closed = Closed {
+/// The configuration of one mountpoint and no account, whose ring keeps so many frames.
+pub(crate) fn bare_config(alloc: Global, capacity: u32) -> Result<Config, Fail>
+    requires { (1 ≤ capacity) × (capacity ≤ 4096) }
+{
+    Ok(Config::bare(alloc, capacity)?)
+}
+
+/// How many mountpoints and accounts a configuration has.
+pub(crate) fn sizes(config: &Config) -> (usize, usize)
+    ensures mounts { result.0 ≡ length config.now.mount }
+    ensures accounts { result.1 ≡ length config.now.account }
+{
+    (
+        config.mount.as_slice().len(),
+        config.account.as_slice().len(),
+    )
+}
+
+/// What a caster without accounts came to.
+fn smallest(alloc: Global) -> Result<Closed, Fail>
+    ensures mounts { IfOk result (λ closed. length closed.mounts ≡ 1) }
+    ensures accounts { IfOk result (λ closed. length closed.accounts ≡ 0) }
+{
+    let total = MountTotal {
+        published: 2,
+        claims: 1,
+    };
+    let mut mounts = Vec::new(alloc);
+    mounts.push(total)?;
+    Ok(Closed {
         mounts: MountTotals::new(mounts),
         accounts: Sums::new(Vec::new(alloc)),
         total: Sum {
@@ -53,17 +75,26 @@ fn the_smallest_caster_has_two_lines(rt: HostRuntime) -> Result<(), Fail> {
             sent: 2,
             overrun: 0,
         },
-    };
+    })
+}
+
+#[test]
+fn the_smallest_caster_has_two_lines(rt: HostRuntime) -> Result<(), Fail> {
+    let alloc = rt.alloc();
+    let config = bare_config(alloc, 4)?;
+    let closed = smallest(alloc)?;
+    let (mounts, accounts) = sizes(&config);
+    assert!(rt; mounts == 1 && accounts == 0);
     let mut text = Vec::from_slice(alloc, b"x")?;
     closed_text(&config, &closed, &mut text)?;
     assert_eq!(rt; text.as_slice(), b"xmount A 2 1\ntotal 1 2 0\n".as_slice());
     Ok(())
 }
 
-#[test]
-fn each_mountpoint_and_each_account_has_its_line(rt: HostRuntime) -> Result<(), Fail> {
-    let alloc = rt.alloc();
-    let config = read_config(alloc, FILE)?;
+/// What the two mountpoints of the file came to.
+fn mounts(alloc: Global) -> Result<MountTotals, Fail>
+    ensures { IfOk result (λ mounts. length mounts ≡ 2) }
+{
     let alpha = MountTotal {
         published: 3,
         claims: 2,
@@ -72,24 +103,109 @@ fn each_mountpoint_and_each_account_has_its_line(rt: HostRuntime) -> Result<(), 
         published: u64::MAX,
         claims: 1,
     };
-    let closed = Closed {
-        mounts: MountTotals::new(vec![in alloc; alpha, bravo]?),
-        accounts: Sums::new(vec![in alloc;
-            Sum {
-                sessions: 7,
-                sent: 1,
-                overrun: 0
-            },
-        ]?),
+    let mut mounts = Vec::new(alloc);
+    mounts.push(alpha)?;
+    mounts.push(bravo)?;
+    Ok(MountTotals::new(mounts))
+}
+
+/// What the account of the file came to.
+fn accounts(alloc: Global) -> Result<Sums, Fail>
+    ensures { IfOk result (λ accounts. length accounts ≡ 1) }
+{
+    let sum = Sum {
+        sessions: 7,
+        sent: 1,
+        overrun: 0,
+    };
+    let mut sums = Vec::new(alloc);
+    sums.push(sum)?;
+    Ok(Sums::new(sums))
+}
+
+/// What a caster of the file came to.
+fn largest(alloc: Global) -> Result<Closed, Fail>
+    ensures mounts { IfOk result (λ closed. length closed.mounts ≡ 2) }
+    ensures accounts { IfOk result (λ closed. length closed.accounts ≡ 1) }
+{
+    Ok(Closed {
+        mounts: mounts(alloc)?,
+        accounts: accounts(alloc)?,
         total: Sum {
             sessions: 8,
             sent: 1,
             overrun: u128::MAX,
         },
-    };
-    assert!(rt; config.mount.as_slice().len() == 2 && config.account.as_slice().len() == 1);
+    })
+}
+
+#[test]
+fn each_mountpoint_and_each_account_has_its_line(rt: HostRuntime) -> Result<(), Fail> {
+    let alloc = rt.alloc();
+    let config = read_config(alloc, FILE)?;
+    let closed = largest(alloc)?;
+    let (mounts, accounts) = sizes(&config);
+    assert!(rt; mounts == 2 && accounts == 1);
     let mut text = Vec::new(alloc);
     closed_text(&config, &closed, &mut text)?;
     assert_eq!(rt; text.as_slice(), TEXT);
+    Ok(())
+}
+
+const NAMES: &[u8] = b"ABCDEFGHIJKLMNOPQRSTUVWXYZ";
+
+// A configuration with a mountpoint and an account of each name.
+fn many(alloc: Global) -> Result<Config, Fail> {
+    let mut file = Vec::from_slice(alloc, b"version = 1\n")?;
+    for name in NAMES {
+        file.extend_from_slice(b"[[mount]]\nname = '")?;
+        file.push(*name)?;
+        file.extend_from_slice(b"'\npassword = ''\nring = 4\nlatitude = 0\nlongitude = 0\n")?;
+    }
+    file.extend_from_slice(b"[[group]]\nname = 'field'\nmounts = ['A']\ntypes = 'all'\n")?;
+    for name in NAMES {
+        file.extend_from_slice(b"[[account]]\nuser = '")?;
+        file.push(*name)?;
+        file.extend_from_slice(b"'\npassword = 'secret'\ngroup = 'field'\ncap = 1\n")?;
+    }
+    Ok(read_config(alloc, &file)?)
+}
+
+// The lines of this kind and these numbers, one of each name.
+fn push_lines(kind: &[u8], numbers: &[u8], out: &mut Vec<u8>) -> Result<(), Fail> {
+    for name in NAMES {
+        out.extend_from_slice(kind)?;
+        out.push(*name)?;
+        out.extend_from_slice(numbers)?;
+    }
+    Ok(())
+}
+
+#[test]
+fn many_mountpoints_and_accounts_have_their_lines(rt: HostRuntime) -> Result<(), Fail> {
+    let alloc = rt.alloc();
+    let config = many(alloc)?;
+    let total = MountTotal {
+        published: 3,
+        claims: 2,
+    };
+    let sum = Sum {
+        sessions: 7,
+        sent: 1,
+        overrun: 5,
+    };
+    let closed = Closed {
+        mounts: MountTotals::new(vec![in alloc; total; 26]?),
+        accounts: Sums::new(vec![in alloc; sum; 26]?),
+        total: sum,
+    };
+    assert!(rt; config.mount.as_slice().len() == 26 && config.account.as_slice().len() == 26);
+    let mut wanted = Vec::new(alloc);
+    push_lines(b"mount ", b" 3 2\n", &mut wanted)?;
+    push_lines(b"account ", b" 7 1 5\n", &mut wanted)?;
+    wanted.extend_from_slice(b"total 7 1 5\n")?;
+    let mut text = Vec::new(alloc);
+    closed_text(&config, &closed, &mut text)?;
+    assert_eq!(rt; text.as_slice(), wanted.as_slice());
     Ok(())
 }

@@ -39,6 +39,16 @@ fn a_turn_of_a_source_is_refused(rt: HostRuntime) -> Result<(), Fail> {
     expect_refused(&rt, alloc, Start::Head, ring(0), &script, unclaimed)?;
     let unpublished = ends(RING, ICY);
     expect_refused(&rt, alloc, Start::Head, ring(1), &script, unpublished)?;
+    let behind_junk = [
+        (Who::First, Act::In(SOURCE)),
+        (Who::First, Act::In(b"xyz")),
+        (Who::First, Act::In(FRAME_A)),
+    ];
+    let junk = Wanted {
+        junk: 3,
+        ..unpublished
+    };
+    expect_refused(&rt, alloc, Start::Head, ring(1), &behind_junk, junk)?;
     let unreleased = Wanted {
         settled: false,
         ..ends(Ending::SourceEnd { claim: 1 }, ICY)
