@@ -22,7 +22,7 @@ use Rattle.session_core.specs.Replies.{sent_by}
 use Rattle.session_core.specs.Reports.{IsHeadingOf, receipt_of, told_of}
 use Rattle.session_core.specs.Run.{Histories, Connected, Moved, judged_of, with_text, with_last, made, with_calls, makes, closed_if, moved, moved_if, is_concerned}
 use Rattle.session_core.specs.Called.{Called, OthersCalled}
-use Rattle.session_core.specs.Standing.{is_halted, IsMadeBy, IsSentBy, EndsAs, Stands, IsReceipt}
+use Rattle.session_core.specs.Standing.{is_halted, is_uncalled, is_halted_uncalled, IsMadeBy, IsSentBy, EndsAs, Stands, IsReceipt}
 use Rattle.session_core.proofs.LawLemmas.{said_same}
 use Rattle.session_core.proofs.KeepLemmas.{Later, AllSound}
 use Rattle.caster_replay.specs.Lives.{sent_to, IsGoing, IsOver, connection_of}
@@ -65,8 +65,9 @@ ends_so : (ended by : Option Ending) → is_halted ended ≡ false → EndsAs en
 ends_so ended by goes (inl halted) = absurd cc
 ends_so ended by goes (inr is) = is
 
-sent_so : (halted : Bool) (sent due : List ℕ) → halted ≡ false → IsSentBy halted sent due → sent ≡ due
-sent_so halted sent due goes is = subst (λ (b : Bool). IsSentBy b sent due) goes is
+sent_so : (ended : Option Ending) (steps : List Step) (sent due : List ℕ) → is_halted ended ≡ false
+    → IsSentBy (is_halted_uncalled ended steps) sent due → sent ≡ due
+sent_so ended steps sent due goes is = subst (λ (b : Bool). IsSentBy (b && is_uncalled steps) sent due) goes is
 
 none_halted : (ended : Option Ending) → ended ≡ None → is_halted ended ≡ false
 none_halted ended none = ap is_halted none
@@ -90,7 +91,7 @@ module _ (c : Config) (heading : Heading) (now : Histories) (d : Connected) (ses
       ∙ ap (λ (j : Judged). ended_by j (received d.steps)) (sym judged_so)
 
   pub sent_all : sent ≡ sent_to c heading now d
-  sent_all = sent_so (is_halted session.ended) sent _ goes s.sent_is
+  sent_all = sent_so session.ended d.steps sent _ goes s.sent_is
       ∙ ap (λ (j : Judged). sent_by c now.rings d.opening j (received d.steps) (reverse (segments_after [] d.steps)))
       (sym judged_so)
 

@@ -1,0 +1,10 @@
+-- The configuration of the case before is still text.
+use denote.Text.{Utf8}
+use denote.Shadow.{shadow}
+use Rattle.replay_cases.proofs.main.Given as goal
+
+abbrev pub invariant-loop-case : goal.invariant-loop-case
+invariant-loop-case l =
+    (goal.iterator-loop-case).can_next l.case-iterator ×
+    (goal.iterator-loop-case).is_finite l.case-iterator ×
+    shadow (Utf8 l.config)
