@@ -4,7 +4,7 @@ ghost use Rattle.std.specs.List.{list_all};
 ghost use Rattle.cast_io.specs.FakeLinks.{is_new_link};
 ghost use Rattle.cast_io.specs.FakeDoors.{is_new_arrival, is_new_door};
 
-use crate::expected::{expect_bytes, expect_got};
+use crate::expected::{expect_bytes, expect_got, expect_sent};
 use cast_io::{
     Arrived, Asked, ByteString, Door, Got, Link, MemDoor, MemLink, MemStreet, Street, StreetFault,
 };
@@ -63,39 +63,54 @@ fn arrived(door: &mut MemDoor) -> Result<MemLink, Fail> {
     }
 }
 
-// Writes one byte to the link, by which it is known again.
-fn mark(link: &mut MemLink, number: u8) -> Result<(), Fail> {
-    Ok(link.write(&[number])?)
+// The link that arrived, to which this byte is written, by which it is known again.
+fn arrived_with(rt: &impl Abort, door: &mut MemDoor, mark: u8) -> Result<MemLink, Fail> {
+    let mut link = arrived(door)?;
+    expect_sent(rt, &mut link, &[mark], Ok(()));
+    Ok(link)
 }
 
 // What the links took, one after the other.
-fn marks(alloc: Global, links: Option<&[MemLink]>) -> Result<Vec<u8>, Fail> {
+fn expect_marks(
+    rt: &impl Abort,
+    alloc: Global,
+    links: Option<&[MemLink]>,
+    wanted: &[u8],
+) -> Result<(), Fail> {
     let mut marks = Vec::new(alloc);
     for link in links.ok_or("told no longer")? {
         marks.extend_from_slice(link.bytes())?;
     }
-    Ok(marks)
+    expect_bytes(rt, &marks, wanted);
+    Ok(())
 }
 
-// The two links that the street dials, as they are known again.
-fn dialled(street: &mut MemStreet) -> Result<(MemLink, MemLink), Fail> {
-    let mut first = street.dial("a")?;
-    let mut second = street.dial("b")?;
-    mark(&mut first, 1)?;
-    mark(&mut second, 2)?;
-    Ok((first, second))
+// A dial.
+fn dial(street: &mut MemStreet, addr: &str) -> Result<MemLink, StreetFault> {
+    street.dial(addr)
+}
+
+// A link comes back.
+fn hang_up(street: &mut MemStreet, link: MemLink) {
+    street.hang_up(link);
+}
+
+// The link that the street dials, to which this byte is written, by which it is known again.
+fn dialled(rt: &impl Abort, street: &mut MemStreet, addr: &str, mark: u8) -> Result<MemLink, Fail> {
+    let Ok(mut link) = dial(street, addr) else {
+        return Err("no link was dialled")?;
+    };
+    expect_sent(rt, &mut link, &[mark], Ok(()));
+    Ok(link)
 }
 
 // An open of three doors and a dial, as a street was asked for them.
 fn two_calls(alloc: Global) -> Result<Vec<Asked>, Fail> {
     let mut calls = Vec::new(alloc);
-    calls.push(Asked::Open {
-        addr: ByteString::copy_of(alloc, b"here")?,
-        doors: 3,
-    })?;
-    calls.push(Asked::Dial {
-        addr: ByteString::copy_of(alloc, b"a")?,
-    })?;
+    let addr = ByteString::copy_of(alloc, b"here")?;
+    calls.push(Asked::Open { addr, doors: 3 })?;
+    let addr = ByteString::copy_of(alloc, b"a")?;
+    calls.push(Asked::Dial { addr })?;
     Ok(calls)
 }
 
@@ -127,13 +142,21 @@ fn expect_open(
 
 // A `dial` that is refused.
 fn expect_no_dial(rt: &impl Abort, street: &mut MemStreet) {
-    let refusal = street.dial("a").err();
-    assert_eq!(rt; refusal, Some(StreetFault::Failed));
+    let refused = matches!(dial(street, "a"), Err(StreetFault::Failed));
+    assert!(rt; refused);
 }
 
 // So many faults of the street, and so many links that came back with faults.
 fn expect_faults(rt: &impl Abort, street: &MemStreet, faults: u64, link_faults: u64) {
     assert!(rt; street.faults() == faults && street.link_faults() == link_faults);
+}
+
+// The next doors that the street opens: so many.
+fn opened(street: &mut MemStreet, count: u32) -> Result<Vec<MemDoor>, Fail> {
+    match street.open("here", count) {
+        Ok(doors) => Ok(doors),
+        Err(_) => Err("no doors")?,
+    }
 }
 
 // The second accept fails, and takes nothing.
@@ -153,11 +176,9 @@ fn a_door_gives_what_arrives(rt: HostRuntime) -> Result<(), Fail> {
 #[test]
 fn a_door_tells_what_came_back(rt: HostRuntime) -> Result<(), Fail> {
     let mut door = door_of(rt.alloc(), &[])?;
-    let mut link = arrived(&mut door)?;
-    mark(&mut link, 1)?;
+    let link = arrived_with(&rt, &mut door, 1)?;
     door.hang_up(link);
-    let back = marks(rt.alloc(), door.back())?;
-    expect_bytes(&rt, back.as_slice(), &[1]);
+    expect_marks(&rt, rt.alloc(), door.back(), &[1])?;
     door.hang_up(link_of(rt.alloc(), &[])?);
     assert!(rt; door.back().is_none());
     Ok(())
@@ -177,7 +198,8 @@ fn a_street_gives_no_more_doors_than_it_has(rt: HostRuntime) -> Result<(), Fail>
 #[test]
 fn a_street_gives_no_more_links_than_it_has(rt: HostRuntime) -> Result<(), Fail> {
     let mut street = street_of(rt.alloc(), &[])?;
-    let _links = dialled(&mut street)?;
+    let _first = dialled(&rt, &mut street, "a", 1)?;
+    let _second = dialled(&rt, &mut street, "b", 2)?;
     expect_no_dial(&rt, &mut street);
     expect_faults(&rt, &street, 1, 0);
     Ok(())
@@ -209,12 +231,12 @@ fn calls_of_a_street_fail_by_their_number(rt: HostRuntime) -> Result<(), Fail> {
 #[test]
 fn links_come_back_in_another_order(rt: HostRuntime) -> Result<(), Fail> {
     let mut street = street_of(rt.alloc(), &[])?;
-    let (first, second) = dialled(&mut street)?;
-    street.hang_up(second);
-    street.hang_up(first);
-    let back = marks(rt.alloc(), street.links_back())?;
-    expect_bytes(&rt, back.as_slice(), &[2, 1]);
-    street.hang_up(link_of(rt.alloc(), &[])?);
+    let first = dialled(&rt, &mut street, "a", 1)?;
+    let second = dialled(&rt, &mut street, "b", 2)?;
+    hang_up(&mut street, second);
+    hang_up(&mut street, first);
+    expect_marks(&rt, rt.alloc(), street.links_back(), &[2, 1])?;
+    hang_up(&mut street, link_of(rt.alloc(), &[])?);
     assert!(rt; street.links_back().is_none());
     Ok(())
 }
@@ -223,10 +245,11 @@ fn links_come_back_in_another_order(rt: HostRuntime) -> Result<(), Fail> {
 #[test]
 fn a_fault_of_a_link_is_none_of_the_street(rt: HostRuntime) -> Result<(), Fail> {
     let mut street = street_of(rt.alloc(), &[])?;
-    let (first, mut second) = dialled(&mut street)?;
+    let first = dialled(&rt, &mut street, "a", 1)?;
+    let mut second = dialled(&rt, &mut street, "b", 2)?;
     expect_got(&rt, &mut second, 2, Got::Failed, b"");
-    street.hang_up(second);
-    street.hang_up(first);
+    hang_up(&mut street, second);
+    hang_up(&mut street, first);
     expect_faults(&rt, &street, 0, 1);
     Ok(())
 }
@@ -235,7 +258,7 @@ fn a_fault_of_a_link_is_none_of_the_street(rt: HostRuntime) -> Result<(), Fail> 
 #[test]
 fn a_door_that_failed_is_a_fault_of_the_street(rt: HostRuntime) -> Result<(), Fail> {
     let mut street = street_of(rt.alloc(), &[])?;
-    let mut doors = street.open("here", 2)?;
+    let mut doors = opened(&mut street, 2)?;
     street.shut(doors.pop().ok_or("no door")?);
     expect_faults(&rt, &street, 0, 0);
     let mut first = doors.pop().ok_or("no door")?;
@@ -245,20 +268,25 @@ fn a_door_that_failed_is_a_fault_of_the_street(rt: HostRuntime) -> Result<(), Fa
     Ok(())
 }
 
-// The most faults that one of the doors had.
-fn most_faults(doors: Option<&[MemDoor]>) -> Option<u64> {
-    doors?.iter().map(|door| door.faults()).max()
+// One door came back, which had one fault.
+fn expect_faulty_door(rt: &impl Abort, doors: Option<&[MemDoor]>) -> Result<(), Fail> {
+    let doors = doors.ok_or("told no longer")?;
+    assert!(rt; doors.len() == 1);
+    for door in doors {
+        assert!(rt; door.faults() == 1);
+    }
+    Ok(())
 }
 
 // The street tells them until one more came back than it gave.
 #[test]
 fn doors_come_back_as_they_are_then(rt: HostRuntime) -> Result<(), Fail> {
     let mut street = street_of(rt.alloc(), &[])?;
-    let mut doors = street.open("here", 1)?;
+    let mut doors = opened(&mut street, 1)?;
     let mut door = doors.pop().ok_or("no door")?;
     expect_failed(&rt, &mut door);
     street.shut(door);
-    assert!(rt; most_faults(street.doors_back()) == Some(1));
+    expect_faulty_door(&rt, street.doors_back())?;
     street.shut(door_of(rt.alloc(), &[])?);
     assert!(rt; street.doors_back().is_none());
     Ok(())
