@@ -1,0 +1,4 @@
+pub mod Piles
+pub mod Leaves
+pub mod Known
+pub mod Rows
