@@ -25,7 +25,7 @@ use Rattle.session_core.specs.Reports.{IsHeadingOf, junk_of}
 use Rattle.session_core.specs.Promises.{IsSoundIn}
 use Rattle.session_core.specs.Run.{Histories}
 use Rattle.session_core.specs.Called.{Called, OthersCalled}
-use Rattle.session_core.specs.Standing.{StandsFor, EndsAs, IsMadeBy, IsSentBy, IsSettled, IsReceipt, IsClosed, is_halted}
+use Rattle.session_core.specs.Standing.{StandsFor, EndsAs, IsMadeBy, IsSentBy, IsSettled, IsReceipt, IsClosed, is_halted, is_uncalled, is_halted_uncalled}
 use Rattle.session_core.proofs.KeepLemmas.{AllSound}
 use Rattle.session_core.proofs.ClosingLemmas.{closing_unasked, junk_unasked}
 use Rattle.caster_serve.specs.Courses.{happened, steps_of, text_of}
@@ -36,8 +36,8 @@ use Rattle.caster_serve.proofs.LinkLemmas.{link_none}
 use Rattle.caster_serve.proofs.SoundLemmas.{stands_sound, sound_closed, sent_later}
 
 -- the first bytes of the first bytes are first bytes
-sent_through : (halted torn : Bool) (written sent due : List ℕ) → IsSentBy torn written sent
-    → IsSentBy halted sent due → IsSentBy (halted || torn) written due
+sent_through : (cut torn : Bool) (written sent due : List ℕ) → IsSentBy torn written sent
+    → IsSentBy cut sent due → IsSentBy (cut || torn) written due
 sent_through false false written sent due first second = first ∙ second
 sent_through false true written sent due first second = (first.0, sym second ∙ first.1)
 sent_through true false written sent due first second =
@@ -56,6 +56,10 @@ lost_due : (c : Config) (rings : List (History RingCall)) (opening : Opening) (s
 lost_due c rings opening steps none =
     ap (λ (s : List Step). sent_by c rings opening waiting (received s) (reverse (segments_after [] s))) none
     ∙ append-nil (opening_text c opening ++ [])
+
+lost_cut : (ended : Option Ending) (steps : List Step) → ended ≡ Some Memory → steps ≡ []
+    → is_halted_uncalled ended steps ≡ true
+lost_cut ended steps halted none = ap (λ (e : Option Ending). is_halted_uncalled e steps) halted ∙ ap is_uncalled none
 
 -- and it called nothing
 lost_owes : (c : Config) (ended : Option Ending) (steps : List Step) → ended ≡ Some Memory → steps ≡ []
@@ -93,7 +97,7 @@ goes_by : (c : Config) (opening : Opening) (me : ℕ) (alone : Bool) (start betw
     → IsJudged c opening (text_of came.whats) (steps_of came.reached.events) session.ended j
     → EndsAs session.ended (ended_by j (received (steps_of came.reached.events)))
     → IsMadeBy (is_halted session.ended) (plan_of c j) (owed_among (steps_of came.reached.events))
-    → IsSentBy (is_halted session.ended) came.sent
+    → IsSentBy (is_halted_uncalled session.ended (steps_of came.reached.events)) came.sent
     (sent_by c between.rings opening j (received (steps_of came.reached.events))
     (reverse (segments_after [] (steps_of came.reached.events))))
     → Called c alone between now session.me more
@@ -105,6 +109,7 @@ goes_by c opening me alone start between now session before after last receipt c
     settled told sound =
     let reached = came.reached in
     let same : came.whats ≡ happened reached.events = sym reached.happened_are in
+    let cut : Bool = is_halted_uncalled session.ended (steps_of reached.events) in
     let closed : Called c false between now me more =
     called_less c alone between now me more
     (subst (λ (n : ℕ). Called c alone between now n more) reached.caller called) in
@@ -122,9 +127,9 @@ goes_by c opening me alone start between now session before after last receipt c
       judged_is = subst (λ w. IsJudged c opening (text_of w) (steps_of reached.events) session.ended j) same is;
       ends = ends;
       owes = owes;
-      bytes = subst (IsSentBy (is_halted session.ended || is_torn last) came.written)
+      bytes = subst (IsSentBy (cut || is_torn last) came.written)
           (sent_later c between now me opening j (steps_of reached.events) more sound closed)
-          (sent_through (is_halted session.ended) (is_torn last) came.written came.sent _ came.bytes due);
+          (sent_through cut (is_torn last) came.written came.sent _ came.bytes due);
       closed_by = more;
       closed = closed;
       settled = settled;
@@ -134,7 +139,7 @@ goes_by c opening me alone start between now session before after last receipt c
     }
 
 -- what `close` says
-abbrev Closes : Config → Opening → Bool → Histories → Histories → Session → Last → Receipt → Type 0
+abbrev pub Closes : Config → Opening → Bool → Histories → Histories → Session → Last → Receipt → Type 0
 Closes c opening alone between now session last receipt =
     (heading : Heading) (text : List ℕ) (steps : List Step) (histories : Histories) (sent : List ℕ)
     → IsHeadingOf (Some opening) text heading → StandsFor c session opening text steps histories sent
@@ -166,8 +171,9 @@ goes_on_stands c opening me alone start between now session before after last re
     goes_by c opening me alone start between now session before after last receipt came waiting closed.more
     (inr (lost.ended, lost.uncalled, refl)) (inl (ap is_halted lost.ended))
     (lost_owes c session.ended steps lost.ended lost.uncalled)
-    (subst (λ (ended : Option Ending). IsSentBy (is_halted ended) came.sent
-    (sent_by c between.rings opening waiting (received steps) (reverse (segments_after [] steps)))) (sym lost.ended)
+    (subst (λ (cut : Bool). IsSentBy cut came.sent
+    (sent_by c between.rings opening waiting (received steps) (reverse (segments_after [] steps))))
+    (sym (lost_cut session.ended steps lost.ended lost.uncalled))
     ([], lost_due c between.rings opening steps lost.uncalled ∙ ap (λ (l : List ℕ). l ++ []) (sym lost.unsent)))
     closed.called (lost_settled receipt.settled j steps closed.more lost.uncalled closed.settled)
     (lost_receipt session.ended j steps last receipt lost.ended lost.uncalled closed.receipt_is)

@@ -37,7 +37,7 @@ use Rattle.session_core.specs.Standing.{IsMadeBy, IsSettled}
 use Rattle.cast_io.specs.declared.steps.Step.{Step as LinkTook}
 use Rattle.caster_serve.specs.Courses.{steps_of}
 use Rattle.caster_serve.specs.Served.{LinkGoes}
-use Rattle.caster_serve.specs.Leaves.{left_in, Leaves}
+use Rattle.caster_places.specs.Leaves.{left_in, Leaves}
 use Rattle.caster_serve.specs.Works.{tallied}
 
 -- ---- plans that leave no account

@@ -10,3 +10,8 @@ pub mod LeaveLemmas
 pub mod PublishLemmas
 pub mod WorkLemmas
 pub mod SharingLemmas
+pub mod SittingLemmas
+pub mod CallersLemmas
+pub mod CallingLemmas
+pub mod WholeLemmas
+pub mod WornLemmas

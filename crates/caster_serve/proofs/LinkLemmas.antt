@@ -1,15 +1,14 @@
 -- What a link tells after several calls.
-use Rattle.std.proofs.Common.{◌∙◌, ◌≤◌, ℕ, List, [], ◌∷◌, ◌++◌, Ok, Err, refl, sym, subst, arith}
-use Rattle.std.specs.Prelude.{OnOk, OnErr, Result}
+use Rattle.std.proofs.Common.{◌∙◌, ◌≤◌, ℕ, List, [], ◌∷◌, ◌++◌, refl, sym, subst, arith}
 use Rattle.std.proofs.lemmas.List.{append-nil}
 use Rattle.cast_io.specs.declared.steps.Step.{Step}
 use Rattle.cast_io.specs.declared.link.Got.{Got}
 use Rattle.cast_io.specs.Causes.{Rose}
 use Rattle.cast_io.specs.Told.{LinkTold, Grew}
-use Rattle.cast_io.specs.Links.{HasRead, HasWritten, step_of}
+use Rattle.cast_io.specs.Links.{HasRead, step_of}
 use Rattle.cast_io.proofs.ToldLemmas.{grew_none, grew_both}
 use Rattle.caster_serve.specs.Links.{LinkGrew}
-use Rattle.caster_serve.specs.Sending.{HasSent, HasTorn}
+use Rattle.caster_serve.specs.Sending.{HasSent}
 
 pub link_none : (a : LinkTold) → LinkGrew a a [] []
 link_none a = record {
@@ -36,33 +35,6 @@ link_read a b result buf read = record {
   steps = read.taken;
   bytes = subst (λ told. Grew a.bytes told []) (sym read.bytes) (grew_none a.bytes);
   later = read.later;
-}
-
--- a write that took all
-pub link_sent : {T E : Type 0} (a b : LinkTold) (result : Result T E) (piece : List ℕ)
-    → HasWritten a b result piece → OnOk result (HasSent a b piece)
-link_sent a b (Ok answer) piece written = record {
-  given = written.given;
-  steps = written.taken;
-  bytes = written.whole;
-  later = written.later;
-}
-link_sent a b (Err fault) piece written = tt
-
--- a write that failed
-pub link_torn : {T E : Type 0} (a b : LinkTold) (result : Result T E) (piece : List ℕ)
-    → HasWritten a b result piece → OnErr result (HasTorn a b piece)
-link_torn a b (Ok answer) piece written = tt
-link_torn a b (Err fault) piece written = record {
-  n = written.torn.0;
-  within = written.torn.1;
-  link = record {
-    given = written.given;
-    steps = written.taken;
-    bytes = written.torn.2;
-    later = written.later;
-  };
-  rose = written.failed;
 }
 
 -- one step more, with nothing written

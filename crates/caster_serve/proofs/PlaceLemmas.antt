@@ -7,7 +7,7 @@ use Rattle.turn_log.specs.Turn.{SamePlace}
 use Rattle.mount_ring.specs.declared.shape.RingShape.{RingShape}
 use Rattle.session_calls.specs.Rings.{AllSpeak, SamePlaces}
 use Rattle.cast_config.specs.declared.config.Config.{Config}
-use Rattle.caster_serve.specs.Known.{Known, Fit, known_at}
+use Rattle.caster_places.specs.Known.{Known, Fit, known_at}
 
 -- places that speak for a caller, by what is known of them
 pub speak_by : {P : Type 0} (speaks : P → ℕ → Bool) (places : List P) (me : ℕ)

@@ -343,7 +343,3 @@ turned_arrived c opening me alone start now later session next sent before after
 pub ended_flow : (ended : Option Ending) → flows.Ended ≡ flow_of ended → is_some ended ≡ true
 ended_flow None is = absurd cc
 ended_flow (Some end) is = refl
-
-pub open_flow : (ended : Option Ending) → flows.Open ≡ flow_of ended → ended ≡ None
-open_flow None is = refl
-open_flow (Some end) is = absurd cc

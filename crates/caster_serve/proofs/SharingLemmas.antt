@@ -3,8 +3,8 @@ use Rattle.std.proofs.Common.{◌≡◌, ◌∙◌, ◌+◌, ◌<◌, ℕ, zero,
 use Rattle.std.proofs.lemmas.List.{length-append, map-append}
 use Rattle.std.specs.List.{All}
 use Rattle.std.proofs.lemmas.Bool.{eq-eqb}
-use Rattle.std.proofs.lemmas.List.Elements.{All-nil, All-cons, All-head, All-tail, All-append}
-use mathlib.Core.Option.{some, some-ne-none}
+use Rattle.std.proofs.lemmas.List.Elements.{All-nil, All-cons, All-append}
+use mathlib.Core.Option.{some}
 use lib.ListN.{get_elem?}
 use Rattle.mount_ring.specs.declared.shape.RingShape.{RingShape}
 use Rattle.turn_log.specs.declared.object.Played.{Ghosts}
@@ -17,24 +17,12 @@ use Rattle.cast_config.specs.declared.config.Mount.{Mount}
 use Rattle.cast_config.specs.Served.{filters_of}
 use Rattle.session_core.specs.Setting.{shapes, shapes_from}
 use Rattle.session_core.proofs.HeldLemmas.{length_shapes}
-use Rattle.caster_serve.specs.Sharing.{AllSay, AreMatched, AreDealt, AreNewPasses, IsNewPass, ring_of}
+use Rattle.caster_places.specs.Piles.{AreMatched}
+use Rattle.caster_serve.specs.Sharing.{AllSay, AreDealt, AreNewPasses, IsNewPass, ring_of}
 use Rattle.caster_serve.specs.declared.shared.Shared.{Shared}
 use Rattle.caster_serve.specs.declared.shared.Passes.{Passes}
 use Rattle.turn_log.proofs.LockLists.{at_end}
-
-pub matched-length : {X Y : Type 0} (Fits : X → Y → Type 0) (xs : List X) (ys : List Y) → AreMatched Fits xs ys
-    → length xs ≡ length ys
-matched-length Fits [] [] m = refl
-matched-length Fits [] (y ∷ ys) m = absurd m
-matched-length Fits (x ∷ xs) [] m = absurd m
-matched-length Fits (x ∷ xs) (y ∷ ys) m = ap suc (matched-length Fits xs ys m.1)
-
-pub matched-snoc : {X Y : Type 0} (Fits : X → Y → Type 0) (xs : List X) (ys : List Y) (x : X) (y : Y)
-    → AreMatched Fits xs ys → Fits x y → AreMatched Fits (xs ++ x ∷ []) (ys ++ y ∷ [])
-matched-snoc Fits [] [] x y m fits = (fits, tt)
-matched-snoc Fits [] (z ∷ ys) x y m fits = absurd m
-matched-snoc Fits (w ∷ xs) [] x y m fits = absurd m
-matched-snoc Fits (w ∷ xs) (z ∷ ys) x y m fits = (m.0, matched-snoc Fits xs ys x y m.1 fits)
+use Rattle.caster_places.proofs.ListLemmas.{matched-length, matched-snoc, at_front, at_back, all_front, all_last}
 
 -- the last of the first list goes with the last of the other
 pub record Last {X Y : Type 0} (Fits : X → Y → Type 0) (xs : List X) (x : X) (ys : List Y) : Type 0 where
@@ -79,15 +67,6 @@ pub last_at : {X : Type 0} (front : List X) (x d : X) (n : ℕ) → n ≡ length
 last_at [] x d n is = ap (λ (k : ℕ). get_or (x ∷ []) k d) is
 last_at (y ∷ front) x d n is =
     ap (λ (k : ℕ). get_or (y ∷ front ++ x ∷ []) k d) is ∙ last_at front x d (length front) refl
-
-pub at_front : {X : Type 0} (l : List X) (a b : X) (i : ℕ) → get_elem? l i ≡ some b → get_elem? (l ++ a ∷ []) i ≡ some b
-at_front [] a b i e = absurd (some-ne-none b (sym e))
-at_front (x ∷ l) a b zero e = e
-at_front (x ∷ l) a b (suc i) e = at_front l a b i e
-
-pub at_back : {X : Type 0} (l : List X) (a : X) → get_elem? (l ++ a ∷ []) (length l) ≡ some a
-at_back [] a = refl
-at_back (x ∷ l) a = at_back l a
 
 -- ---- passes
 
@@ -252,15 +231,6 @@ shapes_all shape c turns m is so_far =
     so_far ∙ ap (λ (k : ℕ). take k (shapes c)) (is ∙ sym (length_shapes c)) ∙ take_all (length (shapes c)) (shapes c) (omega arith)
 
 -- ---- facts of each
-
-pub all_front : {X : Type 0} (P : X → Type 0) (xs : List X) (x : X) → All P (xs ++ x ∷ []) → All P xs
-all_front P [] x all = All-nil P
-all_front P (y ∷ ys) x all =
-    All-cons P y ys (All-head P y (ys ++ x ∷ []) all) (all_front P ys x (All-tail P y (ys ++ x ∷ []) all))
-
-pub all_last : {X : Type 0} (P : X → Type 0) (xs : List X) (x : X) → All P (xs ++ x ∷ []) → P x
-all_last P [] x all = All-head P x [] all
-all_last P (y ∷ ys) x all = all_last P ys x (All-tail P y (ys ++ x ∷ []) all)
 
 -- a seat more speaks for this caller
 pub speaks_more : {X P : Type 0} (speaks : X → ℕ → Bool) (number_of : P → ℕ) (number : ℕ) (mid new : List X) (seat : X)

@@ -1,5 +1,5 @@
 -- Links that a door gave, one after the other.
-use Rattle.std.proofs.Common.{◌≡◌, ◌∙◌, ◌+◌, ◌≤◌, ◌++◌, ℕ, List, [], ◌∷◌, fold, refl, sym, ap, subst, Option, Some, arith}
+use Rattle.std.proofs.Common.{◌≡◌, ◌∙◌, ◌+◌, ◌≤◌, ◌++◌, ℕ, List, [], ◌∷◌, fold, refl, sym, ap, subst, inl, Option, Some, arith}
 use Rattle.std.proofs.lemmas.List.{map-append, length-append}
 use Rattle.std.proofs.lemmas.Grind.{fold-append}
 use Rattle.cast_io.specs.Told.{LinkTold, DoorTold, Grew}
@@ -9,13 +9,13 @@ use Rattle.cast_io.proofs.ToldLemmas.{grew_none, grew_both}
 use Rattle.caster_accounts.specs.declared.account.Sum.{Sum}
 use Rattle.cast_config.specs.declared.config.Config.{Config}
 use Rattle.session_core.specs.declared.report.Receipt.{Receipt}
-use Rattle.session_core.specs.Judged.{Opening, sends_head}
+use Rattle.session_core.specs.Judged.{Opening, sends_head, relays}
 use Rattle.session_core.specs.Run.{Histories}
 use Rattle.caster_serve.specs.Links.{IsCausedBy}
 use Rattle.caster_serve.specs.Served.{LinkServed}
-use Rattle.caster_serve.specs.Leaves.{Leaves}
+use Rattle.caster_places.specs.Leaves.{Leaves}
 use Rattle.caster_serve.proofs.LeaveLemmas.{leaves_none, leaves_both, leaves_of}
-use Rattle.caster_serve.specs.Works.{Record, IsTold, RecordGoes, Followed, tallied, links_of, receipts_of, Works, OneServed}
+use Rattle.caster_serve.specs.Works.{Record, IsTold, RecordGoes, Followed, tallied, links_of, receipts_of, Works, OneServed, RelayGoes, Worked}
 
 -- ---- one link
 
@@ -50,6 +50,17 @@ one_served c me start now before after receipt door hung old new fresh served ha
   faults = hangs.faults;
   goes = record_goes c sends_head me start now before after receipt fresh served;
   tally = counts;
+}
+
+pub relay_goes : (c : Config) (number me : ℕ) (start now : Histories) (before after : LinkTold) (receipt : Receipt)
+    (old new : Sum) → IsNewLink before → LinkServed c (relays number) me start now before after receipt
+    → new ≡ tallied old receipt → RelayGoes c number me start now after old new
+relay_goes c number me start now before after receipt old new fresh served counts = record {
+  receipt = receipt;
+  goes = record_goes c (relays number) me start now before after receipt fresh served;
+  tally = counts;
+  leaves = subst (Leaves me start.book now.book old) (sym counts)
+      (leaves_of c (relays number) me start now served.taken served.written served.last receipt old served.goes);
 }
 
 -- ---- all of them
@@ -95,16 +106,11 @@ works_more c me start between now before door opened after old sum new count wor
   later = omega (arith, works.later, later, one.faults);
 }
 
--- the door told the same of what came back, and no fewer faults
-pub works_still : (c : Config) (me : ℕ) (start now : Histories) (before door opened : DoorTold) (old new : Sum)
-    (count : ℕ) → Works c me start now before door old new count → opened.back ≡ door.back
-    → door.faults ≤ opened.faults → Works c me start now before opened old new count
-works_still c me start now before door opened old new count works back later = record {
-  entries = works.entries;
-  back = subst (λ told. Grew before.back told (links_of works.entries)) (sym back) works.back;
-  followed = works.followed;
-  counted = works.counted;
-  tally = works.tally;
-  leaves = works.leaves;
-  later = omega (arith, works.later, later);
+-- as many links came as it was to serve
+pub worked_all : (c : Config) (me : ℕ) (start now : Histories) (before after : DoorTold) (old new : Sum)
+    (count limit : ℕ) → Works c me start now before after old new count → count ≡ limit
+    → Worked c me start now before after old new limit limit
+worked_all c me start now before after old new count limit works all = record {
+  works = subst (Works c me start now before after old new) all works;
+  done = inl refl;
 }

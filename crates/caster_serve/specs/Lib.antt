@@ -1,9 +1,12 @@
-pub mod Known
 pub mod Courses
 pub mod Links
 pub mod Sending
 pub mod Served
 pub mod Sharing
-pub mod Leaves
 pub mod Works
 pub mod Publishes
+pub mod Callers
+pub mod Hands
+pub mod Seated
+pub mod Prepared
+pub mod Caster

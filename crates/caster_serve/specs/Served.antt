@@ -1,5 +1,5 @@
 -- What became of a connection that was served over a link: from its first byte to its receipt.
-use Rattle.std.specs.Prelude.{◌≡◌, ℕ, ◌^◌, ◌<◌, ◌⊎◌, ◌||◌, false, List, [], ◌++◌, length, reverse, is_some, Option, Some}
+use Rattle.std.specs.Prelude.{◌≡◌, ℕ, ◌^◌, ◌<◌, ◌⊎◌, ◌||◌, false, List, [], ◌++◌, length, reverse, is_some, Option, Some, ◌≤◌, get_or, ⊤}
 use Rattle.std.specs.List.{All}
 use Rattle.cast_io.specs.declared.steps.Step.{Step as LinkTook}
 use Rattle.cast_io.specs.Told.{LinkTold}
@@ -7,7 +7,7 @@ use Rattle.session_calls.specs.Steps.{Step}
 use Rattle.rover_session.specs.Made.{segments_after, owed_among}
 use Rattle.cast_config.specs.declared.config.Config.{Config}
 use Rattle.session_core.specs.declared.ending.Ending.{Ending}
-use Rattle.session_core.specs.declared.ending.Ending.TheVariants.{Memory}
+use Rattle.session_core.specs.declared.ending.Ending.TheVariants.{Memory, Worn}
 use Rattle.session_core.specs.declared.ending.Last.{Last}
 use Rattle.session_core.specs.declared.report.Receipt.{Receipt}
 use Rattle.session_core.specs.declared.session.Session.{Session}
@@ -20,7 +20,7 @@ use Rattle.session_core.specs.Replies.{sent_by}
 use Rattle.session_core.specs.Reports.{IsHeadingOf}
 use Rattle.session_core.specs.Run.{Histories}
 use Rattle.session_core.specs.Called.{Called}
-use Rattle.session_core.specs.Standing.{StandsFor, EndsAs, IsMadeBy, IsSentBy, IsSettled, IsReceipt, is_halted}
+use Rattle.session_core.specs.Standing.{StandsFor, EndsAs, IsMadeBy, IsSentBy, IsSettled, IsReceipt, is_halted, is_halted_uncalled}
 use Rattle.caster_serve.specs.Courses.{Event, Ran, happened, steps_of, text_of}
 use Rattle.caster_serve.specs.Links.{LinkGrew, IsLeftOut, Stopped, IsCausedBy, happens_in, is_torn}
 
@@ -118,9 +118,9 @@ pub record LinkGoes (c : Config) (opening : Opening) (me : ℕ) (start now : His
   pub ends : EndsAs ended (ended_by j (received (steps_of events)))
   -- all its calls but reads are what its bytes owe, or the first of that where it was halted
   pub owes : IsMadeBy (is_halted ended) (plan_of c j) (owed_among (steps_of events))
-  -- what is sent for that was written, or the first of it where the session was halted or a write
-  -- failed
-  pub bytes : IsSentBy (is_halted ended || is_torn last) written
+  -- what is sent for that was written, or the first of it where the session was halted before its
+  -- first call or a write failed
+  pub bytes : IsSentBy (is_halted_uncalled ended (steps_of events) || is_torn last) written
       (sent_by c now.rings opening j (received (steps_of events))
       (reverse (segments_after [] (steps_of events))))
   -- what was held is given back, unless that turn was refused
@@ -142,3 +142,8 @@ pub record LinkServed (c : Config) (opening : Opening) (me : ℕ) (start now : H
   pub last : Last
   pub goes : LinkGoes c opening me start now taken written last receipt
   pub caused : IsCausedBy last before.faults after.faults
+
+-- Worn is told only where one of these places was worn by at least as many turns as it tells.
+abbrev pub IsWornBy : List ℕ → Ending → Type 0
+IsWornBy worn (Worn turns) = (2 ^ 62 ≤ turns) × (place : ℕ) × (turns ≤ get_or worn place 0)
+IsWornBy worn _ = ⊤

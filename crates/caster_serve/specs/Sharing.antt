@@ -1,5 +1,5 @@
 -- What the workers of a caster share, and the passes with which they sit down at its locks.
-use Rattle.std.specs.Prelude.{◌≡◌, ℕ, ⊤, Bool, IsTrue, List, [], ◌∷◌, length, map, Option, None, Some}
+use Rattle.std.specs.Prelude.{◌≡◌, ℕ, Bool, IsTrue, List, [], length, map, Option, None, Some}
 use Rattle.std.specs.List.{All}
 use mathlib.Core.Option.{some}
 use lib.ListN.{get_elem?}
@@ -9,13 +9,14 @@ use Rattle.caster_accounts.specs.Kept.{caps_of}
 use Rattle.turn_log.specs.declared.object.Played.{Ghosts}
 use Rattle.turn_log.specs.declared.lock.parts.Turn.{Turn}
 use Rattle.turn_log.specs.declared.lock.parts.Pass.{Pass}
-use Rattle.turn_log.specs.Lock.{turn_value, pass_number, pass_seen, IsPassOf}
+use Rattle.turn_log.specs.Lock.{turn_value, turn_passes, pass_number, pass_seen, IsPassOf}
 use Rattle.cast_config.specs.declared.config.Group.{Group}
 use Rattle.cast_config.specs.declared.config.Mount.{Mount}
 use Rattle.cast_config.specs.Served.{filters_of}
 use Rattle.cast_config.specs.Kept.{KeepsRules}
 use Rattle.session_core.specs.Run.{Histories}
 use Rattle.session_core.specs.Setting.{shapes, caps, table}
+use Rattle.caster_places.specs.Piles.{AreMatched}
 use Rattle.caster_serve.specs.declared.shared.Shared.{Shared}
 use Rattle.caster_serve.specs.declared.shared.Passes.{Passes}
 
@@ -30,6 +31,11 @@ pub record IsReady (shared : Shared) : Type 0 where
       ≡ shapes shared.config.now
   pub caps_are : caps_of (turn_value shared.book) ≡ caps shared.config.now
 
+-- its locks were opened for so many passes
+pub record AreOpenFor (passes : ℕ) (shared : Shared) : Type 0 where
+  pub rings : All (λ turn. turn_passes turn ≡ passes) shared.rings.items
+  pub book : turn_passes shared.book ≡ passes
+
 -- the ring of the mountpoint of this number
 abbrev pub ring_of : List Group → ℕ → Option Mount → RingShape
 ring_of groups n None = record { capacity = 0; filters = [] }
@@ -37,13 +43,6 @@ ring_of groups n (Some mount) =
     record { capacity = mount.ring; filters = filters_of groups n }
 
 -- ---- passes
-
--- each item of one list goes with the item at the same place of the other
-abbrev pub AreMatched : {X Y : Type 0} → (X → Y → Type 0) → List X → List Y → Type 0
-AreMatched Fits [] [] = ⊤
-AreMatched Fits [] (y ∷ ys) = ⊥
-AreMatched Fits (x ∷ xs) [] = ⊥
-AreMatched Fits (x ∷ xs) (y ∷ ys) = Fits x y × AreMatched Fits xs ys
 
 module _ {V C A R S : Type 0} {g : Ghosts V C A R S} where
   -- a pass of this lock under this number, which has seen nothing

@@ -7,11 +7,11 @@ use Rattle.caster_accounts.specs.declared.account.Sum.{Sum}
 use Rattle.cast_config.specs.declared.config.Config.{Config}
 use Rattle.session_core.specs.declared.ending.Last.{Last}
 use Rattle.session_core.specs.declared.report.Receipt.{Receipt}
-use Rattle.session_core.specs.Judged.{Opening, sends_head}
+use Rattle.session_core.specs.Judged.{Opening, sends_head, relays}
 use Rattle.session_core.specs.Run.{Histories}
 use Rattle.caster_serve.specs.Links.{IsCausedBy}
 use Rattle.caster_serve.specs.Served.{LinkGoes}
-use Rattle.caster_serve.specs.Leaves.{Leaves}
+use Rattle.caster_places.specs.Leaves.{Leaves}
 
 -- what a link told when it came back, and the receipt of its connection
 pub record Record : Type 0 where
@@ -73,8 +73,7 @@ pub record Works (c : Config) (me : ℕ) (start now : Histories) (before after :
 
 -- The worker stopped after so many links as it was to serve, or where its door failed.
 pub record Worked (c : Config) (me : ℕ) (start now : Histories) (before after : DoorTold)
-    (old new : Sum) (limit : ℕ) : Type 0 where
-  pub count : ℕ
+    (old new : Sum) (limit count : ℕ) : Type 0 where
   pub works : Works c me start now before after old new count
   pub done : (count ≡ limit) ⊎ Rose before.faults after.faults
 
@@ -87,3 +86,11 @@ pub record OneServed (c : Config) (me : ℕ) (start now : Histories) (before aft
   pub faults : after.faults ≡ before.faults
   pub goes : RecordGoes c sends_head me entry start now
   pub tally : new ≡ tallied old entry.receipt
+
+-- The relay of this number was served over its link to its receipt, which the tally counts.
+pub record RelayGoes (c : Config) (number me : ℕ) (start now : Histories) (after : LinkTold)
+    (old new : Sum) : Type 0 where
+  pub receipt : Receipt
+  pub goes : RecordGoes c (relays number) me (record { link = after; receipt = receipt }) start now
+  pub tally : new ≡ tallied old receipt
+  pub leaves : Leaves me start.book now.book old new

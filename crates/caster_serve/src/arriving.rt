@@ -1,19 +1,20 @@
 //! What a session does for a step of its link.
 
-ghost use Rattle.std.specs.Prelude.{◌≡◌, ℕ, List, [], ◌∷◌, length, None};
+ghost use Rattle.std.specs.Prelude.{◌≡◌, ℕ, List, [], ◌∷◌, length, None, IfSome};
 ghost use Rattle.cast_config.specs.declared.config.Config.{Config as ConfigValue};
 ghost use Rattle.cast_config.specs.Kept.{KeepsRules};
+ghost use Rattle.session_core.specs.Called.{IsCause};
 ghost use Rattle.session_core.specs.Judged.{Opening};
 ghost use Rattle.session_core.specs.Owed.{Happening, arrives, takes_turn};
 ghost use Rattle.session_core.specs.Run.{Histories};
 ghost use Rattle.session_core.specs.Setting as setting;
 ghost use Rattle.session_core.specs.Standing.{Follows};
-ghost use Rattle.caster_serve.specs.Known.{Fit};
+ghost use Rattle.caster_places.specs.Known.{Fit};
 ghost use Rattle.caster_serve.specs.Served.{Arrived, Reached};
 
-use crate::known::AllPlaces;
 use cast_config::Config;
 use caster_accounts::Book;
+use caster_places::AllPlaces;
 use mount_ring::Ring;
 use session_core::{Flow, Places, Session};
 use turn_log::Turns;
@@ -33,6 +34,8 @@ pub(crate) fn take_turn<T: Turns<Ring>, B: Turns<Book>>(
         × Follows c session.old (⟦<Places<T, B> as AllPlaces>⟧.seen places.old) 0 }
     ensures known { ⟦<Places<T, B> as AllPlaces>⟧.known places.new
         ≡ ⟦<Places<T, B> as AllPlaces>⟧.known places.old }
+    ensures cause { IfSome session.new.ended
+        (IsCause (⟦<Places<T, B> as AllPlaces>⟧.worn places.new)) }
     ensures turned { (c : ConfigValue) (opening : Opening) (me : ℕ) (start : Histories)
         (sent : List ℕ) (whats : List Happening)
         → Fit c me (⟦<Places<T, B> as AllPlaces>⟧.known places.old)
@@ -61,6 +64,8 @@ pub(crate) fn arrive<T: Turns<Ring>, B: Turns<Book>>(
         (⟦<Places<T, B> as AllPlaces>⟧.seen places.old) (length bytes.now) }
     ensures known { ⟦<Places<T, B> as AllPlaces>⟧.known places.new
         ≡ ⟦<Places<T, B> as AllPlaces>⟧.known places.old }
+    ensures cause { IfSome session.new.ended
+        (IsCause (⟦<Places<T, B> as AllPlaces>⟧.worn places.new)) }
     ensures arrived { (opening : Opening) (me : ℕ) (start : Histories) (sent : List ℕ)
         (whats : List Happening)
         → Reached config.now opening me start (⟦<Places<T, B> as AllPlaces>⟧.seen places.old)

@@ -3,7 +3,8 @@
 ghost use Rattle.std.specs.Prelude.{◌≡◌, ℕ, ◌+◌, ◌^◌, ◌<◌, ◌≤◌, List, ◌++◌, length, vec_len, vec_capacity, OnOk};
 ghost use mathlib.Core.Option.{some};
 ghost use lib.ListN.{get_elem?};
-ghost use Rattle.caster_serve.specs.Sharing.{AreDealt, AreMatched, AreNewPasses, IsNewPass};
+ghost use Rattle.caster_places.specs.Piles.{AreMatched};
+ghost use Rattle.caster_serve.specs.Sharing.{AreDealt, AreNewPasses, IsNewPass};
 
 use crate::shared::{Passes, Shared};
 use caster_accounts::Book;

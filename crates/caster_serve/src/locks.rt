@@ -1,11 +1,13 @@
 //! The locks of a caster.
 
 ghost use Rattle.std.specs.Prelude.{◌≡◌, ℕ, ◌<◌, length, map, slice_get, IfOk};
+ghost use Rattle.std.specs.List.{All};
 ghost use Rattle.mount_ring.specs.Kept.{ring_shape};
 ghost use Rattle.turn_log.specs.Lock.{turn_passes, turn_value};
 ghost use Rattle.cast_config.specs.Kept.{KeepsRules};
 ghost use Rattle.session_core.specs.Setting.{anonymous_cap, caps, shapes};
-ghost use Rattle.caster_serve.specs.Sharing.{AreDealt, AreMatched, ring_of};
+ghost use Rattle.caster_places.specs.Piles.{AreMatched};
+ghost use Rattle.caster_serve.specs.Sharing.{AreDealt, ring_of};
 
 use cast_config::{Anonymous, Config};
 use mount_ring::Ring;
@@ -43,6 +45,8 @@ pub(crate) fn open_rings(
     requires some_pass { 0 < passes }
     ensures shapes { IfOk result (λ opened.
         map (λ turn. ring_shape (turn_value turn)) opened.0.items ≡ shapes config.now) }
+    ensures passes { IfOk result (λ opened.
+        All (λ turn. turn_passes turn ≡ passes) opened.0.items) }
     ensures dealt { IfOk result (λ opened.
         AreMatched (λ pile turn. AreDealt passes pile.items turn) opened.1.items opened.0.items) }
 {

@@ -5,16 +5,17 @@ ghost use mathlib.Core.Option.{some};
 ghost use lib.ListN.{get_elem?};
 ghost use Rattle.cast_config.specs.Kept.{KeepsRules};
 ghost use Rattle.session_core.specs.Setting as setting;
-ghost use Rattle.caster_serve.specs.Known.{Fit};
-ghost use Rattle.caster_serve.specs.Sharing.{AreNewPasses, ArePassesOf, IsReady, seen_by};
+ghost use Rattle.caster_places.specs.Known.{Fit};
+ghost use Rattle.caster_places.specs.Rows.{AreAt};
+ghost use Rattle.caster_serve.specs.Sharing.{AreNewPasses, AreOpenFor, ArePassesOf, IsReady, seen_by};
 
 use crate::dealing::hand_out;
-use crate::known::AllPlaces;
 use crate::locks::{caps_of, open_rings};
 use crate::seating::sit_down;
 use crate::shared::{Passes, Shared};
 use cast_config::Config;
 use caster_accounts::Book;
+use caster_places::AllPlaces;
 use config_table::table_of;
 use mount_ring::Ring;
 use session_core::Places;
@@ -50,6 +51,7 @@ impl<'c> Shared<'c> {
         ensures each { IfOk result (λ opened. (number : ℕ) (passes : _)
             → get_elem? opened.1.items number ≡ some passes
             → AreNewPasses number passes opened.0) }
+        ensures passes { IfOk result (λ opened. AreOpenFor passes opened.0) }
     {
         let table = table_text(alloc, config)?;
         let (rings, mut piles) = open_rings(alloc, config, passes)?;
@@ -82,6 +84,10 @@ impl<'c> Shared<'c> {
         ensures seen { IfOk result (λ places.
             ⟦<Places<Seat<'a, Ring, R>, Seat<'a, Book, R>> as AllPlaces>⟧.seen places
             ≡ seen_by passes) }
+        ensures at { IfOk result (λ places. (number : ℕ) → ArePassesOf number passes self.now
+            → AreAt number
+            (⟦<Places<Seat<'a, Ring, R>, Seat<'a, Book, R>> as AllPlaces>⟧.known places)
+            self.now.rings.items self.now.book) }
     {
         let Passes { rings, book } = passes;
         let mut seats = Vec::with_capacity(alloc, rings.len())?;

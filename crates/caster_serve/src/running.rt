@@ -1,22 +1,23 @@
 //! A connection over its link, from its first byte to its receipt.
 
-ghost use Rattle.std.specs.Prelude.{◌≡◌, ◌<◌, ℕ, List, [], length, None, Some, IfOk, true};
+ghost use Rattle.std.specs.Prelude.{◌≡◌, ◌<◌, ℕ, List, [], length, None, Some, IfOk, IfSome, true};
 ghost use Rattle.cast_config.specs.Kept.{KeepsRules};
+ghost use Rattle.session_core.specs.Called.{IsCause};
 ghost use Rattle.session_core.specs.Judged.{waiting};
 ghost use Rattle.session_core.specs.Run.{Histories};
 ghost use Rattle.session_core.specs.Setting as setting;
 ghost use Rattle.session_core.specs.Standing.{IsReceipt, StandsFor};
-ghost use Rattle.caster_serve.specs.Known.{Fit};
+ghost use Rattle.caster_places.specs.Known.{Fit};
 ghost use Rattle.caster_serve.specs.Links.{opening_of};
-ghost use Rattle.caster_serve.specs.Served.{Came, LinkServed, Reached};
+ghost use Rattle.caster_serve.specs.Served.{Came, IsWornBy, LinkServed, Reached};
 
 use crate::arriving::{arrive, take_turn};
-use crate::known::AllPlaces;
 use crate::role::Role;
 use crate::sending::{rest_if_idle, send};
 use cast_config::Config;
 use cast_io::{Got, Link};
 use caster_accounts::Book;
+use caster_places::AllPlaces;
 use mount_ring::Ring;
 use session_core::{Ending, Last, Places, Receipt, Segments, Session};
 use std::alloc::{AllocError, Global};
@@ -51,6 +52,8 @@ fn run<T: Turns<Ring>, B: Turns<Book>, L: Link, R: Wait>(
     ensures me { session.new.me ≡ session.old.me }
     ensures known { ⟦<Places<T, B> as AllPlaces>⟧.known places.new
         ≡ ⟦<Places<T, B> as AllPlaces>⟧.known places.old }
+    ensures cause { IfSome session.new.ended
+        (IsCause (⟦<Places<T, B> as AllPlaces>⟧.worn places.new)) }
     ensures came { Came config.now (opening_of role) session.old.me
         (⟦<Places<T, B> as AllPlaces>⟧.seen places.old)
         (⟦<Places<T, B> as AllPlaces>⟧.seen places.new) session.new (L.told link.old)
@@ -140,6 +143,7 @@ pub fn serve_places<T: Turns<Ring>, B: Turns<Book>, L: Link, R: Wait>(
         (⟦<Places<T, B> as AllPlaces>⟧.seen places.old)
         (⟦<Places<T, B> as AllPlaces>⟧.seen places.new) (L.told link.old) (L.told link.new)
         result }
+    ensures worn { IsWornBy (⟦<Places<T, B> as AllPlaces>⟧.worn places.new) result.ending }
 {
     let mut out = Vec::new(alloc);
     let Ok(mut session) = open_as(alloc, config, me, role, &mut out) else {

@@ -3,7 +3,8 @@
 ghost use Rattle.std.specs.Prelude.{◌≡◌, ℕ, ◌++◌, ◌≤◌, ◌+◌, length, map, vec_len, vec_capacity};
 ghost use Rattle.std.specs.List.{All};
 ghost use Rattle.turn_log.specs.Lock.{turn_value, turn_home, pass_number, pass_seen, IsPassOf};
-ghost use Rattle.caster_serve.specs.Sharing.{AllSay, AreMatched};
+ghost use Rattle.caster_places.specs.Piles.{AreMatched};
+ghost use Rattle.caster_serve.specs.Sharing.{AllSay};
 
 use std::sync::Wait;
 use turn_log::{Pass, Played, Seat, Turn, Turns};

@@ -1,17 +1,17 @@
 //! A connection at the locks of a caster.
 
 ghost use Rattle.std.specs.Prelude.{◌≡◌, ◌<◌, ℕ, length};
-ghost use Rattle.caster_serve.specs.Known.{Fit};
+ghost use Rattle.caster_places.specs.Known.{Fit};
 ghost use Rattle.caster_serve.specs.Links.{opening_of};
-ghost use Rattle.caster_serve.specs.Served.{LinkServed};
+ghost use Rattle.caster_serve.specs.Served.{IsWornBy, LinkServed};
 ghost use Rattle.caster_serve.specs.Sharing.{IsReady};
 
-use crate::known::AllPlaces;
 use crate::role::Role;
 use crate::running::serve_places;
 use crate::shared::Shared;
 use cast_io::Link;
 use caster_accounts::Book;
+use caster_places::AllPlaces;
 use mount_ring::Ring;
 use session_core::{Places, Receipt};
 use std::alloc::Global;
@@ -42,6 +42,9 @@ pub fn serve_link<'a, L: Link, R: Wait + Sync>(
         (⟦<Places<Seat<'a, Ring, R>, Seat<'a, Book, R>> as AllPlaces>⟧.seen places.old)
         (⟦<Places<Seat<'a, Ring, R>, Seat<'a, Book, R>> as AllPlaces>⟧.seen places.new)
         (L.told link.old) (L.told link.new) result }
+    ensures worn { IsWornBy
+        (⟦<Places<Seat<'a, Ring, R>, Seat<'a, Book, R>> as AllPlaces>⟧.worn places.new)
+        result.ending }
 {
     serve_places(
         rt,

@@ -1,17 +1,17 @@
 //! A worker of a caster: a door, and seats at all its locks.
 
-ghost use Rattle.std.specs.Prelude.{◌≡◌, ◌+◌, ◌*◌, ◌^◌, ◌<◌, ◌≤◌};
+ghost use Rattle.std.specs.Prelude.{◌≡◌, ◌+◌, ◌*◌, ◌^◌, ◌<◌, ◌≤◌, ℕ};
 ghost use Rattle.caster_accounts.specs.Sums.{nothing};
-ghost use Rattle.caster_serve.specs.Known.{Fit};
+ghost use Rattle.caster_places.specs.Known.{Fit};
 ghost use Rattle.caster_serve.specs.Sharing.{IsReady};
 ghost use Rattle.caster_serve.specs.Works.{Worked};
 
-use crate::known::AllPlaces;
 use crate::shared::Shared;
 use crate::tally::Tally;
 use crate::working::work_places;
 use cast_io::Door;
 use caster_accounts::Book;
+use caster_places::AllPlaces;
 use mount_ring::Ring;
 use session_core::Places;
 use std::alloc::Global;
@@ -55,6 +55,20 @@ impl<'a, D: Door, R: Wait + Sync> Worker<'a, D, R> {
     {
         self.tally
     }
+
+    /// Its places and its door, as they are now.
+    pub fn into_parts(self) -> (Places<Seat<'a, Ring, R>, Seat<'a, Book, R>>, D)
+        ensures places { result.0 ≡ self.entry.places }
+        ensures door { result.1 ≡ self.entry.door }
+    {
+        let Worker {
+            number: _,
+            places,
+            door,
+            tally: _,
+        } = self;
+        (places, door)
+    }
 }
 
 /// Serves the links that the worker's door gives until so many came, or until the door fails. Each
@@ -73,11 +87,11 @@ pub fn work<'a, D: Door, R: Wait + Sync>(
     ensures number { worker.new.number ≡ worker.old.number }
     ensures known { ⟦<Places<Seat<'a, Ring, R>, Seat<'a, Book, R>> as AllPlaces>⟧.known worker.new.places
         ≡ ⟦<Places<Seat<'a, Ring, R>, Seat<'a, Book, R>> as AllPlaces>⟧.known worker.old.places }
-    ensures worked { Worked shared.now.config.now worker.old.number
+    ensures worked { (count : ℕ) × Worked shared.now.config.now worker.old.number
         (⟦<Places<Seat<'a, Ring, R>, Seat<'a, Book, R>> as AllPlaces>⟧.seen worker.old.places)
         (⟦<Places<Seat<'a, Ring, R>, Seat<'a, Book, R>> as AllPlaces>⟧.seen worker.new.places)
         (D.told worker.old.door) (D.told worker.new.door) worker.old.tally worker.new.tally
-        limit }
+        limit count }
 {
     let number = worker.number;
     work_places(

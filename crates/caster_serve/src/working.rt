@@ -4,17 +4,17 @@ ghost use Rattle.std.specs.Prelude.{◌≡◌, ◌+◌, ◌^◌, ◌<◌, ◌≤
 ghost use Rattle.cast_config.specs.Kept.{KeepsRules};
 ghost use Rattle.session_core.specs.Judged.{sends_head};
 ghost use Rattle.session_core.specs.Setting as setting;
-ghost use Rattle.caster_serve.specs.Known.{Fit};
+ghost use Rattle.caster_places.specs.Known.{Fit};
 ghost use Rattle.cast_io.specs.Links.{IsNewLink};
 ghost use Rattle.caster_serve.specs.Works.{IsWithin, OneServed, Worked};
 
-use crate::known::AllPlaces;
 use crate::role::Role;
 use crate::running::serve_places;
 use crate::tally::{Tally, count};
 use cast_config::Config;
 use cast_io::{Arrived, Door, Link};
 use caster_accounts::Book;
+use caster_places::AllPlaces;
 use mount_ring::Ring;
 use session_core::Places;
 use std::alloc::Global;
@@ -61,7 +61,8 @@ fn serve_one<T: Turns<Ring>, B: Turns<Book>, D: Door, R: Wait>(
     door.hang_up(link);
 }
 
-/// Serves the links that the door gives until so many came, or until the door fails.
+/// Serves the links that the door gives until so many came, or until the door fails. Answers how many
+/// came.
 pub fn work_places<T: Turns<Ring>, B: Turns<Book>, D: Door, R: Wait>(
     rt: &R,
     alloc: Global,
@@ -72,7 +73,7 @@ pub fn work_places<T: Turns<Ring>, B: Turns<Book>, D: Door, R: Wait>(
     door: &mut D,
     tally: &mut Tally,
     limit: u64,
-)
+) -> u64
     requires kept { (cap : ℕ) × KeepsRules cap config.now }
     requires table { table.now ≡ setting.table config.now }
     requires fit { Fit config.now me (⟦<Places<T, B> as AllPlaces>⟧.known places.old) }
@@ -83,12 +84,12 @@ pub fn work_places<T: Turns<Ring>, B: Turns<Book>, D: Door, R: Wait>(
     ensures within { IsWithin tally.new }
     ensures worked { Worked config.now me (⟦<Places<T, B> as AllPlaces>⟧.seen places.old)
         (⟦<Places<T, B> as AllPlaces>⟧.seen places.new) (D.told door.old) (D.told door.new)
-        tally.old tally.new limit }
+        tally.old tally.new limit result }
 {
     let mut left = limit;
     for _ in rt.forever() {
         if left == 0 {
-            return;
+            return limit;
         }
         match door.accept() {
             Arrived::Link(link) => {
@@ -96,7 +97,7 @@ pub fn work_places<T: Turns<Ring>, B: Turns<Book>, D: Door, R: Wait>(
                 serve_one(rt, alloc, config, table, me, places, link, door, tally);
             }
             Arrived::Idle => door.rest(),
-            Arrived::Failed => return,
+            Arrived::Failed => return limit - left,
         }
     }
     unreachable!()

@@ -1,7 +1,8 @@
 -- The last worker's passes are taken, and come behind those of the others.
 use Rattle.std.proofs.Common.{◌≡◌, ◌∙◌, ◌+◌, ◌<◌, ◌≤◌, ◌++◌, [], ◌∷◌, length, rules, arith, sym, ap, subst, vec_len, vec_capacity, length-append, append-nil, append_assoc}
 use mathlib.Core.Option.{some-ne-none}
-use Rattle.caster_serve.specs.Sharing.{AreDealt, AreMatched, IsNewPass}
+use Rattle.caster_places.specs.Piles.{AreMatched}
+use Rattle.caster_serve.specs.Sharing.{AreDealt, IsNewPass}
 use Rattle.caster_serve.specs.declared.shared.Passes.{Passes}
 use Rattle.caster_serve.proofs.SharingLemmas.{AllDealt, dealt_left, dealt_last, zero_by, handed_more, new_passes}
 use Rattle.caster_serve.proofs.dealing.+hand_out.Goals as goal

@@ -6,6 +6,7 @@ use Rattle.caster_serve.specs.Courses.{text_of}
 use Rattle.caster_serve.specs.Links.{opening_of}
 use Rattle.caster_serve.proofs.PlaceLemmas.{fit_kept}
 use Rattle.caster_serve.proofs.ServingLemmas.{begins_serving, sent_on, still, torn, stops, ends_so, fails_so, goes_on_by, going_by, long_bytes, long_idle, follows_serving}
+use Rattle.caster_serve.proofs.WornLemmas.{not_ended}
 use Rattle.caster_serve.proofs.running.run.Goals.{then-ended-via-then-ended, then-ended-via-else-ended+then-given-ge-MOST}
 use Rattle.caster_serve.proofs.running.run.Goals as goal
 
@@ -16,6 +17,7 @@ loop-init g c =
       finite = tt;
       me = refl;
       known = refl;
+      cause = not_ended _ c.args.session.now.ended c.requires.goes_on;
       size = refl;
       few = omega arith;
       serving = begins_serving _ _ _ _ _ (g.L.Link.told c.args.link.now) _ c.requires.goes_on c.requires.begun;
@@ -67,6 +69,7 @@ loop-preserved-in-Bytes g c =
       finite = tt;
       me = arrived.reached.caller;
       known = c.arrive.ensures.known ∙ c.loop.invariant.known;
+      cause = c.arrive.ensures.cause;
       size = c.read.auto.buf ∙ c.loop.invariant.size;
       few = omega (arith, bound.1, c.loop.invariant.size, c.if-given-ge-MOST.false);
       serving = goes_on_by _ _ _ _ _ _ _ _ _ _ _ c.loop.given count (got.Bytes count) buf _ _ serving
@@ -94,6 +97,7 @@ loop-preserved g c =
       finite = tt;
       me = arrived.reached.caller;
       known = c.take_turn.ensures.known ∙ c.loop.invariant.known;
+      cause = c.take_turn.ensures.cause;
       size = c.read.auto.buf ∙ c.loop.invariant.size;
       few = c.loop.invariant.few;
       serving = still _ _ _ _ _ _ _ _ _ _ _ _ (sym c.rest_if_idle.ensures) (omega arith)

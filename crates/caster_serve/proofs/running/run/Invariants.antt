@@ -1,7 +1,9 @@
 -- All that the link's steps gave happened, and what was made for it was written or is pending.
 use Rattle.std.proofs.Common.{◌≡◌, ◌+◌, ◌^◌, ◌<◌, length}
-use Rattle.session_core.specs.Called.{seen_at}
-use Rattle.caster_serve.specs.Known.{known_at}
+use Rattle.std.specs.Prelude.{IfSome}
+use Rattle.session_core.specs.Beginnings.{worn_at}
+use Rattle.session_core.specs.Called.{IsCause, seen_at}
+use Rattle.caster_places.specs.Known.{known_at}
 use Rattle.caster_serve.specs.Links.{opening_of}
 use Rattle.caster_serve.specs.Served.{Serving}
 use Rattle.caster_serve.proofs.running.run.Given as goal
@@ -15,6 +17,7 @@ invariant-loop g l = let t = g.T.Turns in let b = g.B.Turns in record {
       l.places.rings.items l.places.book
       ≡ known_at t.shape b.shape t.speaks b.speaks t.may_lack b.may_lack t.alone b.alone t.home b.home
       l.fn.places.rings.items l.fn.places.book;
+  cause : IfSome l.session.ended (IsCause (worn_at t.worn b.worn l.places.rings.items l.places.book));
   size : length l.piece ≡ 4096;
   few : l.given < 2 ^ 62 + 4096;
   serving : Serving l.config (opening_of l.fn.role) l.fn.session.me

@@ -1,5 +1,5 @@
 -- A session is opened, served and closed.
-use Rattle.std.proofs.Common.{◌∙◌, ℕ, Bool, [], refl, sym, subst, arith}
+use Rattle.std.proofs.Common.{◌∙◌, ℕ, Bool, [], map, refl, sym, subst, arith}
 use Rattle.session_core.specs.Judged.{waiting}
 use Rattle.session_core.specs.Owed.{closing}
 use Rattle.session_core.specs.Standing.{IsSettled}
@@ -10,6 +10,7 @@ use Rattle.caster_serve.proofs.PlaceLemmas.{fit_kept, known_same, speak_by}
 use Rattle.caster_serve.proofs.ReachLemmas.{follows_reached}
 use Rattle.caster_serve.proofs.ServingLemmas.{begins}
 use Rattle.caster_serve.proofs.ClosedLemmas.{came_closed, unopened}
+use Rattle.caster_serve.proofs.WornLemmas.{ending_is, same_length, worn_still}
 use Rattle.caster_serve.proofs.running.serve_places.Goals as goal
 
 pub returns-in_default-clause-served : goal.returns-in_default-clause-served
@@ -63,6 +64,26 @@ returns-clause-served g c =
     subst (λ (n : ℕ). LinkServed c.args.config.now (opening_of c.args.role) n start now (g.L.Link.told c.args.link.now)
     (g.L.Link.told c.run-last.new.link) c.close.result) c.in-Ok.ensures.me
     (came_closed c.args.config.now (opening_of c.args.role) c.in-Ok.session.me
+    (alone_at t.alone b.alone mid.rings.items mid.book) start (seen_at t.seen b.seen mid.rings.items mid.book) now
+    c.run-last.new.session (g.L.Link.told c.args.link.now) (g.L.Link.told c.run-last.new.link) c.run-last.result
+    c.close.result c.run-last.ensures.came
+    (λ heading text steps histories sent is stands others.
+    c.close.ensures.closed c.args.config.now (opening_of c.args.role) heading text steps histories sent
+    fit.shapes_fit fit.caps_fit is stands others))
+
+pub returns-clause-worn : goal.returns-clause-worn
+returns-clause-worn g c =
+    let t = g.T.Turns in let b = g.B.Turns in
+    let fit = fit_kept _ _ _ _ _ (c.run-last.ensures.me ∙ c.in-Ok.ensures.me) c.run-last.ensures.known
+    c.requires.fit in
+    let mid = c.run-last.new.places in
+    let start = seen_at t.seen b.seen c.args.places.now.rings.items c.args.places.now.book in
+    let now = seen_at t.seen b.seen c.close.new.places.rings.items c.close.new.places.book in
+    worn_still (map t.worn mid.rings.items) (map t.worn c.close.new.places.rings.items) (b.worn mid.book)
+    (b.worn c.close.new.places.book) c.run-last.new.session.ended c.run-last.result _ c.close.result.ending
+    (same_length t.shape t.worn mid.rings.items c.close.new.places.rings.items c.close.ensures.same_rings.0)
+    c.close.ensures.worn_rings c.close.ensures.worn_book c.run-last.ensures.cause
+    (ending_is c.args.config.now (opening_of c.args.role) c.in-Ok.session.me
     (alone_at t.alone b.alone mid.rings.items mid.book) start (seen_at t.seen b.seen mid.rings.items mid.book) now
     c.run-last.new.session (g.L.Link.told c.args.link.now) (g.L.Link.told c.run-last.new.link) c.run-last.result
     c.close.result c.run-last.ensures.came

@@ -1,7 +1,7 @@
 -- The last lock is sat down at behind the others.
 use Rattle.std.proofs.Common.{◌∙◌, ◌<◌, [], ◌∷◌, length, rules, arith, sym, ap, subst, length-append, length-take, get_or}
 use Rattle.turn_log.specs.Lock.{turn_value, turn_home, pass_number, IsPassOf}
-use Rattle.caster_serve.specs.Sharing.{AreMatched}
+use Rattle.caster_places.specs.Piles.{AreMatched}
 use Rattle.caster_serve.proofs.SharingLemmas.{last_seat, seats_before, mapped_more, last_at, speaks_more}
 use Rattle.caster_serve.proofs.seating.+sit_down.Goals as goal
 

@@ -1,6 +1,6 @@
 -- A link more, or none yet.
-use Rattle.std.proofs.Common.{◌∙◌, ◌+◌, refl, inl, arith}
-use Rattle.caster_serve.proofs.WorkLemmas.{works_none, works_more}
+use Rattle.std.proofs.Common.{◌∙◌, ◌+◌, refl, arith}
+use Rattle.caster_serve.proofs.WorkLemmas.{works_none, works_more, worked_all}
 use Rattle.caster_serve.proofs.working.work_places.Goals as goal
 
 pub loop-init : goal.loop-init
@@ -17,11 +17,8 @@ loop-init g c = record {
 
 pub returns-then-left-eq0-clause-worked : goal.returns-then-left-eq0-clause-worked
 returns-then-left-eq0-clause-worked g c =
-    let kept = c.loop.invariant in record {
-      count = kept.count;
-      works = kept.works;
-      done = inl (omega (arith, kept.so_many, c.if-left-eq0.true));
-    }
+    let kept = c.loop.invariant in
+    worked_all _ _ _ _ _ _ _ _ kept.count _ kept.works (omega (arith, kept.so_many, c.if-left-eq0.true))
 
 pub loop-preserved-in-Link : goal.loop-preserved-in-Link
 loop-preserved-in-Link g c =

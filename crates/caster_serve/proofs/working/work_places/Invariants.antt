@@ -1,7 +1,7 @@
 -- So many links came back, and as many are left to be served.
 use Rattle.std.proofs.Common.{◌≡◌, ◌+◌, ◌^◌, ◌<◌, ℕ}
 use Rattle.session_core.specs.Called.{seen_at}
-use Rattle.caster_serve.specs.Known.{known_at}
+use Rattle.caster_places.specs.Known.{known_at}
 use Rattle.caster_serve.specs.Works.{IsWithin, Works}
 use Rattle.caster_serve.proofs.working.work_places.Given as goal
 

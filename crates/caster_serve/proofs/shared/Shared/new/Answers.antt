@@ -21,3 +21,6 @@ returns-clause-each c = λ number passes at.
     let handed = c.in_ok-hand_out.ensures.handed in
     let is = handed.1 ∙ ap (λ l. l ++ handed.0) c.in_ok-list.ensures.items in
     handed.3 number passes (ap (λ l. get_elem? l number) (sym is) ∙ at)
+
+pub returns-clause-passes : goal.returns-clause-passes
+returns-clause-passes c = record { rings = c.in_ok-rings.ensures.passes; book = c.in_ok-book.ensures.turn.0 }

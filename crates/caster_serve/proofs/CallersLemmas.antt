@@ -1,0 +1,272 @@
+-- Callers that served.
+use Rattle.std.proofs.Common.{◌≡◌, ◌∙◌, take, drop, append-nil, ◌+◌, ◌<◌, ◌≤◌, ◌^◌, ◌++◌, ◌⊎◌, ℕ, zero, suc, List, [], ◌∷◌, length, map, replicate, inl, inr, refl, sym, ap, subst, arith}
+use Rattle.std.specs.Prelude.{⊤, ◌&&◌, true, false, IsTrue, slice_index_or}
+use Rattle.std.specs.List.{All, list_all, list_any}
+use Rattle.std.proofs.lemmas.Bool.{and_cases, or_left, or_right, eq-eqb, lt-ltb}
+use Rattle.std.proofs.lemmas.List.{length-map, take_all, drop_all}
+use Rattle.std.proofs.lemmas.List.Elements.{All-nil, All-cons, All-append, All-head, All-tail}
+use Rattle.turn_log.specs.History.{IsLegal, own}
+use Rattle.turn_log.specs.Lock.{turn_value, turn_home}
+use Rattle.cast_io.specs.Causes.{Rose}
+use Rattle.caster_accounts.specs.History.{fits}
+use Rattle.caster_accounts.specs.Kept.{caps_of}
+use Rattle.caster_accounts.specs.Sums.{nothing}
+use Rattle.caster_accounts.specs.declared.account.Sum.{Sum}
+use Rattle.cast_config.specs.declared.config.Config.{Config}
+use Rattle.cast_config.specs.declared.config.Relay.{Relay}
+use Rattle.session_core.specs.Run.{Histories}
+use Rattle.session_core.specs.Setting.{caps}
+use Rattle.caster_street.specs.Ends.{EndTold, at_door, over_link, Kind, a_worker, a_relay, IsUnused, door_failed, kind_of, kinds, relays_from}
+use Rattle.caster_places.specs.Known.{Fit}
+use Rattle.caster_places.specs.Leaves.{Leaves, left_in}
+use Rattle.caster_places.specs.Piles.{AreMatched}
+use Rattle.caster_places.specs.Rows.{AreAt, RingLocks, BookLock, left_by}
+use Rattle.caster_serve.specs.declared.shared.Shared.{Shared}
+use Rattle.caster_serve.specs.Sharing.{IsReady}
+use Rattle.caster_serve.specs.Works.{IsWithin}
+use Rattle.caster_serve.specs.Callers.{Caller, Served, ServedOver, IsServed, AreServed, ends_of, is_whole, is_whole_at, seen_of, uncalled}
+use Rattle.caster_serve.specs.Hands.{HandTold, HandServed, FitsEnd, MayServe}
+use Rattle.caster_serve.specs.Seated.{AreAllAt, AreLegal, AreSeated, HavePlaces, IsSeated, ends_in, rows_of}
+
+-- what each hand tells of its caller
+abbrev pub callers_of : List HandTold → List Caller
+callers_of hands = map (λ (hand : HandTold). hand.caller) hands
+
+-- ---- before they serve
+
+unmap : {X Y : Type 0} (P : Y → Type 0) (f : X → Y) (xs : List X) → All P (map f xs) → All (λ x. P (f x)) xs
+unmap P f [] all = All-nil (λ x. P (f x))
+unmap P f (x ∷ xs) all =
+    All-cons (λ x. P (f x)) x xs (All-head P (f x) (map f xs) all) (unmap P f xs (All-tail P (f x) (map f xs) all))
+
+pub slice_may : {X : Type 0} (P : HandTold → Type 0) (told : X → HandTold) (slice olds : List X) → slice ≡ olds
+    → All P (map told olds) → All (λ x. P (told x)) slice
+slice_may P told slice olds is all = subst (All (λ x. P (told x))) (sym is) (unmap P told olds all)
+
+-- a relay is one of the configuration
+abbrev KindFits : Config → Kind → Type 0
+KindFits c a_worker = ⊤
+KindFits c (a_relay n) = n < length c.relay
+
+workers_fit : (c : Config) (n : ℕ) → All (KindFits c) (replicate n a_worker)
+workers_fit c zero = All-nil (KindFits c)
+workers_fit c (suc n) = All-cons (KindFits c) a_worker (replicate n a_worker) tt (workers_fit c n)
+
+relays_fit : (c : Config) (n : ℕ) (relays : List Relay) → n + length relays ≤ length c.relay
+    → All (KindFits c) (relays_from n relays)
+relays_fit c n [] few = All-nil (KindFits c)
+relays_fit c n (relay ∷ relays) few =
+    All-cons (KindFits c) (a_relay n) (relays_from (n + 1) relays) (omega (arith, few))
+    (relays_fit c (n + 1) relays (omega (arith, few)))
+
+kinds_fit : (c : Config) → All (KindFits c) (kinds c)
+kinds_fit c =
+    All-append (KindFits c) (replicate c.workers a_worker) (relays_from 0 c.relay) (workers_fit c c.workers)
+    (relays_fit c 0 c.relay (omega arith))
+
+fits_one : (c : Config) (end : EndTold) → KindFits c (kind_of end) → IsUnused end → FitsEnd c end
+fits_one c (at_door door) fit unused = tt
+fits_one c (over_link number link) fit unused = (fit, unused)
+
+fits_each : (c : Config) (ends : List EndTold) → All (KindFits c) (map kind_of ends) → All IsUnused ends
+    → All (FitsEnd c) ends
+fits_each c [] fit unused = All-nil (FitsEnd c)
+fits_each c (end ∷ ends) fit unused =
+    All-cons (FitsEnd c) end ends
+    (fits_one c end (All-head (KindFits c) (kind_of end) (map kind_of ends) fit) (All-head IsUnused end ends unused))
+    (fits_each c ends (All-tail (KindFits c) (kind_of end) (map kind_of ends) fit) (All-tail IsUnused end ends unused))
+
+pub fit_ends : (c : Config) (ends : List EndTold) → map kind_of ends ≡ kinds c → All IsUnused ends
+    → All (FitsEnd c) ends
+fit_ends c ends kinds_are unused = fits_each c ends (subst (All (KindFits c)) (sym kinds_are) (kinds_fit c)) unused
+
+may_one : (shared : Shared) (limit n : ℕ) (end : EndTold) (hand : HandTold) → IsReady shared → limit < 2 ^ 64
+    → FitsEnd shared.config.now end → IsSeated shared n end hand
+    → MayServe shared.config.now shared.table.items limit hand
+may_one shared limit n end hand ready small fit seated = record {
+  kept = ready.kept;
+  table_is = ready.table_is;
+  fit = subst (λ (k : ℕ). Fit shared.config.now k hand.known) (sym seated.numbered) seated.fit;
+  few = subst (λ (caller : Caller). caller.tally.sessions + limit < 2 ^ 64) (sym seated.fresh) (omega (arith, small));
+  room = subst (λ (caller : Caller). caller.tally.sessions + 1 < 2 ^ 64) (sym seated.fresh) (omega arith);
+  within = subst (λ (caller : Caller). IsWithin caller.tally) (sym seated.fresh) (omega arith, omega arith);
+  end = subst (λ (caller : Caller). FitsEnd shared.config.now caller.end) (sym seated.fresh) fit;
+}
+
+pub may_serve : (shared : Shared) (limit n : ℕ) (ends : List EndTold) (hands : List HandTold) → IsReady shared
+    → limit < 2 ^ 64 → All (FitsEnd shared.config.now) ends → AreSeated shared n ends hands
+    → All (MayServe shared.config.now shared.table.items limit) hands
+may_serve shared limit n [] [] ready small fit seated = All-nil (MayServe shared.config.now shared.table.items limit)
+may_serve shared limit n [] (hand ∷ hands) ready small fit seated = absurd seated
+may_serve shared limit n (end ∷ ends) [] ready small fit seated = absurd seated
+may_serve shared limit n (end ∷ ends) (hand ∷ hands) ready small fit seated =
+    All-cons (MayServe shared.config.now shared.table.items limit) hand hands
+    (may_one shared limit n end hand ready small (All-head (FitsEnd shared.config.now) end ends fit) seated.0)
+    (may_serve shared limit (n + 1) ends hands ready small (All-tail (FitsEnd shared.config.now) end ends fit) seated.1)
+
+pub may_serve_with : (shared : Shared) (table : List ℕ) (limit : ℕ) (ends : List EndTold) (hands : List HandTold)
+    → table ≡ shared.table.items → IsReady shared → limit < 2 ^ 64 → All (FitsEnd shared.config.now) ends
+    → AreSeated shared 0 ends hands → All (MayServe shared.config.now table limit) hands
+may_serve_with shared table limit ends hands is ready small fit seated =
+    subst (λ (t : List ℕ). All (MayServe shared.config.now t limit) hands) (sym is)
+    (may_serve shared limit 0 ends hands ready small fit seated)
+
+-- ---- when they served
+
+-- a slice of a whole list, given back as it is now
+pub as_it_is : {X : Type 0} (olds news : List X) (len : ℕ) → len ≡ length olds → length news ≡ length olds
+    → take len (news ++ drop (length news) olds) ≡ news
+as_it_is olds news len long same =
+    ap (λ (n : ℕ). take len (news ++ drop n olds)) same
+    ∙ ap (λ l. take len (news ++ l)) (drop_all (length olds) olds (omega arith))
+    ∙ ap (take len) (append-nil news) ∙ take_all len news (omega (arith, long, same))
+
+-- each served, by its place in the list
+pub served_each : {X : Type 0} (c : Config) (limit : ℕ) (told : X → HandTold) (olds news : List X)
+    → length news ≡ length olds
+    → ((k : ℕ) (d : X) → k < length olds → HandServed c limit (told (slice_index_or olds k d)) (told (slice_index_or news k d)))
+    → AreMatched (HandServed c limit) (map told olds) (map told news)
+served_each c limit told [] [] same each = tt
+served_each c limit told [] (y ∷ news) same each = absurd (omega (arith, same))
+served_each c limit told (x ∷ olds) [] same each = absurd (omega (arith, same))
+served_each c limit told (x ∷ olds) (y ∷ news) same each = (
+  each 0 x (omega arith),
+  served_each c limit told olds news (omega (arith, same))
+      (λ k d less. each (suc k) d (omega (arith, less))),
+)
+
+pub slice_size : {X : Type 0} (olds slice news : List X) (len : ℕ) → slice ≡ olds → len ≡ length olds
+    → length news ≡ length slice → length (take len (news ++ drop (length news) olds)) ≡ length olds
+slice_size olds slice news len is long same =
+    ap length (as_it_is olds news len long (same ∙ ap length is)) ∙ same ∙ ap length is
+
+pub slice_served : {X : Type 0} (c : Config) (limit : ℕ) (told : X → HandTold) (olds slice news : List X) (len : ℕ)
+    → slice ≡ olds → len ≡ length olds → length news ≡ length slice
+    → ((k : ℕ) (d : X) → k < length slice → HandServed c limit (told (slice_index_or slice k d)) (told (slice_index_or news k d)))
+    → AreMatched (HandServed c limit) (map told olds) (map told (take len (news ++ drop (length news) olds)))
+slice_served c limit told olds slice news len is long same each =
+    subst (λ l. AreMatched (HandServed c limit) (map told olds) (map told l))
+    (sym (as_it_is olds news len long (same ∙ ap length is)))
+    (subst (λ l. AreMatched (HandServed c limit) (map told l) (map told news)) is
+    (served_each c limit told slice news same each))
+
+abbrev served_one : (shared : Shared) (limit n : ℕ) (end : EndTold) (old new : HandTold) → IsUnused end
+    → IsSeated shared n end old → HandServed shared.config.now limit old new
+    → IsServed shared.config.now limit n new.caller
+served_one shared limit n end old new unused seated served = record {
+  end = end;
+  unused = unused;
+  served = subst (λ (caller : Caller). Served shared.config.now limit n caller new.caller) seated.fresh
+      (subst (λ (k : ℕ). Served shared.config.now limit k old.caller new.caller) seated.numbered served.served);
+}
+
+kind_kept : (c : Config) (limit me : ℕ) (before after : EndTold) (old new : Caller)
+    → ServedOver c limit me before after old new → kind_of after ≡ kind_of before
+kind_kept c limit me (at_door before) (at_door after) old new served = refl
+kind_kept c limit me (at_door before) (over_link number after) old new served = absurd served
+kind_kept c limit me (over_link number before) (at_door after) old new served = absurd served
+kind_kept c limit me (over_link number before) (over_link now after) old new served = ap a_relay served.0
+
+-- what is known when they served
+pub record HaveServed (shared : Shared) (limit n : ℕ) (ends : List EndTold) (hands : List HandTold) : Type 0 where
+  pub served : AreServed shared.config.now limit n (callers_of hands)
+  pub kinds_kept : map kind_of (ends_of (callers_of hands)) ≡ map kind_of ends
+  pub at : AreAllAt n hands shared.rings.items shared.book
+
+pub have_served : (shared : Shared) (limit n : ℕ) (ends : List EndTold) (olds news : List HandTold)
+    → All IsUnused ends → AreSeated shared n ends olds → AreMatched (HandServed shared.config.now limit) olds news
+    → HaveServed shared limit n ends news
+have_served shared limit n [] [] [] unused seated served = record { served = tt; kinds_kept = refl; at = tt }
+have_served shared limit n [] [] (new ∷ news) unused seated served = absurd served
+have_served shared limit n [] (old ∷ olds) news unused seated served = absurd seated
+have_served shared limit n (end ∷ ends) [] news unused seated served = absurd seated
+have_served shared limit n (end ∷ ends) (old ∷ olds) [] unused seated served = absurd served
+have_served shared limit n (end ∷ ends) (old ∷ olds) (new ∷ news) unused seated served =
+    let later = have_served shared limit (n + 1) ends olds news (All-tail IsUnused end ends unused) seated.1 served.1 in
+    let one = served_one shared limit n end old new (All-head IsUnused end ends unused) seated.0 served.0 in
+    record {
+      served = (one, later.served);
+      kinds_kept = ap (λ k. k ∷ map kind_of (ends_of (callers_of news)))
+          (kind_kept shared.config.now limit n one.end new.caller.end (uncalled shared.config.now one.end) new.caller one.served)
+          ∙ ap (λ l. kind_of end ∷ l) later.kinds_kept;
+      at = (subst (λ known. AreAt n known shared.rings.items shared.book) (sym served.0.known) seated.0.at, later.at);
+    }
+
+-- ---- when they leave
+
+pub have_places : (mounts n : ℕ) (hands : List HandTold) (rings : RingLocks) (book : BookLock) → length rings ≡ mounts
+    → AreAllAt n hands rings book → HavePlaces mounts hands
+have_places mounts n [] rings book long at = tt
+have_places mounts n (hand ∷ hands) rings book long at =
+    (ap length at.0.homes ∙ length-map rings turn_home ∙ long, have_places mounts (n + 1) hands rings book long at.1)
+
+pub legal_rows : (c : Config) (n : ℕ) (hands : List HandTold) (rings : RingLocks) (book : BookLock)
+    → caps_of (turn_value book) ≡ caps c → AreAllAt n hands rings book → AreLegal hands
+    → All (λ (row : Histories). IsLegal (fits (caps c)) row.book) (seen_of (callers_of hands))
+legal_rows c n [] rings book caps_are at legal = All-nil (λ (row : Histories). IsLegal (fits (caps c)) row.book)
+legal_rows c n (hand ∷ hands) rings book caps_are at legal =
+    All-cons (λ (row : Histories). IsLegal (fits (caps c)) row.book) hand.caller.seen (seen_of (callers_of hands))
+    (subst (λ (list : List ℕ). IsLegal (fits list) hand.caller.seen.book) (at.0.caps ∙ caps_are) legal.0)
+    (legal_rows c (n + 1) hands rings book caps_are at.1 legal.1)
+
+pub rows_are : (hands : List HandTold) → rows_of hands ≡ seen_of (callers_of hands)
+rows_are [] = refl
+rows_are (hand ∷ hands) = ap (λ l. hand.caller.seen ∷ l) (rows_are hands)
+
+pub ends_are : (hands : List HandTold) → ends_in hands ≡ ends_of (callers_of hands)
+ends_are [] = refl
+ends_are (hand ∷ hands) = ap (λ l. hand.caller.end ∷ l) (ends_are hands)
+
+pub whole_are : {X : Type 0} (limit : ℕ) (told : X → HandTold) (xs : List X)
+    → list_all (λ x. is_whole limit (told x).caller) xs ≡ list_all (is_whole limit) (callers_of (map told xs))
+whole_are limit told [] = refl
+whole_are limit told (x ∷ xs) = ap (λ b. is_whole limit (told x).caller && b) (whole_are limit told xs)
+
+-- ---- what they add up to
+
+leaves_over : (c : Config) (limit n : ℕ) (before after : EndTold) (start now : Caller)
+    → ServedOver c limit n before after start now → Leaves n start.seen.book now.seen.book start.tally now.tally
+leaves_over c limit n (at_door before) (at_door after) start now served = served.works.leaves
+leaves_over c limit n (at_door before) (over_link number after) start now served = absurd served
+leaves_over c limit n (over_link number before) (at_door after) start now served = absurd served
+leaves_over c limit n (over_link number before) (over_link same after) start now served = served.1.leaves
+
+pub tallies_are : (c : Config) (limit n : ℕ) (callers : List Caller) → AreServed c limit n callers
+    → left_by n (seen_of callers) ≡ map (λ (caller : Caller). caller.tally) callers
+tallies_are c limit n [] served = refl
+tallies_are c limit n (caller ∷ callers) served =
+    let one = served.0 in
+    let leaves = leaves_over c limit n one.end caller.end (uncalled c one.end) caller one.served in
+    let next : n + 1 ≡ suc n = omega arith in
+    ap (λ (s : Sum). s ∷ left_by (suc n) (seen_of callers))
+    (ap (λ h. left_in nothing (own n h)) leaves.on ∙ sym leaves.sums)
+    ∙ ap (λ l. caller.tally ∷ l)
+    (tallies_are c limit (suc n) callers (subst (λ (k : ℕ). AreServed c limit k callers) next served.1))
+
+-- ---- a door that failed
+
+failed_over : (c : Config) (limit n : ℕ) (before after : EndTold) (start now : Caller) → IsUnused before
+    → ServedOver c limit n before after start now → is_whole_at limit now.served after ≡ false
+    → door_failed after ≡ true
+failed_over c limit n (at_door before) (at_door after) start now unused served short = by_done served.done
+  where
+    by_done : (now.served ≡ limit) ⊎ Rose before.faults after.faults → door_failed (at_door after) ≡ true
+    by_done (inl all) = absurd (let clash : true ≡ false = sym (eq-eqb now.served limit all) ∙ short in cc)
+    by_done (inr rose) = lt-ltb 0 after.faults (omega (arith, rose, unused.faults))
+failed_over c limit n (at_door before) (over_link number after) start now unused served short = absurd served
+failed_over c limit n (over_link number before) (at_door after) start now unused served short = absurd served
+failed_over c limit n (over_link number before) (over_link same after) start now unused served short = absurd cc
+
+pub some_failed : (c : Config) (limit n : ℕ) (callers : List Caller) → AreServed c limit n callers
+    → list_all (is_whole limit) callers ≡ false → IsTrue (list_any door_failed (ends_of callers))
+some_failed c limit n [] served short = absurd cc
+some_failed c limit n (caller ∷ callers) served short =
+    from (some_failed c limit (n + 1) callers served.1)
+    (and_cases (is_whole limit caller) (list_all (is_whole limit) callers) short)
+  where
+    from : (list_all (is_whole limit) callers ≡ false → IsTrue (list_any door_failed (ends_of callers)))
+        → (is_whole limit caller ≡ false) ⊎ (list_all (is_whole limit) callers ≡ false)
+        → IsTrue (list_any door_failed (ends_of (caller ∷ callers)))
+    from later (inl here) = or_left (door_failed caller.end) (list_any door_failed (ends_of callers))
+        (failed_over c limit n served.0.end caller.end (uncalled c served.0.end) caller served.0.unused served.0.served here)
+    from later (inr there) = or_right (door_failed caller.end) (list_any door_failed (ends_of callers)) (later there)

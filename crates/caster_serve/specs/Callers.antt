@@ -1,0 +1,58 @@
+-- The callers of a caster, which are its workers and its relays: what each did from the first call on.
+use Rattle.std.specs.Prelude.{◌≡◌, ℕ, ◌+◌, ⊤, nat_eq, Bool, true, List, [], ◌∷◌, map}
+use Rattle.caster_accounts.specs.declared.account.Sum.{Sum}
+use Rattle.caster_accounts.specs.Sums.{nothing}
+use Rattle.cast_config.specs.declared.config.Config.{Config}
+use Rattle.session_core.specs.Run.{Histories, nothing_called}
+use Rattle.caster_street.specs.Ends.{EndTold, at_door, over_link, IsUnused}
+use Rattle.caster_serve.specs.Works.{Worked, RelayGoes}
+
+-- what it has seen, what its rovers add up to, how many connections it served, and over what
+pub record Caller : Type 0 where
+  pub seen : Histories
+  pub tally : Sum
+  pub served : ℕ
+  pub end : EndTold
+
+-- A worker served the links of its door, as many as it was to, or until its door failed; a relay was
+-- served over its one link.
+abbrev pub ServedOver : Config → ℕ → ℕ → EndTold → EndTold → Caller → Caller → Type 0
+ServedOver c limit me (at_door before) (at_door after) old new =
+    Worked c me old.seen new.seen before after old.tally new.tally limit new.served
+ServedOver c limit me (at_door before) (over_link number after) old new = ⊥
+ServedOver c limit me (over_link number before) (at_door after) old new = ⊥
+ServedOver c limit me (over_link number before) (over_link now after) old new =
+    (now ≡ number) × RelayGoes c number me old.seen new.seen after old.tally new.tally
+
+-- the caller of this number served
+abbrev pub Served : Config → ℕ → ℕ → Caller → Caller → Type 0
+Served c limit me old new = ServedOver c limit me old.end new.end old new
+
+-- a caller before its first call
+abbrev pub uncalled : Config → EndTold → Caller
+uncalled c end = record { seen = nothing_called c; tally = nothing; served = 0; end = end }
+
+-- The caller of this number did that from its first call on, over what nobody had used.
+pub record IsServed (c : Config) (limit me : ℕ) (caller : Caller) : Type 0 where
+  pub end : EndTold
+  pub unused : IsUnused end
+  pub served : Served c limit me (uncalled c end) caller
+
+-- so did each of these, numbered from this number on
+abbrev pub AreServed : Config → ℕ → ℕ → List Caller → Type 0
+AreServed c limit n [] = ⊤
+AreServed c limit n (caller ∷ callers) = IsServed c limit n caller × AreServed c limit (n + 1) callers
+
+-- a worker that served as many links as it was to; a relay has but one
+abbrev pub is_whole_at : ℕ → ℕ → EndTold → Bool
+is_whole_at limit served (at_door door) = nat_eq served limit
+is_whole_at limit served (over_link number link) = true
+
+abbrev pub is_whole : ℕ → Caller → Bool
+is_whole limit caller = is_whole_at limit caller.served caller.end
+
+abbrev pub ends_of : List Caller → List EndTold
+ends_of callers = map (λ (caller : Caller). caller.end) callers
+
+abbrev pub seen_of : List Caller → List Histories
+seen_of callers = map (λ (caller : Caller). caller.seen) callers

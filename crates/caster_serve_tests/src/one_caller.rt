@@ -1,0 +1,122 @@
+//! The one caller of a caster, at seats of its locks, and what is told of it as plain values.
+
+ghost use Rattle.std.specs.Prelude.{◌≡◌, ◌<◌, ◌≤◌, ◌^◌, ℕ, length, IfOk, OnOk};
+ghost use mathlib.Core.Option.{some};
+ghost use lib.ListN.{get_elem?};
+ghost use Rattle.caster_places.specs.Known.{Fit};
+ghost use Rattle.caster_serve.specs.Sharing.{AreNewPasses, IsReady};
+
+use crate::setting::{config_of, is_there};
+use crate::telling::{Ended, ended_at, ended_of};
+use cast_io::{Link, MemDoor, MemLink};
+use caster_accounts::Book;
+use caster_places::AllPlaces;
+use caster_serve::{Passes, Role, Shared, Tally, Worker, serve_link, work};
+use mount_ring::Ring;
+use session_core::{Ending, Places, Receipt};
+use std::alloc::Global;
+use std::sync::Wait;
+use std::test::Fail;
+use turn_log::Seat;
+
+/// Sits down with the last of these passes, each of which is that of its place in the list. Answers
+/// the number of the caller too.
+pub(crate) fn sit_down<'a, R: Wait + Sync>(
+    rt: &'a R,
+    alloc: Global,
+    shared: &'a Shared,
+    list: &mut Vec<Passes>,
+) -> Result<(u32, Places<Seat<'a, Ring, R>, Seat<'a, Book, R>>), Fail>
+    requires ready { IsReady shared.now }
+    requires each { (number : ℕ) (passes : _) → get_elem? list.old.items number ≡ some passes
+        → AreNewPasses number passes shared.now }
+    requires few { length list.old.items < 2 ^ 32 }
+    ensures few { length list.new.items ≤ length list.old.items }
+    ensures each { OnOk result ((number : ℕ) (passes : _)
+        → get_elem? list.new.items number ≡ some passes
+        → AreNewPasses number passes shared.now) }
+    ensures fit { IfOk result (λ sat. Fit shared.now.config.now sat.0
+        (⟦<Places<Seat<'a, Ring, R>, Seat<'a, Book, R>> as AllPlaces>⟧.known sat.1)) }
+{
+    let Some(passes) = list.pop() else {
+        return Err(Fail::from("no passes"));
+    };
+    let me = list.len() as u32;
+    let places = shared.places(rt, alloc, passes)?;
+    Ok((me, places))
+}
+
+/// What a connection over this link came to that is served so. The configuration has this behind it.
+fn serve_as<L: Link, R: Wait + Sync>(
+    rt: &R,
+    alloc: Global,
+    more: &[u8],
+    role: Role,
+    link: &mut L,
+) -> Result<Receipt, Fail> {
+    let config = config_of(alloc, more)?;
+    if !is_there(&config, role) {
+        return Err(Fail::from("no such relay"));
+    }
+    let (shared, mut list) = Shared::new(alloc, &config, 1)?;
+    let (me, mut places) = sit_down(rt, alloc, &shared, &mut list)?;
+    Ok(serve_link(rt, alloc, &shared, me, &mut places, role, link))
+}
+
+/// This door after a worker served so many of its links, and what the worker counted.
+fn work_at<R: Wait + Sync>(
+    rt: &R,
+    alloc: Global,
+    door: MemDoor,
+    limit: u64,
+) -> Result<(MemDoor, Tally), Fail>
+    requires { limit < 2 ^ 63 }
+{
+    let config = config_of(alloc, b"")?;
+    let (shared, mut list) = Shared::new(alloc, &config, 1)?;
+    let (me, places) = sit_down(rt, alloc, &shared, &mut list)?;
+    let mut worker = Worker::new(me, places, door);
+    work(rt, alloc, &shared, &mut worker, limit);
+    let tally = worker.tally();
+    let (_places, door) = worker.into_parts();
+    Ok((door, tally))
+}
+
+/// What was told of a connection: how it ended, how much junk came, and what its link came to.
+#[derive(Debug, Drop)]
+pub(crate) struct Told {
+    pub(crate) ending: Ending,
+    pub(crate) settled: bool,
+    pub(crate) junk: u64,
+    pub(crate) link: Ended,
+}
+
+/// What is told of a connection over this link that is served so.
+pub(crate) fn told_of<R: Wait + Sync>(
+    rt: &R,
+    alloc: Global,
+    more: &[u8],
+    role: Role,
+    mut link: MemLink,
+) -> Result<Told, Fail> {
+    let receipt = serve_as(rt, alloc, more, role, &mut link)?;
+    Ok(Told {
+        ending: receipt.ending,
+        settled: receipt.settled,
+        junk: receipt.junk,
+        link: ended_of(alloc, &link)?,
+    })
+}
+
+/// What is told of a worker: what it counted, and what the links came to that came back.
+pub(crate) fn told_at<R: Wait + Sync>(
+    rt: &R,
+    alloc: Global,
+    door: MemDoor,
+    limit: u64,
+) -> Result<(Tally, Vec<Ended>), Fail>
+    requires { limit < 2 ^ 63 }
+{
+    let (door, tally) = work_at(rt, alloc, door, limit)?;
+    Ok((tally, ended_at(alloc, &door)?))
+}

@@ -1,0 +1,200 @@
+//! Links whose calls set flags and wait for flags of other links, with doors and a street of them.
+//! They tell nothing of what they did, and never fail.
+
+ghost use Rattle.caster_serve_tests.specs.Untold.{untold_door, untold_link, untold_street};
+
+use cast_io::{Arrived, Door, Failed, Got, Link, MemLink, Street, StreetFault};
+use std::alloc::Global;
+use std::sync::atomic::{AtomicBool, Ordering};
+use std::time::{Clock, Duration};
+use std::{mem, thread};
+
+/// How often a call looks for a flag, with a millisecond between two looks, before it goes on
+/// without it.
+const LOOKS: u32 = 10_000;
+
+/// What a link does within one of its calls, before the call is answered: it sets a flag and waits
+/// for another one. A number without a flag stands for none.
+#[derive(Clone, Copy, Debug, PartialEq, Eq)]
+pub struct Stop {
+    /// The number of the call, from 1 over reads and writes alike.
+    pub call: u64,
+    /// The flag that it sets.
+    pub sets: usize,
+    /// The flag that it waits for.
+    pub awaits: usize,
+}
+
+/// A link that answers as one in memory, but for its stops and its failures.
+#[derive(Drop)]
+pub struct TimedLink<'a, R: Clock> {
+    rt: &'a R,
+    flags: &'a [AtomicBool],
+    stops: Vec<Stop>,
+    calls: u64,
+    met: bool,
+    link: MemLink,
+}
+
+/// A door at which one link arrives.
+#[derive(Drop)]
+pub struct TimedDoor<'a, R: Clock> {
+    left: Option<TimedLink<'a, R>>,
+    back: Option<TimedLink<'a, R>>,
+}
+
+/// A street of such doors, which are all opened at once. It dials nobody.
+#[derive(Drop)]
+pub struct TimedStreet<'a, R: Clock> {
+    alloc: Global,
+    doors: Vec<TimedDoor<'a, R>>,
+    back: Vec<TimedDoor<'a, R>>,
+}
+
+/// Does what stands for this call, and answers whether the flag came that it waited for.
+fn stop_at<R: Clock>(rt: &R, flags: &[AtomicBool], stops: &[Stop], call: u64) -> bool {
+    let Some(stop) = stops.iter().find(|stop| stop.call == call) else {
+        return true;
+    };
+    if let Some(flag) = flags.get(stop.sets) {
+        flag.store(true, Ordering::SeqCst);
+    }
+    let Some(flag) = flags.get(stop.awaits) else {
+        return true;
+    };
+    for _ in 0..LOOKS {
+        if flag.load(Ordering::SeqCst) {
+            return true;
+        }
+        thread::sleep(rt, Duration::from_millis(1));
+    }
+    false
+}
+
+impl<'a, R: Clock> TimedLink<'a, R> {
+    /// A link that answers as this one, with these stops.
+    pub fn new(rt: &'a R, flags: &'a [AtomicBool], stops: Vec<Stop>, link: MemLink) -> Self {
+        TimedLink {
+            rt,
+            flags,
+            stops,
+            calls: 0,
+            met: true,
+            link,
+        }
+    }
+
+    /// Whether each flag came so far that it waited for.
+    pub fn met(&self) -> bool {
+        self.met
+    }
+
+    /// All bytes that it took so far.
+    pub fn bytes(&self) -> &[u8] {
+        self.link.bytes()
+    }
+
+    // Counts a call, and does what stands for it.
+    fn stop(&mut self) {
+        self.calls = self.calls.saturating_add(1);
+        if !stop_at(self.rt, self.flags, &self.stops, self.calls) {
+            self.met = false;
+        }
+    }
+}
+
+impl<'a, R: Clock> Link for TimedLink<'a, R> {
+    ghost told = { λ link. untold_link };
+
+    fn read(&mut self, buf: &mut [u8]) -> Got {
+        self.stop();
+        match self.link.read(buf) {
+            Got::Bytes(count) => Got::Bytes(count),
+            Got::Idle => Got::Idle,
+            Got::End | Got::Failed => Got::End,
+        }
+    }
+
+    fn write(&mut self, piece: &[u8]) -> Result<(), Failed> {
+        self.stop();
+        let _ = self.link.write(piece);
+        Ok(())
+    }
+
+    fn rest(&mut self) {}
+}
+
+impl<'a, R: Clock> TimedDoor<'a, R> {
+    /// A door at which this link arrives.
+    pub fn new(link: TimedLink<'a, R>) -> Self {
+        TimedDoor {
+            left: Some(link),
+            back: None,
+        }
+    }
+
+    /// The link, where it came back.
+    pub fn back(&self) -> Option<&TimedLink<'a, R>> {
+        self.back.as_ref()
+    }
+}
+
+impl<'a, R: Clock> Door for TimedDoor<'a, R> {
+    type Link = TimedLink<'a, R>;
+
+    ghost told = { λ door. untold_door };
+
+    fn accept(&mut self) -> Arrived<TimedLink<'a, R>> {
+        match self.left.take() {
+            Some(link) => Arrived::Link(link),
+            None => Arrived::Idle,
+        }
+    }
+
+    fn rest(&mut self) {}
+
+    fn hang_up(&mut self, link: TimedLink<'a, R>) {
+        self.back = Some(link);
+    }
+}
+
+impl<'a, R: Clock> TimedStreet<'a, R> {
+    /// A street of these doors.
+    pub fn new(alloc: Global, doors: Vec<TimedDoor<'a, R>>) -> Self {
+        TimedStreet {
+            alloc,
+            doors,
+            back: Vec::new(alloc),
+        }
+    }
+
+    /// The doors that were shut, in order.
+    pub fn back(&self) -> &[TimedDoor<'a, R>] {
+        &self.back
+    }
+}
+
+impl<'a, R: Clock> Street for TimedStreet<'a, R> {
+    type Link = TimedLink<'a, R>;
+
+    type Door = TimedDoor<'a, R>;
+
+    ghost told = { λ street. untold_street };
+
+    fn open(&mut self, _addr: &str, doors: u32) -> Result<Vec<TimedDoor<'a, R>>, StreetFault> {
+        if self.doors.len() != doors as usize {
+            return Err(StreetFault::Memory);
+        }
+        Ok(mem::replace(&mut self.doors, Vec::new(self.alloc)))
+    }
+
+    fn dial(&mut self, _addr: &str) -> Result<TimedLink<'a, R>, StreetFault> {
+        Err(StreetFault::Memory)
+    }
+
+    fn hang_up(&mut self, _link: TimedLink<'a, R>) {}
+
+    fn shut(&mut self, door: TimedDoor<'a, R>) {
+        let _ = self.back.push(door);
+    }
+}
