@@ -19,18 +19,18 @@ use Rattle.cast_config.specs.Bare as settings
 use Rattle.cast_config.specs.Document.{IsRead}
 use Rattle.run_texts.specs.Texts.{made_text}
 use Rattle.caster_main.specs.declared.answers.Answer.{Answer}
-use Rattle.caster_main.specs.declared.answers.Answer.TheVariants.{Done, Valid, NoConfig, NoSession, Usage, Long, ReadFault, Memory}
+use Rattle.caster_main.specs.declared.answers.Answer.TheVariants.{Done, Valid, NoConfig, NoSession, Usage, Long, ReadFault, NetworkFault, Memory}
 use Rattle.caster_main.specs.declared.command.Aim.{Aim}
 use Rattle.caster_main.specs.Command.{Form, bare, over, replay, made, AreBare, AreOver, AreReplay, AreMake, form_of}
 use Rattle.caster_main.specs.Reading.{config_in}
-use Rattle.caster_main.specs.Outcome.{Exit, Ending, exactly, EndsSo, Came, usage_exit, long_exit, memory_exit, whole_exit, session_in, exit_of_config_fault, ending_of_script, ending_of_config, ending_of_read, ending_of_bytes, ending_of, outcome}
+use Rattle.caster_main.specs.Outcome.{Exit, Ending, exactly, EndsSo, Came, usage_exit, long_exit, read_fault_exit, memory_exit, whole_exit, session_in, exit_of_config_fault, ending_of_script, ending_of_config, ending_of_read, ending_of_bytes, ending_of, outcome}
 use Rattle.caster_main.specs.Told.{Files, Tells, Holds, IsConfigAt, HasCome, IsOutcome}
-use Rattle.caster_main.specs.Answers.{GivesEnd, IsGiven, IsInputEnd, IsInputAnswer, IsFileEnd, IsFileAnswer, IsRefused, IsRefusedAt, IsRefusal, IsSessionEnd, IsSessionAnswer, IsReplayEnd, IsReplayAnswer, IsAnswer}
+use Rattle.caster_main.specs.Answers.{exit_of, GivesEnd, IsGiven, IsInputEnd, IsInputAnswer, IsFileEnd, IsFileAnswer, IsRefused, IsRefusedAt, IsRefusal, IsSessionEnd, IsSessionAnswer, IsReplayEnd, IsReplayAnswer, IsAnswer}
 use Rattle.caster_main.proofs.ReadingLemmas.{config_in-ok, config_in-fault}
 
 -- ---- answers
 
--- what is given by each of the eight answers is given so
+-- what is given by each of the answers is given so
 pub given_such : {M N F G : Type 0} (P Q : Exit → Type 0) → (M → N) → (F → G)
     → ((end : Exit) → P end → Q end) → (answer : Answer) → IsGiven M F P answer → IsGiven N G Q answer
 given_such P Q memory fault such Memory given = memory given
@@ -41,6 +41,20 @@ given_such P Q memory fault such (NoConfig text) given = such _ given
 given_such P Q memory fault such (NoSession text) given = such _ given
 given_such P Q memory fault such Usage given = such _ given
 given_such P Q memory fault such Long given = such _ given
+given_such P Q memory fault such NetworkFault given = such _ given
+
+-- what is given so is an end of the program, want of memory and a fault of reading among them
+pub given_end : {M F : Type 0} (P Q : Exit → Type 0) → (M → Q memory_exit) → (F → Q read_fault_exit)
+    → ((end : Exit) → P end → Q end) → (answer : Answer) → IsGiven M F P answer → Q (exit_of answer)
+given_end P Q memory fault such Memory given = memory given
+given_end P Q memory fault such ReadFault given = fault given
+given_end P Q memory fault such (Done text) given = such _ given
+given_end P Q memory fault such Valid given = such _ given
+given_end P Q memory fault such (NoConfig text) given = such _ given
+given_end P Q memory fault such (NoSession text) given = such _ given
+given_end P Q memory fault such Usage given = such _ given
+given_end P Q memory fault such Long given = such _ given
+given_end P Q memory fault such NetworkFault given = such _ given
 
 -- ---- words
 
@@ -61,7 +75,7 @@ outcome_of_read words left files read came end h told ends = (
 )
 
 abbrev pub nothing_came : Came
-nothing_came = record { script = []; config = [] }
+nothing_came = record { script = []; config = []; failed = false }
 
 -- whatever came, the outcome of words of no form is the same
 pub usage_is_outcome : (words : List (List ℕ)) (left : Option (List ℕ)) (files : Files) → form_of words ≡ None
@@ -71,7 +85,7 @@ usage_is_outcome words left files h = outcome_of_read words left files None noth
 -- ---- bare sessions
 
 abbrev pub script_came : List ℕ → Came
-script_came script = record { script = script; config = [] }
+script_came script = record { script = script; config = []; failed = false }
 
 -- the answer to the input is that to the words
 pub input_answer : (words : List (List ℕ)) (left : Option (List ℕ)) (files : Files) (of_input of_store : Type 0)
@@ -128,7 +142,7 @@ script_answer left new capacity bytes fault answer consumed ended given =
 -- ---- files
 
 abbrev pub config_came : List ℕ → Came
-config_came config = record { script = []; config = config }
+config_came config = record { script = []; config = config; failed = false }
 
 -- the answer to the file is that to the words
 pub file_answer : (words : List (List ℕ)) (left : Option (List ℕ)) (files : Files) (of_input of_store : Type 0)
@@ -188,7 +202,7 @@ ending_of_bytes-read next bytes read short h =
 -- ---- configurations
 
 -- the file of this path ends so where it holds this configuration
-at_end : (next : Config → Ending) (files : Files) (path : List ℕ) (c : Config) (end : Exit)
+pub at_end : (next : Config → Ending) (files : Files) (path : List ℕ) (c : Config) (end : Exit)
     → (is : IsConfigAt files path c) → EndsSo (next c) end → EndsSo (ending_of_bytes next is.0) end
 at_end next files path c end is ends =
     subst (λ (e : Ending). EndsSo e end)
@@ -220,6 +234,8 @@ memory_given P (NoSession text) given =
     let e = ap (λ (end : Exit). end.status) given in absurd (omega (arith, e))
 memory_given P Usage given = let e = ap (λ (end : Exit). end.status) given in absurd (omega (arith, e))
 memory_given P Long given = let e = ap (λ (end : Exit). end.status) given in absurd (omega (arith, e))
+memory_given P NetworkFault given =
+    let e = ap (λ (end : Exit). end.status) given in absurd (omega (arith, e))
 
 other_fault : (bytes : List ℕ) (fault : ConfigFault) (answer : Answer) → length bytes ≤ 8388608
     → config_in bytes ≡ Err fault → GivesEnd (exactly (exit_of_config_fault fault)) answer
@@ -259,7 +275,7 @@ pub long_session : (c : Config) (path : List ℕ) (files : Files) (fault : Type 
 long_session c path files fault is = (is.0, is.1, long_ends c (Replay (length c.relay)) is.0 is.2)
 
 abbrev pub both_came : List ℕ → List ℕ → Came
-both_came config script = record { script = script; config = config }
+both_came config script = record { script = script; config = config; failed = false }
 
 -- the answer to a session is that to both files
 pub replay_answer : (config session : List ℕ) (files mid : Files) (mid_fault fault : Type 0) (c : Config)

@@ -14,9 +14,9 @@ use Rattle.cast_config.specs.Document.{IsRead}
 use Rattle.run_texts.specs.Texts.{IsRunText, report, made_text}
 use Rattle.run_texts.proofs.BareLemmas.{bare_text}
 use Rattle.caster_main.specs.declared.answers.Answer.{Answer}
-use Rattle.caster_main.specs.declared.answers.Answer.TheVariants.{Done, Valid, NoConfig, NoSession, Usage, Long, ReadFault, Memory}
+use Rattle.caster_main.specs.declared.answers.Answer.TheVariants.{Done, Valid, NoConfig, NoSession, Usage, Long, ReadFault, NetworkFault, Memory}
 use Rattle.caster_main.specs.declared.command.Aim.{Aim}
-use Rattle.caster_main.specs.Command.{Form, bare, over, replay, made, AreBare, AreOver, AreReplay, AreMake, AreOf, AreOfNoForm, form_of}
+use Rattle.caster_main.specs.Command.{Form, bare, over, replay, made, serving, AreBare, AreOver, AreReplay, AreMake, AreOf, AreOfNoForm, form_of}
 use Rattle.caster_main.specs.Outcome.{Exit, Ending, report_of, EndsSo, Came, session_in, ending_of_script, ending_of_config, ending_of_bytes, ending_of_form, ending_of}
 use Rattle.caster_main.specs.Told.{Files, Holds, IsConfigAt, IsConfigIn, IsSessionAt, HasCome, EndsWith, FollowsOutcome, HaveForm, HaveFault, HaveCome}
 use Rattle.caster_main.specs.Answers.{exit_of, IsAnswer, Writes}
@@ -48,6 +48,8 @@ answer_written words left files of_input of_store old new status (NoSession text
     inr (inr (_, is, written))
 answer_written words left files of_input of_store old new status Usage is written = inr (inr (_, is, written))
 answer_written words left files of_input of_store old new status Long is written = inr (inr (_, is, written))
+answer_written words left files of_input of_store old new status NetworkFault is written =
+    inr (inr (_, is, written))
 
 -- where no count rose, the outcome followed or memory was wanting
 pub undisturbed_run : (words : List (List ℕ)) (left : Option (List ℕ)) (files : Files) (of_input of_store : Type 0)
@@ -195,6 +197,8 @@ bare_fault words of_input of_store capacity are read (over aim path, of, fault) 
 bare_fault words of_input of_store capacity are read (replay config session, of, fault) =
     let e = one_form words (bare capacity) (replay config session) are of in absurd cc
 bare_fault words of_input of_store capacity are read (made seed frames rovers, of, fault) = absurd fault
+bare_fault words of_input of_store capacity are read (serving config addr limit, of, fault) =
+    let e = one_form words (bare capacity) (serving config addr limit) are of in absurd cc
 
 pub over_fault : (words : List (List ℕ)) (of_input of_store : Type 0) (aim : Aim) (path : List ℕ)
     → AreOver aim words path → (of_store → ⊥) → HaveFault words of_input of_store → ⊥
@@ -203,6 +207,7 @@ over_fault words of_input of_store aim path are read (bare capacity, of, fault) 
 over_fault words of_input of_store aim path are read (over other other_path, of, fault) = read fault
 over_fault words of_input of_store aim path are read (replay config session, of, fault) = read fault
 over_fault words of_input of_store aim path are read (made seed frames rovers, of, fault) = absurd fault
+over_fault words of_input of_store aim path are read (serving config addr limit, of, fault) = read fault
 
 pub replay_fault : (words : List (List ℕ)) (of_input of_store : Type 0) (config session : List ℕ)
     → AreReplay words config session → (of_store → ⊥) → HaveFault words of_input of_store → ⊥
@@ -211,6 +216,7 @@ replay_fault words of_input of_store config session are read (bare capacity, of,
 replay_fault words of_input of_store config session are read (over aim path, of, fault) = read fault
 replay_fault words of_input of_store config session are read (replay other other_session, of, fault) = read fault
 replay_fault words of_input of_store config session are read (made seed frames rovers, of, fault) = absurd fault
+replay_fault words of_input of_store config session are read (serving other addr limit, of, fault) = read fault
 
 pub make_fault : (words : List (List ℕ)) (of_input of_store : Type 0) (seed frames rovers : ℕ)
     → AreMake words seed frames rovers → HaveFault words of_input of_store → ⊥
@@ -221,6 +227,8 @@ make_fault words of_input of_store seed frames rovers are (over aim path, of, fa
 make_fault words of_input of_store seed frames rovers are (replay config session, of, fault) =
     let e = one_form words (made seed frames rovers) (replay config session) are of in absurd cc
 make_fault words of_input of_store seed frames rovers are (made s f r, of, fault) = absurd fault
+make_fault words of_input of_store seed frames rovers are (serving config addr limit, of, fault) =
+    let e = one_form words (made seed frames rovers) (serving config addr limit) are of in absurd cc
 
 -- ---- sessions that are made
 
@@ -260,7 +268,7 @@ over_run words left files old new status aim path is follows are =
     let all = config_decided files path (ending_of_config aim) run.0.config run.1 run.2 run.3 (sym run.4.0 ∙ is) in
     (all.0, run.1, all.2, all.3, run.4.1)
 
-held_bytes : (files : Files) (list : List (List ℕ × List ℕ)) (path bytes held : List ℕ) → Holds files path held
+pub held_bytes : (files : Files) (list : List (List ℕ × List ℕ)) (path bytes held : List ℕ) → Holds files path held
     → files ≡ Some list → content_of list path ≡ Some bytes → held ≡ bytes
 held_bytes None list path bytes held h e c = absurd cc
 held_bytes (Some told) list path bytes held h e c =

@@ -6,3 +6,4 @@ pub mod ScriptLemmas
 pub mod StatusLemmas
 pub mod ClauseLemmas
 pub mod PieceLemmas
+mod ServingLemmas

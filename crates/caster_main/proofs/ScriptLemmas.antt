@@ -12,7 +12,7 @@ use Rattle.session_script.specs.Line.{event_of_line}
 use Rattle.session_script.specs.Numbers.{Numbers, no_numbers}
 use Rattle.session_script.specs.Script.{is_skipped, may_follow, after_event, onto_events, events_of_lines, script_of}
 use Rattle.cast_config.specs.declared.config.Config.{Config}
-use Rattle.caster_main.specs.Outcome.{Ending, exactly, document_of, report_of, ending_of_script}
+use Rattle.caster_main.specs.Outcome.{Ending, exactly, document_of, report_of, closing_of, ending_of_script}
 use Rattle.caster_main.specs.Told.{IsNoSession}
 
 -- ---- only the size of a script makes it too long
@@ -80,6 +80,7 @@ abbrev pub status_of : Ending → ℕ
 status_of (exactly wanted) = wanted.status
 status_of (document_of c) = 0
 status_of (report_of c events) = 0
+status_of (closing_of c) = 0
 
 pub whole_script : (c : Config) (script : Result (List Event) ScriptFault)
     → status_of (ending_of_script c script) ≡ 0 → IsOk script
@@ -107,6 +108,15 @@ script_not_config c (Err (State n)) h = omega arith
 script_not_config c (Err NoStop) h = omega arith
 script_not_config c (Err Long) h = omega arith
 script_not_config c (Err Memory) h = omega arith
+
+pub script_not_network : (c : Config) (script : Result (List Event) ScriptFault)
+    → status_of (ending_of_script c script) ≡ 6 → ⊥
+script_not_network c (Ok events) h = omega arith
+script_not_network c (Err (Line n)) h = omega arith
+script_not_network c (Err (State n)) h = omega arith
+script_not_network c (Err NoStop) h = omega arith
+script_not_network c (Err Long) h = omega arith
+script_not_network c (Err Memory) h = omega arith
 
 pub faulty_script : (c : Config) (script : Result (List Event) ScriptFault)
     → status_of (ending_of_script c script) ≡ 3 → IsNoSession script

@@ -1,5 +1,6 @@
 -- What the status of an ending says of what came.
-use Rattle.std.proofs.Common.{◌≡◌, ℕ, ◌<◌, ◌≤◌, ◌⊎◌, nat_lt, List, length, Result, Ok, Err, IsOk, inl, inr, refl, ap, sym, subst, ◌∙◌, arith}
+use Rattle.std.proofs.Common.{◌≡◌, ℕ, ◌<◌, ◌≤◌, ◌⊎◌, nat_lt, Bool, true, false, List, length, Result, Ok, Err, IsOk, inl, inr, refl, ap, sym, subst, ◌∙◌, arith}
+use Rattle.std.specs.Prelude.{⊤}
 use Rattle.std.proofs.lemmas.Bool.{cases_Bool}
 use Rattle.std.proofs.lemmas.Bool.Decides.{nat_tests}
 use Rattle.session_script.specs.declared.ScriptKind.TheVariants.{Bare, Replay}
@@ -10,17 +11,18 @@ use Rattle.cast_config.specs.declared.fault.ConfigFault.TheVariants as configs
 use Rattle.cast_config.specs.Bare as settings
 use Rattle.caster_main.specs.declared.command.Aim.{Aim}
 use Rattle.caster_main.specs.declared.command.Aim.TheVariants.{Check, Table, Migrate}
-use Rattle.caster_main.specs.Command.{Form, bare, over, replay, made}
+use Rattle.caster_main.specs.Command.{Form, bare, over, replay, made, serving}
 use Rattle.caster_main.specs.Reading.{config_in}
-use Rattle.caster_main.specs.Outcome.{Exit, Ending, exactly, document_of, report_of, EndsSo, Came, session_in, ending_of_script, ending_of_config, ending_of_read, ending_of_bytes, ending_of_form}
+use Rattle.caster_main.specs.Outcome.{Exit, Ending, exactly, document_of, report_of, closing_of, EndsSo, Came, session_in, ending_of_script, ending_of_config, ending_of_serving, ending_of_read, ending_of_bytes, ending_of_form}
 use Rattle.caster_main.specs.Told.{IsConfigIn, IsNoConfig, IsWhole, IsFaultyConfig, IsFaultyScript, IsTooLong}
 use Rattle.caster_main.proofs.AnswerLemmas.{ending_of_bytes-long, ending_of_bytes-short}
-use Rattle.caster_main.proofs.ScriptLemmas.{status_of, whole_script, script_not_usage, script_not_config, faulty_script, long_script}
+use Rattle.caster_main.proofs.ScriptLemmas.{status_of, whole_script, script_not_usage, script_not_config, script_not_network, faulty_script, long_script}
 
 pub status-ends : (ending : Ending) (end : Exit) → EndsSo ending end → end.status ≡ status_of ending
 status-ends (exactly wanted) end ends = ap (λ (e : Exit). e.status) ends
 status-ends (document_of c) end ends = ends.0
 status-ends (report_of c events) end ends = ends.0
+status-ends (closing_of c) end ends = ends.0
 
 -- ---- configurations
 
@@ -28,6 +30,12 @@ pub ok_status : (aim : Aim) (c : Config) → status_of (ending_of_config aim c) 
 ok_status Check c = refl
 ok_status Table c = refl
 ok_status Migrate c = refl
+
+-- a caster that serves ends with 0, or where the network failed with 6
+serving_status : (failed : Bool) (c : Config)
+    → (status_of (ending_of_serving failed c) ≡ 0) ⊎ (status_of (ending_of_serving failed c) ≡ 6)
+serving_status true c = inr refl
+serving_status false c = inl refl
 
 read_cases : (next : Config → Ending) (read : Result Config ConfigFault)
     → ((c : Config) × (read ≡ Ok c) × (ending_of_read next read ≡ next c))
@@ -114,6 +122,15 @@ long_bytes next bytes h = elim (bytes_cases next bytes) [
   | wanting status ↦ absurd (omega (arith, h, status))
 ]
 
+network_bytes : (next : Config → Ending) (bytes : List ℕ) → status_of (ending_of_bytes next bytes) ≡ 6
+    → (c : Config) × (status_of (next c) ≡ 6)
+network_bytes next bytes h = elim (bytes_cases next bytes) [
+  | too_many status long ↦ absurd (omega (arith, h, status))
+  | read c is ends ↦ (c, sym (ap status_of ends) ∙ h)
+  | faulty status short none ↦ absurd (omega (arith, h, status))
+  | wanting status ↦ absurd (omega (arith, h, status))
+]
+
 -- ---- forms
 
 abbrev replayed : List ℕ → Config → Ending
@@ -130,6 +147,16 @@ whole_form (replay config session) came h =
     let whole = whole_bytes (replayed came.script) came.config h in
     (whole.0, whole.1, whole_script whole.0 (session_in whole.0 came.script) whole.2)
 whole_form (made seed frames rovers) came h = tt
+whole_form (serving config addr limit) came h =
+    let whole = whole_bytes (ending_of_serving came.failed) came.config h in is_whole came.config whole.0 whole.1
+
+-- and with no other status
+not_served : (failed : Bool) (c : Config) (status : ℕ) → status_of (ending_of_serving failed c) ≡ status
+    → (status ≡ 0 → ⊥) → (status ≡ 6 → ⊥) → ⊥
+not_served failed c status h whole lost = elim (serving_status failed c) [
+  | inl ended ↦ whole (sym h ∙ ended)
+  | inr ended ↦ lost (sym h ∙ ended)
+]
 
 pub no_usage_form : (form : Form) (came : Came) → status_of (ending_of_form form came) ≡ 1 → ⊥
 no_usage_form (bare capacity) came h = script_not_usage (settings.bare capacity) (script_of Bare came.script) h
@@ -140,6 +167,29 @@ no_usage_form (replay config session) came h =
     let usage = usage_bytes (replayed came.script) came.config h in
     script_not_usage usage.0 (session_in usage.0 came.script) usage.1
 no_usage_form (made seed frames rovers) came h = omega (arith, h)
+no_usage_form (serving config addr limit) came h =
+    let usage = usage_bytes (ending_of_serving came.failed) came.config h in
+    not_served came.failed usage.0 1 usage.1 (omega arith) (omega arith)
+
+-- only a caster that serves can end with 6
+abbrev pub IsOfCaster : Form → Came → Type 0
+IsOfCaster (bare capacity) came = ⊥
+IsOfCaster (over aim path) came = ⊥
+IsOfCaster (replay config session) came = ⊥
+IsOfCaster (made seed frames rovers) came = ⊥
+IsOfCaster (serving config addr limit) came = ⊤
+
+pub network_form : (form : Form) (came : Came) → status_of (ending_of_form form came) ≡ 6 → IsOfCaster form came
+network_form (bare capacity) came h =
+    script_not_network (settings.bare capacity) (script_of Bare came.script) h
+network_form (over aim path) came h =
+    let lost = network_bytes (ending_of_config aim) came.config h in
+    omega (arith, ok_status aim lost.0, lost.1)
+network_form (replay config session) came h =
+    let lost = network_bytes (replayed came.script) came.config h in
+    script_not_network lost.0 (session_in lost.0 came.script) lost.1
+network_form (made seed frames rovers) came h = omega (arith, h)
+network_form (serving config addr limit) came h = tt
 
 pub faulty_config_form : (form : Form) (came : Came) → status_of (ending_of_form form came) ≡ 2
     → IsFaultyConfig form came
@@ -151,6 +201,9 @@ faulty_config_form (replay config session) came h =
     faulty_bytes (replayed came.script) came.config
     (λ c two. script_not_config c (session_in c came.script) two) h
 faulty_config_form (made seed frames rovers) came h = omega (arith, h)
+faulty_config_form (serving config addr limit) came h =
+    faulty_bytes (ending_of_serving came.failed) came.config
+    (λ c two. not_served came.failed c 2 two (omega arith) (omega arith)) h
 
 pub faulty_script_form : (form : Form) (came : Came) → status_of (ending_of_form form came) ≡ 3
     → IsFaultyScript form came
@@ -162,6 +215,9 @@ faulty_script_form (replay config session) came h =
     let faulty = session_bytes (replayed came.script) came.config h in
     (faulty.0, faulty.1, faulty_script faulty.0 (session_in faulty.0 came.script) faulty.2)
 faulty_script_form (made seed frames rovers) came h = omega (arith, h)
+faulty_script_form (serving config addr limit) came h =
+    let faulty = session_bytes (ending_of_serving came.failed) came.config h in
+    absurd (not_served came.failed faulty.0 3 faulty.2 (omega arith) (omega arith))
 
 long_after : (came : Came)
     → (8388608 < length came.config)
@@ -179,8 +235,18 @@ only_long : (aim : Aim) (came : Came)
 only_long aim came (inl long) = long
 only_long aim came (inr (c, is, status)) = absurd (omega (arith, status, ok_status aim c))
 
+only_long_serving : (failed : Bool) (came : Came)
+    → (8388608 < length came.config)
+    ⊎ ((c : Config) × IsConfigIn came.config c × (status_of (ending_of_serving failed c) ≡ 8))
+    → 8388608 < length came.config
+only_long_serving failed came (inl long) = long
+only_long_serving failed came (inr (c, is, status)) =
+    absurd (not_served failed c 8 status (omega arith) (omega arith))
+
 pub too_long_form : (form : Form) (came : Came) → status_of (ending_of_form form came) ≡ 8 → IsTooLong form came
 too_long_form (bare capacity) came h = long_script (settings.bare capacity) Bare came.script h
 too_long_form (over aim path) came h = only_long aim came (long_bytes (ending_of_config aim) came.config h)
 too_long_form (replay config session) came h = long_after came (long_bytes (replayed came.script) came.config h)
 too_long_form (made seed frames rovers) came h = omega (arith, h)
+too_long_form (serving config addr limit) came h =
+    only_long_serving came.failed came (long_bytes (ending_of_serving came.failed) came.config h)

@@ -13,7 +13,7 @@ use Rattle.session_script.specs.Digits.{is_digit, is_number, number_from, number
 use Rattle.caster_main.specs.declared.command.Aim.{Aim}
 use Rattle.caster_main.specs.declared.command.Aim.TheVariants.{Check, Table, Migrate}
 use Rattle.caster_main.specs.declared.command.Command.{Command}
-use Rattle.caster_main.specs.Command.{Form, bare, over, replay, made, AreBare, AreOver, AreReplay, AreMake, AreOf, AreOfNoForm, aim_name, aim_of, is_path, form_of_two, form_of_three, seed_of, made_form, form_of_four, form_of, form}
+use Rattle.caster_main.specs.Command.{Form, bare, over, replay, made, serving, AreBare, AreOver, AreReplay, AreMake, AreServe, AreOf, AreOfNoForm, aim_name, aim_of, is_path, form_of_two, form_of_three, seed_of, made_form, serving_form, form_of_four, form_of, form}
 
 -- what is read here as digits and as a number is what std reads and writes
 own : IsNumeralModel (λ ds. list_all is_digit ds ≡ true) (number_from 0)
@@ -257,12 +257,24 @@ form_of-make words seed frames rovers are =
     (decimal_read 10000 frames are.frames_are.0 are.frames_are.1 (omega arith))
     (decimal_read 64 rovers are.rovers_are.0 are.rovers_are.1 (omega arith))
 
+form_of-serve : (words : List (List ℕ)) (config addr : List ℕ) (limit : ℕ) → AreServe words config addr limit
+    → form_of words ≡ Some (serving config addr limit)
+form_of-serve words config addr limit are =
+    let first : is_path config ≡ true = is_path-true config are.config_is.0 are.config_is.1 in
+    let second : is_path addr ≡ true = is_path-true addr are.addr_is.0 are.addr_is.1 in
+    let read : form_of_four (codes "serve") config addr (decimal limit) ≡ serving_form config addr (decimal limit)
+    = rw (first, second) refl in
+    ap form_of are.parts ∙ read
+    ∙ ap (λ v. option_map (λ n. serving config addr n) v)
+    (decimal_read 1000000 limit are.limit_is.0 are.limit_is.1 (omega arith))
+
 pub form_of-form : (words : List (List ℕ)) (form : Form) → AreOf words form → form_of words ≡ Some form
 form_of-form words (bare capacity) are = form_of-bare words capacity are
 form_of-form words (over aim config) are =
     ap form_of are.parts ∙ form_of_two-over aim config (is_path-true config are.least are.most)
 form_of-form words (replay config session) are = form_of-replay words config session are
 form_of-form words (made seed frames rovers) are = form_of-make words seed frames rovers are
+form_of-form words (serving config addr limit) are = form_of-serve words config addr limit are
 
 -- ---- back
 
@@ -410,6 +422,37 @@ are_make name seed frames rovers s f r same first second third =
           ∙ ap (λ w. codes "make" ∷ decimal s ∷ decimal f ∷ w ∷ []) three.text;
     }
 
+are_serve : (name config addr limit : List ℕ) (n : ℕ) → bytes_eq name (codes "serve") ≡ true
+    → (is_path config && is_path addr) ≡ true → at_most 1000000 (number_of limit) ≡ Some n
+    → AreServe (name ∷ config ∷ addr ∷ limit ∷ []) config addr n
+are_serve name config addr limit n same paths h =
+    let both = and_parts (is_path config) (is_path addr) paths in
+    let named : name ≡ codes "serve" = name_is name (codes "serve") same in
+    let read = read_decimal 1000000 limit n (omega arith) h in
+    record {
+      config_is = is_path-parts config both.0;
+      addr_is = is_path-parts addr both.1;
+      limit_is = (read.least, read.most);
+      parts = ap (λ w. w ∷ config ∷ addr ∷ limit ∷ []) named
+          ∙ ap (λ w. codes "serve" ∷ config ∷ addr ∷ w ∷ []) read.text;
+    }
+
+form_of_serving-form : (name first second third : List ℕ) (form : Form)
+    → bytes_eq name (codes "make") ≡ false → form_of_four name first second third ≡ Some form
+    → AreOf (name ∷ first ∷ second ∷ third ∷ []) form
+form_of_serving-form name first second third form other h =
+    elim (cases_Bool (bytes_eq name (codes "serve") && (is_path first && is_path second))) [
+      | inl is ↦
+          let outer = and_parts (bytes_eq name (codes "serve")) (is_path first && is_path second) is in
+          let read = mapped (λ n. serving first second n) (at_most 1000000 (number_of third)) form
+          (sym (rw (other, is) refl) ∙ h) in
+          subst (λ f. AreOf (name ∷ first ∷ second ∷ third ∷ []) f) read.2
+          (are_serve name first second third read.0 outer.0 outer.1 read.1)
+      | inr none ↦
+          let e : form_of_four name first second third ≡ None = rw (other, none) refl in
+          absurd cc
+    ]
+
 form_of_four-form : (name seed frames rovers : List ℕ) (form : Form) → form_of_four name seed frames rovers ≡ Some form
     → AreOf (name ∷ seed ∷ frames ∷ rovers ∷ []) form
 form_of_four-form name seed frames rovers form h = elim (cases_Bool (bytes_eq name (codes "make"))) [
@@ -418,9 +461,7 @@ form_of_four-form name seed frames rovers form h = elim (cases_Bool (bytes_eq na
       (sym (rw is refl) ∙ h) in
       subst (λ f. AreOf (name ∷ seed ∷ frames ∷ rovers ∷ []) f) all.same
       (are_make name seed frames rovers all.s all.f all.r is all.seed_is all.frames_are all.rovers_are)
-  | inr other ↦
-      let e : form_of_four name seed frames rovers ≡ None = rw other refl in
-      absurd cc
+  | inr other ↦ form_of_serving-form name seed frames rovers form other h
 ]
 
 pub form-form_of : (words : List (List ℕ)) (form : Form) → form_of words ≡ Some form → AreOf words form

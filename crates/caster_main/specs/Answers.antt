@@ -7,10 +7,10 @@ use Rattle.cast_config.specs.declared.config.Config.{Config}
 use Rattle.cast_config.specs.Bare as settings
 use Rattle.cast_io.specs.Pieces.{AppendsPrefix}
 use Rattle.caster_main.specs.declared.answers.Answer.{Answer}
-use Rattle.caster_main.specs.declared.answers.Answer.TheVariants.{Done, Valid, NoConfig, NoSession, Usage, Long, ReadFault, Memory}
+use Rattle.caster_main.specs.declared.answers.Answer.TheVariants.{Done, Valid, NoConfig, NoSession, Usage, Long, ReadFault, NetworkFault, Memory}
 use Rattle.caster_main.specs.declared.command.Aim.{Aim}
 use Rattle.caster_main.specs.Command.{replay}
-use Rattle.caster_main.specs.Outcome.{Exit, Ending, EndsSo, Came, ending_of_bytes, ending_of_config, ending_of_form, ending_of_script, session_in, one_line, whole_exit, usage_exit, long_exit, read_fault_exit, memory_exit}
+use Rattle.caster_main.specs.Outcome.{Exit, Ending, EndsSo, Came, ending_of_bytes, ending_of_config, ending_of_form, ending_of_script, session_in, one_line, whole_exit, usage_exit, long_exit, read_fault_exit, network_exit, memory_exit}
 use Rattle.caster_main.specs.Told.{Files, Tells, Holds, IsConfigIn, IsOutcome, EndsWith, HaveForm, HaveFault}
 
 -- what the program ends with after this answer, where no write fails
@@ -22,6 +22,7 @@ exit_of (NoSession text) = record { status = 3; text = text.items }
 exit_of Usage = usage_exit
 exit_of Long = long_exit
 exit_of ReadFault = read_fault_exit
+exit_of NetworkFault = network_exit
 exit_of Memory = memory_exit
 
 -- the answer is such an end of the program; want of memory and a fault of reading have their causes

@@ -23,6 +23,9 @@ pub data Form : Type 0 where
   replay : List ℕ → List ℕ → Form
   -- the session that is made of this seed, with so many frames and rovers
   made : ℕ → ℕ → ℕ → Form
+  -- a caster over the configuration in the file of this path, at this address, each of whose workers
+  -- serves so many connections
+  serving : List ℕ → List ℕ → ℕ → Form
 
 -- the word for it
 abbrev pub aim_name : Aim → List ℕ
@@ -58,11 +61,20 @@ pub record AreMake (words : List (List ℕ)) (seed frames rovers : ℕ) : Type 0
   pub rovers_are : (1 ≤ rovers) × (rovers ≤ 64)
   pub parts : words ≡ codes "make" ∷ decimal seed ∷ decimal frames ∷ decimal rovers ∷ []
 
+-- the words `serve CONFIG ADDR LIMIT`: CONFIG and ADDR have 1 to 255 bytes each, LIMIT is a decimal
+-- number from 1 to 1,000,000 without a sign or leading zeros
+pub record AreServe (words : List (List ℕ)) (config addr : List ℕ) (limit : ℕ) : Type 0 where
+  pub config_is : (1 ≤ length config) × (length config ≤ 255)
+  pub addr_is : (1 ≤ length addr) × (length addr ≤ 255)
+  pub limit_is : (1 ≤ limit) × (limit ≤ 1000000)
+  pub parts : words ≡ codes "serve" ∷ config ∷ addr ∷ decimal limit ∷ []
+
 abbrev pub AreOf : List (List ℕ) → Form → Type 0
 AreOf words (bare capacity) = AreBare words capacity
 AreOf words (over aim config) = AreOver aim words config
 AreOf words (replay config session) = AreReplay words config session
 AreOf words (made seed frames rovers) = AreMake words seed frames rovers
+AreOf words (serving config addr limit) = AreServe words config addr limit
 
 -- the words are of no form that there is
 abbrev pub AreOfNoForm : List (List ℕ) → Type 0
@@ -76,6 +88,11 @@ abbrev pub NameNoFile : List (List ℕ) → Type 0
 NameNoFile words =
     ((aim : Aim) (config : List ℕ) → AreOver aim words config → ⊥)
     × ((config session : List ℕ) → AreReplay words config session → ⊥)
+    × ((config addr : List ℕ) (limit : ℕ) → AreServe words config addr limit → ⊥)
+
+-- the words ask for no caster that serves
+abbrev pub ServeNothing : List (List ℕ) → Type 0
+ServeNothing words = (config addr : List ℕ) (limit : ℕ) → AreServe words config addr limit → ⊥
 
 -- ---- the same, read from the words
 
@@ -115,12 +132,17 @@ made_form (Some seed) None rovers = None
 made_form (Some seed) (Some frames) None = None
 made_form (Some seed) (Some frames) (Some rovers) = Some (made seed frames rovers)
 
+abbrev pub serving_form : List ℕ → List ℕ → List ℕ → Option Form
+serving_form config addr limit =
+    option_map (λ n. serving config addr n) (at_most 1000000 (number_of limit))
+
 -- a name and three words
 abbrev pub form_of_four : List ℕ → List ℕ → List ℕ → List ℕ → Option Form
-form_of_four name seed frames rovers =
+form_of_four name first second third =
     if bytes_eq name (codes "make")
-    then made_form (seed_of seed) (at_most 10000 (number_of frames)) (at_most 64 (number_of rovers))
-    else None
+    then made_form (seed_of first) (at_most 10000 (number_of second)) (at_most 64 (number_of third))
+    else if bytes_eq name (codes "serve") && (is_path first && is_path second)
+    then serving_form first second third else None
 
 abbrev pub form_of : List (List ℕ) → Option Form
 form_of [] = None
@@ -137,6 +159,7 @@ files_of (Some (bare capacity)) = []
 files_of (Some (over aim config)) = config ∷ []
 files_of (Some (replay config session)) = config ∷ session ∷ []
 files_of (Some (made seed frames rovers)) = []
+files_of (Some (serving config addr limit)) = config ∷ []
 
 -- the command that the code has read
 abbrev pub form : Command → Form
@@ -144,3 +167,4 @@ form (commands.Bare capacity) = bare capacity
 form (commands.Over aim config) = over aim config.now
 form (commands.Replay config session) = replay config.now session.now
 form (commands.Make seed frames rovers) = made seed frames rovers
+form (commands.Serve config addr limit) = serving config.now addr.now limit

@@ -3,3 +3,5 @@ pub mod Reading
 pub mod Outcome
 pub mod Told
 pub mod Answers
+pub mod Serving
+pub mod Untold

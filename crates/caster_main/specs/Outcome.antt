@@ -1,6 +1,6 @@
 -- What the program ends with, in the order of its tests: the words, the size of a configuration, its
 -- rules, the size of a script, its grammar, the run.
-use Rattle.std.specs.Prelude.{◌≡◌, ℕ, nat_lt, if◌then◌else◌, List, [], ◌∷◌, ◌++◌, length, codes, Option, Some, None, Result, Ok, Err}
+use Rattle.std.specs.Prelude.{◌≡◌, ℕ, nat_lt, if◌then◌else◌, Bool, true, false, List, [], ◌∷◌, ◌++◌, length, codes, Option, Some, None, Result, Ok, Err}
 use Rattle.std.specs.Fmt.{decimal}
 use Rattle.session_script.specs.declared.Event.{Event}
 use Rattle.session_script.specs.declared.ScriptKind.TheVariants.{Bare, Replay}
@@ -16,10 +16,12 @@ use Rattle.cast_config.specs.Faults.{fault_line}
 use Rattle.cast_config.specs.Document.{IsRead}
 use Rattle.config_table.specs.Table.{table_records}
 use Rattle.config_write.specs.Written.{HasVersion}
+use Rattle.session_core.specs.declared.report.Closed.{Closed}
+use Rattle.session_core.specs.Text.{closed_text}
 use Rattle.run_texts.specs.Texts.{IsRunText, made_text}
 use Rattle.caster_main.specs.declared.command.Aim.{Aim}
 use Rattle.caster_main.specs.declared.command.Aim.TheVariants.{Check, Table, Migrate}
-use Rattle.caster_main.specs.Command.{Form, bare, over, replay, made, form_of}
+use Rattle.caster_main.specs.Command.{Form, bare, over, replay, made, serving, form_of}
 use Rattle.caster_main.specs.Reading.{config_in}
 
 -- how the program ends: its status and what it writes
@@ -35,6 +37,8 @@ pub data Ending : Type 0 where
   document_of : Config → Ending
   -- with status 0 and the report of a run of these events over this configuration
   report_of : Config → List Event → Ending
+  -- with status 0 and what a caster over this configuration came to
+  closing_of : Config → Ending
 
 -- the text is a document of version 2 that is read as this configuration
 abbrev pub IsDocumentOf : Config → List ℕ → Type 0
@@ -45,6 +49,7 @@ abbrev pub EndsSo : Ending → Exit → Type 0
 EndsSo (exactly wanted) end = end ≡ wanted
 EndsSo (document_of c) end = (end.status ≡ 0) × IsDocumentOf c end.text
 EndsSo (report_of c events) end = (end.status ≡ 0) × IsRunText c events end.text
+EndsSo (closing_of c) end = (end.status ≡ 0) × (closed : Closed) × (end.text ≡ closed_text c closed)
 
 -- words as one line
 abbrev pub one_line : List ℕ → List ℕ
@@ -58,6 +63,9 @@ usage_exit = record { status = 1; text = one_line (codes "usage") }
 
 abbrev pub read_fault_exit : Exit
 read_fault_exit = record { status = 4; text = one_line (codes "read fault") }
+
+abbrev pub network_exit : Exit
+network_exit = record { status = 6; text = one_line (codes "network fault") }
 
 abbrev pub memory_exit : Exit
 memory_exit = record { status = 7; text = one_line (codes "memory") }
@@ -101,6 +109,11 @@ ending_of_config Check c = exactly (whole_exit (one_line (codes "ok")))
 ending_of_config Table c = exactly (whole_exit (table_text (table_records c)))
 ending_of_config Migrate c = document_of c
 
+-- a caster that serves over a configuration, where the network failed or not
+abbrev pub ending_of_serving : Bool → Config → Ending
+ending_of_serving true c = exactly network_exit
+ending_of_serving false c = closing_of c
+
 -- with a configuration this comes next
 abbrev pub ending_of_read : (Config → Ending) → Result Config ConfigFault → Ending
 ending_of_read next (Ok c) = next c
@@ -114,11 +127,12 @@ ending_of_bytes next bytes =
 
 -- ---- words
 
--- the bytes that came from outside: those of the script and those of the configuration, as far as
--- the words' form reads them
+-- what came from outside: the bytes of the script and those of the configuration, as far as the
+-- words' form reads them, and whether the network failed a caster that served
 pub record Came : Type 0 where
   pub script : List ℕ
   pub config : List ℕ
+  pub failed : Bool
 
 abbrev pub ending_of_form : Form → Came → Ending
 ending_of_form (bare capacity) came =
@@ -128,6 +142,8 @@ ending_of_form (replay config session) came =
     ending_of_bytes (λ c. ending_of_script c (session_in c came.script)) came.config
 ending_of_form (made seed frames rovers) came =
     exactly (whole_exit (made_text seed frames rovers))
+ending_of_form (serving config addr limit) came =
+    ending_of_bytes (ending_of_serving came.failed) came.config
 
 abbrev pub ending_of : Option Form → Came → Ending
 ending_of None came = exactly usage_exit

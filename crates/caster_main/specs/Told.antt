@@ -14,7 +14,7 @@ use Rattle.cast_config.specs.declared.config.Config.{Config}
 use Rattle.cast_config.specs.declared.fault.ConfigFault.{ConfigFault}
 use Rattle.cast_config.specs.declared.fault.ConfigFault.TheVariants as configs
 use Rattle.cast_config.specs.Document.{IsRead}
-use Rattle.caster_main.specs.Command.{Form, bare, over, replay, made, AreOf, form_of}
+use Rattle.caster_main.specs.Command.{Form, bare, over, replay, made, serving, AreOf, form_of}
 use Rattle.caster_main.specs.Reading.{config_in}
 use Rattle.caster_main.specs.Outcome.{Exit, Came, EndsSo, read_fault_exit, memory_exit, outcome, session_in}
 
@@ -57,6 +57,7 @@ IsTold (replay config session) left files came =
     Holds files config came.config
     × ((c : Config) → IsConfigIn came.config c → Holds files session came.script)
 IsTold (made seed frames rovers) left files came = ⊤
+IsTold (serving config addr limit) left files came = Holds files config came.config
 
 abbrev pub HasCome : Option Form → Option (List ℕ) → Files → Came → Type 0
 HasCome None left files came = ⊤
@@ -74,6 +75,7 @@ AreAsked (Some (replay config session)) files paths =
     (paths ≡ config ∷ [])
     ⊎ ((paths ≡ config ∷ session ∷ []) × (c : Config) × IsConfigAt files config c)
 AreAsked (Some (made seed frames rovers)) files paths = paths ≡ []
+AreAsked (Some (serving config addr limit)) files paths = paths ≡ config ∷ []
 
 -- by what it was asked before and now, the store was asked for these, and for no other
 abbrev pub IsAsked : Option Form → Files → Option (List (List ℕ)) → Option (List (List ℕ)) → Type 0
@@ -100,7 +102,7 @@ FollowsOutcome words left files status old new =
 abbrev pub IsStatus : ℕ → Type 0
 IsStatus status =
     (status ≡ 0) ⊎ ((status ≡ 1) ⊎ ((status ≡ 2) ⊎ ((status ≡ 3) ⊎ ((status ≡ 4)
-    ⊎ ((status ≡ 5) ⊎ ((status ≡ 7) ⊎ (status ≡ 8)))))))
+    ⊎ ((status ≡ 5) ⊎ ((status ≡ 6) ⊎ ((status ≡ 7) ⊎ (status ≡ 8))))))))
 
 -- ---- what a status says
 
@@ -121,6 +123,7 @@ IsWhole (over aim config) came = IsOk (config_in came.config)
 IsWhole (replay config session) came =
     (c : Config) × IsConfigIn came.config c × IsOk (session_in c came.script)
 IsWhole (made seed frames rovers) came = ⊤
+IsWhole (serving config addr limit) came = IsOk (config_in came.config)
 
 -- the bytes break a rule of configurations, or are no document
 abbrev pub IsNoConfig : Result Config ConfigFault → Type 0
@@ -135,6 +138,8 @@ IsFaultyConfig (over aim config) came =
 IsFaultyConfig (replay config session) came =
     (length came.config ≤ 8388608) × IsNoConfig (config_in came.config)
 IsFaultyConfig (made seed frames rovers) came = ⊥
+IsFaultyConfig (serving config addr limit) came =
+    (length came.config ≤ 8388608) × IsNoConfig (config_in came.config)
 
 -- the bytes have a faulty line or no `stop`
 abbrev pub IsNoSession : Result (List Event) ScriptFault → Type 0
@@ -151,6 +156,7 @@ IsFaultyScript (over aim config) came = ⊥
 IsFaultyScript (replay config session) came =
     (c : Config) × IsConfigIn came.config c × IsNoSession (session_in c came.script)
 IsFaultyScript (made seed frames rovers) came = ⊥
+IsFaultyScript (serving config addr limit) came = ⊥
 
 -- more bytes than a script or a configuration may have
 abbrev pub IsTooLong : Form → Came → Type 0
@@ -160,6 +166,7 @@ IsTooLong (replay config session) came =
     (8388608 < length came.config)
     ⊎ ((c : Config) × IsConfigIn came.config c × (8388608 < length came.script))
 IsTooLong (made seed frames rovers) came = ⊥
+IsTooLong (serving config addr limit) came = 8388608 < length came.config
 
 -- the words are of a form, and the fault is of what is read for it: the input's for a bare session,
 -- the store's for a command that names a configuration, and none where a session is made
@@ -168,6 +175,7 @@ FaultFor (bare capacity) of_input of_store = of_input
 FaultFor (over aim config) of_input of_store = of_store
 FaultFor (replay config session) of_input of_store = of_store
 FaultFor (made seed frames rovers) of_input of_store = ⊥
+FaultFor (serving config addr limit) of_input of_store = of_store
 
 abbrev pub HaveFault : List (List ℕ) → Type 0 → Type 0 → Type 0
 HaveFault words of_input of_store =

@@ -1,19 +1,23 @@
 //! What is decided before anything is written.
-ghost use Rattle.std.specs.Prelude.{◌≡◌, ◌≤◌, ◌+◌, ◌*◌, length};
+ghost use Rattle.std.specs.Prelude.{◌≡◌, ◌≤◌, ◌+◌, ◌*◌, ℕ, List, length};
 ghost use Rattle.cast_io.specs.Causes.{Rose};
 ghost use Rattle.cast_io.specs.Pieces.{Loses};
-ghost use Rattle.caster_main.specs.Command.{NameNoFile, ReadNoInput, files_of, form_of, texts};
+ghost use Rattle.caster_main.specs.Command.{AreServe, NameNoFile, ReadNoInput, ServeNothing, files_of, form_of, texts};
 ghost use Rattle.caster_main.specs.Outcome.{exactly, whole_exit};
 ghost use Rattle.caster_main.specs.Told.{IsAsked};
 ghost use Rattle.caster_main.specs.Answers.{exit_of, IsAnswer, GivesEnd};
+ghost use Rattle.caster_main.specs.Serving.{IsServingAnswer};
 ghost use Rattle.run_texts.specs.Texts.{made_text};
 
 use crate::command::{Command, command_of};
 use crate::config_answers::answer_over;
+use crate::serving_answers::answer_to_serve;
 use crate::session_answers::{answer_to_input, answer_to_replay};
-use cast_io::{Source, Store};
+use cast_io::{Source, Store, Street};
 use run_texts::made_text;
 use std::alloc::{AllocError, Global};
+use std::sync::Wait;
+use std::thread::Threads;
 
 /// What the program is to write, and with which status it is to end.
 #[derive(Debug, Drop)]
@@ -32,6 +36,8 @@ pub enum Answer {
     Long,
     /// A read of the input, or of a file, failed.
     ReadFault,
+    /// The network failed.
+    NetworkFault,
     /// There is no memory.
     Memory,
 }
@@ -47,6 +53,7 @@ impl Answer {
             Answer::NoConfig(_) => 2,
             Answer::NoSession(_) => 3,
             Answer::ReadFault => 4,
+            Answer::NetworkFault => 6,
             Answer::Memory => 7,
             Answer::Long => 8,
         }
@@ -64,19 +71,26 @@ impl Answer {
             Answer::Usage => b"usage\n",
             Answer::Long => b"too long\n",
             Answer::ReadFault => b"read fault\n",
+            Answer::NetworkFault => b"network fault\n",
             Answer::Memory => b"memory\n",
         }
     }
 }
 
-/// The answer to these words, this input and these files. The input is read only for a bare
-/// session, and the store is asked only for the files that the words name.
-pub fn answer_to<S: Store, I: Source>(
+/// The answer to these words, this input, these files and this street. The input is read only for a
+/// bare session, the store is asked only for the files that the words name, and the street only by a
+/// caster that serves.
+pub fn answer_to<R: Threads + Wait + Sync, S: Store, I: Source, N: Street>(
+    rt: &R,
     alloc: Global,
     words: &[String],
     store: &mut S,
     input: &mut I,
+    street: &mut N,
 ) -> Answer
+where
+    N::Door: Send,
+    N::Link: Send,
     ensures answer { IsAnswer (texts words.now) (I.left input.old) (S.store store.old).files
         (Rose (I.faults input.old) (I.faults input.new))
         (Rose (S.faults store.old) (S.faults store.new)) result }
@@ -91,6 +105,12 @@ pub fn answer_to<S: Store, I: Source>(
     ensures files { (S.store store.new).files ≡ (S.store store.old).files }
     ensures few { S.reads store.new
         ≤ S.reads store.old + 8388610 * length (files_of (form_of (texts words.now))) }
+    ensures serving { (config addr : List ℕ) (limit : ℕ) → AreServe (texts words.now) config addr limit
+        → IsServingAnswer (S.store store.old).files config addr limit
+        (N.told street.old) (N.told street.new)
+        (Rose (S.faults store.old) (S.faults store.new)) result }
+    ensures street_later { (N.told street.old).faults ≤ (N.told street.new).faults }
+    ensures alone { ServeNothing (texts words.now) → street.new ≡ street.old }
 {
     match command_of(words) {
         None => Answer::Usage,
@@ -106,6 +126,13 @@ pub fn answer_to<S: Store, I: Source>(
                 rovers,
             },
         ) => answer_to_make(alloc, seed, frames, rovers),
+        Some(
+            Command::Serve {
+                config,
+                addr,
+                limit,
+            },
+        ) => answer_to_serve(rt, alloc, config, addr, limit, store, street),
     }
 }
 

@@ -2,7 +2,7 @@
 ghost use Rattle.std.specs.Prelude.{◌≡◌, ◌&&◌, ◌-◌, ◌^◌, ℕ, List, Some, IfSome, IfNone, option_map};
 ghost use Rattle.std.specs.List.{list_all};
 ghost use Rattle.session_script.specs.Digits.{is_digit, is_number, number_of, at_most};
-ghost use Rattle.caster_main.specs.Command.{AreOf, AreOfNoForm, Form, aim_of, form, form_of, form_of_four, form_of_three, form_of_two, is_path, seed_of, texts};
+ghost use Rattle.caster_main.specs.Command.{AreOf, AreOfNoForm, Form, aim_of, form, form_of, form_of_four, form_of_three, form_of_two, is_path, made_form, seed_of, serving_form, texts};
 
 // The most frames that a ring keeps.
 const LARGEST_RING: u32 = 4096;
@@ -13,7 +13,10 @@ const MOST_FRAMES: u32 = 10_000;
 // The most rovers of one.
 const MOST_ROVERS: u32 = 64;
 
-// The most bytes of a path.
+// The most connections that a worker serves.
+const MOST_CONNECTIONS: u32 = 1_000_000;
+
+// The most bytes of a path, and of an address.
 const LONGEST_PATH: usize = 255;
 
 /// What is done with a configuration.
@@ -50,6 +53,15 @@ pub enum Command<'a> {
         /// How many rovers it has.
         rovers: u32,
     },
+    /// A caster serves over the configuration in the file of this path.
+    Serve {
+        /// The configuration's path.
+        config: &'a str,
+        /// The address that it listens at.
+        addr: &'a str,
+        /// How many connections each worker serves.
+        limit: u32,
+    },
 }
 
 /// The command that the words are, and None where they are of no form.
@@ -76,11 +88,11 @@ fn command_in(words: &[String]) -> Option<Command<'_>>
     match words {
         [name, word] => command_of_two(name.as_str(), word.as_str()),
         [name, first, second] => command_of_three(name.as_str(), first.as_str(), second.as_str()),
-        [name, seed, frames, rovers] => command_of_four(
+        [name, first, second, third] => command_of_four(
             name.as_str(),
-            seed.as_str(),
-            frames.as_str(),
-            rovers.as_str(),
+            first.as_str(),
+            second.as_str(),
+            third.as_str(),
         ),
         [] | [_] => None,
         [_, _, _, _, _, ..] => None,
@@ -121,12 +133,28 @@ fn command_of_three<'a>(name: &str, first: &'a str, second: &'a str) -> Option<C
 }
 
 // The command of a name and three words.
-fn command_of_four<'a>(name: &str, seed: &str, frames: &str, rovers: &str) -> Option<Command<'a>>
-    ensures { option_map form result ≡ form_of_four name.now seed.now frames.now rovers.now }
+fn command_of_four<'a>(
+    name: &str,
+    first: &'a str,
+    second: &'a str,
+    third: &str,
+) -> Option<Command<'a>>
+    ensures { option_map form result ≡ form_of_four name.now first.now second.now third.now }
 {
-    if name != "make" {
-        return None;
+    if name == "make" {
+        return make_of(first, second, third);
     }
+    if name == "serve" && are_paths(first, second) {
+        return serve_of(first, second, third);
+    }
+    None
+}
+
+// The making of a session of these numbers.
+fn make_of<'a>(seed: &str, frames: &str, rovers: &str) -> Option<Command<'a>>
+    ensures { option_map form result ≡ made_form (seed_of seed.now)
+        (at_most 10000 (number_of frames.now)) (at_most 64 (number_of rovers.now)) }
+{
     let Some(seed) = seed_of(seed) else {
         return None;
     };
@@ -141,6 +169,20 @@ fn command_of_four<'a>(name: &str, seed: &str, frames: &str, rovers: &str) -> Op
         frames,
         rovers,
     })
+}
+
+// The caster over this configuration at this address, with this limit.
+fn serve_of<'a>(config: &'a str, addr: &'a str, limit: &str) -> Option<Command<'a>>
+    ensures { option_map form result ≡ serving_form config.now addr.now limit.now }
+{
+    match number_within(MOST_CONNECTIONS, limit) {
+        Some(limit) => Some(Command::Serve {
+            config,
+            addr,
+            limit,
+        }),
+        None => None,
+    }
 }
 
 // What a command of this name does with a configuration.

@@ -6,12 +6,21 @@ mod adapters;
 mod answers;
 mod command;
 mod config_answers;
+mod network;
+mod serving_answers;
 mod session_answers;
+#[cfg(test)]
+mod session_tests;
 #[cfg(test)]
 mod tests;
 mod top;
+#[cfg(test)]
+mod trial;
+#[cfg(test)]
+mod worked_lines;
 
 use adapters::{FileStore, ReaderSource, WriterSink};
+use network::part_of;
 use std::alloc::AllocError;
 use std::env;
 use std::io::ErrorKind;
@@ -38,8 +47,17 @@ fn main(rt: HostRuntime) -> ExitCode {
     let mut store = FileStore::new(&rt);
     let mut input = ReaderSource::new(rt.stdin());
     let mut out = WriterSink::new(rt.stdout());
+    let mut street = part_of(&rt, 0u64);
     let status = match words(&rt) {
-        Ok(words) => caster(rt.alloc(), &words, &mut store, &mut input, &mut out),
+        Ok(words) => caster(
+            &rt,
+            rt.alloc(),
+            &words,
+            &mut store,
+            &mut input,
+            &mut out,
+            &mut street,
+        ),
         Err(AllocError) => refuse_for_memory(&mut out),
     };
     ExitCode::from(status)

@@ -1,10 +1,12 @@
 //! The call that the program makes.
-ghost use Rattle.std.specs.Prelude.{◌≡◌, ◌≢◌, ◌≤◌, ◌<◌, ◌+◌, ◌*◌, ◌++◌, ◌⊎◌, ℕ, List, Some, Ok, Result, codes, length, OnOk, OnErr};
+ghost use Rattle.std.specs.Prelude.{◌≡◌, ◌≢◌, ◌≤◌, ◌<◌, ◌+◌, ◌*◌, ◌++◌, ◌⊎◌, ℕ, List, Some, Ok, Err, Result, codes, length, OnOk, OnErr};
 ghost use Rattle.std.specs.Io.KnownBytes.{Appends};
 ghost use Rattle.session_script.specs.declared.Event.{Event};
 ghost use Rattle.session_script.specs.declared.ScriptKind.TheVariants.{Bare};
 ghost use Rattle.session_script.specs.Script.{script_of};
 ghost use Rattle.run_texts.specs.Texts.{IsRunText, made_text, report};
+ghost use Rattle.session_core.specs.declared.report.Closed.{Closed};
+ghost use Rattle.session_core.specs.Text.{closed_text};
 ghost use Rattle.cast_io.specs.Causes.{Rose, HasCause};
 ghost use Rattle.cast_io.specs.Pieces.{AppendsPrefix, Loses};
 ghost use Rattle.cast_io.specs.Stores.{content_of};
@@ -16,14 +18,19 @@ ghost use Rattle.config_table.specs.Table.{table_records};
 ghost use Rattle.config_write.specs.Written.{HasVersion};
 ghost use Rattle.caster_main.specs.declared.command.Aim.{Aim};
 ghost use Rattle.caster_main.specs.declared.command.Aim.TheVariants.{Check, Table, Migrate};
-ghost use Rattle.caster_main.specs.Command.{AreBare, AreMake, AreOver, AreOfNoForm, AreReplay, NameNoFile, ReadNoInput, files_of, form_of, texts};
-ghost use Rattle.caster_main.specs.Outcome.{memory_exit, one_line, read_fault_exit, session_in};
+ghost use Rattle.caster_main.specs.Command.{AreBare, AreMake, AreOver, AreOfNoForm, AreReplay, AreServe, NameNoFile, ReadNoInput, ServeNothing, files_of, form_of, texts};
+ghost use Rattle.caster_main.specs.Outcome.{memory_exit, network_exit, one_line, read_fault_exit, session_in};
 ghost use Rattle.caster_main.specs.Told.{FollowsOutcome, HaveCome, HaveFault, IsAsked, IsConfigAt, IsFaultyConfig, IsFaultyScript, IsSessionAt, IsStatus, IsTooLong, IsWhole, WritesPart};
 ghost use Rattle.caster_main.specs.Answers.{exit_of, Writes};
+ghost use Rattle.caster_main.specs.Serving.{HasServing, IsUnserved};
+ghost use Rattle.caster_serve.specs.Caster.{HasServed};
+ghost use Rattle.caster_serve.specs.declared.whole.ServeFault.TheVariants.{Network};
 
 use crate::answers::{Answer, answer_to};
-use cast_io::{Failed, Sink, Source, Store};
+use cast_io::{Failed, Sink, Source, Store, Street};
 use std::alloc::Global;
+use std::sync::Wait;
+use std::thread::Threads;
 
 /// The status where a write failed.
 const WRITE_FAULT: u8 = 5;
@@ -31,8 +38,8 @@ const WRITE_FAULT: u8 = 5;
 /// How many bytes are written at once.
 const PIECE: usize = 65_536;
 
-/// Runs the command that the words are, which have no program name, over the files, the input and
-/// the output, and answers the status that the program ends with.
+/// Runs the command that the words are, which have no program name, over the files, the input, the
+/// output and the street, and answers the status that the program ends with.
 ///
 /// | Words | What is done | Written with status 0 |
 /// |---|---|---|
@@ -42,9 +49,10 @@ const PIECE: usize = 65_536;
 /// | `migrate CONFIG` | | a document of version 2 that says it |
 /// | `replay CONFIG SESSION` | plays the session in the file SESSION over the configuration | the report |
 /// | `make SEED FRAMES ROVERS` | makes a session of the number SEED and plays it | its laps and sums |
+/// | `serve CONFIG ADDR LIMIT` | serves at ADDR, each worker LIMIT connections | what it came to |
 ///
-/// C is from 1 to 4,096, CONFIG and SESSION have 1 to 255 bytes. SEED is below 2^64, FRAMES from 1
-/// to 10,000 and ROVERS from 1 to 64. Numbers are decimal, without signs and leading zeros. A
+/// C is from 1 to 4,096, CONFIG, SESSION and ADDR have 1 to 255 bytes. SEED is below 2^64, FRAMES from 1
+/// to 10,000, ROVERS from 1 to 64 and LIMIT from 1 to 1,000,000. Numbers are decimal, without signs and leading zeros. A
 /// session that is made is played over one mountpoint `A` with a ring of 64 frames. Where that is
 /// not to be had, one line says why:
 ///
@@ -55,19 +63,25 @@ const PIECE: usize = 65_536;
 /// | 3 | `session: line N`, `session: state N`, `session: no stop` | where the script is none |
 /// | 4 | `read fault` | only where a read of the input, or a call of the store, failed |
 /// | 5 | | only where a write failed |
+/// | 6 | `network fault` | where the network failed a caster that serves |
 /// | 7 | `memory` | where there is no memory |
 /// | 8 | `too long` | where the script or the configuration has more than 8 MiB |
 ///
 /// The words are tested first, then come the reading of the configuration, its size and its rules,
 /// the reading of the script, its size, its grammar and the run. Nothing is written before the run
 /// has ended, and the text is written in pieces of 65,536 bytes.
-pub fn caster<S: Store, I: Source, O: Sink>(
+pub fn caster<R: Threads + Wait + Sync, S: Store, I: Source, O: Sink, N: Street>(
+    rt: &R,
     alloc: Global,
     words: &[String],
     store: &mut S,
     input: &mut I,
     out: &mut O,
+    street: &mut N,
 ) -> u8
+where
+    N::Door: Send,
+    N::Link: Send,
     ensures report { result ≡ 0 → (capacity : ℕ) (bytes : List ℕ) (events : List Event)
         → AreBare (texts words.now) capacity
         → I.left input.old ≡ Some bytes → script_of Bare bytes ≡ Ok events
@@ -125,6 +139,35 @@ pub fn caster<S: Store, I: Source, O: Sink>(
         → (result ≡ 7) ⊎ ((result ≡ 0)
         × Appends (O.taken out.old) (O.taken out.new) (made_text seed frames rovers)) }
 
+    // What a caster does that serves: the whole of it, and what that says with 0 and with 6.
+    ensures serving { (config addr : List ℕ) (limit : ℕ)
+        → AreServe (texts words.now) config addr limit
+        → HasServing (S.store store.old).files config addr limit
+        (N.told street.old) (N.told street.new) (Rose (S.faults store.old) (S.faults store.new))
+        (O.taken out.old) (O.taken out.new) (O.faults out.old) (O.faults out.new) result }
+    ensures served { result ≡ 0 → (config addr : List ℕ) (limit : ℕ)
+        → AreServe (texts words.now) config addr limit
+        → (c : Config) × (closed : Closed) × IsConfigAt (S.store store.old).files config c
+        × HasServed c addr limit (N.told street.old) (N.told street.new) (Ok closed)
+        × Appends (O.taken out.old) (O.taken out.new) (closed_text c closed) }
+    ensures network_fault { result ≡ 6 → (config addr : List ℕ) × (limit : ℕ) × (c : Config)
+        × AreServe (texts words.now) config addr limit
+        × IsConfigAt (S.store store.old).files config c
+        × HasServed c addr limit (N.told street.old) (N.told street.new) (Err Network)
+        × Rose (N.told street.old).faults (N.told street.new).faults
+        × Appends (O.taken out.old) (O.taken out.new) network_exit.text }
+    ensures complete_serve { (config addr : List ℕ) (limit : ℕ) (files : List (List ℕ × List ℕ))
+        (bytes : List ℕ) (c : Config)
+        → AreServe (texts words.now) config addr limit → (S.store store.old).files ≡ Some files
+        → content_of files config ≡ Some bytes → length bytes ≤ 8388608 → IsRead bytes (Ok c)
+        → ¬ Rose (S.faults store.old) (S.faults store.new)
+        → ¬ Rose (O.faults out.old) (O.faults out.new)
+        → ¬ Rose (N.told street.old).faults (N.told street.new).faults
+        → (result ≡ 7) ⊎ (result ≡ 0) }
+    ensures unserved { IsUnserved result → N.told street.new ≡ N.told street.old }
+    ensures alone { ServeNothing (texts words.now) → street.new ≡ street.old }
+    ensures street_faults { (N.told street.old).faults ≤ (N.told street.new).faults }
+
     // When each status comes.
     ensures status { IsStatus result }
     ensures whole { result ≡ 0 → HaveCome IsWhole
@@ -178,7 +221,7 @@ pub fn caster<S: Store, I: Source, O: Sink>(
         (Rose (S.faults store.old) (S.faults store.new))
         (O.taken out.old) (O.taken out.new) }
 {
-    let answer = answer_to(alloc, words, store, input);
+    let answer = answer_to(rt, alloc, words, store, input, street);
     write_answer(&answer, out)
 }
 

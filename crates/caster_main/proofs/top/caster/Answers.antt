@@ -1,11 +1,12 @@
 -- The clauses of the call, from its answer and from how that was written.
-use Rattle.std.proofs.Common.{inl, inr, subst, ◌∙◌, arith}
+use Rattle.std.proofs.Common.{inl, inr, ap, subst, ◌∙◌, arith}
 use Rattle.std.specs.Io.KnownBytes.{Appends}
 use Rattle.caster_main.specs.declared.command.Aim.TheVariants.{Check, Table, Migrate}
 use Rattle.caster_main.specs.Outcome.{Exit}
 use Rattle.caster_main.specs.Told.{IsWhole, IsFaultyConfig, IsFaultyScript, IsTooLong}
-use Rattle.caster_main.proofs.StatusLemmas.{whole_form, faulty_config_form, faulty_script_form, too_long_form}
+use Rattle.caster_main.proofs.StatusLemmas.{IsOfCaster, network_form, whole_form, faulty_config_form, faulty_script_form, too_long_form}
 use Rattle.caster_main.proofs.ClauseLemmas.{undisturbed_run, decided_run, have_come, no_form_run, script_run, usage_run, bare_fault, over_fault, replay_fault, make_fault, over_run, config_run, replay_run, session_run, made_run}
+use Rattle.caster_main.proofs.ServingLemmas.{serving_written, served_run, lost_run, network_rose, complete_run, unserved_run, of_caster}
 use Rattle.caster_main.proofs.top.caster.Goals as goal
 
 pub returns-clause-report : goal.returns-clause-report
@@ -133,3 +134,50 @@ returns-clause-too_long g c is =
     (λ form came h. too_long_form form came (h ∙ is))
     (decided_run _ _ _ _ _ _ _ _ _ _ _ c.answer_to-answer.ensures.answer c.write_answer.ensures.writes
     (λ e. omega (arith, is, e)) (λ e. omega (arith, is, e)) (λ e. omega (arith, is, e)))
+
+pub returns-clause-undisturbed : goal.returns-clause-undisturbed
+returns-clause-undisturbed g c calm write memory =
+    elim (undisturbed_run _ _ _ _ _ _ _ _ _ _ _ c.answer_to-answer.ensures.answer c.write_answer.ensures.writes
+    calm write) [
+      | inl seven ↦ absurd (memory seven)
+      | inr follows ↦ follows
+    ]
+
+pub returns-clause-serving : goal.returns-clause-serving
+returns-clause-serving g c config addr limit are =
+    serving_written _ config addr limit _ _ _ _ _ _ _ _ c.answer_to-answer.result
+    (c.answer_to-answer.ensures.serving config addr limit are) c.write_answer.ensures.writes
+
+pub returns-clause-served : goal.returns-clause-served
+returns-clause-served g c zero config addr limit are =
+    served_run _ config addr limit _ _ _ _ _ _ _ _ zero (returns-clause-serving g c config addr limit are)
+
+pub returns-clause-network_fault : goal.returns-clause-network_fault
+returns-clause-network_fault g c six =
+    let words = of_caster _ _ _ (have_come IsOfCaster _ _ _ _ _ c.write_answer.result (λ e. omega (arith, six, e))
+    (λ form came h. network_form form came (h ∙ six))
+    (decided_run _ _ _ _ _ _ _ _ _ _ _ c.answer_to-answer.ensures.answer c.write_answer.ensures.writes
+    (λ e. omega (arith, six, e)) (λ e. omega (arith, six, e)) (λ e. omega (arith, six, e)))) in
+    let lost = lost_run _ words.0 words.1 words.2 _ _ _ _ _ _ _ _ six
+    (returns-clause-serving g c words.0 words.1 words.2 words.3) in (
+      words.0,
+      words.1,
+      words.2,
+      lost.0,
+      words.3,
+      lost.1,
+      lost.2,
+      network_rose lost.0 words.1 words.2 _ _ lost.2,
+      lost.3,
+    )
+
+pub returns-clause-complete_serve : goal.returns-clause-complete_serve
+returns-clause-complete_serve g c config addr limit files bytes setting are told content short is store write lost =
+    complete_run _ config addr limit _ _ _ _ _ _ _ _ files bytes setting
+    (returns-clause-serving g c config addr limit are) told content short is store write lost
+
+pub returns-clause-unserved : goal.returns-clause-unserved
+returns-clause-unserved g c is =
+    unserved_run _ _ _ _ _ _ _ _ _ _ is
+    (λ nothing. ap g.N.Street.told (c.answer_to-answer.ensures.alone nothing))
+    (λ config addr limit are. returns-clause-serving g c config addr limit are)

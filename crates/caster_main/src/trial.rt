@@ -1,0 +1,232 @@
+//! What tests run: a whole call over files, an input, an output and a street in memory, and what came of
+//! it as plain values. What runs the program has no contract here, so that a test has little to prove.
+ghost use Rattle.std.specs.Prelude.{IsTrue, IfOk};
+ghost use Rattle.std.specs.List.{list_all};
+ghost use Rattle.cast_io.specs.FakeLinks.{has_bytes, is_new_link};
+ghost use Rattle.cast_io.specs.FakeDoors.{is_new_door};
+
+use crate::top::caster;
+use cast_io::{
+    Asked, ByteString, LinkStep, MemDoor, MemLink, MemSink, MemSource, MemStore, MemStreet,
+};
+use std::alloc::Global;
+use std::process::Abort;
+use std::sync::Wait;
+use std::test::Fail;
+use std::thread::Threads;
+
+/// What came of a run.
+#[derive(Drop)]
+pub struct Came {
+    /// The status.
+    pub status: u8,
+    /// What was written.
+    pub text: Vec<u8>,
+    /// The paths that the store was asked for, each with a line's end.
+    pub paths: Vec<u8>,
+    /// What the street was asked for, a line each.
+    pub asked: Vec<u8>,
+}
+
+/// Runs these words. The writes of these numbers fail.
+pub fn run<R: Threads + Wait + Sync>(
+    rt: &R,
+    alloc: Global,
+    words: &[&str],
+    mut store: MemStore,
+    mut input: MemSource,
+    writes: &[u64],
+    mut street: MemStreet,
+) -> Result<Came, Fail> {
+    let texts = texts_of(alloc, words)?;
+    let mut sink = MemSink::new(alloc, writes.to_vec(alloc)?);
+    let status = caster(
+        rt,
+        alloc,
+        &texts,
+        &mut store,
+        &mut input,
+        &mut sink,
+        &mut street,
+    );
+    came_of(alloc, status, &sink, &store, &street)
+}
+
+fn texts_of(alloc: Global, words: &[&str]) -> Result<Vec<String>, Fail> {
+    let mut texts = Vec::new(alloc);
+    for word in words {
+        texts.push(String::from_str(alloc, word)?)?;
+    }
+    Ok(texts)
+}
+
+fn came_of(
+    alloc: Global,
+    status: u8,
+    sink: &MemSink,
+    store: &MemStore,
+    street: &MemStreet,
+) -> Result<Came, Fail> {
+    Ok(Came {
+        status,
+        text: sink.bytes().to_vec(alloc)?,
+        paths: paths_of(alloc, store)?,
+        asked: asked_of(alloc, street)?,
+    })
+}
+
+fn paths_of(alloc: Global, store: &MemStore) -> Result<Vec<u8>, Fail> {
+    let mut paths = Vec::new(alloc);
+    for path in store.asked().ok_or("told no longer")? {
+        push_line(&mut paths, b"", path.as_slice())?;
+    }
+    Ok(paths)
+}
+
+fn asked_of(alloc: Global, street: &MemStreet) -> Result<Vec<u8>, Fail> {
+    let mut lines = Vec::new(alloc);
+    for asked in street.asked().ok_or("told no longer")? {
+        match asked {
+            Asked::Open { addr, doors } => {
+                let front = format!(in alloc; "open {doors} ")?;
+                push_line(&mut lines, front.as_bytes(), addr.as_slice())?;
+            }
+            Asked::Dial { addr } => push_line(&mut lines, b"dial ", addr.as_slice())?,
+        }
+    }
+    Ok(lines)
+}
+
+fn push_line(lines: &mut Vec<u8>, front: &[u8], text: &[u8]) -> Result<(), Fail> {
+    lines.extend_from_slice(front)?;
+    lines.extend_from_slice(text)?;
+    lines.push(b'\n')?;
+    Ok(())
+}
+
+/// It ended with this status and wrote this text.
+pub fn expect_run(rt: &impl Abort, case: u64, came: &Came, status: u8, text: &[u8]) {
+    assert_eq!(rt; came.status, status, "case {case}");
+    assert_eq!(rt; came.text.as_slice(), text, "case {case}");
+}
+
+/// Runs these words with this input, over no files.
+pub fn bare_run<R: Threads + Wait + Sync>(
+    rt: &R,
+    alloc: Global,
+    words: &[&str],
+    input: &[u8],
+    reads: &[u64],
+    writes: &[u64],
+) -> Result<Came, Fail> {
+    let store = MemStore::new(alloc, Vec::new(alloc), Vec::new(alloc));
+    let source = MemSource::new(input.to_vec(alloc)?, reads.to_vec(alloc)?);
+    run(rt, alloc, words, store, source, writes, no_street(alloc)?)
+}
+
+/// Runs these words over these files.
+pub fn file_run<R: Threads + Wait + Sync>(
+    rt: &R,
+    alloc: Global,
+    words: &[&str],
+    store: MemStore,
+) -> Result<Came, Fail> {
+    let source = MemSource::new(Vec::new(alloc), Vec::new(alloc));
+    run(rt, alloc, words, store, source, &[], no_street(alloc)?)
+}
+
+/// Serves over the configuration in the file `a` of this store at this street, one connection each.
+pub fn serve_run<R: Threads + Wait + Sync>(
+    rt: &R,
+    alloc: Global,
+    store: MemStore,
+    writes: &[u64],
+    street: MemStreet,
+) -> Result<Came, Fail> {
+    let source = MemSource::new(Vec::new(alloc), Vec::new(alloc));
+    let words = ["serve", "a", "127.0.0.1:0", "1"];
+    run(rt, alloc, &words, store, source, writes, street)
+}
+
+/// A store of a file `a` of these parts and of a file `s`, whose calls of these numbers fail. Behind
+/// them there is another `a`.
+pub fn store_of(
+    alloc: Global,
+    parts: &[&[u8]],
+    session: &[u8],
+    calls: &[u64],
+) -> Result<MemStore, Fail> {
+    let mut content = Vec::new(alloc);
+    for part in parts {
+        content.extend_from_slice(part)?;
+    }
+    let mut files = Vec::new(alloc);
+    files.push((ByteString::copy_of(alloc, b"a")?, ByteString::new(content)))?;
+    files.push((
+        ByteString::copy_of(alloc, b"s")?,
+        ByteString::copy_of(alloc, session)?,
+    ))?;
+    files.push((
+        ByteString::copy_of(alloc, b"a")?,
+        ByteString::copy_of(alloc, b"=")?,
+    ))?;
+    Ok(MemStore::new(alloc, files, calls.to_vec(alloc)?))
+}
+
+/// A street that gives nothing.
+pub fn no_street(alloc: Global) -> Result<MemStreet, Fail> {
+    Ok(MemStreet::new(alloc, Vec::new(alloc), Vec::new(alloc), Vec::new(alloc))?)
+}
+
+/// A street of three doors with one link each, and one link to dial, whose peers send these bytes, are
+/// then idle so often, and end. The accepts of the first door and the calls of the street of these
+/// numbers fail.
+pub fn street_of(
+    alloc: Global,
+    peers: &[&[&[u8]]; 4],
+    idle: usize,
+    accepts: &[u64],
+    calls: &[u64],
+) -> Result<MemStreet, Fail> {
+    let mut doors = Vec::new(alloc);
+    doors.push(door_of(alloc, link_of(alloc, peers[0], idle)?, accepts)?)?;
+    doors.push(door_of(alloc, link_of(alloc, peers[1], idle)?, &[])?)?;
+    doors.push(door_of(alloc, link_of(alloc, peers[2], idle)?, &[])?)?;
+    let mut links = Vec::new(alloc);
+    links.push(link_of(alloc, peers[3], idle)?)?;
+    Ok(MemStreet::new(alloc, doors, links, calls.to_vec(alloc)?)?)
+}
+
+fn door_of(alloc: Global, link: MemLink, accepts: &[u64]) -> Result<MemDoor, Fail>
+    requires { IsTrue (is_new_link link) }
+    ensures { IfOk result (λ door. IsTrue (is_new_door door)) }
+{
+    let mut arrivals = Vec::new(alloc);
+    arrivals.push(Some(link))?;
+    Ok(MemDoor::new(alloc, arrivals, accepts.to_vec(alloc)?)?)
+}
+
+fn link_of(alloc: Global, parts: &[&[u8]], idle: usize) -> Result<MemLink, Fail>
+    ensures { IfOk result (λ link. IsTrue (is_new_link link)) }
+{
+    let mut steps = Vec::new(alloc);
+    for part in parts {
+        push_bytes(alloc, &mut steps, part)?;
+    }
+    for _ in 0..idle {
+        steps.push(LinkStep::Idle)?;
+    }
+    Ok(MemLink::new(alloc, steps, Vec::new(alloc)))
+}
+
+fn push_bytes(alloc: Global, steps: &mut Vec<LinkStep>, part: &[u8]) -> Result<(), Fail>
+    requires { IsTrue (list_all has_bytes steps.old.items) }
+    ensures { IsTrue (list_all has_bytes steps.new.items) }
+{
+    if part.is_empty() {
+        return Ok(());
+    }
+    let bytes = ByteString::copy_of(alloc, part)?;
+    steps.push(LinkStep::Bytes(bytes))?;
+    Ok(())
+}

@@ -1,0 +1,514 @@
+"""Cases of `caster serve` with real sockets. Each is a function whose text says what it tries; it is
+wrong where it raises something.
+
+Each worker serves one connection at a time, and so many as LIMIT says. With LIMIT 1 and a worker for
+each connection of the case all connections are served at the same time, and the program ends when the
+last of them has. One worker with a larger LIMIT serves them one after the other.
+"""
+import os
+import socket
+import sys
+import threading
+import time
+import traceback
+
+from wire import *
+
+# The longest that all cases may take, in seconds.
+LONGEST = 110
+
+EXAMPLE = open('examples/caster.toml').read()
+
+# The account of the example, and two positions: at ALPHA, and at BRAVO.
+ROVER1 = basic('rover1', 'secret')
+AT_ALPHA = report('4807.038,N', '01131.000,E')
+AT_BRAVO = report('4812.000,N', '01131.000,E')
+
+TABLE = (b'NET;FIELD;Example Surveys;B;N;http://www.example.org;none;none;none\r\n'
+         b'STR;ALPHA;Munich;RTCM 3.3;1005(10),1077(1),1087(1);2;GPS+GLO;FIELD;DEU;48.11;11.51;0;0;;none;N;N;0;\r\n'
+         b'STR;BRAVO;BRAVO;RTCM 3.3;;2;GPS;;;48.20;11.51;0;0;;none;B;N;0;\r\n'
+         b'STR;NEAR;NEAR;RTCM 3.3;1005(10),1077(1),1087(1);2;GPS+GLO;FIELD;DEU;48.11;11.51;1;1;;none;B;N;0;\r\n'
+         b'ENDSOURCETABLE\r\n')
+
+RELAY = '''[[relay]]
+mount = "%s"
+address = "%s"
+upstream = "%s"
+protocol = %d
+user = "rover1"
+password = "secret"
+'''
+
+casters = []
+
+
+def example(workers, relays='', ring=256):
+    """The example's configuration with so many workers, with these relays in place of its own, and with
+    rings of so many frames."""
+    front, behind = EXAMPLE.split('# The frames of BRAVO are pulled')
+    text = front + relays + behind[behind.index('# Rovers without credentials'):]
+    for old, new in [('workers = 4', 'workers = %d' % workers), ('ring = 256', 'ring = %d' % ring)]:
+        if old not in text:
+            raise Wrong('no %s in the example' % old)
+        text = text.replace(old, new)
+    return text
+
+
+def serve(config, limit=1, addr=None):
+    caster = Caster(config, limit, addr)
+    casters.append(caster)
+    return caster
+
+
+# ---- sessions
+
+def sessions_of_version_1():
+    """A source and two rovers of version 1. The frames come in pieces, with bytes between them that are
+    none; the rover without credentials is given those of two messages alone."""
+    caster = serve(example(3))
+    source = caster.client().send(source_1('ALPHA', 'sesame')).expect(ICY)
+    named = caster.client().send(rover_1('ALPHA', ROVER1)).expect(ICY)
+    unnamed = caster.client().send(rover_1('ALPHA')).expect(ICY)
+    stream = A + b'no frame' + Z + B
+    for at in range(0, len(stream), 5):
+        source.send(stream[at:at + 5])
+    named.expect(A + Z + B)
+    unnamed.expect(A + B)
+    source.close()
+    named.close()
+    unnamed.close()
+    caster.ends_with(['mount ALPHA 3 1', 'mount BRAVO 0 0', 'account rover1 1 3 0', 'total 2 5 0'])
+
+
+def sessions_of_version_2():
+    """A source of version 2 whose body is as it is, and one whose body comes in chunks and ends by
+    itself; rovers of both versions, those of version 2 served in chunks."""
+    caster = serve(example(5))
+    plain = caster.client().send(source_2('BRAVO', 'open')).expect(SOURCE_2_OK)
+    chunked = caster.client().send(source_2('ALPHA', 'sesame', 'Transfer-Encoding: chunked'))
+    chunked.expect(SOURCE_2_OK)
+    second = caster.client().send(rover_2('ALPHA', ROVER1)).expect(ROVER_2_OK)
+    first = caster.client().send(rover_1('ALPHA')).expect(ICY)
+    other = caster.client().send(rover_2('BRAVO', ROVER1)).expect(ROVER_2_OK)
+    plain.send(A + B + A)
+    long = frame(1005, 7, 1000)
+    chunked.send(b'3;name=value\r\n' + A[:3] + b'\r\n' + b'05\r\n' + A[3:] + b'\r\n')
+    chunked.send(b'%X\r\n' % len(Z + long) + Z + long + b'\r\n0\r\nTrailer: x\r\n\r\n')
+    chunked.expect_end()
+    second.expect(chunk(A) + chunk(Z) + chunk(long))
+    first.expect(A + long)
+    other.expect(chunk(A) + chunk(A))
+    for one in (plain, second, first, other):
+        one.close()
+    caster.ends_with(['mount ALPHA 3 1', 'mount BRAVO 3 1', 'account rover1 2 5 0', 'total 3 7 0'])
+
+
+def near_rover():
+    """A rover of NEAR reports that it is at ALPHA and is given the frames of ALPHA; then it reports that
+    it is at BRAVO, and is given those of BRAVO, of which its group may hear message 1005 alone."""
+    caster = serve(example(3))
+    alpha = caster.client().send(source_1('ALPHA', 'sesame')).expect(ICY)
+    bravo = caster.client().send(source_1('BRAVO', 'open')).expect(ICY)
+    rover = caster.client().send(rover_1('NEAR', ROVER1) + AT_ALPHA.encode() + b'\r\n').expect(ICY)
+    alpha.send(A + B)
+    rover.expect(A + B)
+    rover.send(AT_BRAVO.encode() + b'\r\n')
+    # Nothing says when the report has come. From then on each second one of these is sent to the rover.
+    published = []
+    rover.socket.settimeout(0.05)
+    while not rover.came:
+        published += [frame(1005, len(published)), frame(1077, len(published) + 1)]
+        bravo.send(b''.join(published[-2:]))
+        try:
+            rover.came += rover.socket.recv(65536)
+        except socket.timeout:
+            pass
+        if len(published) > 2 * PATIENCE / 0.05:
+            raise Wrong('nothing comes from BRAVO')
+    rover.socket.settimeout(PATIENCE)
+    body = rover.receive_until(published[-2])
+    places = places_in(body)
+    if places != list(range(places[0], len(published), 2)):
+        raise Wrong('the rover was given the frames %s of %d' % (places, len(published)))
+    for one in (alpha, bravo, rover):
+        one.close()
+    caster.ends_with(['mount ALPHA 2 1', 'mount BRAVO %d 1' % len(published),
+                      'account rover1 1 %d 0' % (2 + len(places)), 'total 1 %d 0' % (2 + len(places))])
+
+
+def near_rover_of_version_2():
+    """The head of a rover says where it is, so it is given its base with the first frame."""
+    caster = serve(example(2))
+    bravo = caster.client().send(source_1('BRAVO', 'open')).expect(ICY)
+    rover = caster.client().send(rover_2('NEAR', ROVER1, 'Ntrip-GGA: ' + AT_BRAVO)).expect(ROVER_2_OK)
+    bravo.send(B + A + B + A)
+    rover.expect(chunk(A) + chunk(A))
+    rover.close()
+    bravo.close()
+    caster.ends_with(['mount ALPHA 0 0', 'mount BRAVO 4 1', 'account rover1 1 2 0', 'total 1 2 0'])
+
+
+def sourcetables():
+    """The sourcetable in both versions, and as the answer to a rover of version 1 that asks for a
+    mountpoint that there is not. One worker serves them one after the other."""
+    caster = serve(example(1), 3)
+    for head, reply in [(rover_1(''), table_1(TABLE)), (rover_2(''), table_2(TABLE)),
+                        (rover_1('NONE'), table_1(TABLE))]:
+        caster.client().send(head).expect(reply).expect_end()
+    caster.ends_with(['mount ALPHA 0 0', 'mount BRAVO 0 0', 'account rover1 0 0 0', 'total 0 0 0'])
+
+
+# ---- refusals
+
+def refusals():
+    """Each refusal that one connection alone can come to, in both versions; the connection has ended
+    behind the reply. One worker serves them one after the other."""
+    wrong, nobody = basic('rover1', 'wrong'), basic('nobody', 'secret')
+    cases = [
+        (b'NONSENSE\r\n\r\n', BAD_HEAD),
+        (b'GET /ALPHA;x HTTP/1.0\r\n\r\n', BAD_HEAD),
+        (b'a' * 8192, BAD_HEAD),
+        (b'PUT /ALPHA HTTP/1.1\r\n\r\n', NOT_DONE),
+        (source_2('ALPHA', 'sesame', 'Transfer-Encoding: gzip'), NOT_DONE),
+        (rover_2('NONE', ROVER1), NO_MOUNT_2),
+        (source_1('NONE', 'sesame'), TAKEN_1),
+        (source_2('NONE', 'sesame'), NO_MOUNT_2),
+        (rover_1('ALPHA', nobody), UNAUTHORIZED_1),
+        (rover_2('ALPHA', nobody), UNAUTHORIZED_2),
+        (rover_1('ALPHA', wrong), UNAUTHORIZED_1),
+        (rover_2('ALPHA', wrong), UNAUTHORIZED_2),
+        (rover_1('BRAVO'), DENIED_1),
+        (rover_2('BRAVO'), DENIED_2),
+        (source_1('ALPHA', 'open'), BAD_PASSWORD_1),
+        (source_1('NEAR', 'sesame'), TAKEN_1),
+        (source_2('ALPHA', 'open'), UNAUTHORIZED_2),
+    ]
+    caster = serve(example(1), len(cases))
+    for head, reply in cases:
+        client = caster.client().send(head)
+        try:
+            client.expect(reply).expect_end()
+        except Wrong as wrong:
+            raise Wrong('%s: %s' % (show(head), wrong)) from None
+    caster.ends_with(['mount ALPHA 0 0', 'mount BRAVO 0 0', 'account rover1 0 0 0', 'total 0 0 0'])
+
+
+def taken():
+    """Sources of both versions ask for a mountpoint that a source holds, and one more when it is free
+    again."""
+    caster = serve(example(2), 2)
+    holder = caster.client().send(source_1('ALPHA', 'sesame')).expect(ICY)
+    caster.client().send(source_1('ALPHA', 'sesame')).expect(TAKEN_1).expect_end()
+    caster.client().send(source_2('ALPHA', 'sesame')).expect(TAKEN_2).expect_end()
+    # One worker has served its two now: the other one serves the last, when the first source is gone.
+    holder.send(A).close()
+    last = caster.client().send(source_1('ALPHA', 'sesame')).expect(ICY)
+    last.send(B).close()
+    caster.ends_with(['mount ALPHA 2 2', 'mount BRAVO 0 0', 'account rover1 0 0 0', 'total 0 0 0'])
+
+
+def full_account():
+    """Two rovers of an account that may have two at a time; one more of each version is refused, and the
+    next is let in when one has left."""
+    caster = serve(example(3), 2)
+    first = caster.client().send(rover_1('ALPHA', ROVER1)).expect(ICY)
+    second = caster.client().send(rover_2('BRAVO', ROVER1)).expect(ROVER_2_OK)
+    caster.client().send(rover_1('ALPHA', ROVER1)).expect(FULL_1).expect_end()
+    caster.client().send(rover_2('ALPHA', ROVER1)).expect(FULL_2).expect_end()
+    # The third worker has served its two now.
+    first.close()
+    third = caster.client().send(rover_1('BRAVO', ROVER1)).expect(ICY)
+    third.close()
+    second.close()
+    last = caster.client().send(source_1('ALPHA', 'sesame')).expect(ICY)
+    last.close()
+    caster.ends_with(['mount ALPHA 0 1', 'mount BRAVO 0 0', 'account rover1 3 0 0', 'total 3 0 0'])
+
+
+# ---- laps, resets, and a rover that does not read
+
+def sums_of(caster):
+    """What the program has printed when it has ended, as the numbers of each line by its words."""
+    sums = {}
+    for line in caster.ends().splitlines():
+        words = line.split(' ')
+        text = 2 if words[0] != 'total' else 1
+        sums[' '.join(words[:text])] = [int(word) for word in words[text:]]
+    return sums
+
+
+def wants(what, got, wanted):
+    if got != wanted:
+        raise Wrong('%s: wanted %s and got %s' % (what, wanted, got))
+
+
+def lapped_rover():
+    """A source sends bursts over a ring of four frames. The rover is given frames in order, each once,
+    the last one too; those that it was not given are told as overrun, and there are some."""
+    caster = serve(example(2, ring=4))
+    source = caster.client().send(source_1('ALPHA', 'sesame')).expect(ICY)
+    rover = caster.client().send(rover_1('ALPHA', ROVER1)).expect(ICY)
+    count = 0
+    for burst in range(10):
+        sent = frames(1005, count, 300)
+        count += len(sent)
+        source.send(b''.join(sent))
+        time.sleep(0.03)
+    places = places_in(rover.receive_until(sent[-1]))
+    if places != sorted(set(places)):
+        raise Wrong('not in order, or twice: %s' % places)
+    rover.close()
+    source.close()
+    sums = sums_of(caster)
+    wants('mount', sums['mount ALPHA'], [count, 1])
+    wants('account', sums['account rover1'], [1, len(places), count - len(places)])
+    wants('total', sums['total'], [1, len(places), count - len(places)])
+    if len(places) == count:
+        raise Wrong('nothing was overrun')
+
+
+def many():
+    """How many frames of 1,000 bytes are more than the system keeps for one that does not read."""
+    return 2000 + most_kept() * 3 // 2000
+
+
+def rover_that_reads_late():
+    """A rover reads nothing for a while in which more comes than the system keeps for it. When it reads
+    again it is given frames in order, each once, up to the last one."""
+    caster = serve(example(2))
+    source = caster.client().send(source_1('ALPHA', 'sesame')).expect(ICY)
+    rover = caster.client(room=4096).send(rover_1('ALPHA', ROVER1)).expect(ICY)
+    some = frames(1005, 0, many(), 1000)
+    for at in range(0, len(some), 100):
+        source.send(b''.join(some[at:at + 100]))
+    time.sleep(1)
+    places = places_in(rover.receive_until(some[-1]), 1000)
+    if places != sorted(set(places)):
+        raise Wrong('not in order, or twice')
+    rover.close()
+    source.close()
+    sums = sums_of(caster)
+    wants('mount', sums['mount ALPHA'], [len(some), 1])
+    wants('account', sums['account rover1'], [1, len(places), len(some) - len(places)])
+
+
+def rover_that_never_reads():
+    """A rover that reads nothing at all is dropped after ten seconds in which it could be sent nothing,
+    while another one is given all frames."""
+    begun = time.monotonic()
+    caster = serve(example(3))
+    source = caster.client().send(source_1('ALPHA', 'sesame')).expect(ICY)
+    deaf = caster.client(room=4096).send(rover_1('ALPHA', ROVER1)).expect(ICY)
+    rover = caster.client().send(rover_1('ALPHA', ROVER1)).expect(ICY)
+    count = many()
+    some = frames(1005, 0, count, 1000)
+    for at in range(0, count, 100):
+        source.send(b''.join(some[at:at + 100]))
+        rover.expect(b''.join(some[at:at + 100]))
+    rover.close()
+    source.close()
+    sums = sums_of(caster)
+    took = time.monotonic() - begun
+    deaf.close()
+    if took < 10:
+        raise Wrong('it was dropped within %.1f seconds' % took)
+    wants('mount', sums['mount ALPHA'], [count, 1])
+    wants('sessions', sums['account rover1'][0], 2)
+    sent = sums['account rover1'][1] + sums['account rover1'][2]
+    if not count < sent <= 2 * count:
+        raise Wrong('%d frames were sent or overrun' % sent)
+
+
+def resets():
+    """Clients that reset their connection: in the head, in the body of a source with a frame begun, and
+    in one that came in chunks. Each is the end of its connection alone: the mountpoint is free again."""
+    caster = serve(example(1), 5)
+    caster.client().send(b'SOURCE sesame AL').reset()
+    one = caster.client().send(source_1('ALPHA', 'sesame')).expect(ICY)
+    one.send(A[:5]).reset()
+    two = caster.client().send(source_2('ALPHA', 'sesame', 'Transfer-Encoding: chunked'))
+    two.expect(SOURCE_2_OK).send(b'8\r\n' + A[:5]).reset()
+    caster.client().reset()
+    three = caster.client().send(source_1('ALPHA', 'sesame')).expect(ICY)
+    three.send(A + B).close()
+    caster.ends_with(['mount ALPHA 2 3', 'mount BRAVO 0 0', 'account rover1 0 0 0', 'total 0 0 0'])
+
+
+def reset_while_written_to():
+    """A rover resets its connection while frames are sent to it. Nothing else ends: another rover is
+    given all frames, and the program gets no signal."""
+    caster = serve(example(3))
+    source = caster.client().send(source_1('ALPHA', 'sesame')).expect(ICY)
+    gone = caster.client().send(rover_1('ALPHA', ROVER1)).expect(ICY)
+    stays = caster.client().send(rover_1('ALPHA', ROVER1)).expect(ICY)
+    count = 4000
+    some = frames(1005, 0, count, 100)
+    for at in range(0, count, 50):
+        source.send(b''.join(some[at:at + 50]))
+        stays.expect(b''.join(some[at:at + 50]))
+        if at == 1000:
+            gone.expect(some[0])
+            gone.reset()
+    stays.close()
+    source.close()
+    sums = sums_of(caster)
+    wants('mount', sums['mount ALPHA'], [count, 1])
+    wants('sessions', sums['account rover1'][0], 2)
+    sent = sums['account rover1'][1] + sums['account rover1'][2]
+    if not count < sent < 2 * count:
+        raise Wrong('%d frames were sent or overrun' % sent)
+
+
+# ---- two programs
+
+def relays():
+    """Two casters: the second pulls both mountpoints from the first, one in each version of NTRIP, through
+    a wire that is cut at the end. Its rovers are given the frames that the sources send to the first."""
+    first = serve(example(4))
+    wires = [Wire(first.port), Wire(first.port)]
+    second = serve(example(2, RELAY % ('ALPHA', 'localhost:%d' % wires[0].port, 'ALPHA', 1)
+                           + RELAY % ('BRAVO', '127.0.0.1:%d' % wires[1].port, 'BRAVO', 2)))
+    wires[0].wait_for(1, ICY)
+    wires[1].wait_for(1, ROVER_2_OK)
+    alpha = second.client().send(rover_1('ALPHA')).expect(ICY)
+    bravo = second.client().send(rover_2('BRAVO', ROVER1)).expect(ROVER_2_OK)
+    sources = [first.client().send(source_1('ALPHA', 'sesame')).expect(ICY),
+               first.client().send(source_2('BRAVO', 'open')).expect(SOURCE_2_OK)]
+    sources[0].send(A + Z + B)
+    sources[1].send(B + A + Z + A)
+    alpha.expect(A + B)
+    bravo.expect(chunk(A) + chunk(A))
+    for wire in wires:
+        wire.cut()
+    for one in sources + [alpha, bravo]:
+        one.close()
+    # The group of the relays' account may hear message 1005 alone of BRAVO.
+    first.ends_with(['mount ALPHA 3 1', 'mount BRAVO 4 1', 'account rover1 2 5 0', 'total 2 5 0'])
+    second.ends_with(['mount ALPHA 3 1', 'mount BRAVO 2 1', 'account rover1 1 2 0', 'total 2 4 0'])
+
+
+def relay_that_is_refused():
+    """A relay asks for a mountpoint that the other caster does not have: its connection has ended, and
+    nothing is published."""
+    first = serve(example(2))
+    place = '127.0.0.1:%d' % Wire(first.port).port
+    second = serve(example(1, RELAY % ('ALPHA', place, 'NONE', 1) + RELAY % ('BRAVO', place, 'NONE', 2)))
+    second.client().send(rover_1('')).expect(table_1(TABLE)).expect_end()
+    for caster in (first, second):
+        caster.ends_with(['mount ALPHA 0 0', 'mount BRAVO 0 0', 'account rover1 0 0 0', 'total 0 0 0'])
+
+
+# ---- addresses and faults
+
+def other_addresses():
+    """An address of IPv6, and all of IPv4; what is bound is free again when the program has ended."""
+    hosts = [('127.0.0.1', '0.0.0.0'), ('127.0.0.1', '127.0.0.1')]
+    try:
+        free_port(socket.AF_INET6, '::1')
+        hosts.append(('::1', '[::1]'))
+    except OSError:
+        pass
+    port = free_port()
+    for host, words in hosts:
+        caster = serve(example(1), 1, '%s:%d' % (words, port))
+        source = Client(port, host=host).send(source_1('ALPHA', 'sesame')).expect(ICY)
+        source.send(A).close()
+        caster.ends_with(['mount ALPHA 1 1', 'mount BRAVO 0 0', 'account rover1 0 0 0', 'total 0 0 0'])
+
+
+def network_faults():
+    """An address that is taken, one that is none, one that is not this machine's, and a relay whose
+    caster does not listen."""
+    with socket.create_server(('127.0.0.1', 0)) as other:
+        place = '127.0.0.1:%d' % other.getsockname()[1]
+        for addr in (place, 'nonsense', '127.0.0.1', '192.0.2.1:2101', '127.0.0.1:65536'):
+            serve(example(2), 1, addr).ends_with(['network fault'], 6)
+    relay = RELAY % ('ALPHA', '127.0.0.1:%d' % free_port(), 'ALPHA', 1)
+    serve(example(2, relay)).ends_with(['network fault'], 6)
+
+
+def workers_side_by_side():
+    """Forty workers that serve three connections each, from forty clients at a time, all of which but the
+    source ask for the sourcetable or take what is published."""
+    caster = serve(example(40), 3)
+    source = caster.client().send(source_1('ALPHA', 'sesame')).expect(ICY)
+    wrong = []
+
+    def client():
+        try:
+            rover = caster.client().send(rover_1('ALPHA')).expect(ICY)
+            ready.wait(PATIENCE)
+            rover.expect(A + B)
+            rover.close()
+        except Exception as fault:
+            wrong.append(fault)
+
+    ready = threading.Barrier(21)
+    rovers = [threading.Thread(target=client) for _ in range(20)]
+    for rover in rovers:
+        rover.start()
+    ready.wait(PATIENCE)
+    source.send(A + Z + B)
+    for rover in rovers:
+        rover.join()
+    if wrong:
+        raise wrong[0]
+    for number in range(120 - 21):
+        caster.client().send(rover_2('')).expect(table_2(TABLE)).expect_end()
+        if number == 50:
+            source.close()
+    caster.ends_with(['mount ALPHA 3 1', 'mount BRAVO 0 0', 'account rover1 0 0 0', 'total 20 40 0'])
+
+
+CASES = [sessions_of_version_1, sessions_of_version_2, near_rover, near_rover_of_version_2, sourcetables,
+         refusals, taken, full_account, lapped_rover, rover_that_reads_late, rover_that_never_reads,
+         resets, reset_while_written_to, relays, relay_that_is_refused, other_addresses, network_faults,
+         workers_side_by_side]
+
+
+def run(case, failed):
+    begun = time.monotonic()
+    try:
+        case()
+    except Wrong as wrong:
+        failed.append((case.__name__, str(wrong)))
+    except Exception:
+        failed.append((case.__name__, traceback.format_exc()))
+    if os.environ.get('TIMES'):
+        print('%6.2f s  %s' % (time.monotonic() - begun, case.__name__))
+
+
+def give_up():
+    for caster in casters:
+        caster.stop()
+    print('FAILED the cases took more than %d seconds' % LONGEST)
+    sys.stdout.flush()
+    os._exit(1)
+
+
+def main(names):
+    watch = threading.Timer(LONGEST, give_up)
+    watch.daemon = True
+    watch.start()
+    cases = [case for case in CASES if not names or case.__name__ in names]
+    failed = []
+    # The one that waits for ten seconds runs beside the others.
+    beside = [threading.Thread(target=run, args=(case, failed)) for case in cases
+              if case is rover_that_never_reads]
+    for thread in beside:
+        thread.start()
+    for case in cases:
+        if case is not rover_that_never_reads:
+            run(case, failed)
+    for thread in beside:
+        thread.join()
+    for caster in casters:
+        caster.stop()
+    for name, said in failed:
+        print('FAILED %s\n%s' % (name, said.rstrip('\n')))
+    print('%d passed, %d failed' % (len(cases) - len(failed), len(failed)))
+    return 0 if cases and not failed else 1
+
+
+if __name__ == '__main__':
+    sys.exit(main(sys.argv[1:]))

@@ -1,0 +1,346 @@
+"""What the cases of tests/serve speak with: frames, heads, replies, clients, the program, and a wire
+between two programs that can be cut. All texts are written by hand from docs/FORMATS.md."""
+import base64
+import os
+import socket
+import struct
+import subprocess
+import tempfile
+import threading
+import time
+
+PROGRAM = os.environ.get('CASTER', './caster')
+
+# How long a client waits for bytes, and for the program to end, in seconds.
+PATIENCE = 30
+
+
+class Wrong(Exception):
+    """Something was not as wanted."""
+
+
+# ---- frames
+
+A = bytes.fromhex('d300023ed0a4e000')       # message 1005
+Z = bytes.fromhex('d3000047ea4b')           # no message number
+B = bytes.fromhex('d30002435006a27e')       # message 1077
+
+
+def crc(data):
+    """The checksum of a frame: CRC-24Q."""
+    value = 0
+    for byte in data:
+        value ^= byte << 16
+        for _ in range(8):
+            value <<= 1
+            if value & 0x1000000:
+                value ^= 0x1864CFB
+    return value
+
+
+# For a message and a size, the checksum for each bit of the place, and that of place 0.
+checksums = {}
+
+
+def frame(message, place, size=6):
+    """A frame of this message whose payload has `size` bytes, of which four say its place. The checksum
+    of a sum of bits is the sum of their checksums."""
+    front = b'\xd3' + struct.pack('>HH', size, message << 4)
+    behind = bytes(size - 6)
+    if (message, size) not in checksums:
+        none = crc(front + bytes(4) + behind)
+        bits = [crc(bytes(5) + struct.pack('>I', 1 << bit) + behind) for bit in range(32)]
+        checksums[message, size] = none, bits
+    value, bits = checksums[message, size]
+    for bit in range(place.bit_length()):
+        if place >> bit & 1:
+            value ^= bits[bit]
+    return front + struct.pack('>I', place) + behind + value.to_bytes(3, 'big')
+
+
+def frames(message, first, count, size=6):
+    return [frame(message, place, size) for place in range(first, first + count)]
+
+
+def chunk(data):
+    """One chunk as the caster writes it."""
+    return b'%x\r\n' % len(data) + data + b'\r\n'
+
+
+def places_in(body, size=6):
+    """The places of the frames that a body of version 1 consists of, which are all of this size."""
+    whole = size + 6
+    if len(body) % whole:
+        raise Wrong('%d bytes are no frames of %d bytes' % (len(body), whole))
+    places = []
+    for at in range(0, len(body), whole):
+        one = body[at:at + whole]
+        place = struct.unpack('>I', one[5:9])[0]
+        if one != frame(struct.unpack('>H', one[3:5])[0] >> 4, place, size):
+            raise Wrong('no frame at %d: %s' % (at, one[:12].hex()))
+        places.append(place)
+    return places
+
+
+# ---- heads
+
+def lines(*parts):
+    return ''.join(part + '\r\n' for part in parts).encode() + b'\r\n'
+
+
+def basic(user, password):
+    text = base64.b64encode(('%s:%s' % (user, password)).encode()).decode()
+    return 'Authorization: Basic ' + text
+
+
+def source_1(mount, password):
+    return lines('SOURCE %s %s' % (password, mount), 'Source-Agent: NTRIP test')
+
+
+def source_2(mount, password, *more):
+    return lines('POST /%s HTTP/1.1' % mount, 'Host: caster', 'Ntrip-Version: Ntrip/2.0',
+                 'User-Agent: NTRIP test', basic('source', password), *more)
+
+
+def rover_1(mount, *more):
+    return lines('GET /%s HTTP/1.0' % mount, 'User-Agent: NTRIP test', *more)
+
+
+def rover_2(mount, *more):
+    return lines('GET /%s HTTP/1.1' % mount, 'Host: caster', 'Ntrip-Version: Ntrip/2.0',
+                 'User-Agent: NTRIP test', *more)
+
+
+def report(latitude, longitude):
+    """A report of a position: a GGA sentence of NMEA 0183, as `4807.038,N` and `01131.000,E`."""
+    text = 'GPGGA,123519,%s,%s,1,08,0.9,545.4,M,46.9,M,,' % (latitude, longitude)
+    total = 0
+    for byte in text.encode():
+        total ^= byte
+    return '$%s*%02X' % (text, total)
+
+
+# ---- replies
+
+ICY = b'ICY 200 OK\r\n\r\n'
+SERVER = b'Server: NTRIP lapcast/1.0\r\n'
+CLOSED = b'Content-Length: 0\r\nConnection: close\r\n\r\n'
+REALM = b'WWW-Authenticate: Basic realm="caster"\r\n'
+VERSION_2 = b'Ntrip-Version: Ntrip/2.0\r\n'
+
+BAD_HEAD = b'HTTP/1.1 400 Bad Request\r\n' + SERVER + CLOSED
+NOT_DONE = b'HTTP/1.1 501 Not Implemented\r\n' + SERVER + CLOSED
+
+UNAUTHORIZED_1 = b'HTTP/1.0 401 Unauthorized\r\n' + SERVER + REALM + CLOSED
+DENIED_1 = b'HTTP/1.0 403 Forbidden\r\n' + SERVER + CLOSED
+FULL_1 = b'HTTP/1.0 503 Service Unavailable\r\n' + SERVER + CLOSED
+BAD_PASSWORD_1 = b'ERROR - Bad Password\r\n'
+TAKEN_1 = b'ERROR - Mount Point Taken or Invalid\r\n'
+
+ROVER_2_OK = (b'HTTP/1.1 200 OK\r\n' + VERSION_2 + SERVER + b'Content-Type: gnss/data\r\n'
+              b'Transfer-Encoding: chunked\r\nConnection: close\r\n\r\n')
+SOURCE_2_OK = b'HTTP/1.1 200 OK\r\n' + VERSION_2 + SERVER + b'Connection: close\r\n\r\n'
+NO_MOUNT_2 = b'HTTP/1.1 404 Not Found\r\n' + VERSION_2 + SERVER + CLOSED
+UNAUTHORIZED_2 = b'HTTP/1.1 401 Unauthorized\r\n' + VERSION_2 + SERVER + REALM + CLOSED
+DENIED_2 = b'HTTP/1.1 403 Forbidden\r\n' + VERSION_2 + SERVER + CLOSED
+FULL_2 = b'HTTP/1.1 503 Service Unavailable\r\n' + VERSION_2 + SERVER + CLOSED
+TAKEN_2 = b'HTTP/1.1 409 Conflict\r\n' + VERSION_2 + SERVER + CLOSED
+
+
+def table_1(table):
+    return (b'SOURCETABLE 200 OK\r\n' + SERVER + b'Content-Type: text/plain\r\nContent-Length: %d\r\n'
+            b'Connection: close\r\n\r\n' % len(table) + table)
+
+
+def table_2(table):
+    return (b'HTTP/1.1 200 OK\r\n' + VERSION_2 + SERVER + b'Content-Type: gnss/sourcetable\r\n'
+            b'Content-Length: %d\r\nConnection: close\r\n\r\n' % len(table) + table)
+
+
+# ---- clients
+
+def free_port(family=socket.AF_INET, host='127.0.0.1'):
+    with socket.socket(family) as one:
+        one.bind((host, 0))
+        return one.getsockname()[1]
+
+
+class Client:
+    """A connection to a port of loopback, which waits until somebody listens there."""
+
+    def __init__(self, port, room=None, host='127.0.0.1'):
+        family = socket.AF_INET6 if ':' in host else socket.AF_INET
+        until = time.monotonic() + PATIENCE
+        while True:
+            self.socket = socket.socket(family)
+            if room:
+                self.socket.setsockopt(socket.SOL_SOCKET, socket.SO_RCVBUF, room)
+            self.socket.settimeout(PATIENCE)
+            try:
+                self.socket.connect((host, port))
+                break
+            except ConnectionRefusedError:
+                self.socket.close()
+                if time.monotonic() > until:
+                    raise Wrong('nobody listens') from None
+                time.sleep(0.01)
+        self.socket.setsockopt(socket.IPPROTO_TCP, socket.TCP_NODELAY, 1)
+        self.came = bytearray()
+
+    def send(self, data):
+        self.socket.sendall(data)
+        return self
+
+    def receive(self):
+        """Some bytes more; none where the connection has ended."""
+        try:
+            some = self.socket.recv(65536)
+        except socket.timeout:
+            raise Wrong('nothing came behind %s' % show(self.came)) from None
+        self.came += some
+        return some
+
+    def expect(self, wanted):
+        """These bytes come next."""
+        while len(self.came) < len(wanted) and self.receive():
+            pass
+        got = bytes(self.came[:len(wanted)])
+        if got != wanted:
+            raise Wrong('wanted %s and got %s' % (show(wanted), show(got)))
+        del self.came[:len(wanted)]
+        return self
+
+    def expect_end(self):
+        """Nothing more comes, and the connection has ended."""
+        if self.came or self.receive():
+            raise Wrong('wanted the end and got %s' % show(self.came))
+        self.socket.close()
+
+    def receive_until(self, end):
+        """All bytes up to these ones, with which they are to end."""
+        while not self.came.endswith(end):
+            if not self.receive():
+                raise Wrong('the end came before %s' % show(end))
+        got = bytes(self.came)
+        self.came.clear()
+        return got
+
+    def close(self):
+        self.socket.close()
+
+    def reset(self):
+        """Ends the connection so that the other side is told of a fault."""
+        self.socket.setsockopt(socket.SOL_SOCKET, socket.SO_LINGER, struct.pack('ii', 1, 0))
+        self.socket.close()
+
+
+def most_kept():
+    """How many bytes the system keeps at most for a connection whose other side does not read."""
+    with open('/proc/sys/net/ipv4/tcp_wmem') as file:
+        return int(file.read().split()[2])
+
+
+def show(data):
+    data = bytes(data)
+    return '%r%s (%d bytes)' % (data[:300], '..' if len(data) > 300 else '', len(data))
+
+
+# ---- the program
+
+class Caster:
+    """The program, serving over this configuration at a free port, or at this address."""
+
+    def __init__(self, config, limit, addr=None):
+        self.port = free_port()
+        self.addr = addr or '127.0.0.1:%d' % self.port
+        with tempfile.NamedTemporaryFile('w', suffix='.toml', delete=False) as file:
+            file.write(config)
+        self.path = file.name
+        self.process = subprocess.Popen([PROGRAM, 'serve', self.path, self.addr, str(limit)],
+                                        stdin=subprocess.DEVNULL, stdout=subprocess.PIPE,
+                                        stderr=subprocess.PIPE)
+
+    def client(self, room=None):
+        return Client(self.port, room)
+
+    def ends_with(self, wanted, status=0):
+        """It ends by itself, with this status, and has written these lines and nothing else."""
+        got = self.ends(status)
+        wanted = ''.join(line + '\n' for line in wanted)
+        if got != wanted:
+            raise Wrong('wanted the lines\n%sand got\n%s' % (wanted, got))
+
+    def ends(self, status=0):
+        """What it has written where it ends by itself with this status."""
+        try:
+            out, err = self.process.communicate(timeout=PATIENCE)
+        except subprocess.TimeoutExpired:
+            self.stop()
+            raise Wrong('the program does not end') from None
+        if err:
+            raise Wrong('wrote to standard error: %s' % show(err))
+        if self.process.returncode != status:
+            raise Wrong('status %d, wanted %d; %s' % (self.process.returncode, status, show(out)))
+        return out.decode()
+
+    def stop(self):
+        """Ends the program where it has not ended, and takes its configuration away."""
+        if self.process.poll() is None:
+            self.process.kill()
+            self.process.communicate()
+        if os.path.exists(self.path):
+            os.unlink(self.path)
+
+
+class Wire:
+    """Listens at a free port, and passes what comes there on to another port and back, until it is
+    cut. What came back is kept, a list for each connection in the order in which they came."""
+
+    def __init__(self, to):
+        self.to = to
+        self.listener = socket.create_server(('127.0.0.1', 0))
+        self.port = self.listener.getsockname()[1]
+        self.pairs = []
+        self.back = []
+        threading.Thread(target=self.run, daemon=True).start()
+
+    def run(self):
+        while True:
+            try:
+                near, _ = self.listener.accept()
+            except OSError:
+                return
+            far = Client(self.to).socket
+            back = bytearray()
+            self.pairs.append((near, far))
+            self.back.append(back)
+            threading.Thread(target=self.pass_on, args=(near, far, None), daemon=True).start()
+            threading.Thread(target=self.pass_on, args=(far, near, back), daemon=True).start()
+
+    def pass_on(self, here, there, back):
+        here.settimeout(None)
+        while True:
+            try:
+                some = here.recv(65536)
+                if not some:
+                    return
+                there.sendall(some)
+            except OSError:
+                return
+            if back is not None:
+                back += some
+
+    def wait_for(self, count, beginning):
+        """So many connections stand, on each of which these bytes came back first."""
+        until = time.monotonic() + PATIENCE
+        while sum(bytes(back).startswith(beginning) for back in self.back) < count:
+            if time.monotonic() > until:
+                raise Wrong('came back: %s' % [show(back) for back in self.back])
+            time.sleep(0.01)
+
+    def cut(self):
+        """Ends all connections on both sides, as their end."""
+        self.listener.close()
+        for pair in self.pairs:
+            for one in pair:
+                one.shutdown(socket.SHUT_RDWR)
