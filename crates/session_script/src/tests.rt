@@ -133,3 +133,23 @@ fn a_script_has_at_most_8_mib(rt: HostRuntime) -> Result<(), Fail> {
     );
     Ok(())
 }
+
+#[test]
+fn each_event_is_written_as_its_line(rt: HostRuntime) -> Result<(), Fail> {
+    let script = b"open 1\nrelay 2 1\nin 1 D300fF\nturn 1 16\nbreak 2\nend 1\nstop\n";
+    let events = parse(rt.alloc(), script, REPLAY)?;
+    let mut text = Vec::new(rt.alloc());
+    text.extend_from_slice(b"# recorded\n")?;
+    script_text(&events, &mut text)?;
+    let lines = b"# recorded\nopen 1\nrelay 2 1\nin 1 d300ff\nturn 1 16\nbreak 2\nend 1\nstop\n";
+    assert!(rt; text.as_slice() == lines.as_slice());
+    let bare = parse(
+        rt.alloc(),
+        b"source 1 A\nrover 9999 NEAR\nstop",
+        ScriptKind::Bare,
+    )?;
+    text.clear();
+    script_text(&bare, &mut text)?;
+    assert!(rt; text.as_slice() == b"source 1 A\nrover 9999 NEAR\nstop\n".as_slice());
+    Ok(())
+}
