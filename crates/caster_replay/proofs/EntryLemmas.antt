@@ -1,7 +1,7 @@
 -- The list of a run's connections: where a number stands in it, and what becomes of one of them.
-use Rattle.std.proofs.Common.{◌≡◌, ◌&&◌, ◌≢◌, ◌∙◌, ◌<◌, ◌≤◌, ◌++◌, ◌+◌, ◌^◌, ℕ, zero, suc, Bool, true, false, List, [], ◌∷◌, length, map, get_or, set, refl, sym, ap, subst, arith, Option, None, Some}
+use Rattle.std.proofs.Common.{◌≡◌, ◌&&◌, ◌∙◌, ◌<◌, ◌++◌, ◌+◌, ◌^◌, ℕ, zero, suc, Bool, true, false, List, [], ◌∷◌, length, get_or, set, refl, sym, ap, subst, arith}
 use Rattle.std.specs.Prelude.{nat_lt, insert, slice_index_or, ◌↔◌, IsTrue}
-use Rattle.std.specs.List.{prefix_len, sum_by}
+use Rattle.std.specs.List.{sum_by}
 use Rattle.std.proofs.lemmas.Bool.{and_parts, leb-true}
 use Rattle.std.proofs.lemmas.List.{length-map, map-set}
 use Rattle.std.proofs.lemmas.List.Sums.{sum_by-append, sum_by-cons}
@@ -21,23 +21,18 @@ use Rattle.session_core.specs.declared.report.Receipt.{Receipt}
 use Rattle.session_core.specs.Judged.{Opening, sends_head, relays, bare_source, bare_rover}
 use Rattle.session_core.specs.Owed.{ends}
 use Rattle.caster_replay.specs.declared.entry.Entry.{Entry}
-use Rattle.caster_replay.specs.declared.entry.State.{State}
-use Rattle.caster_replay.specs.declared.entry.State.TheVariants.{Open, Closed}
+use Rattle.caster_replay.specs.declared.entry.State.TheVariants.{Closed}
 use Rattle.caster_replay.specs.Caster.{DesksValue}
 use Rattle.caster_replay.specs.Lives.{Live, live_of, live_in, lives_in, place_of}
 use Rattle.session_core.specs.Run.{Histories}
-use Rattle.caster_replay.specs.Entries.{NamesRelay, ClosedAt, IsClosedAt}
-use Rattle.caster_replay.specs.Scripts.{IsKindFor, IsScriptFor, Begins, Ends, Plays, Stands}
+use Rattle.caster_replay.specs.Entries.{StandsAt, NamesRelay, ClosedAt, IsClosedAt}
+use Rattle.caster_replay.specs.Scripts.{IsKindFor, IsScriptFor, Begins, Ends, Plays}
 use Rattle.caster_replay.proofs.WorldKnownLemmas.{IsClean}
 use Rattle.caster_replay.proofs.WorldRunnerLemmas.{IsAbout, IsAbsent, about_break, about_end}
 use Rattle.caster_replay.proofs.WorldReportLemmas.{IsOpening, opening_head, opening_relay, opening_source, opening_rover}
 use Rattle.caster_replay.proofs.WorldSessionLemmas.{session_clean}
 
 -- ---- what stands at a place
-
-abbrev pub StandsAt : List Entry → ℕ → ℕ → Type 0
-StandsAt entries place number =
-    (place < length entries) × ((d : Entry) → (slice_index_or entries place d).number ≡ number)
 
 pub live_at : (entries : List Entry) (place : ℕ) (d : Entry)
     → get_or (lives_in entries) place (live_in d) ≡ live_in (slice_index_or entries place d)

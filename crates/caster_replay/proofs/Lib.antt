@@ -16,3 +16,6 @@ pub mod DeskLemmas
 pub mod SumLemmas
 pub mod ReplayLemmas
 pub mod LivesLemmas
+pub mod SendsLemmas
+pub mod GoingLemmas
+pub mod RunLemmas

@@ -1,30 +1,29 @@
 -- What becomes of the connections of a run by one event, from what its calls ensure.
-use Rattle.std.proofs.Common.{◌≡◌, ◌∙◌, ◌<◌, ◌≤◌, ◌++◌, ◌+◌, ◌^◌, ℕ, zero, suc, Bool, true, false, List, [], ◌∷◌, length, map, get_or, set, refl, sym, ap, subst, arith}
+use Rattle.std.proofs.Common.{◌≡◌, ◌∙◌, ◌<◌, ◌≤◌, ◌++◌, ℕ, zero, suc, Bool, true, false, List, [], ◌∷◌, length, get_or, set, refl, sym, ap, subst, arith}
 use Rattle.std.specs.Prelude.{nat_lt, insert, ◌↔◌, IsTrue}
-use Rattle.std.specs.List.{prefix_len, sum_by}
 use Rattle.std.specs.List.Sorted.{IsNonDecreasingBy, IsPartitionPoint}
 use Rattle.std.proofs.lemmas.Grind.{get_or-set_at}
 use Rattle.std.proofs.lemmas.List.{length-map, set-set}
 use Rattle.std.proofs.lemmas.List.Sums.{prefix_len_is}
 use Rattle.session_script.specs.declared.Event.{Event}
-use Rattle.session_script.specs.Script.{input_length}
 use Rattle.cast_config.specs.declared.config.Config.{Config}
 use Rattle.session_core.specs.declared.ending.Last.{Last}
-use Rattle.session_core.specs.declared.ending.Last.TheVariants as lasts
 use Rattle.session_core.specs.Headings.{Heading}
 use Rattle.session_core.specs.Judged.{Opening}
 use Rattle.session_core.specs.Owed.{Happening, ends}
 use Rattle.session_core.specs.Run.{Histories, Connected, after_events}
 use Rattle.caster_replay.specs.declared.entry.Entry.{Entry}
 use Rattle.caster_replay.specs.declared.entry.State.{State}
-use Rattle.caster_replay.specs.Caster.{DesksValue, ArePlaces, SamePlaces}
-use Rattle.caster_replay.specs.Entries.{ClosedAt, IsClosedAt, HasOpened, SettledAt}
+use Rattle.caster_replay.specs.Caster.{DesksValue, SamePlaces}
+use Rattle.caster_replay.specs.Entries.{ClosedAt, IsClosedAt, IsUnsent, HasOpened, SettledAt}
 use Rattle.caster_replay.specs.Lives.{Live, live_of, live_in, lives_in, place_of, IsLive}
 use Rattle.caster_replay.specs.Runs.{Runs, StandsAt, AreAbove, IsIncreasing, Pairs}
-use Rattle.caster_replay.specs.Scripts.{IsShort, Begins, Plays, Stands}
+use Rattle.caster_replay.specs.Scripts.{Begins, Plays, Stands}
+use Rattle.caster_replay.specs.Sends.{sent_in, IsSilent, SendsTo, Sends}
+use Rattle.caster_replay.proofs.SendsLemmas.{sends_set, set_silent, sends_opened}
 use Rattle.caster_replay.proofs.WorldRunnerLemmas.{IsAbout, IsAbsent, headings_now, are_now}
-use Rattle.caster_replay.proofs.EntryLemmas as looks
-use Rattle.caster_replay.proofs.EntryLemmas.{no_live, number_at, live_at, within_lives, here_at, absent_at, placed_at, found_at, missing_at, lives_set, lives_insert, opening_by, is_clean}
+use Rattle.caster_replay.specs.Entries as looks
+use Rattle.caster_replay.proofs.EntryLemmas.{no_live, number_at, within_lives, absent_at, placed_at, found_at, missing_at, lives_set, lives_insert, opening_by, is_clean}
 use Rattle.caster_replay.proofs.PlayLemmas.{play_closed, play_absent, play_again, play_opened}
 use Rattle.caster_replay.proofs.ReplayLemmas.{entry_at, live_get, places_stay}
 
@@ -202,3 +201,39 @@ stands_opened c script event entries old mid now number place o entry next begin
           entry.bytes.items (opening_by event number o begins) plays.runs absent
           (is_clean c script event entries old plays number) opened settled);
     }
+
+-- ---- what they were sent
+
+-- the connection at this place was sent more
+pub sends_at : (entries : List Entry) (place number : ℕ) (entry : Entry) (new : Live) (after : List Live)
+    → looks.StandsAt entries place number → place ≡ place_of number (lives_in entries)
+    → get_or (lives_in entries) place (live_in entry) ≡ live_of number entry.state entry.bytes.items
+    → new.number ≡ number → (more : List ℕ) × (new.bytes ≡ entry.bytes.items ++ more)
+    → after ≡ set (lives_in entries) place new → SendsTo number (lives_in entries) after
+sends_at entries place number entry new after there is here own more changed =
+    subst (SendsTo number (lives_in entries)) (sym changed)
+    (sends_set number place (lives_in entries) (live_in entry) new more.0 is (within_lives entries place there.0)
+    (ap (λ (l : Live). l.number) here) own
+    (more.1 ∙ ap (λ (b : List ℕ). b ++ more.0) (sym (ap (λ (l : Live). l.bytes) here))))
+
+-- the connection at this place was closed
+pub silent_closed : (c : Config) (old now : Histories) (last : Last) (place : ℕ) (entries after : List Entry)
+    (d : Entry) → place < length entries
+    → IsClosedAt c old now last place (get_or entries place d) entries after
+    → IsSilent (lives_in entries) (lives_in after)
+silent_closed c old now last place entries after d within closed =
+    let entry : Entry = get_or entries place d in
+    λ n. ap (sent_in n) closed.2
+    ∙ set_silent n place (lives_in entries) (live_in d) (live_of entry.number closed.0 entry.bytes.items)
+    (within_lives entries place within) (ap (λ (l : Live). l.number) (live_get entries place d within))
+    (ap (λ (l : Live). l.bytes) (live_get entries place d within))
+
+-- one more opened
+pub sends_placed : (event : Event) (number place : ℕ) (o : Opening) (entries : List Entry) (next : Entry)
+    → Begins event number o → IsAbsent number (lives_in entries) no_live
+    → place ≡ place_of number (lives_in entries) → next.number ≡ number → IsUnsent o next.bytes.items
+    → Sends event (lives_in entries) (lives_in (insert entries place next))
+sends_placed event number place o entries next begins absent is own unsent =
+    subst (Sends event (lives_in entries))
+    (ap (λ (n : ℕ). insert (lives_in entries) n (live_in next)) (sym is) ∙ sym (lives_insert entries place next))
+    (sends_opened event number o (lives_in entries) no_live (live_in next) begins absent own unsent)

@@ -1,9 +1,9 @@
 -- What is kept of the connections of a run, while events are played, by whether the connection that
 -- each event is about goes on.
-use Rattle.std.proofs.Common.{◌≡◌, ◌≢◌, ◌∙◌, ◌<◌, ◌≤◌, ◌++◌, ◌+◌, ◌^◌, ℕ, zero, suc, Bool, true, false, List, [], ◌∷◌, length, map, get_or, set, refl, sym, ap, subst, inl, inr, arith, Option, None, Some}
+use Rattle.std.proofs.Common.{◌≡◌, ◌∙◌, ◌<◌, ◌++◌, ◌+◌, ◌^◌, ℕ, Bool, true, false, List, [], ◌∷◌, length, get_or, set, refl, sym, ap, subst, inl, inr, arith, Option, None, Some}
 use Rattle.std.specs.Prelude.{insert}
 use Rattle.std.specs.List.{sum_by}
-use Rattle.std.proofs.lemmas.List.{set-get_or}
+use Rattle.std.proofs.lemmas.List.{set-get_or, append-nil}
 use Rattle.session_calls.specs.Steps.{Step}
 use Rattle.session_script.specs.declared.Event.{Event}
 use Rattle.session_script.specs.declared.Event.TheVariants as events
@@ -16,18 +16,18 @@ use Rattle.session_core.specs.declared.ending.Last.{Last}
 use Rattle.session_core.specs.declared.ending.Last.TheVariants as lasts
 use Rattle.session_core.specs.declared.report.Receipt.{Receipt}
 use Rattle.session_core.specs.declared.session.Session.{Session}
-use Rattle.session_core.specs.Headings.{Heading, incomplete}
-use Rattle.session_core.specs.Judged.{Opening, bare_source, judged}
+use Rattle.session_core.specs.Headings.{incomplete}
+use Rattle.session_core.specs.Judged.{Opening, bare_source}
 use Rattle.session_core.specs.Owed.{Happening, arrives, takes_turn, ends}
 use Rattle.session_core.specs.Replies.{opening_text}
 use Rattle.session_core.specs.Run.{Histories}
 use Rattle.session_core.specs.Called.{is_halt}
-use Rattle.session_core.specs.Standing.{is_halted, StandsFor, Follows, IsClosed, ending_by}
+use Rattle.session_core.specs.Standing.{is_halted, StandsFor, ending_by}
 use Rattle.session_core.specs.Turned.{flow_of, is_rover}
 use Rattle.session_core.proofs.WellLemmas.{events_well}
 use Rattle.caster_replay.specs.declared.entry.State.{State}
 use Rattle.caster_replay.specs.declared.entry.State.TheVariants.{Open, Closed}
-use Rattle.caster_replay.specs.Calls.{Feeds, TakesTurn, Closes, Opens}
+use Rattle.caster_replay.specs.Calls.{TakesTurn, Closes, Opens}
 use Rattle.caster_replay.specs.Entries.{MayGoOn, MayBeClosed, FedAt, TurnedAt, ClosedAt, HasOpened, SettledBy, SettledAt}
 use Rattle.caster_replay.specs.Lives.{Live, live_of, place_of}
 use Rattle.caster_replay.specs.Runs.{Runs}
@@ -35,7 +35,7 @@ use Rattle.session_core.proofs.FeedHeadLemmas.{others_none}
 use Rattle.caster_replay.proofs.WorldKnownLemmas.{IsClean}
 use Rattle.caster_replay.proofs.WorldRunnerLemmas.{IsRun, IsAbout, IsAbsent, about_in, about_turn, run_fed, run_fed_over, run_turned, run_bystander, run_closed, run_skipped, run_absent}
 use Rattle.caster_replay.proofs.WorldReportLemmas.{IsOpening, run_opens, run_opens_over, run_again}
-use Rattle.caster_replay.proofs.WorldSessionLemmas.{session_me, session_goes, session_follows, fed_so, fed_follows}
+use Rattle.caster_replay.proofs.WorldSessionLemmas.{session_goes, session_follows, fed_so, fed_adds, turned_adds, fed_follows}
 
 -- ---- the run, with what its histories are besides
 
@@ -149,6 +149,23 @@ module _ (c : Config) (script : List Event) (lives : List Live) (old : Histories
       (runs_of c (script ++ events.In number text ∷ []) lives old
       (run_skipped c script (events.In number text) lives old number (arrives text) at y receipt before
       (about_in number text) (run_of c script lives old run) within is)))
+
+  -- it was sent more
+  pub fed_more : (now : Histories) (flow : Flow) (state after : State) (text sent : List ℕ)
+      → get_or lives at y ≡ live_of number state before → FedAt c old now flow state after text before sent
+      → (more : List ℕ) × (sent ≡ before ++ more)
+  fed_more now flow (Open session) after text sent is fed =
+      fed_adds c script lives old number at y session before (run_of c script lives old run) within is now fed.0 text sent
+      fed.4
+  fed_more now flow (Closed receipt) after text sent is fed = ([], fed.2 ∙ sym (append-nil before))
+
+  pub turned_more : (now : Histories) (flow : Flow) (state after : State) (budget : ℕ) (sent : List ℕ)
+      → get_or lives at y ≡ live_of number state before → TurnedAt c old now flow state after budget before sent
+      → (more : List ℕ) × (sent ≡ before ++ more)
+  turned_more now flow (Open session) after budget sent is turned =
+      turned_adds c script lives old number at y session before (run_of c script lives old run) within is now turned.0
+      budget sent (is_rover session.stage) refl turned.4
+  turned_more now flow (Closed receipt) after budget sent is turned = ([], turned.2 ∙ sym (append-nil before))
 
   -- it ended, and was closed at once
   pub play_fed_over : (mid now : Histories) (flow : Flow) (state between after : State) (text sent : List ℕ)

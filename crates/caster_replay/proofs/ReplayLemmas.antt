@@ -1,8 +1,7 @@
 -- What the loops of a recorded run keep: over its events, over the connections that are closed at its
 -- end, and over what is told of them.
-use Rattle.std.proofs.Common.{◌≡◌, ◌∙◌, ◌<◌, ◌≤◌, ◌++◌, ◌+◌, ◌^◌, ℕ, zero, suc, List, [], ◌∷◌, length, map, take, drop, get_or, set, All, refl, sym, ap, subst, arith}
-use Rattle.std.specs.List.{sum_by}
-use Rattle.std.proofs.lemmas.List.{take_more, take_more_set, take_all, get_or-map, length-map, length-set, map-append}
+use Rattle.std.proofs.Common.{◌≡◌, ◌∙◌, ◌<◌, ◌++◌, ◌+◌, ℕ, zero, suc, List, [], ◌∷◌, length, map, take, drop, get_or, set, sym, ap, subst, arith}
+use Rattle.std.proofs.lemmas.List.{take_more_set, get_or-map, length-map, length-set, map-append}
 use Rattle.std.proofs.lemmas.List.Elements.{All-nil, All-cons, All-head, All-tail, All-append}
 use Rattle.std.proofs.lemmas.List.Sums.{sum_by-append, sum_by-cons}
 use Rattle.session_script.specs.declared.Event.{Event}
@@ -13,7 +12,7 @@ use Rattle.session_core.specs.declared.ending.Last.{Last}
 use Rattle.session_core.specs.declared.ending.Last.TheVariants as lasts
 use Rattle.session_core.specs.declared.report.Connection.{Connection}
 use Rattle.session_core.specs.Reports.{closed_of, IsReport}
-use Rattle.session_core.specs.Run.{Histories, nothing_called}
+use Rattle.session_core.specs.Run.{Histories}
 use Rattle.caster_replay.specs.declared.entry.Entry.{Entry}
 use Rattle.caster_replay.specs.declared.entry.State.{State}
 use Rattle.caster_replay.specs.declared.entry.State.TheVariants.{Open, Closed}
@@ -21,10 +20,10 @@ use Rattle.caster_replay.specs.Caster.{DesksValue, ArePlaces, SamePlaces}
 use Rattle.caster_replay.specs.Entries.{MayBeClosed, ClosedAt, IsClosedAt, IsOverAt, AreOver}
 use Rattle.caster_replay.specs.Lives.{Live, live_of, live_in, lives_in, end_of, IsTold, AreTold}
 use Rattle.caster_replay.specs.Runs.{Runs}
-use Rattle.caster_replay.specs.Scripts.{IsShort, IsScriptFor, Plays, Stands}
-use Rattle.caster_replay.proofs.WorldRunnerLemmas.{run_new, about_end}
+use Rattle.caster_replay.specs.Scripts.{IsShort, Stands}
+use Rattle.caster_replay.proofs.WorldRunnerLemmas.{about_end}
 use Rattle.caster_replay.proofs.WorldReportLemmas.{run_report, ends_next}
-use Rattle.caster_replay.proofs.PlayLemmas.{run_of, runs_of, may_close, play_closed}
+use Rattle.caster_replay.proofs.PlayLemmas.{run_of, may_close, play_closed}
 
 -- ---- the same places
 
@@ -36,34 +35,12 @@ places_stay c old now same places = record {
 
 -- ---- over the events
 
-split_at : (list : List Event) (i : ℕ) (event : Event) → i < length list → event ≡ get_or list i event
+pub split_at : (list : List Event) (i : ℕ) (event : Event) → i < length list → event ≡ get_or list i event
     → take i list ++ event ∷ drop (suc i) list ≡ list
 split_at [] i event within is = absurd (omega (arith, within))
 split_at (first ∷ list) zero event within is = ap (λ (e : Event). e ∷ list) is
 split_at (first ∷ list) (suc i) event within is =
     ap (λ (l : List Event). first ∷ l) (split_at list i event (omega (arith, within)) is)
-
-pub plays_next : (c : Config) (list : List Event) (i : ℕ) (event : Event) (entries : List Entry) (desks : DesksValue)
-    → IsScriptFor c list → i < length list → event ≡ get_or list i event → Stands c (take i list) entries desks
-    → Plays c (take i list) event entries desks
-plays_next c list i event entries desks script within is stands = record {
-  later = drop (suc i) list;
-  script_is = subst (IsScriptFor c) (sym (split_at list i event within is)) script;
-  places = stands.places;
-  runs = stands.runs;
-}
-
-pub stands_next : (c : Config) (list : List Event) (i : ℕ) (event : Event) (entries : List Entry) (desks : DesksValue)
-    → i < length list → event ≡ get_or list i event → Stands c (take i list ++ event ∷ []) entries desks
-    → Stands c (take (i + 1) list) entries desks
-stands_next c list i event entries desks within is stands =
-    subst (λ (l : List Event). Stands c l entries desks)
-    (ap (λ (e : Event). take i list ++ e ∷ []) is ∙ sym (take_more list i event within)) stands
-
-pub stands_whole : (c : Config) (list : List Event) (i : ℕ) (entries : List Entry) (desks : DesksValue)
-    → length list ≤ i → Stands c (take i list) entries desks → Stands c list entries desks
-stands_whole c list i entries desks over stands =
-    subst (λ (l : List Event). Stands c l entries desks) (take_all i list over) stands
 
 -- ---- over the connections
 

@@ -1,15 +1,16 @@
 -- What a runner needs of a script: nothing happens to a number before it opens, and no connection has
 -- more bytes than came in.
 use Rattle.std.proofs.Common.{◌≡◌, ◌≢◌, ◌∙◌, ◌<◌, ◌≤◌, ◌++◌, ◌+◌, ◌^◌, ℕ, Bool, true, false, cond, List, [], ◌∷◌, length, length-append, get_or, refl, sym, ap, subst, inl, arith, Option, None, Some}
-use Rattle.std.specs.Prelude.{◌==◌, ◌&&◌, ◌||◌, IsTrue}
-use Rattle.std.specs.List.{list_any, sum_by}
+use Rattle.std.specs.Prelude.{◌==◌, ◌&&◌, ◌||◌}
+use Rattle.std.specs.List.{sum_by}
 use Rattle.std.proofs.lemmas.Bool.{and_parts, eq-eqb, ne_eqb, false≢true}
+use Rattle.std.proofs.lemmas.List.{append-nil}
 use Rattle.std.proofs.lemmas.List.Sums.{sum_by-cons}
 use Rattle.session_script.specs.declared.Event.{Event}
 use Rattle.session_script.specs.declared.Event.TheVariants as events
 use Rattle.session_script.specs.declared.ScriptKind.{ScriptKind}
 use Rattle.session_script.specs.Line.{is_event}
-use Rattle.session_script.specs.Numbers.{Numbers, no_numbers, is_among, may_open, may_speak, opening, closing}
+use Rattle.session_script.specs.Numbers.{Numbers, no_numbers, is_among, may_speak, opening, closing}
 use Rattle.session_script.specs.Script.{is_relay, may_follow, is_session_after, IsSession, input_length}
 use Rattle.session_script.specs.Script as scripts
 use Rattle.cast_config.specs.declared.config.Config.{Config}
@@ -19,13 +20,13 @@ use Rattle.session_core.specs.Reports.{opened_as, bytes_to, opened_if}
 use Rattle.session_core.specs.Run.{Histories}
 use Rattle.session_core.specs.Called.{OthersCalled}
 use Rattle.session_core.specs.Standing.{StandsFor, Follows}
+use Rattle.session_core.specs.Turned.{is_rover}
 use Rattle.caster_replay.specs.Lives.{Live, live_of}
-use Rattle.caster_replay.specs.Calls.{Feeds}
+use Rattle.caster_replay.specs.Calls.{Feeds, TakesTurn}
 use Rattle.caster_replay.specs.Runs.{is_cut}
 use Rattle.session_core.proofs.FeedHeadLemmas.{others_none}
 use Rattle.session_calls.specs.Steps.{Step}
 use Rattle.caster_replay.specs.declared.entry.State.TheVariants.{Open}
-use Rattle.caster_replay.proofs.WorldRunLemmas.{IsRunAt}
 use Rattle.caster_replay.proofs.WorldKnownLemmas.{IsClean}
 use Rattle.caster_replay.proofs.WorldRunnerLemmas.{IsRun, headings_now, are_now, there, IsFound, found}
 
@@ -208,6 +209,25 @@ module _ (c : Config) (script : List Event) (lives : List Live) (old : Histories
       let fed = feeds d.opening d.text d.steps here.kept.histories bytes (inl here.kept.stands)
       (subst (λ (n : ℕ). OthersCalled here.kept.histories old n) (sym here.kept.me) here.kept.others) in
       (d.opening, d.text ++ text, d.steps ++ fed.more, bytes ++ fed.added, fed.stands)
+
+  -- it was sent more
+  pub fed_adds : (now : Histories) (next : Session) (text after : List ℕ)
+      → Feeds c old now session next text bytes after → (more : List ℕ) × (after ≡ bytes ++ more)
+  fed_adds now next text after feeds =
+      let d = there c (headings_now script run.has) script at in
+      let fed = feeds d.opening d.text d.steps here.kept.histories bytes (inl here.kept.stands)
+      (subst (λ (n : ℕ). OthersCalled here.kept.histories old n) (sym here.kept.me) here.kept.others) in
+      (fed.added, fed.out)
+
+  pub turned_adds : (now : Histories) (next : Session) (budget : ℕ) (after : List ℕ) (rover : Bool)
+      → is_rover session.stage ≡ rover → TakesTurn c old now session next budget bytes after
+      → (more : List ℕ) × (after ≡ bytes ++ more)
+  turned_adds now next budget after true rover turns =
+      let d = there c (headings_now script run.has) script at in
+      let turned = turns.0 rover d.opening d.text d.steps here.kept.histories bytes (inl here.kept.stands)
+      (subst (λ (n : ℕ). OthersCalled here.kept.histories old n) (sym here.kept.me) here.kept.others) in
+      (turned.added, turned.out)
+  turned_adds now next budget after false apart turns = ([], (turns.1 apart).2 ∙ sym (append-nil bytes))
 
   -- and may be closed
   pub fed_follows : (now : Histories) (next : Session) (text after : List ℕ)

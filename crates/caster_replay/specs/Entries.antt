@@ -1,15 +1,20 @@
 -- What becomes of what is kept of a connection, by whether it goes on.
-use Rattle.std.specs.Prelude.{◌≡◌, ⊤, ℕ, ◌<◌, Bool, true, false, IsTrue, List, [], ◌∷◌, length, set, Option, None, Some, IfSome, is_some}
+use Rattle.std.specs.Prelude.{◌≡◌, ⊤, ℕ, ◌<◌, Bool, true, false, List, [], length, set, Option, None, Some, is_some, nat_lt, slice_index_or}
 use Rattle.std.specs.List.{All}
+use Rattle.turn_log.specs.History.{History}
+use Rattle.mount_ring.specs.declared.call.RingCall.{RingCall}
+use Rattle.mount_ring.specs.History.{state_of}
+use Rattle.session_calls.specs.Rings.{history_at}
 use Rattle.cast_config.specs.declared.config.Config.{Config}
 use Rattle.session_core.specs.declared.ending.Ending.{Ending}
 use Rattle.session_core.specs.declared.ending.Flow.{Flow}
 use Rattle.session_core.specs.declared.ending.Flow.TheVariants as flows
 use Rattle.session_core.specs.declared.ending.Last.{Last}
 use Rattle.session_core.specs.declared.ending.Last.TheVariants as lasts
-use Rattle.session_core.specs.declared.report.Connection.{Connection}
 use Rattle.session_core.specs.declared.report.Receipt.{Receipt}
+use Rattle.session_core.specs.declared.rover_state.RoverState.{RoverState}
 use Rattle.session_core.specs.declared.session.Session.{Session}
+use Rattle.session_core.specs.States.{rover_state}
 use Rattle.session_core.specs.Beginnings.{bare_opening}
 use Rattle.session_core.specs.Called.{is_halt}
 use Rattle.session_core.specs.Judged.{Opening, sends_head, relays, bare_source, bare_rover}
@@ -22,7 +27,7 @@ use Rattle.caster_replay.specs.declared.entry.State.TheVariants.{Open, Closed}
 use Rattle.caster_replay.specs.declared.opening.Way.{Way}
 use Rattle.caster_replay.specs.declared.opening.Way.TheVariants as ways
 use Rattle.caster_replay.specs.Calls.{Opens, Feeds, TakesTurn, Closes}
-use Rattle.caster_replay.specs.Lives.{Live, live_of, lives_in, IsToldBy}
+use Rattle.caster_replay.specs.Lives.{Live, live_of, lives_in, place_of}
 
 -- ---- what may happen to it
 
@@ -30,6 +35,22 @@ use Rattle.caster_replay.specs.Lives.{Live, live_of, lives_in, IsToldBy}
 abbrev pub is_ended_at : State → Bool
 is_ended_at (Open session) = is_some session.ended
 is_ended_at (Closed receipt) = false
+
+-- it goes on
+abbrev pub is_open_at : State → Bool
+is_open_at (Open session) = true
+is_open_at (Closed receipt) = false
+
+-- a rover that stands so has frames to read, over what these mountpoints published
+abbrev pub is_behind_by : List (History RingCall) → Option RoverState → Bool
+is_behind_by rings None = false
+is_behind_by rings (Some rover) =
+    nat_lt rover.next (length (state_of (history_at rings rover.mount)).published)
+
+-- it goes on, and has frames to read
+abbrev pub is_behind_at : List (History RingCall) → State → Bool
+is_behind_at rings (Open session) = is_behind_by rings (rover_state session)
+is_behind_at rings (Closed receipt) = false
 
 -- it may be given so many more bytes, or a turn
 abbrev pub MayGoOn : Config → Histories → ℕ → State → Type 0
@@ -74,6 +95,22 @@ IsClosedAt c old now last place entry before after =
     (state : State) × ClosedAt c old now last entry.state state
     × (lives_in after ≡ set (lives_in before) place (live_of entry.number state entry.bytes.items))
 
+-- ---- where it stands
+
+-- the connection at this place has this number
+abbrev pub StandsAt : List Entry → ℕ → ℕ → Type 0
+StandsAt entries place number =
+    (place < length entries) × ((d : Entry) → (slice_index_or entries place d).number ≡ number)
+
+-- this is the connection of the number
+pub record IsFoundAt (entries : List Entry) (number : ℕ) (entry : Entry) : Type 0 where
+  pub there : StandsAt entries (place_of number (lives_in entries)) number
+  pub is : entry ≡ slice_index_or entries (place_of number (lives_in entries)) entry
+
+-- and no connection has it
+abbrev pub IsMissing : List Entry → ℕ → Type 0
+IsMissing entries number = StandsAt entries (place_of number (lives_in entries)) number → ⊥
+
 -- ---- how it opens
 
 abbrev pub opening_of : Way → Opening
@@ -102,6 +139,13 @@ SettledBy (Some end) c old now before after = ClosedAt c old now lasts.End befor
 abbrev pub SettledAt : Config → Histories → Histories → State → State → Type 0
 SettledAt c old now (Open session) after = SettledBy session.ended c old now (Open session) after
 SettledAt c old now (Closed receipt) after = (after ≡ Closed receipt) × (now ≡ old)
+
+-- one that asks no other caster was sent nothing as it opened
+abbrev pub IsUnsent : Opening → List ℕ → Type 0
+IsUnsent sends_head bytes = bytes ≡ []
+IsUnsent (relays n) bytes = ⊤
+IsUnsent (bare_source mount) bytes = bytes ≡ []
+IsUnsent (bare_rover mount) bytes = bytes ≡ []
 
 -- ---- at the end
 

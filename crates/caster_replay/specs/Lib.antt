@@ -4,3 +4,6 @@ pub mod Calls
 pub mod Caster
 pub mod Entries
 pub mod Scripts
+pub mod Sends
+pub mod Going
+pub mod Kept

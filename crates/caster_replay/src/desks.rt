@@ -3,6 +3,8 @@
 ghost use Rattle.std.specs.Prelude.{◌≡◌, ◌<◌, ◌++◌, ℕ, [], ◌∷◌, length, get_or, IfOk, OnOk, IfSome, IsTrue, None};
 ghost use Rattle.cast_config.specs.declared.config.Config.{Config as ConfigValue};
 ghost use Rattle.mount_ring.specs.declared.shape.RingShape.{RingShape};
+ghost use Rattle.mount_ring.specs.History.{state_of};
+ghost use Rattle.session_calls.specs.Rings.{history_at};
 ghost use Rattle.cast_config.specs.Kept.{KeepsRules};
 ghost use Rattle.session_core.specs.Setting.{caps, shapes};
 ghost use Rattle.session_core.specs.Beginnings.{bare_opening};
@@ -89,6 +91,16 @@ impl Desks {
             desks.add_ring(alloc, config, number as u32)?;
         }
         Ok(desks)
+    }
+
+    /// How many frames the mountpoint of this number published, none where there is none.
+    pub(crate) fn published(&self, mount: u32) -> u64
+        ensures { result ≡ length (state_of (history_at self.now.seen.rings mount)).published }
+    {
+        match self.places.rings.as_slice().get(mount as usize) {
+            Some(desk) => desk.value().published(),
+            None => 0,
+        }
     }
 
     /// Bytes come in on a session that goes on; its reply is appended.

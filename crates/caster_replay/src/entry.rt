@@ -6,7 +6,7 @@ ghost use Rattle.cast_config.specs.Kept.{KeepsRules};
 ghost use Rattle.session_core.specs.Called as called;
 ghost use Rattle.session_core.specs.Setting as setting;
 ghost use Rattle.caster_replay.specs.Caster.{ArePlaces, SamePlaces};
-ghost use Rattle.caster_replay.specs.Entries.{ClosedAt, FedAt, MayBeClosed, MayGoOn, TurnedAt, is_ended_at};
+ghost use Rattle.caster_replay.specs.Entries.{ClosedAt, FedAt, MayBeClosed, MayGoOn, TurnedAt, is_behind_at, is_ended_at, is_open_at};
 
 use crate::desks::Desks;
 use cast_config::Config;
@@ -88,6 +88,29 @@ impl Entry {
         match &self.state {
             State::Open(session) => session.ended(),
             State::Closed(_) => false,
+        }
+    }
+
+    /// Whether it goes on.
+    pub(crate) fn is_open(&self) -> bool
+        ensures { result ≡ is_open_at self.now.state }
+    {
+        match &self.state {
+            State::Open(_) => true,
+            State::Closed(_) => false,
+        }
+    }
+
+    /// Whether it is a rover that goes on and has frames to read.
+    pub(crate) fn is_behind(&self, desks: &Desks) -> bool
+        ensures { result ≡ is_behind_at desks.now.seen.rings self.now.state }
+    {
+        let State::Open(session) = &self.state else {
+            return false;
+        };
+        match session.rover() {
+            Some(rover) => rover.next < desks.published(rover.mount),
+            None => false,
         }
     }
 

@@ -4,7 +4,9 @@ ghost use Rattle.std.specs.Prelude.{◌≡◌, ℕ, ◌++◌, [], ◌∷◌, OnO
 ghost use Rattle.cast_config.specs.Kept.{KeepsRules};
 ghost use Rattle.session_core.specs.Setting as setting;
 ghost use Rattle.session_script.specs.declared.Event.{Event as EventValue};
+ghost use Rattle.caster_replay.specs.Lives.{lives_in};
 ghost use Rattle.caster_replay.specs.Scripts.{Plays, Stands};
+ghost use Rattle.caster_replay.specs.Sends.{Sends};
 
 use crate::desks::Desks;
 use crate::entry::Entry;
@@ -31,6 +33,8 @@ pub(crate) fn play(
     ensures ok { (script : List EventValue)
         → Plays config.now script event.now entries.old.items desks.old
         → OnOk result (Stands config.now (script ++ event.now ∷ []) entries.new.items desks.new) }
+    ensures sends { OnOk result
+        (Sends event.now (lives_in entries.old.items) (lives_in entries.new.items)) }
 {
     match event {
         Event::Open(number) => open(alloc, config, entries, desks, *number, Way::Head),

@@ -9,6 +9,8 @@ mod lives;
 mod opening;
 mod replaying;
 mod rings;
+mod run;
 mod totals;
 
 pub use replaying::replay;
+pub use run::Run;

@@ -1,6 +1,6 @@
 //! The connections of a run, in increasing order of number.
 
-ghost use Rattle.std.specs.Prelude.{◌≡◌, ℕ, ◌<◌, ◌≤◌, ◌++◌, [], ◌∷◌, length, map, set, get_or, IsTrue, ◌↔◌, IfOk, OnOk, List, slice_index_or};
+ghost use Rattle.std.specs.Prelude.{◌≡◌, ℕ, ◌<◌, ◌≤◌, ◌++◌, [], ◌∷◌, length, map, set, get_or, IsTrue, ◌↔◌, IfOk, OnOk, IfSome, IfNone, List, slice_index_or};
 ghost use Rattle.cast_config.specs.declared.config.Config.{Config as ConfigValue};
 ghost use Rattle.cast_config.specs.Kept.{KeepsRules};
 ghost use Rattle.session_core.specs.Setting as setting;
@@ -10,8 +10,9 @@ ghost use Rattle.caster_replay.specs.declared.entry.Entry.{Entry as EntryValue};
 ghost use Rattle.std.specs.List.Sorted.{IsNonDecreasingBy};
 ghost use Rattle.caster_replay.specs.Lives.{end_of, lives_in, live_of, place_of};
 ghost use Rattle.caster_replay.specs.Caster.{ArePlaces, SamePlaces};
-ghost use Rattle.caster_replay.specs.Entries.{AreOver, IsClosedAt, MayBeClosed, SettledAt, opening_of};
+ghost use Rattle.caster_replay.specs.Entries.{AreOver, IsClosedAt, IsFoundAt, IsMissing, MayBeClosed, SettledAt, opening_of};
 ghost use Rattle.caster_replay.specs.Scripts.{Begins, Ends, IsShort, Plays, Stands};
+ghost use Rattle.caster_replay.specs.Sends.{IsSilent, Sends, SendsTo};
 
 use crate::desks::Desks;
 use crate::entry::Entry;
@@ -35,6 +36,17 @@ fn stands_at(entries: &[Entry], place: usize, number: u32) -> bool
         × ((d : EntryValue) → (slice_index_or entries.now place d).number ≡ number)) }
 {
     place < entries.len() && entries[place].number == number
+}
+
+/// The connection of this number, if there is one.
+pub(crate) fn find(entries: &[Entry], number: u32) -> Option<&Entry>
+    requires order { IsNonDecreasingBy (λ (entry : EntryValue). entry.number) entries.now }
+    ensures found { IfSome result (λ entry. IsFoundAt entries.now number entry.now) }
+    ensures none { IfNone result (IsMissing entries.now number) }
+{
+    let place = place_of(entries, number);
+    let found = stands_at(entries, place, number);
+    if found { Some(&entries[place]) } else { None }
 }
 
 /// Closes the connection at this place, unless it is over already.
@@ -73,6 +85,8 @@ pub(crate) fn feed(
         → Plays config.now script (events.In number bytes.now) entries.old.items desks.old
         → OnOk result (Stands config.now (script ++ events.In number bytes.now ∷ [])
         entries.new.items desks.new) }
+    ensures sends { OnOk result
+        (SendsTo number (lives_in entries.old.items) (lives_in entries.new.items)) }
 {
     let place = place_of(entries, number);
     if !stands_at(entries, place, number) {
@@ -97,6 +111,8 @@ pub(crate) fn turn(
         → Plays c script (events.Turn number budget) entries.old.items desks.old
         → OnOk result (Stands c (script ++ events.Turn number budget ∷ []) entries.new.items
         desks.new) }
+    ensures sends { OnOk result
+        (SendsTo number (lives_in entries.old.items) (lives_in entries.new.items)) }
 {
     let place = place_of(entries, number);
     if !stands_at(entries, place, number) {
@@ -120,6 +136,8 @@ pub(crate) fn close(
     ensures ok { (c : ConfigValue) (script : List Event) (event : Event)
         → Ends event number last → Plays c script event entries.old.items desks.old
         → OnOk result (Stands c (script ++ event ∷ []) entries.new.items desks.new) }
+    ensures silent { OnOk result
+        (IsSilent (lives_in entries.old.items) (lives_in entries.new.items)) }
 {
     let place = place_of(entries, number);
     if !stands_at(entries, place, number) {
@@ -136,6 +154,8 @@ pub(crate) fn close_all(entries: &mut Vec<Entry>, desks: &mut Desks) -> Result<(
         → Stands c script entries.old.items desks.old → OnOk result (Stands c
         (script ++ map end_of (lives_in entries.new.items)) entries.new.items desks.new) }
     ensures over { OnOk result (AreOver (lives_in entries.new.items)) }
+    ensures silent { OnOk result
+        (IsSilent (lives_in entries.old.items) (lives_in entries.new.items)) }
 {
     for place in 0..entries.len() {
         close_at(entries, desks, place, Last::End)?;
@@ -175,6 +195,8 @@ pub(crate) fn open(
     ensures ok { (script : List Event) (event : Event) → Begins event number (opening_of way.entry)
         → Plays config.now script event entries.old.items desks.old
         → OnOk result (Stands config.now (script ++ event ∷ []) entries.new.items desks.new) }
+    ensures sends { (event : Event) → Begins event number (opening_of way.entry) → OnOk result
+        (Sends event (lives_in entries.old.items) (lives_in entries.new.items)) }
 {
     let place = place_of(entries, number);
     if stands_at(entries, place, number) {

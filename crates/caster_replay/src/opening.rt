@@ -1,13 +1,13 @@
 //! How connections of a run open.
 
-ghost use Rattle.std.specs.Prelude.{◌≡◌, ℕ, ◌<◌, ⊤, length, IfOk};
+ghost use Rattle.std.specs.Prelude.{◌≡◌, ℕ, ◌<◌, ⊤, [], length, IfOk};
 ghost use Rattle.cast_config.specs.declared.config.Config.{Config as ConfigValue};
 ghost use Rattle.cast_config.specs.Kept.{KeepsRules};
 ghost use Rattle.session_core.specs.Run.{Histories};
 ghost use Rattle.session_core.specs.Judged.{relays, sends_head};
 ghost use Rattle.session_core.specs.Beginnings.{bare_opening};
 ghost use Rattle.caster_replay.specs.Caster.{ArePlaces, SamePlaces};
-ghost use Rattle.caster_replay.specs.Entries.{HasOpened, NamesRelay, opening_of};
+ghost use Rattle.caster_replay.specs.Entries.{HasOpened, IsUnsent, NamesRelay, opening_of};
 
 use crate::desks::Desks;
 use crate::entry::{Entry, State};
@@ -32,6 +32,7 @@ fn head_opened(alloc: Global, number: u32) -> Result<Entry, AllocError>
     ensures number { IfOk result (λ entry. entry.number ≡ number) }
     ensures opened { (c : ConfigValue) (seen : Histories) → IfOk result (λ entry.
         HasOpened c seen seen number sends_head entry.state entry.bytes.items) }
+    ensures unsent { IfOk result (λ entry. entry.bytes.items ≡ []) }
 {
     let session = Session::open(alloc, number)?;
     Ok(Entry {
@@ -78,6 +79,7 @@ fn bare_opened(
     ensures number { IfOk result (λ entry. entry.number ≡ number) }
     ensures opened { IfOk result (λ entry. HasOpened config.now desks.old.seen desks.new.seen
         number (bare_opening role mount.now) entry.state entry.bytes.items) }
+    ensures unsent { IfOk result (λ entry. entry.bytes.items ≡ []) }
 {
     let session = desks.bare(alloc, config, number, role, mount)?;
     Ok(Entry {
@@ -102,6 +104,7 @@ pub(crate) fn opened(
     ensures number { IfOk result (λ entry. entry.number ≡ number) }
     ensures opened { IfOk result (λ entry. HasOpened config.now desks.old.seen desks.new.seen
         number (opening_of way.entry) entry.state entry.bytes.items) }
+    ensures unsent { IfOk result (λ entry. IsUnsent (opening_of way.entry) entry.bytes.items) }
 {
     match way {
         Way::Head => head_opened(alloc, number),

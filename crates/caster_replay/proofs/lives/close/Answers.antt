@@ -1,21 +1,9 @@
-use Rattle.std.proofs.Common.{◌≡◌, ◌∙◌, ◌<◌, ◌++◌, ◌+◌, ◌^◌, ℕ, List, [], ◌∷◌, length, get_or, refl, sym, ap, subst, arith}
-use Rattle.std.proofs.lemmas.Grind.{get_or-set_at}
+use Rattle.std.proofs.Common.{ℕ, List, refl}
 use Rattle.std.proofs.lemmas.Result.{on_ok_weaker}
-use Rattle.session_script.specs.declared.Event.{Event}
-use Rattle.session_script.specs.declared.Event.TheVariants as events
-use Rattle.session_core.specs.declared.ending.Last.TheVariants as lasts
-use Rattle.session_core.specs.Judged.{Opening}
-use Rattle.session_core.specs.Owed.{arrives, takes_turn}
 use Rattle.caster_replay.specs.declared.entry.Entry.{Entry}
-use Rattle.caster_replay.specs.Entries.{MayBeClosed, opening_of}
-use Rattle.caster_replay.specs.Lives.{Live, live_in, lives_in}
-use Rattle.caster_replay.specs.Runs.{Runs}
-use Rattle.caster_replay.specs.Scripts.{Stands}
-use Rattle.caster_replay.proofs.WorldRunnerLemmas.{about_in, about_turn}
-use Rattle.caster_replay.proofs.EntryLemmas.{within_lives, here_at, room_for, room_so_far, about_of, names_relay}
-use Rattle.caster_replay.proofs.PlayLemmas.{may_go_on, may_close_fed, play_fed, play_fed_over, play_turned, may_close_opened}
+use Rattle.caster_replay.proofs.EntryLemmas.{room_so_far, about_of}
 use Rattle.caster_replay.proofs.ReplayLemmas.{entry_at, places_stay, may_close_at}
-use Rattle.caster_replay.proofs.LivesLemmas.{in_order, looked, stands_absent, stands_again, runs_put, runs_closed, lives_closed, stands_opened}
+use Rattle.caster_replay.proofs.LivesLemmas.{in_order, looked, silent_closed, stands_absent, runs_closed}
 use Rattle.session_core.specs.Owed.{ends}
 use Rattle.caster_replay.proofs.lives.close.Goals as goal
 
@@ -26,6 +14,7 @@ returns-then-not-stands_at c = record {
       (about_of event c.args.number c.args.last over) plays
       ((looked c.deref.result.now c.deref-2.result.now c.args.entries.now.items c.args.number c.place_of-place.result
       c.stands_at.result c.deref.ensures.value c.deref-2.ensures.value c.place_of-place.ensures.place c.stands_at.ensures).absent c.if-not-stands_at.true);
+  silent = λ n. refl;
 }
 
 pub close_at-requires-clause-may : goal.close_at-requires-clause-may
@@ -57,6 +46,18 @@ returns c = record {
             c.close_at.new.desks.seen c.args.number place c.args.last d (about_of event c.args.number c.args.last over)
             plays.runs there closed;
       }) (c.close_at.ensures.closed config d plays.places);
+  silent =
+      let config = c.requires.run.0 in
+      let entries : List Entry = c.args.entries.now.items in
+      let place : ℕ = c.place_of-place.result in
+      let there = (looked c.deref.result.now c.deref-2.result.now entries c.args.number place c.stands_at.result
+      c.deref.ensures.value c.deref-2.ensures.value c.place_of-place.ensures.place c.stands_at.ensures).here
+      c.if-not-stands_at.false in
+      let d : Entry = entry_at entries place there.0 in
+      on_ok_weaker c.close_at.result (λ closed.
+      silent_closed config c.args.desks.now.seen c.close_at.new.desks.seen c.args.last place entries
+      c.close_at.new.entries.items d there.0 closed)
+      (c.close_at.ensures.closed config d c.requires.run.4.places);
 }
 
 pub place_of-place-requires : goal.place_of-place-requires

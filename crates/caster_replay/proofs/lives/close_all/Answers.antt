@@ -1,10 +1,11 @@
-use Rattle.std.proofs.Common.{◌≡◌, ◌∙◌, ◌<◌, ◌≤◌, ◌++◌, ◌+◌, ℕ, List, length, map, take, sym, ap, subst, arith}
+use Rattle.std.proofs.Common.{◌∙◌, ◌<◌, ◌++◌, List, length, map, take, subst, arith}
 use Rattle.std.proofs.lemmas.List.{take_all, length-map}
-use Rattle.session_script.specs.declared.Event.{Event}
 use Rattle.caster_replay.specs.declared.entry.Entry.{Entry}
 use Rattle.caster_replay.specs.Entries.{AreOver}
 use Rattle.caster_replay.specs.Lives.{Live, end_of, live_in, lives_in}
 use Rattle.caster_replay.specs.Scripts.{Stands}
+use Rattle.session_core.specs.declared.ending.Last.TheVariants as lasts
+use Rattle.caster_replay.proofs.LivesLemmas.{silent_closed}
 use Rattle.caster_replay.proofs.ReplayLemmas.{entry_at, closes_next, may_close_at, over_next, same_count}
 use Rattle.caster_replay.proofs.lives.close_all.Goals as goal
 
@@ -40,6 +41,9 @@ loop-place-preserved c =
           closes_next any script entries c.close_at.new.entries.items c.loop-place.desks c.close_at.new.desks
           c.loop-place.place d within (c.in_ok-close_at.ensures.closed any d before.stands.places)
           c.in_ok-close_at.ensures.same before;
+      silent = λ n.
+          silent_closed config c.loop-place.desks.seen c.close_at.new.desks.seen lasts.End c.loop-place.place entries
+          c.close_at.new.entries.items d within closed n ∙ c.loop-place.invariant.silent n;
     }
 
 pub returns-clause-ok : goal.returns-clause-ok
@@ -67,3 +71,6 @@ returns-clause-over c =
       length-map c.loop-place.entries.items live_in,
     )))
     c.loop-place.invariant.over
+
+pub returns-clause-silent : goal.returns-clause-silent
+returns-clause-silent c = c.loop-place.invariant.silent

@@ -1,21 +1,19 @@
-use Rattle.std.proofs.Common.{◌≡◌, ◌∙◌, ◌<◌, ◌++◌, ◌+◌, ◌^◌, ℕ, List, [], ◌∷◌, length, get_or, refl, sym, ap, subst, arith}
+use Rattle.std.proofs.Common.{◌∙◌, ◌++◌, ℕ, List, [], ◌∷◌, length, set, refl, sym, ap, subst}
 use Rattle.std.proofs.lemmas.Grind.{get_or-set_at}
 use Rattle.std.proofs.lemmas.Result.{on_ok_weaker}
-use Rattle.session_script.specs.declared.Event.{Event}
 use Rattle.session_script.specs.declared.Event.TheVariants as events
 use Rattle.session_core.specs.declared.ending.Last.TheVariants as lasts
-use Rattle.session_core.specs.Judged.{Opening}
-use Rattle.session_core.specs.Owed.{arrives, takes_turn}
+use Rattle.session_core.specs.Owed.{arrives}
 use Rattle.caster_replay.specs.declared.entry.Entry.{Entry}
-use Rattle.caster_replay.specs.Entries.{MayBeClosed, opening_of}
-use Rattle.caster_replay.specs.Lives.{Live, live_in, lives_in}
+use Rattle.caster_replay.specs.Entries.{MayBeClosed}
+use Rattle.caster_replay.specs.Lives.{Live, live_of, live_in, lives_in}
 use Rattle.caster_replay.specs.Runs.{Runs}
-use Rattle.caster_replay.specs.Scripts.{Stands}
-use Rattle.caster_replay.proofs.WorldRunnerLemmas.{about_in, about_turn}
-use Rattle.caster_replay.proofs.EntryLemmas.{within_lives, here_at, room_for, room_so_far, about_of, names_relay}
-use Rattle.caster_replay.proofs.PlayLemmas.{may_go_on, may_close_fed, play_fed, play_fed_over, play_turned, may_close_opened}
-use Rattle.caster_replay.proofs.ReplayLemmas.{entry_at, places_stay, may_close_at}
-use Rattle.caster_replay.proofs.LivesLemmas.{in_order, looked, stands_absent, stands_again, runs_put, runs_closed, lives_closed, stands_opened}
+use Rattle.caster_replay.proofs.WorldRunnerLemmas.{about_in}
+use Rattle.caster_replay.proofs.EntryLemmas.{lives_set, within_lives, here_at, room_for}
+use Rattle.caster_replay.proofs.PlayLemmas.{may_go_on, may_close_fed, play_fed, fed_more, play_fed_over}
+use Rattle.caster_replay.proofs.ReplayLemmas.{places_stay}
+use Rattle.caster_replay.proofs.SendsLemmas.{sends_nothing}
+use Rattle.caster_replay.proofs.LivesLemmas.{in_order, looked, sends_at, stands_absent, runs_put, lives_closed}
 use Rattle.caster_replay.proofs.lives.feed.Goals as goal
 
 pub returns-then-not-stands_at : goal.returns-then-not-stands_at
@@ -25,6 +23,7 @@ returns-then-not-stands_at c = record {
       c.args.desks.now c.args.number (arrives c.args.bytes.now) (about_in c.args.number c.args.bytes.now) plays
       ((looked c.deref.result.now c.deref-2.result.now c.args.entries.now.items c.args.number c.place_of-place.result
       c.stands_at.result c.deref.ensures.value c.deref-2.ensures.value c.place_of-place.ensures.place c.stands_at.ensures).absent c.if-not-stands_at.true);
+  sends = sends_nothing c.args.number (lives_in c.args.entries.now.items);
 }
 
 pub feed-requires-clause-may : goal.feed-requires-clause-may
@@ -78,6 +77,21 @@ returns-in-Open c = record {
             entry.state c.feed.new.self.state c.args.bytes.now c.feed.new.self.bytes.items
             (here_at entries place c.args.number entry there c.index_mut.ensures.value) c.feed.ensures.fed c.in-Open.is);
       };
+  sends =
+      let entry : Entry = c.index_mut.result.now in
+      let new : Entry = c.feed.new.self in
+      let entries : List Entry = c.args.entries.now.items in
+      let place : ℕ = c.place_of-place.result in
+      let look = looked c.deref.result.now c.deref-2.result.now entries c.args.number place c.stands_at.result
+      c.deref.ensures.value c.deref-2.ensures.value c.place_of-place.ensures.place c.stands_at.ensures in
+      let there = look.here c.if-not-stands_at.false in
+      let here = here_at entries place c.args.number entry there c.index_mut.ensures.value in
+      sends_at entries place c.args.number entry (live_in new) (lives_in (set entries place new)) there look.place_is here
+      (c.feed.ensures.number ∙ ap (λ (e : Entry). e.number) c.index_mut.ensures.value ∙ there.1 entry)
+      (fed_more c.args.config.now c.requires.run.0 (lives_in entries) c.args.desks.now.seen c.args.number place
+      (live_in entry) entry.bytes.items c.requires.run.1.runs (within_lives entries place there.0) c.feed.new.desks.seen
+      c.feed.result entry.state new.state c.args.bytes.now new.bytes.items here c.feed.ensures.fed)
+      (lives_set entries place new);
 }
 
 pub returns-in-Ended : goal.returns-in-Ended
@@ -104,6 +118,27 @@ returns-in-Ended c = record {
             (here_at entries place c.args.number entry there c.index_mut.ensures.value) c.feed.ensures.fed c.in-Ended.is
             by.1);
       }) (c.close_at.ensures.closed c.args.config.now new places);
+  sends =
+      let entry : Entry = c.index_mut.result.now in
+      let new : Entry = c.feed.new.self in
+      let entries : List Entry = c.args.entries.now.items in
+      let place : ℕ = c.place_of-place.result in
+      let look = looked c.deref.result.now c.deref-2.result.now entries c.args.number place c.stands_at.result
+      c.deref.ensures.value c.deref-2.ensures.value c.place_of-place.ensures.place c.stands_at.ensures in
+      let there = look.here c.if-not-stands_at.false in
+      let here = here_at entries place c.args.number entry there c.index_mut.ensures.value in
+      let places = places_stay c.args.config.now c.args.desks.now c.feed.new.desks c.feed.ensures.same
+      c.requires.run.1.places in
+      on_ok_weaker c.close_at.result (λ closed.
+      let by = lives_closed c.args.config.now c.feed.new.desks.seen c.close_at.new.desks.seen entries
+      c.close_at.new.entries.items place c.args.number new new lasts.End there.0
+      (c.feed.ensures.number ∙ ap (λ (e : Entry). e.number) c.index_mut.ensures.value ∙ there.1 entry) closed in
+      sends_at entries place c.args.number entry (live_of c.args.number by.0 new.bytes.items)
+      (lives_in c.close_at.new.entries.items) there look.place_is here refl
+      (fed_more c.args.config.now c.requires.run.0 (lives_in entries) c.args.desks.now.seen c.args.number place
+      (live_in entry) entry.bytes.items c.requires.run.1.runs (within_lives entries place there.0) c.feed.new.desks.seen
+      c.feed.result entry.state new.state c.args.bytes.now new.bytes.items here c.feed.ensures.fed)
+      by.2) (c.close_at.ensures.closed c.args.config.now new places);
 }
 
 pub place_of-place-requires : goal.place_of-place-requires

@@ -1,21 +1,14 @@
-use Rattle.std.proofs.Common.{◌≡◌, ◌∙◌, ◌<◌, ◌++◌, ◌+◌, ◌^◌, ℕ, List, [], ◌∷◌, length, get_or, refl, sym, ap, subst, arith}
-use Rattle.std.proofs.lemmas.Grind.{get_or-set_at}
-use Rattle.std.proofs.lemmas.Result.{on_ok_weaker}
-use Rattle.session_script.specs.declared.Event.{Event}
-use Rattle.session_script.specs.declared.Event.TheVariants as events
-use Rattle.session_core.specs.declared.ending.Last.TheVariants as lasts
-use Rattle.session_core.specs.Judged.{Opening}
-use Rattle.session_core.specs.Owed.{arrives, takes_turn}
+use Rattle.std.proofs.Common.{◌∙◌, ◌++◌, List, [], ◌∷◌, sym, subst}
 use Rattle.caster_replay.specs.declared.entry.Entry.{Entry}
-use Rattle.caster_replay.specs.Entries.{MayBeClosed, opening_of}
-use Rattle.caster_replay.specs.Lives.{Live, live_in, lives_in}
-use Rattle.caster_replay.specs.Runs.{Runs}
+use Rattle.caster_replay.specs.Entries.{IsUnsent, opening_of}
+use Rattle.caster_replay.specs.Lives.{lives_in}
 use Rattle.caster_replay.specs.Scripts.{Stands}
-use Rattle.caster_replay.proofs.WorldRunnerLemmas.{about_in, about_turn}
-use Rattle.caster_replay.proofs.EntryLemmas.{within_lives, here_at, room_for, room_so_far, about_of, names_relay}
-use Rattle.caster_replay.proofs.PlayLemmas.{may_go_on, may_close_fed, play_fed, play_fed_over, play_turned, may_close_opened}
-use Rattle.caster_replay.proofs.ReplayLemmas.{entry_at, places_stay, may_close_at}
-use Rattle.caster_replay.proofs.LivesLemmas.{in_order, looked, stands_absent, stands_again, runs_put, runs_closed, lives_closed, stands_opened}
+use Rattle.caster_replay.specs.Sends.{Sends}
+use Rattle.caster_replay.proofs.EntryLemmas.{names_relay}
+use Rattle.caster_replay.proofs.PlayLemmas.{may_close_opened}
+use Rattle.caster_replay.proofs.ReplayLemmas.{places_stay}
+use Rattle.caster_replay.proofs.SendsLemmas.{sends_none}
+use Rattle.caster_replay.proofs.LivesLemmas.{in_order, looked, sends_placed, stands_again, stands_opened}
 use Rattle.caster_replay.proofs.lives.open.Goals as goal
 
 pub returns-then-stands_at : goal.returns-then-stands_at
@@ -25,6 +18,7 @@ returns-then-stands_at c = record {
       c.place_of-place.result (opening_of c.args.way) begins plays
       ((looked c.deref.result.now c.deref-2.result.now c.args.entries.now.items c.args.number c.place_of-place.result
       c.stands_at.result c.deref.ensures.value c.deref-2.ensures.value c.place_of-place.ensures.place c.stands_at.ensures).here c.if-stands_at.true);
+  sends = λ event begins. sends_none event (lives_in c.args.entries.now.items);
 }
 
 pub opened-requires-clause-relay : goal.opened-requires-clause-relay
@@ -61,6 +55,17 @@ returns c = record {
       c.in_ok-entry.ensures.opened
       (c.in_ok-entry-2.ensures.settled config
       (places_stay config c.args.desks.now c.opened.new.desks c.opened.ensures.same plays.places)));
+  sends = λ event begins.
+      let entries : List Entry = c.args.entries.now.items in
+      let next : Entry = c.in_ok-entry-2.entry in
+      let look = looked c.deref.result.now c.deref-2.result.now entries c.args.number c.place_of-place.result
+      c.stands_at.result c.deref.ensures.value c.deref-2.ensures.value c.place_of-place.ensures.place
+      c.stands_at.ensures in
+      subst (λ (l : List Entry). Sends event (lives_in entries) (lives_in l)) (sym c.in_ok-insert.ensures.items)
+      (sends_placed event c.args.number c.place_of-place.result (opening_of c.args.way) entries next begins
+      (look.absent c.if-stands_at.false) look.place_is
+      (c.in_ok-entry-2.ensures.number ∙ c.in_ok-entry.ensures.number)
+      (subst (IsUnsent (opening_of c.args.way)) (sym c.in_ok-entry-2.ensures.bytes) c.in_ok-entry.ensures.unsent));
 }
 
 pub place_of-place-requires : goal.place_of-place-requires

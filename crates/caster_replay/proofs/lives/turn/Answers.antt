@@ -1,21 +1,14 @@
-use Rattle.std.proofs.Common.{◌≡◌, ◌∙◌, ◌<◌, ◌++◌, ◌+◌, ◌^◌, ℕ, List, [], ◌∷◌, length, get_or, refl, sym, ap, subst, arith}
-use Rattle.std.proofs.lemmas.Grind.{get_or-set_at}
-use Rattle.std.proofs.lemmas.Result.{on_ok_weaker}
-use Rattle.session_script.specs.declared.Event.{Event}
+use Rattle.std.proofs.Common.{◌∙◌, ◌++◌, ℕ, List, [], ◌∷◌, set, ap, arith}
 use Rattle.session_script.specs.declared.Event.TheVariants as events
-use Rattle.session_core.specs.declared.ending.Last.TheVariants as lasts
-use Rattle.session_core.specs.Judged.{Opening}
-use Rattle.session_core.specs.Owed.{arrives, takes_turn}
+use Rattle.session_core.specs.Owed.{takes_turn}
 use Rattle.caster_replay.specs.declared.entry.Entry.{Entry}
-use Rattle.caster_replay.specs.Entries.{MayBeClosed, opening_of}
-use Rattle.caster_replay.specs.Lives.{Live, live_in, lives_in}
-use Rattle.caster_replay.specs.Runs.{Runs}
-use Rattle.caster_replay.specs.Scripts.{Stands}
-use Rattle.caster_replay.proofs.WorldRunnerLemmas.{about_in, about_turn}
-use Rattle.caster_replay.proofs.EntryLemmas.{within_lives, here_at, room_for, room_so_far, about_of, names_relay}
-use Rattle.caster_replay.proofs.PlayLemmas.{may_go_on, may_close_fed, play_fed, play_fed_over, play_turned, may_close_opened}
-use Rattle.caster_replay.proofs.ReplayLemmas.{entry_at, places_stay, may_close_at}
-use Rattle.caster_replay.proofs.LivesLemmas.{in_order, looked, stands_absent, stands_again, runs_put, runs_closed, lives_closed, stands_opened}
+use Rattle.caster_replay.specs.Lives.{live_in, lives_in}
+use Rattle.caster_replay.proofs.WorldRunnerLemmas.{about_turn}
+use Rattle.caster_replay.proofs.EntryLemmas.{lives_set, within_lives, here_at, room_so_far}
+use Rattle.caster_replay.proofs.PlayLemmas.{may_go_on, play_turned, turned_more}
+use Rattle.caster_replay.proofs.ReplayLemmas.{places_stay}
+use Rattle.caster_replay.proofs.SendsLemmas.{sends_nothing}
+use Rattle.caster_replay.proofs.LivesLemmas.{in_order, looked, sends_at, stands_absent, runs_put}
 use Rattle.caster_replay.proofs.lives.turn.Goals as goal
 
 pub returns-then-not-stands_at : goal.returns-then-not-stands_at
@@ -25,6 +18,7 @@ returns-then-not-stands_at c = record {
       c.args.number (takes_turn c.args.budget) (about_turn c.args.number c.args.budget) plays
       ((looked c.deref.result.now c.deref-2.result.now c.args.entries.now.items c.args.number c.place_of-place.result
       c.stands_at.result c.deref.ensures.value c.deref-2.ensures.value c.place_of-place.ensures.place c.stands_at.ensures).absent c.if-not-stands_at.true);
+  sends = sends_nothing c.args.number (lives_in c.args.entries.now.items);
 }
 
 pub turn-requires : goal.turn-requires
@@ -66,6 +60,23 @@ returns-in-Open c = record {
             (here_at entries place c.args.number entry there c.index_mut.ensures.value)
             (c.turn.ensures.turned config plays.places) c.in-Open.is);
       };
+  sends =
+      let entry : Entry = c.index_mut.result.now in
+      let new : Entry = c.turn.new.self in
+      let entries : List Entry = c.args.entries.now.items in
+      let place : ℕ = c.place_of-place.result in
+      let plays = c.requires.run.2 in
+      let look = looked c.deref.result.now c.deref-2.result.now entries c.args.number place c.stands_at.result
+      c.deref.ensures.value c.deref-2.ensures.value c.place_of-place.ensures.place c.stands_at.ensures in
+      let there = look.here c.if-not-stands_at.false in
+      let here = here_at entries place c.args.number entry there c.index_mut.ensures.value in
+      sends_at entries place c.args.number entry (live_in new) (lives_in (set entries place new)) there look.place_is here
+      (c.turn.ensures.number ∙ ap (λ (e : Entry). e.number) c.index_mut.ensures.value ∙ there.1 entry)
+      (turned_more c.requires.run.0 c.requires.run.1 (lives_in entries) c.args.desks.now.seen c.args.number place
+      (live_in entry) entry.bytes.items plays.runs (within_lives entries place there.0) c.turn.new.desks.seen
+      c.turn.result entry.state new.state c.args.budget new.bytes.items here
+      (c.turn.ensures.turned c.requires.run.0 plays.places))
+      (lives_set entries place new);
 }
 
 pub place_of-place-requires : goal.place_of-place-requires

@@ -1,7 +1,7 @@
 -- what is told of the first, and the others are left
-use Rattle.std.proofs.Common.{◌≡◌, ℕ, List, ◌++◌}
+use Rattle.std.proofs.Common.{◌≡◌, ◌++◌}
 use Rattle.caster_replay.specs.Lives.{AreTold, lives_in}
-use Rattle.caster_replay.proofs.replaying.told_all.Given as goal
+use Rattle.caster_replay.proofs.run.told_all.Given as goal
 
 abbrev pub invariant-loop-entry : goal.invariant-loop-entry
 invariant-loop-entry l =

@@ -1,9 +1,8 @@
-use Rattle.std.proofs.Common.{◌≡◌, ◌∙◌, ◌++◌, List, [], ◌∷◌, sym, ap, subst, append_assoc}
-use Rattle.session_core.specs.declared.report.Connection.{Connection}
+use Rattle.std.proofs.Common.{◌∙◌, ◌++◌, List, [], ◌∷◌, sym, ap, subst, append_assoc}
 use Rattle.caster_replay.specs.declared.entry.Entry.{Entry}
-use Rattle.caster_replay.specs.Lives.{AreTold, live_in, lives_in}
+use Rattle.caster_replay.specs.Lives.{AreTold, lives_in}
 use Rattle.caster_replay.proofs.ReplayLemmas.{over_at, told_next}
-use Rattle.caster_replay.proofs.replaying.told_all.Goals as goal
+use Rattle.caster_replay.proofs.run.told_all.Goals as goal
 
 pub told-requires : goal.told-requires
 told-requires c = record {

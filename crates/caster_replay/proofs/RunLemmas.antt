@@ -1,0 +1,119 @@
+-- A run that is played event by event: what it stands for, and what is asked of it.
+use Rattle.std.proofs.Common.{◌≡◌, ◌∙◌, ◌<◌, ◌≤◌, ◌++◌, ◌+◌, ℕ, suc, Bool, false, List, [], ◌∷◌, length, get_or, take, drop, refl, sym, ap, subst}
+use Rattle.std.specs.Prelude.{IsTrue}
+use Rattle.std.specs.List.Sorted.{IsNonDecreasingBy}
+use Rattle.std.proofs.lemmas.List.{take_more, take_all}
+use Rattle.session_script.specs.declared.Event.{Event}
+use Rattle.cast_config.specs.declared.config.Config.{Config}
+use Rattle.session_core.specs.Run.{nothing_called}
+use Rattle.caster_replay.specs.declared.entry.Entry.{Entry}
+use Rattle.caster_replay.specs.declared.run.Run.{Run}
+use Rattle.caster_replay.specs.Entries.{IsFoundAt, IsMissing, is_open_at, is_behind_at}
+use Rattle.caster_replay.specs.Going.{GoesOn, IsBehind, MaySpeak}
+use Rattle.caster_replay.specs.Kept.{StandsFor, MayCome, lives_of}
+use Rattle.caster_replay.specs.Lives.{Live, live_in, lives_in, live_of, place_of}
+use Rattle.caster_replay.specs.Runs.{Runs}
+use Rattle.caster_replay.specs.Scripts.{IsScriptFor, Plays}
+use Rattle.caster_replay.specs.Sends.{sent_in}
+use Rattle.caster_replay.proofs.WorldRunnerLemmas.{IsAbsent, run_new, headings_now}
+use Rattle.caster_replay.proofs.EntryLemmas.{no_live, within_lives, here_at, absent_at}
+use Rattle.caster_replay.proofs.GoingLemmas.{going_missing, behind_missing, going_found, behind_found, found_speaks}
+use Rattle.caster_replay.proofs.LivesLemmas.{in_order}
+use Rattle.caster_replay.proofs.PlayLemmas.{runs_of}
+use Rattle.caster_replay.proofs.ReplayLemmas.{split_at}
+use Rattle.caster_replay.proofs.SendsLemmas.{sent_here, sent_absent}
+
+-- ---- events
+
+pub runs_new : (c : Config) → Runs c [] [] (nothing_called c)
+runs_new c = runs_of c [] [] (nothing_called c) (run_new c)
+
+pub plays_of : (c : Config) (script : List Event) (event : Event) (run : Run) → StandsFor c script run
+    → MayCome c script event → Plays c script event run.entries.items run.desks
+plays_of c script event run stands comes = record {
+  later = comes.0;
+  script_is = comes.1;
+  places = stands.stands.places;
+  runs = stands.stands.runs;
+}
+
+pub comes_next : (c : Config) (list : List Event) (i : ℕ) (event : Event) → IsScriptFor c list → i < length list
+    → event ≡ get_or list i event → MayCome c (take i list) event
+comes_next c list i event script within is =
+    (drop (suc i) list, subst (IsScriptFor c) (sym (split_at list i event within is)) script)
+
+pub stands_next : (c : Config) (list : List Event) (i : ℕ) (event : Event) (run : Run) → i < length list
+    → event ≡ get_or list i event → StandsFor c (take i list ++ event ∷ []) run → StandsFor c (take (i + 1) list) run
+stands_next c list i event run within is stands =
+    subst (λ (l : List Event). StandsFor c l run)
+    (ap (λ (e : Event). take i list ++ e ∷ []) is ∙ sym (take_more list i event within)) stands
+
+pub stands_whole : (c : Config) (list : List Event) (i : ℕ) (run : Run) → length list ≤ i
+    → StandsFor c (take i list) run → StandsFor c list run
+stands_whole c list i run over stands = subst (λ (l : List Event). StandsFor c l run) (take_all i list over) stands
+
+-- ---- what is found
+
+pub run_order : (c : Config) (script : List Event) (run : Run) (slice : List Entry) → StandsFor c script run
+    → slice ≡ run.entries.items → IsNonDecreasingBy (λ (entry : Entry). entry.number) slice
+run_order c script run slice stands same =
+    in_order c script run.entries.items slice run.desks.seen stands.stands.runs same
+
+module _ (entries : List Entry) (number : ℕ) where
+  pub missing_absent : IsMissing entries number → IsAbsent number (lives_in entries) no_live
+  missing_absent missing = absent_at entries (place_of number (lives_in entries)) number refl missing
+
+  pub found_live : (entry : Entry) → IsFoundAt entries number entry
+      → get_or (lives_in entries) (place_of number (lives_in entries)) (live_in entry)
+      ≡ live_of number entry.state entry.bytes.items
+  found_live entry f = here_at entries (place_of number (lives_in entries)) number entry f.there f.is
+
+  pub found_sent : (entry : Entry) → IsFoundAt entries number entry
+      → sent_in number (lives_in entries) ≡ entry.bytes.items
+  found_sent entry f =
+      sent_here number (lives_in entries) (live_in entry)
+      (within_lives entries (place_of number (lives_in entries)) f.there.0)
+      (ap (λ (l : Live). l.number) (found_live entry f))
+      ∙ ap (λ (l : Live). l.bytes) (found_live entry f)
+
+  pub missing_sent : IsMissing entries number → sent_in number (lives_in entries) ≡ []
+  missing_sent missing = sent_absent number (lives_in entries) no_live (missing_absent missing)
+
+-- ---- what is answered
+
+module _ (c : Config) (script : List Event) (run : Run) (number : ℕ) (stands : StandsFor c script run) where
+  pub missing_goes : IsMissing run.entries.items number → (answer : Bool) → answer ≡ false → GoesOn c script number answer
+  missing_goes missing answer none headings are =
+      none ∙ sym (going_missing c script (lives_of run) run.desks.seen stands.stands.runs headings are number no_live
+      (missing_absent run.entries.items number missing))
+
+  pub missing_behind : IsMissing run.entries.items number → (answer : Bool) → answer ≡ false
+      → IsBehind c script number answer
+  missing_behind missing answer none headings are =
+      none ∙ sym (behind_missing c script (lives_of run) run.desks.seen stands.stands.runs headings are number no_live
+      (missing_absent run.entries.items number missing))
+
+  pub found_goes : (entry : Entry) → IsFoundAt run.entries.items number entry → (answer : Bool)
+      → answer ≡ is_open_at entry.state → GoesOn c script number answer
+  found_goes entry f answer told headings are =
+      told ∙ sym (going_found c script (lives_of run) run.desks.seen stands.stands.runs headings are number
+      (place_of number (lives_of run)) (live_in entry) entry.state entry.bytes.items
+      (within_lives run.entries.items (place_of number (lives_of run)) f.there.0)
+      (found_live run.entries.items number entry f))
+
+  pub found_lags : (entry : Entry) → IsFoundAt run.entries.items number entry → (answer : Bool)
+      → answer ≡ is_behind_at run.desks.seen.rings entry.state → IsBehind c script number answer
+  found_lags entry f answer told headings are =
+      told ∙ sym (behind_found c script (lives_of run) run.desks.seen stands.stands.runs headings are number
+      (place_of number (lives_of run)) (live_in entry) entry.state entry.bytes.items
+      (within_lives run.entries.items (place_of number (lives_of run)) f.there.0)
+      (found_live run.entries.items number entry f))
+
+  pub found_may_speak : (entry : Entry) → IsFoundAt run.entries.items number entry → IsTrue (is_open_at entry.state)
+      → MaySpeak script number
+  found_may_speak entry f told =
+      let runs = stands.stands.runs in
+      found_speaks c script (lives_of run) run.desks.seen runs (headings_now script runs.has) (λ n. (runs.has n).1) number
+      (place_of number (lives_of run)) (live_in entry) entry.state entry.bytes.items
+      (within_lives run.entries.items (place_of number (lives_of run)) f.there.0)
+      (found_live run.entries.items number entry f) told

@@ -1,0 +1,60 @@
+-- Which connections of a run go on, and which of them have frames to read: facts of its events.
+use Rattle.std.specs.Prelude.{◌≡◌, ℕ, nat_lt, ◌&&◌, Bool, true, false, List, [], ◌∷◌, length}
+use Rattle.std.specs.List.{list_any}
+use Rattle.mount_ring.specs.declared.call.RingCall.{RingCall}
+use Rattle.mount_ring.specs.History.{state_of}
+use Rattle.turn_log.specs.History.{History}
+use Rattle.rover_cursor.specs.declared.segment.Segment.{Segment}
+use Rattle.rover_session.specs.Made.{segments_after}
+use Rattle.session_calls.specs.Rings.{history_at}
+use Rattle.session_script.specs.declared.Event.{Event}
+use Rattle.session_script.specs.Numbers.{Numbers, no_numbers, may_speak}
+use Rattle.session_script.specs.Script as scripts
+use Rattle.cast_config.specs.declared.config.Config.{Config}
+use Rattle.session_core.specs.Headings.{Heading}
+use Rattle.session_core.specs.Reports.{AreHeadings}
+use Rattle.session_core.specs.Run.{Connected, World, is_concerned, after_events}
+
+-- ---- after these events
+
+-- whether the connection of this number was opened and goes on
+abbrev pub is_going : Config → (ℕ → Heading) → World → ℕ → Bool
+is_going c headings w n =
+    list_any (λ (d : Connected). is_concerned c (headings d.number) n d) w.connections
+
+-- whether the mountpoint of the newest segment published more frames than the segment has passed
+abbrev pub has_frames : List (History RingCall) → List Segment → Bool
+has_frames rings [] = false
+has_frames rings (newest ∷ older) =
+    nat_lt newest.cursor.next (length (state_of (history_at rings newest.mount)).published)
+
+-- whether it was opened and goes on, and has frames to read
+abbrev pub is_behind : Config → (ℕ → Heading) → World → ℕ → Bool
+is_behind c headings w n =
+    list_any (λ (d : Connected). is_concerned c (headings d.number) n d
+    && has_frames w.histories.rings (segments_after [] d.steps)) w.connections
+
+-- ---- the answers
+
+-- so it is answered whether the connection of this number goes on
+abbrev pub GoesOn : Config → List Event → ℕ → Bool → Type 0
+GoesOn c script n answer =
+    (headings : ℕ → Heading) → AreHeadings script headings
+    → answer ≡ is_going c headings (after_events c headings script) n
+
+-- and whether it has frames to read
+abbrev pub IsBehind : Config → List Event → ℕ → Bool → Type 0
+IsBehind c script n answer =
+    (headings : ℕ → Heading) → AreHeadings script headings
+    → answer ≡ is_behind c headings (after_events c headings script) n
+
+-- ---- what may be said of it next
+
+-- the numbers that were opened and closed by these events, after those
+abbrev pub numbers_from : Numbers → List Event → Numbers
+numbers_from numbers [] = numbers
+numbers_from numbers (event ∷ events) = numbers_from (scripts.after_event numbers event) events
+
+-- an event of a script may bring bytes on it, give it a turn or close it
+abbrev pub MaySpeak : List Event → ℕ → Type 0
+MaySpeak script n = may_speak (numbers_from no_numbers script) n ≡ true

@@ -1,0 +1,26 @@
+-- What a run that is played event by event stands for.
+use Rattle.std.specs.Prelude.{◌≡◌, ℕ, List, ◌++◌, ◌∷◌}
+use Rattle.session_script.specs.declared.Event.{Event}
+use Rattle.cast_config.specs.declared.config.Config.{Config}
+use Rattle.session_core.specs.Setting as setting
+use Rattle.caster_replay.specs.declared.run.Run.{Run}
+use Rattle.caster_replay.specs.Lives.{Live, lives_in}
+use Rattle.caster_replay.specs.Scripts.{IsScriptFor, Stands}
+use Rattle.caster_replay.specs.Sends.{sent_in}
+
+-- these events were played, with this configuration
+pub record StandsFor (c : Config) (script : List Event) (run : Run) : Type 0 where
+  pub table : run.table.items ≡ setting.table c
+  pub stands : Stands c script run.entries.items run.desks
+
+-- the event may come next: with it, and some events more, there is a script
+abbrev pub MayCome : Config → List Event → Event → Type 0
+MayCome c script event = (later : List Event) × IsScriptFor c (script ++ event ∷ later)
+
+-- what is kept of its connections
+abbrev pub lives_of : Run → List Live
+lives_of run = lives_in run.entries.items
+
+-- all bytes that the connection of this number was sent
+abbrev pub sent_by_run : Run → ℕ → List ℕ
+sent_by_run run n = sent_in n (lives_of run)

@@ -1,0 +1,197 @@
+//! A run that is played event by event.
+
+ghost use Rattle.std.specs.Prelude.{◌≡◌, ℕ, ◌≤◌, ◌+◌, [], ◌∷◌, ◌++◌, List, length, IsTrue, IfOk, OnOk};
+ghost use Rattle.cast_config.specs.declared.config.Config.{Config as ConfigValue};
+ghost use Rattle.cast_config.specs.Kept.{KeepsRules};
+ghost use Rattle.session_core.specs.Reports.{IsReport};
+ghost use Rattle.session_core.specs.Setting as setting;
+ghost use Rattle.session_script.specs.declared.Event.{Event as EventValue};
+ghost use Rattle.caster_replay.specs.Entries.{AreOver, IsOverAt};
+ghost use Rattle.caster_replay.specs.Going.{GoesOn, IsBehind, MaySpeak};
+ghost use Rattle.caster_replay.specs.Kept.{MayCome, StandsFor, lives_of, sent_by_run};
+ghost use Rattle.caster_replay.specs.Lives.{AreTold, IsToldBy, lives_in};
+ghost use Rattle.caster_replay.specs.Scripts.{IsShort};
+ghost use Rattle.caster_replay.specs.Sends.{Sends, told_sent};
+
+use crate::desks::Desks;
+use crate::entry::{Entry, State};
+use crate::event::play;
+use crate::lives::{close_all, find};
+use crate::totals::totals;
+use cast_config::Config;
+use config_table::table_of;
+use session_core::{Connection, Connections, Report, Sent};
+use session_script::Event;
+use sourcetable::write_table;
+use std::alloc::{AllocError, Global};
+
+/// The connections of a recorded run, the desks that they call at, and the sourcetable that
+/// clients are sent.
+#[derive(Drop)]
+pub struct Run {
+    table: Vec<u8>,
+    entries: Vec<Entry>,
+    desks: Desks,
+}
+
+/// The sourcetable that clients are sent.
+fn table_text(alloc: Global, config: &Config) -> Result<Vec<u8>, AllocError>
+    requires few { length config.now.mount + length config.now.near ≤ 64 }
+    ensures { IfOk result (λ text. text.items ≡ setting.table config.now) }
+{
+    let table = table_of(alloc, config)?;
+    let mut text = Vec::new(alloc);
+    write_table(&table, &mut text)?;
+    Ok(text)
+}
+
+/// What is told of a connection that is over.
+fn told(entry: Entry) -> Connection
+    requires over { IsOverAt entry.state }
+    ensures { IsToldBy entry.state entry.number entry.bytes.items result }
+{
+    let Entry {
+        number,
+        state,
+        bytes,
+    } = entry;
+    let State::Closed(receipt) = state else {
+        unreachable!();
+    };
+    Connection {
+        number,
+        receipt,
+        bytes: Sent::new(bytes),
+    }
+}
+
+/// What is told of all connections, which are over.
+fn told_all(alloc: Global, entries: Vec<Entry>) -> Result<Vec<Connection>, AllocError>
+    requires over { AreOver (lives_in entries.items) }
+    ensures { IfOk result (λ list. AreTold (lives_in entries.items) list.items) }
+{
+    let mut list = Vec::new(alloc);
+    for entry in entries {
+        list.push(told(entry))?;
+    }
+    Ok(list)
+}
+
+impl Run {
+    /// The run of no events yet, over one desk a mountpoint, made as the configuration says, and
+    /// one of the book of accounts.
+    pub fn new(alloc: Global, config: &Config) -> Result<Run, AllocError>
+        requires kept { (cap : ℕ) × KeepsRules cap config.now }
+        ensures stands { IfOk result (λ run. StandsFor config.now [] run) }
+        ensures unsent { (n : ℕ) → IfOk result (λ run. sent_by_run run n ≡ []) }
+    {
+        let table = table_text(alloc, config)?;
+        let desks = Desks::new(alloc, config)?;
+        let entries = Vec::new(alloc);
+        Ok(Run {
+            table,
+            entries,
+            desks,
+        })
+    }
+
+    /// Plays one event more. A connection that ends by itself is closed at once.
+    ///
+    /// # Errors
+    /// For want of memory, also where a session or a turn was halted by it. Then the run is of no
+    /// further use.
+    pub fn play(&mut self, alloc: Global, config: &Config, event: &Event) -> Result<(), AllocError>
+        requires kept { (cap : ℕ) × KeepsRules cap config.now }
+        requires run { (script : List EventValue) × StandsFor config.now script self.old
+            × MayCome config.now script event.now }
+        ensures played { (script : List EventValue) → StandsFor config.now script self.old
+            → MayCome config.now script event.now
+            → OnOk result (StandsFor config.now (script ++ event.now ∷ []) self.new) }
+
+        // Nobody else than the event's own connection is sent more.
+        ensures sends { OnOk result (Sends event.now (lives_of self.old) (lives_of self.new)) }
+    {
+        play(
+            alloc,
+            config,
+            &self.table,
+            &mut self.entries,
+            &mut self.desks,
+            event,
+        )
+    }
+
+    /// Whether the connection of this number was opened and goes on.
+    pub fn goes_on(&self, number: u32) -> bool
+        requires run { (c : ConfigValue) × (script : List EventValue)
+            × StandsFor c script self.now }
+        ensures goes_on { (c : ConfigValue) (script : List EventValue)
+            → StandsFor c script self.now → GoesOn c script number result }
+        ensures speaks { (c : ConfigValue) (script : List EventValue)
+            → StandsFor c script self.now → IsTrue result → MaySpeak script number }
+    {
+        match find(&self.entries, number) {
+            Some(entry) => entry.is_open(),
+            None => false,
+        }
+    }
+
+    /// Whether the connection of this number is a rover that goes on and has frames to read: the
+    /// mountpoint of its newest segment published more than the segment has passed.
+    pub fn is_behind(&self, number: u32) -> bool
+        requires run { (c : ConfigValue) × (script : List EventValue)
+            × StandsFor c script self.now }
+        ensures { (c : ConfigValue) (script : List EventValue) → StandsFor c script self.now
+            → IsBehind c script number result }
+    {
+        match find(&self.entries, number) {
+            Some(entry) => entry.is_behind(&self.desks),
+            None => false,
+        }
+    }
+
+    /// All bytes that the connection of this number was sent so far, none where there is no such
+    /// connection.
+    pub fn sent(&self, number: u32) -> &[u8]
+        requires run { (c : ConfigValue) × (script : List EventValue)
+            × StandsFor c script self.now }
+        ensures { result.now ≡ sent_by_run self.now number }
+    {
+        match find(&self.entries, number) {
+            Some(entry) => &entry.bytes,
+            None => &[],
+        }
+    }
+
+    /// Closes the connections that go on, each as its end, in increasing order of number, and
+    /// reports what each connection was sent and came to, in that order, and what the mountpoints
+    /// and accounts came to.
+    ///
+    /// # Errors
+    /// For want of memory, also where the turn that closes a session was halted by it.
+    pub fn finish(self, alloc: Global, config: &Config) -> Result<Report, AllocError>
+        requires kept { (cap : ℕ) × KeepsRules cap config.now }
+        requires run { (script : List EventValue) × IsShort script
+            × StandsFor config.now script self }
+        ensures report { (script : List EventValue) → IsShort script
+            → StandsFor config.now script self
+            → IfOk result (λ report. IsReport config.now script report) }
+
+        // What each connection was sent is what it was sent so far.
+        ensures sent { (n : ℕ) → IfOk result (λ report.
+            told_sent n report.connections ≡ sent_by_run self n) }
+    {
+        let Run {
+            table: _,
+            mut entries,
+            mut desks,
+        } = self;
+        close_all(&mut entries, &mut desks)?;
+        let closed = totals(alloc, config, &desks)?;
+        let connections = told_all(alloc, entries)?;
+        Ok(Report {
+            connections: Connections::new(connections),
+            closed,
+        })
+    }
+}
