@@ -14,3 +14,6 @@ mod totals;
 
 pub use replaying::replay;
 pub use run::Run;
+
+#[cfg(test)]
+mod tests;

@@ -3,6 +3,7 @@
 ghost use Rattle.std.specs.Prelude.{◌≡◌, ℕ, IfOk};
 ghost use Rattle.cast_config.specs.Kept.{KeepsRules};
 ghost use Rattle.session_core.specs.Reports.{IsReport};
+ghost use Rattle.caster_replay.specs.Kept.{StandsFor};
 ghost use Rattle.caster_replay.specs.Scripts.{IsScriptFor};
 
 use crate::run::Run;
@@ -10,6 +11,19 @@ use cast_config::Config;
 use session_core::Report;
 use session_script::Event;
 use std::alloc::{AllocError, Global};
+
+/// The run of the events of a script.
+pub(crate) fn played(alloc: Global, config: &Config, events: &[Event]) -> Result<Run, AllocError>
+    requires kept { (cap : ℕ) × KeepsRules cap config.now }
+    requires script { IsScriptFor config.now events.now }
+    ensures { IfOk result (λ run. StandsFor config.now events.now run) }
+{
+    let mut run = Run::new(alloc, config)?;
+    for event in events {
+        run.play(alloc, config, event)?;
+    }
+    Ok(run)
+}
 
 /// Plays the events of a script over one desk a mountpoint, made as the configuration says, and one
 /// of the book of accounts, and reports what each connection was sent and came to, in increasing
@@ -26,9 +40,6 @@ pub fn replay(alloc: Global, config: &Config, events: &[Event]) -> Result<Report
     requires script { IsScriptFor config.now events.now }
     ensures { IfOk result (λ report. IsReport config.now events.now report) }
 {
-    let mut run = Run::new(alloc, config)?;
-    for event in events {
-        run.play(alloc, config, event)?;
-    }
+    let run = played(alloc, config, events)?;
     run.finish(alloc, config)
 }
