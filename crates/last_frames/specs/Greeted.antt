@@ -1,0 +1,54 @@
+-- Which greeting stands at a place, by the history.
+use Rattle.std.specs.Prelude.{◌≡◌, ℕ, Bool, true, false, IsTrue, List, [], ◌∷◌, ◌++◌, take, drop, Option, None, Some}
+use Rattle.std.specs.Coded.{Coded-set, coded_list, coded_ℕ, coded_option}
+use Rattle.turn_log.specs.History.{History}
+use Rattle.mount_ring.specs.declared.call.RingCall.{RingCall}
+use Rattle.mount_ring.specs.declared.call.RingCall.TheVariants.{Claim, Release, Publish, Join, Look, Read}
+use Rattle.mount_ring.specs.History.{Shape, State, state_of, permits_at}
+use Rattle.last_frames.specs.Last.{last_permitted}
+
+-- a greeting, if somebody joined
+abbrev pub Greeting : Type 0
+Greeting = Option (List (List ℕ))
+
+-- what a place shows of the greeting in its hall
+abbrev pub shown : Bool → List (List ℕ) → Greeting
+shown true greeting = Some greeting
+shown false greeting = None
+
+-- somebody joined by this call, or did before
+abbrev pub is_greeted : RingCall → Bool → Bool
+is_greeted Claim before = before
+is_greeted (Release claim) before = before
+is_greeted (Publish claim frame) before = before
+is_greeted (Join filter) before = true
+is_greeted Look before = before
+is_greeted (Read cursor budget) before = before
+
+-- the greeting after a call: one who joins is greeted by the last permitted ones of all frames that
+-- were published before, and other calls change nothing of it
+abbrev pub greeted_by : Shape → State → RingCall → Greeting → Greeting
+greeted_by shape state Claim greeting = greeting
+greeted_by shape state (Release claim) greeting = greeting
+greeted_by shape state (Publish claim frame) greeting = greeting
+greeted_by shape state (Join filter) greeting =
+    Some (last_permitted (permits_at shape filter) state.published)
+greeted_by shape state Look greeting = greeting
+greeted_by shape state (Read cursor budget) greeting = greeting
+
+-- the greeting after these entries, where `before` stands before them
+abbrev pub greeted_in : Shape → History RingCall → History RingCall → Greeting → Greeting
+greeted_in shape before [] greeting = greeting
+greeted_in shape before (entry ∷ entries) greeting =
+    greeted_in shape (before ++ entry ∷ []) entries
+    (greeted_by shape (state_of before) entry.1 greeting)
+
+-- the greeting of the last one who joined since the first so many calls of a history
+abbrev pub greeted_since : Shape → ℕ → History RingCall → Greeting
+greeted_since shape count history =
+    greeted_in shape (take count history) (drop count history) None
+
+-- That this is the greeting, where the place is alone, is one fact, and not a choice.
+pub greeting_once : (alone : Bool) (some other : Greeting) → IsProp (IsTrue alone → some ≡ other)
+greeting_once alone some other =
+    hlevel (Coded-set (coded_option (coded_list (coded_list coded_ℕ))))

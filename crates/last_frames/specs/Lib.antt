@@ -1,0 +1,6 @@
+pub mod Last
+pub mod Latest
+pub mod Filters
+pub mod Station
+pub mod Greeted
+pub mod Once

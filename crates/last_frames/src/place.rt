@@ -1,0 +1,155 @@
+//! A place at the ring of a station.
+ghost use Rattle.std.specs.Prelude.{◌≡◌, ◌≤◌, ◌∷◌, ◌++◌, [], length, None, Some, IsTrue, IfErr, IfNone, IfOk, IfSome, OnErr, OnOk};
+ghost use Rattle.turn_log.specs.History.{History};
+ghost use Rattle.mount_ring.specs.declared.call.RingCall.{RingCall as CallValue};
+ghost use Rattle.mount_ring.specs.History.{state_of};
+ghost use Rattle.mount_ring.specs.Shapes.{shape_of};
+ghost use Rattle.last_frames.specs.Greeted.{greeted_by, greeted_since, greeting_once, is_greeted, shown};
+
+use crate::hall::Hall;
+use crate::station::Station;
+use mount_ring::{Outbox, Ring, RingAnswer, RingCall};
+use rtcm_frame::Frame;
+use std::alloc::{AllocError, Global};
+use std::mem;
+use std::snapshot::Snapshot;
+use turn_log::{Played, TurnFault, Turns};
+
+/// Whether somebody joined by this call, or did before.
+fn is_greeted(call: &RingCall, before: bool) -> bool
+    ensures { result ≡ is_greeted call.now before }
+{
+    match call {
+        RingCall::Join(_) => true,
+        _ => before,
+    }
+}
+
+/// A place at a station, as a place at its ring. It keeps the greeting of the last one who joined
+/// through it.
+#[derive(Drop)]
+pub struct StationPlace<T: Turns<Station>> {
+    inner: T,
+    hall: Hall,
+    // Somebody joined since the place was made or cleared, which was then.
+    greeted: bool,
+    since: Snapshot<T>,
+    ghost later: { length (T.seen since.value) ≤ length (T.seen inner) },
+    // Where nobody else calls, the history tells whom the greeting is of.
+    ghost told: { IsTrue (T.alone inner) → shown greeted hall.greeting
+        ≡ greeted_since (shape_of (T.shape inner)) (length (T.seen since.value)) (T.seen inner) } by { greeting_once _ _ _ },
+}
+
+impl<T: Turns<Station> + Drop> StationPlace<T> {
+    /// A place at the ring of the station that this place is at. Nobody joined through it.
+    ///
+    /// # Errors
+    /// For want of memory.
+    pub fn new(alloc: Global, inner: T) -> Result<StationPlace<T>, AllocError>
+        ensures inner { IfOk result (λ place. place.inner ≡ inner) }
+        ensures none { IfOk result (λ place. shown place.greeted place.hall.greeting ≡ None) }
+        ensures since { IfOk result (λ place. T.seen place.since.value ≡ T.seen inner) }
+    {
+        let hall = Hall::new(alloc)?;
+        let since = Snapshot::of(&inner);
+        Ok(StationPlace {
+            inner,
+            hall,
+            greeted: false,
+            since,
+        })
+    }
+}
+
+impl<T: Turns<Station>> StationPlace<T> {
+    /// The place at the station.
+    pub fn inner(self) -> T
+        ensures { result ≡ self.inner }
+    {
+        self.inner
+    }
+
+    /// The frames that the last one was greeted by who joined through this place since it was made
+    /// or cleared; `None` exactly where nobody joined since.
+    pub fn greeting(&self) -> Option<&[Frame]>
+        ensures none { IfNone result (shown self.now.greeted self.now.hall.greeting ≡ None) }
+        ensures some { IfSome result (λ frames.
+            shown self.now.greeted self.now.hall.greeting ≡ Some frames.now) }
+
+        // Where nobody else calls, it is that of the last Join since.
+        ensures alone { IsTrue (T.alone self.now.inner)
+            → shown self.now.greeted self.now.hall.greeting
+            ≡ greeted_since (shape_of (T.shape self.now.inner))
+            (length (T.seen self.now.since.value)) (T.seen self.now.inner) }
+    {
+        if self.greeted {
+            Some(self.hall.greeting())
+        } else {
+            None
+        }
+    }
+
+    /// From now on nobody joined through it.
+    pub fn clear(&mut self)
+        ensures inner { self.new.inner ≡ self.old.inner }
+        ensures none { shown self.new.greeted self.new.hall.greeting ≡ None }
+        ensures since { T.seen self.new.since.value ≡ T.seen self.old.inner }
+    {
+        self.greeted = false;
+        self.since = Snapshot::of(&self.inner);
+    }
+}
+
+impl<T: Turns<Station>> Turns<Ring> for StationPlace<T> {
+    ghost use Rattle.turn_log.specs.Faults.{IsFault};
+    ghost use Rattle.turn_log.specs.Turn.{SamePlace, Turned};
+    ghost use Rattle.mount_ring.specs.History as rings;
+
+    ghost seen = { λ place. T.seen place.inner };
+
+    ghost shape = { λ place. T.shape place.inner };
+
+    ghost speaks = { λ place. T.speaks place.inner };
+
+    ghost may_lack = { λ place. T.may_lack place.inner };
+
+    ghost alone = { λ place. T.alone place.inner };
+
+    ghost worn = { λ place. T.worn place.inner };
+
+    ghost home = { λ place. T.home place.inner };
+
+    fn turn(&mut self, me: u32, call: RingCall, room: &mut Outbox) -> Result<RingAnswer, TurnFault>
+        requires speaks { IsTrue (T.speaks self.old.inner me) }
+        requires fits { IsTrue (rings.fits (shape_of (T.shape self.old.inner))
+            (state_of (T.seen self.old.inner)) me call) }
+        ensures same { SamePlace T.shape T.speaks T.may_lack T.alone T.home
+            self.old.inner self.new.inner }
+        ensures worn { T.worn self.old.inner ≤ T.worn self.new.inner }
+        ensures ok { let ring = ⟦<Ring as Played>⟧ in IfOk result (λ reply.
+            Turned (T.alone self.old.inner) (ring.fits (T.shape self.old.inner))
+            (ring.answer (T.shape self.old.inner)) (ring.filled (T.shape self.old.inner))
+            (T.seen self.old.inner) (T.seen self.new.inner) me call reply room.old room.new) }
+        ensures err { IfErr result (λ fault.
+            (T.seen self.new.inner ≡ T.seen self.old.inner) × (room.new ≡ room.old)
+            × IsFault (T.may_lack self.old.inner) (T.worn self.new.inner) fault) }
+
+        // One who joins is greeted by what was published before that, and nobody else changes it.
+        ensures greeted { OnOk result ((before : History CallValue) × (T.seen self.new.inner ≡ before ++ (me, call) ∷ [])
+            × (shown self.new.greeted self.new.hall.greeting
+            ≡ greeted_by (shape_of (T.shape self.old.inner)) (state_of before) call
+            (shown self.old.greeted self.old.hall.greeting))) }
+        ensures since { T.seen self.new.since.value ≡ T.seen self.old.since.value }
+        ensures refused { OnErr result (shown self.new.greeted self.new.hall.greeting
+            ≡ shown self.old.greeted self.old.hall.greeting) }
+    {
+        mem::swap(room, &mut self.hall.outbox);
+        let answer = self.inner.turn(me, call, &mut self.hall);
+        mem::swap(room, &mut self.hall.outbox);
+        let answer = answer?;
+        self.greeted = is_greeted(&call, self.greeted);
+        Ok(answer)
+    }
+
+    ghost legal = { λ place. T.Turns.legal place.inner };
+}
