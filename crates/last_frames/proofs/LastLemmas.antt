@@ -1,7 +1,7 @@
 -- What is kept of each number is the last frame of that number, however many are published.
-use Rattle.std.proofs.Common.{◌≡◌, ℕ, ◌<◌, Bool, false, List, [], ◌∷◌, ◌++◌, length, map, refl, ap, ◌∙◌, sym, Option, None, Some}
-use Rattle.std.specs.Prelude.{if◌then◌else◌, reverse, slice_get, unwrap_or}
-use Rattle.std.specs.List.{find, flat_map}
+use Rattle.std.proofs.Common.{◌≡◌, ℕ, Bool, false, List, [], ◌∷◌, ◌++◌, map, refl, ap, ◌∙◌, sym, Option, Some}
+use Rattle.std.specs.Prelude.{if◌then◌else◌, slice_get, unwrap_or}
+use Rattle.std.specs.List.{find}
 use Rattle.std.specs.Option.{option_map}
 use Rattle.std.proofs.lemmas.List.{reverse-append}
 use Rattle.std.proofs.lemmas.List.Folds.{flat_map-map}

@@ -1,2 +1,3 @@
 pub mod LastLemmas
 pub mod GreetedLemmas
+pub mod TestLemmas

@@ -4,3 +4,4 @@ pub mod Filters
 pub mod Station
 pub mod Greeted
 pub mod Once
+pub mod LockTests

@@ -1,5 +1,5 @@
 -- The greeting goes on by the call that was made, behind what others called before it.
-use Rattle.std.proofs.Common.{◌≡◌, ◌∙◌, ◌++◌, ap, sym, subst, ℕ, List, IsTrue, Bool, length}
+use Rattle.std.proofs.Common.{◌++◌, ap, subst, IsTrue, Bool, length}
 use Rattle.last_frames.specs.declared.hall.Hall.{Hall}
 use Rattle.last_frames.proofs.GreetedLemmas.{longer, shown_since, shown_then}
 use Rattle.last_frames.proofs.place.StationPlaceTurnsRing.turn.Goals as goal

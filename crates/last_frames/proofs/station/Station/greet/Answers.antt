@@ -1,5 +1,5 @@
 -- The filter of this number is the one that the ring offers under it.
-use Rattle.std.proofs.Common.{◌≡◌, ◌∙◌, ap, sym, ℕ, Bool, List}
+use Rattle.std.proofs.Common.{◌∙◌, ap, sym, ℕ, Bool, List}
 use Rattle.std.specs.Prelude.{slice_get}
 use Rattle.type_filter.specs.Permitted.{FilterValue, permits}
 use Rattle.mount_ring.specs.Kept.{ring_shape}
