@@ -135,7 +135,8 @@ impl<T: Turns<Station>> Turns<Ring> for StationPlace<T> {
             × IsFault (T.may_lack self.old.inner) (T.worn self.new.inner) fault) }
 
         // One who joins is greeted by what was published before that, and nobody else changes it.
-        ensures greeted { OnOk result ((before : History CallValue) × (T.seen self.new.inner ≡ before ++ (me, call) ∷ [])
+        ensures greeted { OnOk result ((before : History CallValue)
+            × (T.seen self.new.inner ≡ before ++ (me, call) ∷ [])
             × (shown self.new.greeted self.new.hall.greeting
             ≡ greeted_by (shape_of (T.shape self.old.inner)) (state_of before) call
             (shown self.old.greeted self.old.hall.greeting))) }
