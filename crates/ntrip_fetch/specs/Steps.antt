@@ -1,0 +1,64 @@
+-- The steps of a link from which frames are fetched.
+use Rattle.std.specs.Prelude.{◌≡◌, ◌≤◌, ◌⊎◌, ◌^◌, ℕ, ⊤, Bool, true, false, IsTrue, List, [], ◌∷◌, ◌++◌, length, take}
+use Rattle.std.specs.List.{flat_map}
+use Rattle.cast_io.specs.declared.steps.Step.{Step}
+use Rattle.cast_io.specs.declared.steps.Step.TheVariants as took
+use Rattle.ntrip_fetch.specs.Answered.{IsWanting}
+
+-- the bytes that a step gave
+abbrev pub bytes_of : Step → List ℕ
+bytes_of (took.Bytes bytes) = bytes
+bytes_of took.Idle = []
+bytes_of took.End = []
+bytes_of took.ReadFailed = []
+bytes_of took.WriteFailed = []
+
+-- all bytes that a link gave in these steps
+abbrev pub bytes_in : List Step → List ℕ
+bytes_in taken = flat_map bytes_of taken
+
+-- a call may follow: the read gave bytes, or found nothing yet
+abbrev pub goes_on : Step → Bool
+goes_on (took.Bytes bytes) = true
+goes_on took.Idle = true
+goes_on took.End = false
+goes_on took.ReadFailed = false
+goes_on took.WriteFailed = false
+
+-- a read or a write failed
+abbrev pub is_failure : Step → Bool
+is_failure (took.Bytes bytes) = false
+is_failure took.Idle = false
+is_failure took.End = false
+is_failure took.ReadFailed = true
+is_failure took.WriteFailed = true
+
+-- nothing follows a step at which the link ended or failed
+abbrev pub IsLastIf : Bool → List Step → Type 0
+IsLastIf true more = ⊤
+IsLastIf false more = more ≡ []
+
+-- Behind these bytes each of the steps was needed: the bytes before it were wanting, and no call
+-- followed an end or a failure.
+abbrev pub AreNeeded : ℕ → List ℕ → List Step → Type 0
+AreNeeded most bytes [] = ⊤
+AreNeeded most bytes (step ∷ more) =
+    IsWanting most bytes × IsLastIf (goes_on step) more
+    × AreNeeded most (bytes ++ bytes_of step) more
+
+-- the last step was a read that answered the end; or the link gave 2^62 bytes or more
+abbrev pub HasRunOut : List Step → Type 0
+HasRunOut taken = ((front : List Step) × (taken ≡ front ++ took.End ∷ []))
+    ⊎ (2 ^ 62 ≤ length (bytes_in taken))
+
+-- the last step was a read or a write that failed
+abbrev pub FailsLast : List Step → Type 0
+FailsLast taken =
+    (front : List Step) × (step : Step) × (taken ≡ front ++ step ∷ []) × IsTrue (is_failure step)
+
+-- the whole request was sent; or its write failed, the link's one step, and some first bytes of it
+-- were
+abbrev pub IsSent : List ℕ → List Step → List ℕ → Type 0
+IsSent request taken sent = (sent ≡ request)
+    ⊎ ((n : ℕ) × (n ≤ length request) × (sent ≡ take n request)
+    × (taken ≡ took.WriteFailed ∷ []))

@@ -1,0 +1,123 @@
+//! A fetch over one link.
+
+ghost use Rattle.std.specs.Prelude.{◌≡◌, ◌<◌, ◌≤◌, ℕ, List, [], Option, IfOk, IsErrOf, OnOk};
+ghost use Rattle.cast_io.specs.Causes.{Rose};
+ghost use Rattle.ntrip_client.specs.Answer.{IsAnswer};
+ghost use Rattle.ntrip_fetch.specs.Request.{IsSpoken, target_request};
+ghost use Rattle.ntrip_fetch.specs.Fetched.{LinkBroken, LinkFetched, HasReceived, ReceivingBroken};
+
+use crate::left::{FetchFault, Left, Try};
+use crate::stage::{Stage, take};
+use crate::target::{Target, request_of};
+use cast_io::{Got, Link, Sink};
+use ntrip_client::{Answer, AnswerHead};
+use std::alloc::Global;
+use std::sync::Wait;
+
+/// How many bytes of one link are taken; then it is left as if it had ended.
+const MOST: u64 = 1 << 62;
+
+/// How many bytes one read takes at most.
+const PIECE: usize = 4096;
+
+/// Reads the link, to which the request was sent, and writes frames until `most` were written or the
+/// link is left.
+fn receive<L: Link, O: Sink, R: Wait>(
+    rt: &R,
+    head: AnswerHead,
+    most: u64,
+    link: &mut L,
+    out: &mut O,
+) -> Result<Try, FetchFault>
+    requires empty { head ≡ [] }
+    requires open { IsAnswer head Answer.Open }
+    requires some { 0 < most }
+    ensures received { IfOk result (HasReceived most (L.told link.old) (L.told link.new)
+        (O.taken out.old) (O.taken out.new)) }
+    ensures broken { IsErrOf result FetchFault.Sink → ReceivingBroken most (L.told link.old)
+        (L.told link.new) (O.taken out.old) (O.taken out.new) }
+    ensures only { IsErrOf result FetchFault.Memory → ⊥ }
+    ensures unharmed { OnOk result (O.faults out.new ≡ O.faults out.old) }
+    ensures cause { IsErrOf result FetchFault.Sink
+        → Rose (O.faults out.old) (O.faults out.new) }
+{
+    let mut stage = Stage::Head(head);
+    let mut frames: u64 = 0;
+    let mut given: u64 = 0;
+    let mut piece = [0u8; PIECE];
+    for _ in rt.forever() {
+        if given >= MOST {
+            return Ok(Try {
+                frames,
+                left: Left::End,
+            });
+        }
+        match link.read(&mut piece) {
+            Got::Bytes(count) => {
+                given += count as u64;
+                match take(&mut stage, &mut frames, most, &piece[..count], out) {
+                    Ok(None) => {}
+                    Ok(Some(left)) => return Ok(Try { frames, left }),
+                    Err(_) => return Err(FetchFault::Sink),
+                }
+            }
+            Got::Idle => link.rest(),
+            Got::End => {
+                return Ok(Try {
+                    frames,
+                    left: Left::End,
+                });
+            }
+            Got::Failed => {
+                return Ok(Try {
+                    frames,
+                    left: Left::LinkFault,
+                });
+            }
+        }
+    }
+    unreachable!()
+}
+
+/// Asks over the link for the target's frames, and writes each frame of the answer's body as soon as
+/// it is cut, until `most` were written or the link is left; the answer says why. The link is read
+/// 4,096 bytes at a time, and rests after a read that found nothing. Once it has given 2^62 bytes it
+/// is read no more.
+///
+/// It may wait, and what is said here holds where it returns.
+///
+/// # Errors
+/// `Sink` only where the sink's count of faults rose: some first bytes of the frames that were wanted
+/// were written. `Memory` at any time; then nothing was asked of the link, and nothing written.
+pub fn fetch_link<L: Link, O: Sink, R: Wait>(
+    rt: &R,
+    alloc: Global,
+    t: &Target,
+    most: u64,
+    link: &mut L,
+    out: &mut O,
+) -> Result<Try, FetchFault>
+    requires spoken { IsSpoken t.now }
+    requires some { 1 ≤ most }
+    requires few { most ≤ 1000000 }
+    ensures fetched { IfOk result (LinkFetched t.now most (L.told link.old) (L.told link.new)
+        (O.taken out.old) (O.taken out.new)) }
+    ensures broken { IsErrOf result FetchFault.Sink → LinkBroken t.now most (L.told link.old)
+        (L.told link.new) (O.taken out.old) (O.taken out.new) }
+    ensures nothing { IsErrOf result FetchFault.Memory
+        → (L.told link.new ≡ L.told link.old) × (O.taken out.new ≡ O.taken out.old) }
+    ensures unharmed { OnOk result (O.faults out.new ≡ O.faults out.old) }
+    ensures cause { IsErrOf result FetchFault.Sink
+        → Rose (O.faults out.old) (O.faults out.new) }
+{
+    let mut request = Vec::new(alloc);
+    request_of(t, &mut request)?;
+    let head = AnswerHead::new(alloc)?;
+    let Ok(()) = link.write(&request) else {
+        return Ok(Try {
+            frames: 0,
+            left: Left::LinkFault,
+        });
+    };
+    receive(rt, head, most, link, out)
+}

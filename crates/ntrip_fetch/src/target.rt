@@ -1,0 +1,71 @@
+//! Whom a rover asks, and the request.
+
+ghost use Rattle.std.specs.Prelude.{◌≡◌, ◌≤◌, ◌++◌, OnOk, OnErr};
+ghost use Rattle.std.specs.Vec.{vec_capacity};
+ghost use Rattle.ntrip_fetch.specs.Request.{IsSpoken, target_request, version_of};
+
+use cast_text::{MountName, Text, UserName};
+use ntrip_client::push_request;
+use ntrip_head::Version;
+use std::alloc::AllocError;
+use std::fmt;
+
+/// A mountpoint of a caster, and as whom it is asked for.
+#[derive(Drop)]
+pub struct Target {
+    /// The version of NTRIP that is spoken there, 1 or 2.
+    pub protocol: u32,
+    /// Where the caster is.
+    pub address: Text,
+    /// The mountpoint.
+    pub mount: MountName,
+    /// The user there, if credentials are given.
+    pub user: Option<UserName>,
+    /// The password there; it is sent only where there is a user.
+    pub password: Text,
+}
+
+// A password is not shown.
+impl fmt::Debug for Target {
+    fn fmt<W: fmt::Write>(&self, f: &mut fmt::Formatter<W>) -> fmt::Result {
+        f.debug_struct("Target")
+            .field("protocol", &self.protocol)
+            .field("address", &self.address)
+            .field("mount", &self.mount)
+            .field("user", &self.user)
+            .finish_non_exhaustive()
+    }
+}
+
+/// The version of NTRIP that this protocol is.
+fn version_of(protocol: u32) -> Version
+    ensures { result ≡ version_of protocol }
+{
+    if protocol == 2 {
+        Version::Two
+    } else {
+        Version::One
+    }
+}
+
+/// Appends the request for the frames of the target's mountpoint, in bytes as they are sent: a `GET`
+/// of NTRIP 1.0 or 2.0, with credentials of the scheme `Basic` (RFC 7617, section 2) where there is a
+/// user.
+///
+/// # Errors
+/// For want of memory. Then `out` is as it was.
+pub fn request_of(t: &Target, out: &mut Vec<u8>) -> Result<(), AllocError>
+    requires { IsSpoken t.now }
+    ensures ok { OnOk result (out.new.items ≡ out.old.items ++ target_request t.now) }
+    ensures err { OnErr result (out.new.items ≡ out.old.items) }
+    ensures capacity { vec_capacity out.old ≤ vec_capacity out.new }
+{
+    push_request(
+        version_of(t.protocol),
+        &t.mount,
+        &t.address,
+        t.user.as_ref(),
+        &t.password,
+        out,
+    )
+}
