@@ -1,12 +1,16 @@
--- What links, doors and streets tell of themselves that tell nothing and never fail.
-use Rattle.std.specs.Prelude.{None}
+-- What links, doors and streets tell of themselves that tell nothing but how often they failed.
+use Rattle.std.specs.Prelude.{ℕ, None}
 use Rattle.cast_io.specs.Told.{LinkTold, DoorTold, StreetTold}
 
-abbrev pub untold_link : LinkTold
-untold_link = record { given = None; left = None; taken = None; bytes = None; faults = 0 }
+-- a link that failed so often
+abbrev pub counted_link : ℕ → LinkTold
+counted_link count = record { given = None; left = None; taken = None; bytes = None; faults = count }
 
+-- a door that never fails
 abbrev pub untold_door : DoorTold
 untold_door = record { left = None; back = None; faults = 0 }
 
-abbrev pub untold_street : StreetTold
-untold_street = record { asked = None; doors = None; links = None; faults = 0; link_faults = 0 }
+-- a street that never fails, to which so many links came back that did
+abbrev pub counted_street : ℕ → StreetTold
+counted_street count =
+    record { asked = None; doors = None; links = None; faults = 0; link_faults = count }

@@ -49,6 +49,29 @@ pub(crate) fn torn_link(
     Ok(MemLink::torn(alloc, steps_of(alloc, pieces)?, fails))
 }
 
+/// How a link fails.
+#[derive(Clone, Copy)]
+pub(crate) enum Failing {
+    /// At the call of this number, from 1 over reads and writes alike.
+    Call(u64),
+    /// At the write of this number, from 1, of which it takes so many bytes, at most all.
+    Write(u64, u64),
+}
+
+/// A link with such a peer that fails so.
+pub(crate) fn failing_link(
+    alloc: Global,
+    pieces: &[&[u8]],
+    failing: Failing,
+) -> Result<MemLink, AllocError>
+    ensures { IfOk result (λ link. IsTrue (is_new_link link)) }
+{
+    match failing {
+        Failing::Call(call) => link_of(alloc, pieces, &[call]),
+        Failing::Write(write, most) => torn_link(alloc, pieces, write, most),
+    }
+}
+
 /// A door at which this link arrives, then nothing, then the other one. The accepts of these numbers
 /// fail.
 pub(crate) fn door_of(
@@ -91,6 +114,18 @@ pub(crate) fn links_of(alloc: Global, peers: &[&[&[u8]]]) -> Result<Vec<MemLink>
         links.push(link_of(alloc, pieces, &[])?)?;
     }
     Ok(links)
+}
+
+/// A street of three doors, of which this is the first. At the others two links arrive that end at
+/// once.
+pub(crate) fn street_at(alloc: Global, door: MemDoor) -> Result<MemStreet, AllocError>
+    requires { IsTrue (is_new_door door) }
+{
+    let mut doors = Vec::new(alloc);
+    doors.push(door)?;
+    doors.push(door_with(alloc, &[], &[])?)?;
+    doors.push(door_with(alloc, &[], &[])?)?;
+    MemStreet::new(alloc, doors, Vec::new(alloc), Vec::new(alloc))
 }
 
 /// A street of three doors at each of which a link with such a peer arrives and then one that ends

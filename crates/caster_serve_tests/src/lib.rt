@@ -15,6 +15,8 @@ mod door_tests;
 #[cfg(test)]
 mod fakes;
 #[cfg(test)]
+mod fault_tests;
+#[cfg(test)]
 mod link_tests;
 #[cfg(test)]
 mod one_caller;

@@ -13,78 +13,42 @@ use std::sync::Wait;
 use std::test::Fail;
 
 /// A connection ended so, and its link was sent this and took so many steps.
-fn expect_told(rt: &impl Abort, told: &Told, ending: Ending, bytes: &[u8], steps: usize) {
+pub(crate) fn expect_told(
+    rt: &impl Abort,
+    told: &Told,
+    ending: Ending,
+    bytes: &[u8],
+    steps: usize,
+) {
     assert_eq!(rt; told.ending, ending);
     assert!(rt; told.settled);
     assert_eq!(rt; told.link.bytes.as_slice(), bytes);
     assert_eq!(rt; told.link.steps, steps);
 }
 
-/// What is told of a client that sends these pieces and ends, whose call of this number fails.
-fn client<R: Wait + Sync>(
-    rt: &R,
-    alloc: Global,
-    pieces: &[&[u8]],
-    fails: u64,
-) -> Result<Told, Fail> {
-    let link = link_of(alloc, pieces, &[fails])?;
+/// What is told of a client that sends these pieces and ends.
+fn client<R: Wait + Sync>(rt: &R, alloc: Global, pieces: &[&[u8]]) -> Result<Told, Fail> {
+    let link = link_of(alloc, pieces, &[])?;
     told_of(rt, alloc, b"", Role::Caller, link)
 }
 
-/// No call.
+/// No accept.
 const NEVER: u64 = 0;
 
 // Behind a head that is refused nothing is read.
 #[test]
 fn connections_are_served_to_their_end(rt: HostRuntime) -> Result<(), Fail> {
     let alloc = rt.alloc();
-    let told = client(&rt, alloc, &[], NEVER)?;
+    let told = client(&rt, alloc, &[])?;
     expect_told(&rt, &told, Ending::NoHead, b"", 1);
-    let told = client(&rt, alloc, &[SOURCE_ALPHA, FRAMES_AB], NEVER)?;
+    let told = client(&rt, alloc, &[SOURCE_ALPHA, FRAMES_AB])?;
     expect_told(&rt, &told, Ending::SourceEnd { claim: 1 }, ICY, 3);
     let (front, rest) = ROVER_ALPHA.split_at(9);
-    let told = client(&rt, alloc, &[front, b"", rest, b""], NEVER)?;
+    let told = client(&rt, alloc, &[front, b"", rest, b""])?;
     expect_told(&rt, &told, Ending::RoverEnd, ICY, 5);
-    let told = client(
-        &rt,
-        alloc,
-        &[b"SOURCE wrong ALPHA\r\n\r\n", FRAMES_AB],
-        NEVER,
-    )?;
+    let told = client(&rt, alloc, &[b"SOURCE wrong ALPHA\r\n\r\n", FRAMES_AB])?;
     let refused = b"ERROR - Bad Password\r\n";
     expect_told(&rt, &told, Ending::SourcePassword, refused, 1);
-    Ok(())
-}
-
-// The calls of the rover are a read, a write of the reply, and reads.
-#[test]
-fn a_failed_call_ends_a_connection(rt: HostRuntime) -> Result<(), Fail> {
-    for (call, ending, bytes, steps) in [
-        (1, Ending::ReadFault, b"".as_slice(), 1),
-        (2, Ending::WriteFault, b"".as_slice(), 2),
-        (3, Ending::ReadFault, ICY, 2),
-        (4, Ending::ReadFault, ICY, 3),
-        (5, Ending::ReadFault, ICY, 4),
-        (6, Ending::RoverEnd, ICY, 4),
-    ] {
-        let told = client(&rt, rt.alloc(), &[ROVER_ALPHA, b"", b""], call)?;
-        expect_told(&rt, &told, ending, bytes, steps);
-    }
-    Ok(())
-}
-
-/// What is told of a rover whose reply is torn after so many bytes.
-fn torn_rover<R: Wait + Sync>(rt: &R, alloc: Global, most: u64) -> Result<Told, Fail> {
-    let link = torn_link(alloc, &[ROVER_ALPHA], 1, most)?;
-    told_of(rt, alloc, b"", Role::Caller, link)
-}
-
-#[test]
-fn a_torn_write_leaves_a_front_of_the_reply(rt: HostRuntime) -> Result<(), Fail> {
-    for (most, bytes) in [(0, b"".as_slice()), (1, b"I".as_slice()), (14, ICY)] {
-        let told = torn_rover(&rt, rt.alloc(), most)?;
-        expect_told(&rt, &told, Ending::WriteFault, bytes, 2);
-    }
     Ok(())
 }
 

@@ -4,11 +4,12 @@ use cast_io::{Asked, MemDoor, MemLink, MemStreet};
 use std::alloc::Global;
 use std::test::Fail;
 
-/// What a link came to: what it was sent, and how many steps it took.
+/// What a link came to: what it was sent, how many steps it took, and how often it failed.
 #[derive(Debug, Drop)]
 pub(crate) struct Ended {
     pub(crate) bytes: Vec<u8>,
     pub(crate) steps: usize,
+    pub(crate) faults: u64,
 }
 
 /// What came back to a street: the links of each door, and those that were dialled, in order. And
@@ -26,6 +27,7 @@ pub(crate) fn ended_of(alloc: Global, link: &MemLink) -> Result<Ended, Fail> {
     Ok(Ended {
         bytes: link.bytes().to_vec(alloc)?,
         steps: link.taken().ok_or("steps are told no longer")?.len(),
+        faults: link.faults(),
     })
 }
 

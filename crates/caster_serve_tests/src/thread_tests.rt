@@ -1,27 +1,30 @@
 //! Links that meet links of other workers within their calls.
 
 use crate::casting::{cast, expect_closed, mount, sum};
-use crate::fakes::link_of;
-use crate::setting::{FRAMES_AB, ICY, ROVER_ALPHA, ROVER_BRAVO, SOURCE_ALPHA};
+use crate::fakes::{Failing, failing_link, link_of};
+use crate::setting::{ICY, ROVER_ALPHA, ROVER_BRAVO, SOURCE_ALPHA};
 use crate::{Stop, TimedDoor, TimedLink, TimedStreet};
+use cast_io::MemLink;
+use caster_accounts::Sum;
 use std::alloc::Global;
 use std::process::Abort;
+use std::sync::Wait;
 use std::sync::atomic::AtomicBool;
 use std::test::Fail;
+use std::thread::Threads;
 use std::time::Clock;
 
 /// No flag.
 const NONE: usize = 2;
 
-/// A door at which a link arrives that sends these pieces and ends, with these stops.
+/// A door at which this link arrives, with these stops.
 fn timed_door<'a, R: Clock>(
     rt: &'a R,
     alloc: Global,
     flags: &'a [AtomicBool],
     stops: &[Stop],
-    pieces: &[&[u8]],
+    link: MemLink,
 ) -> Result<TimedDoor<'a, R>, Fail> {
-    let link = link_of(alloc, pieces, &[])?;
     let stops = stops.to_vec(alloc)?;
     Ok(TimedDoor::new(TimedLink::new(rt, flags, stops, link)))
 }
@@ -40,6 +43,18 @@ fn expect_met<R: Clock>(
     Ok(())
 }
 
+/// The link that came back to the first door of this street failed so often.
+fn expect_faults<R: Clock>(
+    rt: &impl Abort,
+    street: &TimedStreet<R>,
+    faults: u64,
+) -> Result<(), Fail> {
+    let door = street.back().first().ok_or("no door")?;
+    let link = door.back().ok_or("no link came back")?;
+    assert_eq!(rt; link.faults(), faults);
+    Ok(())
+}
+
 /// A street of two rovers of BRAVO, and of a link that ends at once. The second read of each rover
 /// sets a flag and, before it answers, waits for that of the other one. The calls of a rover are a
 /// read, a write and a read.
@@ -55,9 +70,11 @@ fn meeting_street<'a, R: Clock>(
             sets,
             awaits,
         };
-        doors.push(timed_door(rt, alloc, flags, &[stop], &[ROVER_BRAVO])?)?;
+        let rover = link_of(alloc, &[ROVER_BRAVO], &[])?;
+        doors.push(timed_door(rt, alloc, flags, &[stop], rover)?)?;
     }
-    doors.push(timed_door(rt, alloc, flags, &[], &[])?)?;
+    let silent = link_of(alloc, &[], &[])?;
+    doors.push(timed_door(rt, alloc, flags, &[], silent)?)?;
     Ok(TimedStreet::new(alloc, doors))
 }
 
@@ -74,7 +91,7 @@ fn two_sessions_see_each_other_within_a_read(rt: HostRuntime) -> Result<(), Fail
     expect_met(&rt, &street, 2, b"")
 }
 
-/// What the rover of the next test is sent: its reply, and the last four of six frames.
+/// What a rover is sent that is slow: its reply, and the last four of six frames.
 const LATE: &[u8] = b"ICY 200 OK\r\n\r\n\xd3\x00\x02\x43\x50\x06\xa2\x7e\
 \xd3\x00\x02\x43\x50\x06\xa2\x7e\xd3\x00\x02\x3e\xd0\xa4\xe0\x00\xd3\x00\x02\x43\x50\x06\xa2\x7e";
 
@@ -84,12 +101,14 @@ const SIX: &[u8] = b"\xd3\x00\x02\x3e\xd0\xa4\xe0\x00\xd3\x00\x02\x3e\xd0\xa4\xe
 \xd3\x00\x02\x3e\xd0\xa4\xe0\x00\xd3\x00\x02\x43\x50\x06\xa2\x7e";
 
 /// A street of a rover and a source of ALPHA, and of a link that ends at once. The rover's first
-/// write, of its reply, waits until six frames came. The source begins once the rover was let in, and
-/// its third read comes after its frames were published.
+/// write, of its reply, waits until six frames came. The source waits for this flag, which is set
+/// once the rover was let in, and its third read comes after its frames were published.
 fn slow_street<'a, R: Clock>(
     rt: &'a R,
     alloc: Global,
     flags: &'a [AtomicBool],
+    rover: MemLink,
+    begins: usize,
 ) -> Result<TimedStreet<'a, R>, Fail> {
     let slow = Stop {
         call: 2,
@@ -99,29 +118,89 @@ fn slow_street<'a, R: Clock>(
     let begins = Stop {
         call: 1,
         sets: NONE,
-        awaits: 0,
+        awaits: begins,
     };
     let done = Stop {
         call: 4,
         sets: 1,
         awaits: NONE,
     };
+    let source = link_of(alloc, &[SOURCE_ALPHA, SIX], &[])?;
+    let silent = link_of(alloc, &[], &[])?;
     let mut doors = Vec::new(alloc);
-    doors.push(timed_door(rt, alloc, flags, &[slow], &[ROVER_ALPHA, b""])?)?;
-    doors.push(timed_door(rt, alloc, flags, &[begins, done], &[SOURCE_ALPHA, SIX])?)?;
-    doors.push(timed_door(rt, alloc, flags, &[], &[])?)?;
+    doors.push(timed_door(rt, alloc, flags, &[slow], rover)?)?;
+    doors.push(timed_door(rt, alloc, flags, &[begins, done], source)?)?;
+    doors.push(timed_door(rt, alloc, flags, &[], silent)?)?;
     Ok(TimedStreet::new(alloc, doors))
 }
 
-// The ring keeps four frames.
-#[test]
-fn a_rover_is_lapped_while_its_link_is_slow(rt: HostRuntime) -> Result<(), Fail> {
-    let alloc = rt.alloc();
+/// A rover whose link fails so leaves ALPHA, of which six frames came, with these sums, and its link
+/// was sent so many bytes of what is owed and failed so often. The source waits for this flag.
+fn expect_late<R: Abort + Clock + Threads + Wait + Sync>(
+    rt: &R,
+    alloc: Global,
+    failing: Failing,
+    begins: usize,
+    size: usize,
+    left: Sum,
+    faults: u64,
+) -> Result<(), Fail> {
     let flags = [AtomicBool::new(false), AtomicBool::new(false)];
-    let mut street = slow_street(&rt, alloc, &flags)?;
-    let answer = cast(&rt, alloc, b"", 1, &mut street)?;
-    let (none, late) = (sum(0, 0, 0), sum(1, 4, 2));
-    expect_closed(&rt, &answer, [mount(6, 1), mount(0, 0)], [late, none], late);
-    expect_met(&rt, &street, 0, LATE)?;
-    expect_met(&rt, &street, 1, ICY)
+    let rover = failing_link(alloc, &[ROVER_ALPHA, b""], failing)?;
+    let mut street = slow_street(rt, alloc, &flags, rover, begins)?;
+    let answer = cast(rt, alloc, b"", 1, &mut street)?;
+    let none = sum(0, 0, 0);
+    expect_closed(rt, &answer, [mount(6, 1), mount(0, 0)], [left, none], left);
+    expect_met(rt, &street, 0, &LATE[..size.min(LATE.len())])?;
+    expect_met(rt, &street, 1, ICY)?;
+    expect_faults(rt, &street, faults)
+}
+
+// The ring keeps four frames. The reads of the rover are of its head, of nothing and of its end. Where
+// the first one fails it is not let in.
+#[test]
+fn a_read_fails_of_a_rover_that_is_lapped(rt: HostRuntime) -> Result<(), Fail> {
+    for (call, begins, size, left, faults) in [
+        (1, NONE, 0, sum(0, 0, 0), 1),
+        (3, 0, 14, sum(1, 0, 0), 1),
+        (5, 0, 46, sum(1, 4, 2), 1),
+        (7, 0, 46, sum(1, 4, 2), 0),
+    ] {
+        expect_late(
+            &rt,
+            rt.alloc(),
+            Failing::Call(call),
+            begins,
+            size,
+            left,
+            faults,
+        )?;
+    }
+    Ok(())
+}
+
+// Its writes are of a reply of 14 bytes and of four frames of 8 bytes.
+#[test]
+fn a_write_is_torn_to_a_rover_that_is_lapped(rt: HostRuntime) -> Result<(), Fail> {
+    let (unread, lapped) = (sum(1, 0, 0), sum(1, 4, 2));
+    for (write, most, size, left, faults) in [
+        (1, 0, 0, unread, 1),
+        (1, 1, 1, unread, 1),
+        (1, 14, 14, unread, 1),
+        (2, 0, 14, lapped, 1),
+        (2, 1, 15, lapped, 1),
+        (2, 32, 46, lapped, 1),
+        (3, 0, 46, lapped, 0),
+    ] {
+        expect_late(
+            &rt,
+            rt.alloc(),
+            Failing::Write(write, most),
+            0,
+            size,
+            left,
+            faults,
+        )?;
+    }
+    Ok(())
 }

@@ -1,7 +1,9 @@
 //! Links whose calls set flags and wait for flags of other links, with doors and a street of them.
-//! They tell nothing of what they did, and never fail.
+//! A link tells how often it failed, and the street how many such links came back, and nothing else.
+//! The doors tell nothing. Neither they nor the street ever fail.
 
-ghost use Rattle.caster_serve_tests.specs.Untold.{untold_door, untold_link, untold_street};
+ghost use Rattle.std.specs.Prelude.{◌≡◌};
+ghost use Rattle.caster_serve_tests.specs.Untold.{counted_link, counted_street, untold_door};
 
 use cast_io::{Arrived, Door, Failed, Got, Link, MemLink, Street, StreetFault};
 use std::alloc::Global;
@@ -25,13 +27,14 @@ pub struct Stop {
     pub awaits: usize,
 }
 
-/// A link that answers as one in memory, but for its stops and its failures.
+/// A link that answers as one in memory, but for its stops.
 #[derive(Drop)]
 pub struct TimedLink<'a, R: Clock> {
     rt: &'a R,
     flags: &'a [AtomicBool],
     stops: Vec<Stop>,
     calls: u64,
+    faults: u64,
     met: bool,
     link: MemLink,
 }
@@ -49,6 +52,7 @@ pub struct TimedStreet<'a, R: Clock> {
     alloc: Global,
     doors: Vec<TimedDoor<'a, R>>,
     back: Vec<TimedDoor<'a, R>>,
+    link_faults: u64,
 }
 
 /// Does what stands for this call, and answers whether the flag came that it waited for.
@@ -79,6 +83,7 @@ impl<'a, R: Clock> TimedLink<'a, R> {
             flags,
             stops,
             calls: 0,
+            faults: 0,
             met: true,
             link,
         }
@@ -94,8 +99,15 @@ impl<'a, R: Clock> TimedLink<'a, R> {
         self.link.bytes()
     }
 
+    /// How often it failed so far.
+    pub fn faults(&self) -> u64 {
+        self.faults
+    }
+
     // Counts a call, and does what stands for it.
-    fn stop(&mut self) {
+    fn stop(&mut self)
+        ensures { self.new.faults ≡ self.old.faults }
+    {
         self.calls = self.calls.saturating_add(1);
         if !stop_at(self.rt, self.flags, &self.stops, self.calls) {
             self.met = false;
@@ -104,20 +116,23 @@ impl<'a, R: Clock> TimedLink<'a, R> {
 }
 
 impl<'a, R: Clock> Link for TimedLink<'a, R> {
-    ghost told = { λ link. untold_link };
+    ghost told = { λ link. counted_link link.faults };
 
     fn read(&mut self, buf: &mut [u8]) -> Got {
         self.stop();
-        match self.link.read(buf) {
-            Got::Bytes(count) => Got::Bytes(count),
-            Got::Idle => Got::Idle,
-            Got::End | Got::Failed => Got::End,
+        let got = self.link.read(buf);
+        if let Got::Failed = got {
+            self.faults = self.faults.saturating_add(1);
         }
+        got
     }
 
     fn write(&mut self, piece: &[u8]) -> Result<(), Failed> {
         self.stop();
-        let _ = self.link.write(piece);
+        let Ok(()) = self.link.write(piece) else {
+            self.faults = self.faults.saturating_add(1);
+            return Err(Failed);
+        };
         Ok(())
     }
 
@@ -144,9 +159,13 @@ impl<'a, R: Clock> Door for TimedDoor<'a, R> {
 
     ghost told = { λ door. untold_door };
 
+    // A link that arrives has not failed yet.
     fn accept(&mut self) -> Arrived<TimedLink<'a, R>> {
         match self.left.take() {
-            Some(link) => Arrived::Link(link),
+            Some(mut link) => {
+                link.faults = 0;
+                Arrived::Link(link)
+            }
             None => Arrived::Idle,
         }
     }
@@ -165,6 +184,7 @@ impl<'a, R: Clock> TimedStreet<'a, R> {
             alloc,
             doors,
             back: Vec::new(alloc),
+            link_faults: 0,
         }
     }
 
@@ -179,7 +199,7 @@ impl<'a, R: Clock> Street for TimedStreet<'a, R> {
 
     type Door = TimedDoor<'a, R>;
 
-    ghost told = { λ street. untold_street };
+    ghost told = { λ street. counted_street street.link_faults };
 
     fn open(&mut self, _addr: &str, doors: u32) -> Result<Vec<TimedDoor<'a, R>>, StreetFault> {
         if self.doors.len() != doors as usize {
@@ -192,7 +212,11 @@ impl<'a, R: Clock> Street for TimedStreet<'a, R> {
         Err(StreetFault::Memory)
     }
 
-    fn hang_up(&mut self, _link: TimedLink<'a, R>) {}
+    fn hang_up(&mut self, link: TimedLink<'a, R>) {
+        if link.faults > 0 {
+            self.link_faults = self.link_faults.saturating_add(1);
+        }
+    }
 
     fn shut(&mut self, door: TimedDoor<'a, R>) {
         let _ = self.back.push(door);
