@@ -14,6 +14,8 @@ pub use tired::Tired;
 #[cfg(test)]
 mod caster;
 #[cfg(test)]
+mod frame_tests;
+#[cfg(test)]
 mod head_tests;
 #[cfg(test)]
 mod relay_tests;

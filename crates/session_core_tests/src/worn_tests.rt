@@ -77,11 +77,21 @@ fn a_turn_of_a_rover_is_refused(rt: HostRuntime) -> Result<(), Fail> {
     expect_refused(&rt, alloc, Start::Head, book(1), &script, left_inside)
 }
 
-// Its claim.
+// Its claim, its frame, and its release.
 #[test]
 fn a_turn_of_a_relay_is_refused(rt: HostRuntime) -> Result<(), Fail> {
+    let alloc = rt.alloc();
     let asked = b"GET /UP HTTP/1.0\r\nUser-Agent: NTRIP lapcast/1.0\r\n\r\n";
-    let script = [(Who::First, Act::In(b"ICY 200 OK\r\n"))];
-    let wanted = ends(RING, asked);
-    expect_refused(&rt, rt.alloc(), Start::Relay, ring(0), &script, wanted)
+    let script = [
+        (Who::First, Act::In(b"ICY 200 OK\r\n")),
+        (Who::First, Act::In(FRAME_A)),
+    ];
+    let worn = ends(RING, asked);
+    expect_refused(&rt, alloc, Start::Relay, ring(0), &script, worn)?;
+    expect_refused(&rt, alloc, Start::Relay, ring(1), &script, worn)?;
+    let unreleased = Wanted {
+        settled: false,
+        ..ends(Ending::SourceEnd { claim: 1 }, asked)
+    };
+    expect_refused(&rt, alloc, Start::Relay, ring(2), &script, unreleased)
 }
