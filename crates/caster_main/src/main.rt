@@ -6,6 +6,8 @@ mod adapters;
 mod answers;
 mod command;
 mod config_answers;
+#[cfg(test)]
+mod memory_tests;
 mod network;
 mod serving_answers;
 mod session_answers;

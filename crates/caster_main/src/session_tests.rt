@@ -502,7 +502,7 @@ fn try_session<R: Threads + Wait + Sync>(
     report: &str,
 ) -> Result<(), Fail> {
     let store = store_of(alloc, parts, &written(alloc, script)?, &[])?;
-    let came = file_run(rt, alloc, &["replay", "a", "s"], store)?;
+    let came = file_run(rt, alloc, &["replay", "a", "s"], store, &[])?;
     assert_eq!(host; came.status, 0, "{name}");
     assert_eq!(host;
         came.text.as_slice(),
@@ -551,7 +551,7 @@ fn sessions_of_a_caster_that_is_open_to_all_have_their_reports(
 ) -> Result<(), Fail> {
     assert_eq!(rt; OPEN_TABLE.len(), 70);
     let store = store_of(rt.alloc(), &[OPEN], b"", &[])?;
-    let came = file_run(&rt, rt.alloc(), &["table", "a"], store)?;
+    let came = file_run(&rt, rt.alloc(), &["table", "a"], store, &[])?;
     expect_run(&rt, 1, &came, 0, OPEN_TABLE);
     try_sessions(&rt, &rt, rt.alloc(), &[OPEN], &OPEN_SESSIONS)
 }
@@ -596,26 +596,33 @@ fn a_ring_of_no_frames_is_out_of_range(rt: HostRuntime) -> Result<(), Fail> {
     ];
     let session = written(rt.alloc(), FILTERED)?;
     let store = store_of(rt.alloc(), &parts, &session, &[])?;
-    let came = file_run(&rt, rt.alloc(), &["replay", "a", "s"], store)?;
+    let came = file_run(&rt, rt.alloc(), &["replay", "a", "s"], store, &[])?;
     expect_run(&rt, 1, &came, 2, b"configuration: range mount 2 ring\n");
     assert_eq!(rt; came.paths.as_slice(), b"a\n".as_slice());
     Ok(())
 }
 
-// The command over the usual session, the call of the store of this number failing.
+// The command over the usual session. The call of the store of this number fails, and the write of
+// this one after so many bytes.
 fn failing_run<R: Threads + Wait + Sync>(
     rt: &R,
     alloc: Global,
     words: &[&str],
     session: &[u8],
     call: u64,
+    write: (u64, u64),
 ) -> Result<Came, Fail> {
     let store = store_of(alloc, &[VERSION_1, FRONT, BACK], session, &[call])?;
-    file_run(rt, alloc, words, store)
+    file_run(rt, alloc, words, store, &[write])
 }
 
+// No call and no write.
+const NEVER: u64 = 0;
+
+const UNTORN: (u64, u64) = (0, 0);
+
 // With each call of the store failing in turn, up to the last one, the command ends with a read fault,
-// and then with this text.
+// and was asked for the second file from its fourth call on. Then it ends so.
 fn try_failing<R: Threads + Wait + Sync>(
     rt: &R,
     host: &impl Abort,
@@ -623,33 +630,66 @@ fn try_failing<R: Threads + Wait + Sync>(
     words: &[&str],
     session: &[u8],
     calls: u64,
+    status: u8,
     text: &[u8],
 ) -> Result<(), Fail> {
     for call in 1..=calls {
-        let came = failing_run(rt, alloc, words, session, call)?;
+        let came = failing_run(rt, alloc, words, session, call, UNTORN)?;
         expect_run(host, call, &came, 4, READ_FAULT);
+        let paths = if call < 4 {
+            b"a\n".as_slice()
+        } else {
+            b"a\ns\n"
+        };
+        assert_eq!(host; came.paths.as_slice(), paths, "call {call}");
     }
-    let came = failing_run(rt, alloc, words, session, calls.saturating_add(1))?;
-    expect_run(host, 0, &came, 0, text);
+    let came = failing_run(rt, alloc, words, session, calls.saturating_add(1), UNTORN)?;
+    expect_run(host, 0, &came, status, text);
     Ok(())
 }
 
+// With its one write failing after no byte, one byte and all of them, the command ends with status 5.
+// Then it ends so.
+fn try_torn<R: Threads + Wait + Sync>(
+    rt: &R,
+    host: &impl Abort,
+    alloc: Global,
+    words: &[&str],
+    session: &[u8],
+    status: u8,
+    text: &[u8],
+) -> Result<(), Fail> {
+    for most in [0, 1, text.len()] {
+        let write = (1, most as u64);
+        let came = failing_run(rt, alloc, words, session, NEVER, write)?;
+        expect_run(host, most as u64, &came, 5, &text[..most.min(text.len())]);
+    }
+    let came = failing_run(rt, alloc, words, session, NEVER, (2, 0))?;
+    expect_run(host, 0, &came, status, text);
+    Ok(())
+}
+
+// A caster that has its configuration finds no street.
 #[test]
-fn each_command_meets_each_failing_call_of_the_store(rt: HostRuntime) -> Result<(), Fail> {
+fn each_command_meets_each_failing_call_of_the_store_and_of_the_output(
+    rt: HostRuntime,
+) -> Result<(), Fail> {
     let (_, lines) = USUAL.split_once('\n').ok_or("no name")?;
     let (script, report) = lines.split_once("-- report\n").ok_or("no report")?;
     let session = written(rt.alloc(), script)?;
     let text = written(rt.alloc(), report)?;
     // The document that `migrate` writes is the one that it writes without a fault.
-    let migrated = failing_run(&rt, rt.alloc(), &["migrate", "a"], &session, 0)?;
-    let commands: [(&[&str], u64, &[u8]); 4] = [
-        (&["check", "a"], 3, b"ok\n"),
-        (&["table", "a"], 3, TABLE),
-        (&["migrate", "a"], 3, &migrated.text),
-        (&["replay", "a", "s"], 6, &text),
+    let migrated = failing_run(&rt, rt.alloc(), &["migrate", "a"], &session, NEVER, UNTORN)?;
+    let commands: [(&[&str], u64, u8, &[u8]); 5] = [
+        (&["check", "a"], 3, 0, b"ok\n"),
+        (&["table", "a"], 3, 0, TABLE),
+        (&["migrate", "a"], 3, 0, &migrated.text),
+        (&["replay", "a", "s"], 6, 0, &text),
+        (&["serve", "a", "b", "1"], 3, 6, b"network fault\n"),
     ];
-    for (words, calls, text) in commands {
-        try_failing(&rt, &rt, rt.alloc(), words, &session, calls, text)?;
+    for (words, calls, status, text) in commands {
+        try_failing(&rt, &rt, rt.alloc(), words, &session, calls, status, text)?;
+        try_torn(&rt, &rt, rt.alloc(), words, &session, status, text)?;
     }
     Ok(())
 }

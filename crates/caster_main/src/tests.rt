@@ -64,10 +64,6 @@ cap = 8
 // A filter of the first group for a mountpoint that there is not.
 const FILTER: &[u8] = b"[[group.filter]]\nmount = \"NONE\"\ntypes = [1005]\n";
 
-// The report of a session over it in which a connection opens and sends nothing.
-const SESSION_REPORT: &[u8] = b"connection 7 no-head\njunk 0\nbytes -\nmount ALPHA 0 0\n\
-    mount BRAVO 0 0\naccount rover1 0 0 0\naccount rover2 0 0 0\ntotal 0 0 0\n";
-
 // Its sourcetable of 206 bytes.
 pub const TABLE: &[u8] = b"STR;ALPHA;ALPHA;RTCM 3.3;;2;GPS;;;48.11;11.51;0;0;;none;B;N;0;\r\n\
     STR;BRAVO;BRAVO;RTCM 3.3;;2;GPS;;;48.20;11.51;0;0;;none;B;N;0;\r\n\
@@ -141,31 +137,31 @@ fn long_report(alloc: Global) -> Result<Vec<u8>, Fail> {
     Ok(report)
 }
 
-// The first piece of the text.
-fn first_piece(text: &[u8]) -> &[u8] {
-    let size = text.len().min(65_536);
-    &text[..size]
-}
-
+// The pieces are of 65,536 bytes and of the rest. Each is torn after no byte, one byte and all of them.
 #[test]
 fn a_long_report_is_written_in_pieces(rt: HostRuntime) -> Result<(), Fail> {
     let script = long_script(rt.alloc())?;
     let report = long_report(rt.alloc())?;
-    assert!(rt; report.len() > 65_536, "two pieces");
-    let wanted: [(u64, u8, &[u8]); 3] = [
-        (1, 5, b""),
-        (2, 5, first_piece(&report)),
-        (3, 0, &report),
-    ];
-    for (failing, status, written) in wanted {
-        let came = bare_run(&rt, rt.alloc(), &["bare", "4096"], &script, &[], &[failing])?;
-        expect_run(&rt, failing, &came, status, written);
+    let all = report.len();
+    assert!(rt; all > 65_536 && all < 131_072, "two pieces");
+    for (write, most, status, size) in [
+        (1, 0, 5, 0),
+        (1, 1, 5, 1),
+        (1, 65_536, 5, 65_536),
+        (2, 0, 5, 65_536),
+        (2, 1, 5, 65_537),
+        (2, 65_536, 5, all),
+        (3, 0, 0, all),
+    ] {
+        let torn = [(write, most)];
+        let came = bare_run(&rt, rt.alloc(), &["bare", "4096"], &script, &[], &torn)?;
+        expect_run(&rt, write, &came, status, &report[..all.min(size)]);
     }
     Ok(())
 }
 
-// These words with this input over no files: the status and the text, and status 5 and nothing where
-// the write fails. The street is asked for nothing.
+// These words with this input over no files: the status and the text, and status 5 and its beginning
+// where the one write fails after no byte, one byte and all of them. The street is asked for nothing.
 fn try_words<R: Threads + Wait + Sync>(
     rt: &R,
     host: &impl Abort,
@@ -176,11 +172,14 @@ fn try_words<R: Threads + Wait + Sync>(
     status: u8,
     text: &[u8],
 ) -> Result<(), Fail> {
-    let came = bare_run(rt, alloc, words, input, &[], &[])?;
+    for most in [0, 1, text.len()] {
+        let torn = bare_run(rt, alloc, words, input, &[], &[(1, most as u64)])?;
+        expect_run(host, case, &torn, 5, &text[..most.min(text.len())]);
+        assert!(host; torn.asked.is_empty());
+    }
+    let came = bare_run(rt, alloc, words, input, &[], &[(2, 0)])?;
     expect_run(host, case, &came, status, text);
-    let torn = bare_run(rt, alloc, words, input, &[], &[1])?;
-    expect_run(host, case, &torn, 5, b"");
-    assert!(host; came.asked.is_empty() && torn.asked.is_empty());
+    assert!(host; came.asked.is_empty());
     Ok(())
 }
 
@@ -250,7 +249,7 @@ fn more_than_8_mib_are_too_long(rt: HostRuntime) -> Result<(), Fail> {
     let came = bare_run(&rt, rt.alloc(), &["bare", "4"], &input, &[], &[])?;
     expect_run(&rt, 1, &came, 8, b"too long\n");
     let store = store_of(rt.alloc(), &[&input], b"", &[])?;
-    let came = file_run(&rt, rt.alloc(), &["check", "a"], store)?;
+    let came = file_run(&rt, rt.alloc(), &["check", "a"], store, &[])?;
     expect_run(&rt, 2, &came, 8, b"too long\n");
     Ok(())
 }
@@ -267,6 +266,7 @@ fn expect_table<R: Threads + Wait + Sync>(
         alloc,
         &["check", "a"],
         store_of(alloc, parts, b"", &[])?,
+        &[],
     )?;
     expect_run(host, 1, &checked, 0, b"ok\n");
     let tabled = file_run(
@@ -274,6 +274,7 @@ fn expect_table<R: Threads + Wait + Sync>(
         alloc,
         &["table", "a"],
         store_of(alloc, parts, b"", &[])?,
+        &[],
     )?;
     expect_run(host, 2, &tabled, 0, TABLE);
     Ok(())
@@ -285,7 +286,7 @@ fn a_configuration_is_migrated_to_one_with_its_table(rt: HostRuntime) -> Result<
     let parts = [VERSION_1, FRONT, BACK];
     expect_table(&rt, &rt, rt.alloc(), &parts)?;
     let store = store_of(rt.alloc(), &parts, b"", &[])?;
-    let came = file_run(&rt, rt.alloc(), &["migrate", "a"], store)?;
+    let came = file_run(&rt, rt.alloc(), &["migrate", "a"], store, &[])?;
     assert_eq!(rt; came.status, 0);
     expect_table(&rt, &rt, rt.alloc(), &[came.text.as_slice()])
 }
@@ -299,7 +300,8 @@ fn try_faulty<R: Threads + Wait + Sync>(
     line: &[u8],
 ) -> Result<(), Fail> {
     for name in ["check", "table", "migrate"] {
-        let came = file_run(rt, alloc, &[name, "a"], store_of(alloc, parts, b"", &[])?)?;
+        let store = store_of(alloc, parts, b"", &[])?;
+        let came = file_run(rt, alloc, &[name, "a"], store, &[])?;
         expect_run(host, 1, &came, 2, line);
     }
     let street = no_street(alloc)?;
@@ -329,42 +331,6 @@ fn a_faulty_file_has_the_line_of_its_first_fault(rt: HostRuntime) -> Result<(), 
     Ok(())
 }
 
-#[test]
-fn each_failing_call_of_the_store_is_a_read_fault(rt: HostRuntime) -> Result<(), Fail> {
-    // The file is opened, comes in one read, and the third call says that it ends.
-    let fault: (u8, &[u8]) = (4, READ_FAULT);
-    for (failing, (status, text)) in [(1, fault), (2, fault), (3, fault), (4, (0, b"ok\n"))] {
-        let store = store_of(rt.alloc(), &[VERSION_1, FRONT, BACK], b"", &[failing])?;
-        let came = file_run(&rt, rt.alloc(), &["check", "a"], store)?;
-        expect_run(&rt, failing, &came, status, text);
-        assert_eq!(rt; came.paths.as_slice(), b"a\n".as_slice(), "call {failing}");
-    }
-    Ok(())
-}
-
-#[test]
-fn each_failing_call_for_a_session_is_a_read_fault(rt: HostRuntime) -> Result<(), Fail> {
-    // Each file is opened, comes in one read, and a further call says that it ends.
-    let first: (u8, &[u8], &[u8]) = (4, READ_FAULT, b"a\n");
-    let second: (u8, &[u8], &[u8]) = (4, READ_FAULT, b"a\ns\n");
-    for (failing, (status, text, paths)) in [
-        (1, first),
-        (2, first),
-        (3, first),
-        (4, second),
-        (5, second),
-        (6, second),
-        (7, (0, SESSION_REPORT, b"a\ns\n")),
-    ] {
-        let session = b"open 7\nstop\n";
-        let store = store_of(rt.alloc(), &[VERSION_1, FRONT, BACK], session, &[failing])?;
-        let came = file_run(&rt, rt.alloc(), &["replay", "a", "s"], store)?;
-        expect_run(&rt, failing, &came, status, text);
-        assert_eq!(rt; came.paths.as_slice(), paths, "call {failing}");
-    }
-    Ok(())
-}
-
 // What the peers of a caster send: a source of BRAVO with the messages 1005 and 1077, two rovers that
 // may hear 1005 alone of it, and another caster that answers a relay.
 const SOURCE: &[&[u8]] = &[
@@ -380,12 +346,12 @@ const ROVER: &[&[u8]] = &[
 const UPSTREAM: &[&[u8]] = &[b"ICY 200 OK\r\n\xd3\x00\x02\x3e\xd0\xa4\xe0\x00"];
 
 // The store of that configuration, with a relay or without.
-fn caster_store(alloc: Global, relay: &[u8]) -> Result<MemStore, Fail> {
+pub fn caster_store(alloc: Global, relay: &[u8]) -> Result<MemStore, Fail> {
     store_of(alloc, &[VERSION_1, FRONT, BACK, relay], b"", &[])
 }
 
 // The street of these peers, of which the calls of these numbers fail.
-fn peers(alloc: Global, accepts: &[u64], calls: &[u64]) -> Result<MemStreet, Fail> {
+pub fn peers(alloc: Global, accepts: &[u64], calls: &[u64]) -> Result<MemStreet, Fail> {
     street_of(alloc, &[SOURCE, ROVER, ROVER, UPSTREAM], 50, accepts, calls)
 }
 
@@ -409,7 +375,8 @@ fn is_closing(alloc: Global, text: &[u8], alpha: &str) -> Result<bool, Fail> {
     Ok(false)
 }
 
-// A caster of these peers ends with status 0, and asked for this.
+// A caster of these peers ends with status 0, and asked for this. There is no second accept, no third
+// call of the street and no second write that could fail.
 fn try_caster<R: Threads + Wait + Sync>(
     rt: &R,
     host: &impl Abort,
@@ -418,8 +385,8 @@ fn try_caster<R: Threads + Wait + Sync>(
     alpha: &str,
     asked: &[u8],
 ) -> Result<(), Fail> {
-    let street = peers(alloc, &[], &[])?;
-    let came = serve_run(rt, alloc, caster_store(alloc, relay)?, &[], street)?;
+    let street = peers(alloc, &[2], &[3])?;
+    let came = serve_run(rt, alloc, caster_store(alloc, relay)?, &[(2, 0)], street)?;
     assert_eq!(host; came.status, 0);
     assert!(host; is_closing(alloc, came.text.as_slice(), alpha)?);
     assert_eq!(host; came.asked.as_slice(), asked);
@@ -456,25 +423,20 @@ fn a_network_that_fails_has_its_status_and_line(rt: HostRuntime) -> Result<(), F
     Ok(())
 }
 
+// Their one write fails after no byte, one byte and all of them.
 #[test]
 fn totals_that_are_not_written_have_status_5(rt: HostRuntime) -> Result<(), Fail> {
-    let street = peers(rt.alloc(), &[], &[])?;
-    let came = serve_run(
-        &rt,
-        rt.alloc(),
-        caster_store(rt.alloc(), b"")?,
-        &[1],
-        street,
-    )?;
-    expect_run(&rt, 1, &came, 5, b"");
-    let street = peers(rt.alloc(), &[], &[1])?;
-    let came = serve_run(
-        &rt,
-        rt.alloc(),
-        caster_store(rt.alloc(), b"")?,
-        &[1],
-        street,
-    )?;
-    expect_run(&rt, 2, &came, 5, b"");
+    let alloc = rt.alloc();
+    for (most, text) in [(0, b"".as_slice()), (1, b"m")] {
+        let street = peers(alloc, &[], &[])?;
+        let store = caster_store(alloc, b"")?;
+        let came = serve_run(&rt, alloc, store, &[(1, most)], street)?;
+        expect_run(&rt, most, &came, 5, text);
+    }
+    let street = peers(alloc, &[], &[])?;
+    let store = caster_store(alloc, b"")?;
+    let came = serve_run(&rt, alloc, store, &[(1, u64::MAX)], street)?;
+    assert_eq!(rt; came.status, 5);
+    assert!(rt; is_closing(alloc, came.text.as_slice(), "0 0")?);
     Ok(())
 }

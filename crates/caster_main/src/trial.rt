@@ -28,18 +28,18 @@ pub struct Came {
     pub asked: Vec<u8>,
 }
 
-/// Runs these words. The writes of these numbers fail.
+/// Runs these words. The writes of these numbers fail, each after so many bytes.
 pub fn run<R: Threads + Wait + Sync>(
     rt: &R,
     alloc: Global,
     words: &[&str],
     mut store: MemStore,
     mut input: MemSource,
-    writes: &[u64],
+    writes: &[(u64, u64)],
     mut street: MemStreet,
 ) -> Result<Came, Fail> {
     let texts = texts_of(alloc, words)?;
-    let mut sink = MemSink::new(alloc, writes.to_vec(alloc)?);
+    let mut sink = MemSink::torn(alloc, writes.to_vec(alloc)?);
     let status = caster(
         rt,
         alloc,
@@ -52,7 +52,8 @@ pub fn run<R: Threads + Wait + Sync>(
     came_of(alloc, status, &sink, &store, &street)
 }
 
-fn texts_of(alloc: Global, words: &[&str]) -> Result<Vec<String>, Fail> {
+/// These words.
+pub fn texts_of(alloc: Global, words: &[&str]) -> Result<Vec<String>, Fail> {
     let mut texts = Vec::new(alloc);
     for word in words {
         texts.push(String::from_str(alloc, word)?)?;
@@ -117,7 +118,7 @@ pub fn bare_run<R: Threads + Wait + Sync>(
     words: &[&str],
     input: &[u8],
     reads: &[u64],
-    writes: &[u64],
+    writes: &[(u64, u64)],
 ) -> Result<Came, Fail> {
     let store = MemStore::new(alloc, Vec::new(alloc), Vec::new(alloc));
     let source = MemSource::new(input.to_vec(alloc)?, reads.to_vec(alloc)?);
@@ -130,9 +131,10 @@ pub fn file_run<R: Threads + Wait + Sync>(
     alloc: Global,
     words: &[&str],
     store: MemStore,
+    writes: &[(u64, u64)],
 ) -> Result<Came, Fail> {
     let source = MemSource::new(Vec::new(alloc), Vec::new(alloc));
-    run(rt, alloc, words, store, source, &[], no_street(alloc)?)
+    run(rt, alloc, words, store, source, writes, no_street(alloc)?)
 }
 
 /// Serves over the configuration in the file `a` of this store at this street, one connection each.
@@ -140,7 +142,7 @@ pub fn serve_run<R: Threads + Wait + Sync>(
     rt: &R,
     alloc: Global,
     store: MemStore,
-    writes: &[u64],
+    writes: &[(u64, u64)],
     street: MemStreet,
 ) -> Result<Came, Fail> {
     let source = MemSource::new(Vec::new(alloc), Vec::new(alloc));
@@ -179,7 +181,7 @@ pub fn no_street(alloc: Global) -> Result<MemStreet, Fail> {
 }
 
 /// A street of three doors with one link each, and one link to dial, whose peers send these bytes, are
-/// then idle so often, and end. The accepts of the first door and the calls of the street of these
+/// then idle so often, and end. The accepts of the second door and the calls of the street of these
 /// numbers fail.
 pub fn street_of(
     alloc: Global,
@@ -189,8 +191,8 @@ pub fn street_of(
     calls: &[u64],
 ) -> Result<MemStreet, Fail> {
     let mut doors = Vec::new(alloc);
-    doors.push(door_of(alloc, link_of(alloc, peers[0], idle)?, accepts)?)?;
-    doors.push(door_of(alloc, link_of(alloc, peers[1], idle)?, &[])?)?;
+    doors.push(door_of(alloc, link_of(alloc, peers[0], idle)?, &[])?)?;
+    doors.push(door_of(alloc, link_of(alloc, peers[1], idle)?, accepts)?)?;
     doors.push(door_of(alloc, link_of(alloc, peers[2], idle)?, &[])?)?;
     let mut links = Vec::new(alloc);
     links.push(link_of(alloc, peers[3], idle)?)?;
