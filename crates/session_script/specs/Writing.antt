@@ -58,6 +58,10 @@ pub record IsWritten (bytes : List ℕ) (events : List Event) : Type 0 where
   pub ends : IsEnding ending
   pub text : bytes ≡ flat_map row_text rows ++ (codes "stop" ++ ending)
 
--- the plain text of the events: a line for each, with LF, and `stop`
+-- the plain lines of the events, each with LF
+abbrev pub lines_text : List Event → List ℕ
+lines_text events = flat_map (λ event. line_text event ++ 10 ∷ []) events
+
+-- the plain text of the events: a line for each, and `stop`
 abbrev pub script_text : List Event → List ℕ
-script_text events = flat_map (λ event. line_text event ++ 10 ∷ []) events ++ codes "stop\n"
+script_text events = lines_text events ++ codes "stop\n"

@@ -19,7 +19,7 @@ use cast_text::{MountName, Text};
 pub use reading::parse;
 use std::alloc::{AllocError, AllocFailed};
 use thiserror::Error;
-pub use writing::script_text;
+pub use writing::{push_line, script_text};
 
 /// One event of a script. The first number of each is the connection's, from 1 to 9999.
 #[derive(Debug, PartialEq, Eq, Drop)]

@@ -47,8 +47,11 @@ fn decimal_of(alloc: Global, number: u64) -> Result<Vec<u8>, AllocError>
     Ok(text)
 }
 
-/// Appends the line of an event.
-fn push_line(out: &mut Vec<u8>, event: &Event) -> Result<(), AllocError>
+/// Appends the line of an event, with an LF.
+///
+/// # Errors
+/// Where there is no memory. Then some first part of the line was appended.
+pub fn push_line(out: &mut Vec<u8>, event: &Event) -> Result<(), AllocError>
     ensures { OnOk result (out.new.items ≡ out.old.items ++ line_text event.now ++ 10 ∷ []) }
 {
     let alloc = *out.allocator();
