@@ -55,12 +55,12 @@ impl Outbox {
         self.len = 0;
     }
 
-    /// Adds a frame at the end.
-    pub(crate) fn push(&mut self, frame: Frame)
+    /// Adds a frame at the end, of which no more than its own bytes is copied.
+    pub(crate) fn push(&mut self, frame: &Frame)
         requires { length self.old < most_taken }
-        ensures { self.new ≡ self.old ++ frame ∷ [] }
+        ensures { self.new ≡ self.old ++ frame.now ∷ [] }
     {
-        self.frames[self.len] = frame;
+        self.frames[self.len].copy_from(frame);
         self.len += 1;
     }
 }

@@ -71,7 +71,7 @@ pub(crate) fn take_frames(
             unreachable!();
         };
         if filter.permits(frame) {
-            out.push(*frame);
+            out.push(frame);
             left -= 1;
         }
         index += 1;

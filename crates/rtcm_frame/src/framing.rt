@@ -1,5 +1,5 @@
 //! A whole frame of RTCM 10403.3's transport layer.
-ghost use Rattle.std.specs.Prelude.{◌≡◌, ℕ, ◌+◌, ◌-◌, ◌<◌, ◌≤◌, List, [], ◌∷◌, ◌++◌, ◌*◌, length, take, drop, if◌then◌else◌, IsTrue, IfSome};
+ghost use Rattle.std.specs.Prelude.{◌≡◌, ℕ, ◌+◌, ◌-◌, ◌<◌, ◌≤◌, List, [], ◌∷◌, ◌++◌, ◌*◌, length, take, drop, replicate, if◌then◌else◌, IsTrue, IfSome};
 ghost use Rattle.rtcm_frame.specs.Crc.{crc24q_of};
 ghost use Rattle.rtcm_frame.specs.Transport.{preamble, frame_length, is_frame, number_of};
 
@@ -76,6 +76,16 @@ impl Frame {
             bytes: held,
             len: bytes.len(),
         }
+    }
+
+    /// Becomes the other frame. No more is written than the bytes of the longer one of the two.
+    pub fn copy_from(&mut self, other: &Frame)
+        ensures { self.new ≡ other.now }
+    {
+        let bytes = other.bytes();
+        clear(&mut self.bytes, bytes.len().min(self.len), self.len);
+        put_front(&mut self.bytes, bytes);
+        self.len = bytes.len();
     }
 
     /// All bytes of the frame, from the preamble to the checksum.
@@ -161,6 +171,14 @@ fn big_endian(high: u8, middle: u8, low: u8) -> u32
     ensures { result ≡ high * 65536 + middle * 256 + low }
 {
     u32::from(high) * 65536 + u32::from(middle) * 256 + u32::from(low)
+}
+
+// Writes zeros from a place of a buffer up to another.
+fn clear(all: &mut [u8], from: usize, to: usize)
+    requires { (from ≤ to) × (to ≤ length all.old) }
+    ensures { all.new ≡ take from all.old ++ (replicate (to - from) 0 ++ drop to all.old) }
+{
+    all[from..to].fill(0);
 }
 
 // Writes these bytes over the front of a buffer.

@@ -102,7 +102,7 @@ claimed_received mount claim (step ∷ steps) is = ap (λ (s : Step). received (
 
 pub relay_received : (mount me : ℕ) (stage : RelayStage) (text : List ℕ) (steps : List Step)
     → StandsAt mount me stage text steps → IsReceived stage steps
-relay_received mount me (relays.Head head) text steps x =
+relay_received mount me (relays.Head head cutter) text steps x =
     inl (none_made mount false x.answer heads.Open text steps refl x.at_stage.1 x.made)
 relay_received mount me (relays.Body session) text steps x =
     inl (claimed_received mount session.claim steps x.at_stage.claimed)
@@ -120,7 +120,7 @@ pub record IsGiven (m : ℕ) (heading : Heading) (text : List ℕ) : Type 0 wher
 pub relay_given : (m mount me claim : ℕ) (heading : Heading) (stage : RelayStage) (text : List ℕ) (steps : List Step)
     → IsAnswering text heading → StandsAt mount me stage text steps → claim_at stage ≡ Some claim
     → IsGiven m heading text
-relay_given m mount me claim heading (relays.Head head) text steps says x given = absurd cc
+relay_given m mount me claim heading (relays.Head head cutter) text steps says x given = absurd cc
 relay_given m mount me claim heading (relays.Halted halt) text steps says x given = absurd cc
 relay_given m mount me claim heading (relays.Body session) text steps says x given =
     let body = x.at_stage in

@@ -122,7 +122,7 @@ ends_by claim (Some sources.Memory) chunks cutter body stands = inl refl
 pub source_ends : (claim : ℕ) (session : SourceSession) (body : List ℕ) → source_standing.StandsFor session body
     → EndsAs (option_map (end_of_source claim) session.halt)
     (claimed_ending (source_standing.is_chunked session) claim body)
-source_ends claim session body stands = ends_by claim session.halt session.chunks session.cutter body stands
+source_ends claim session body stands = ends_by claim session.halt session.chunks session.cutter.value body stands
 
 -- ---- the calls of a relay are those of a source
 
@@ -251,7 +251,7 @@ turn_halted claim halts.Memory = refl
 -- a relay's turn was refused exactly where its ending is a halt
 pub relay_halted : (claim : Option ℕ) (stage : RelayStage)
     → is_halted (option_map (end_of_relay claim) (halt_at stage)) ≡ is_short_at stage
-relay_halted claim (stages.Head head) = refl
+relay_halted claim (stages.Head head cutter) = refl
 relay_halted claim (stages.Body session) = source_halted claim session.halt
 relay_halted claim (stages.Halted halt) = turn_halted claim halt
 
@@ -320,7 +320,7 @@ pub relay_ends : (mount me : ℕ) (stage : RelayStage) (answer : HeadAnswer) (te
     → relay_standing.IsAtStage mount me stage answer text steps
     → EndsAs (option_map (end_of_relay (claim_at stage)) (halt_at stage))
     (ended_by (answer_judged mount text answer) (received steps))
-relay_ends mount me (stages.Head head) answer text steps at =
+relay_ends mount me (stages.Head head cutter) answer text steps at =
     inr (sym (ap (λ (a : HeadAnswer). ended_by (answer_judged mount text a) (received steps)) at.1))
 relay_ends mount me (stages.Body session) answer text steps at = body_ends mount me session answer text steps at
 relay_ends mount me (stages.Halted halt) answer text steps at = halted_ends mount answer text steps halt at

@@ -237,7 +237,7 @@ source_ready c session now more mount inner is from =
 
 held_stage : (me : ℕ) (stage : RelayStage) (h now : History RingCall)
     → IsHoldingBy me (relay_standing.claim_at stage) h → GoesOn me h now → IsHeldAt me stage now
-held_stage me (stages.Head head) h now holds goes = tt
+held_stage me (stages.Head head cutter) h now holds goes = tt
 held_stage me (stages.Halted halt) h now holds goes = tt
 held_stage me (stages.Body inner) h now holds goes = held_by inner.halt where
   held_by : (halt : Option SourceHalt) → IfNone halt (HeldSince me inner.claim now)

@@ -28,7 +28,7 @@ use Rattle.session_core.specs.Owed.{unasked}
 
 -- a relay that nothing halts was refused no turn
 short_halts : (stage : RelayStage) → relay_standing.halt_at stage ≡ None → IsTrue (relay_standing.is_short_at stage) → ⊥
-short_halts (relay_stages.Head head) is short = absurd cc
+short_halts (relay_stages.Head head cutter) is short = absurd cc
 short_halts (relay_stages.Halted halt) is short = absurd cc
 short_halts (relay_stages.Body inner) is short = no_halt inner.halt is short where
   no_halt : (halt : Option SourceHalt) → option_map halt_of_source halt ≡ None → IsTrue (is_cut_short halt) → ⊥

@@ -10,15 +10,17 @@ ghost use Rattle.source_session.specs.Standing.{StandsFor, is_chunked, is_cut_sh
 ghost use Rattle.session_core.specs.Published.{IsClaimRefused, IsFeedRefused, IsTurnRefused, Published, steps_unclaimed};
 
 use mount_ring::{Ring, RingAnswer, RingCall};
+use rtcm_frame::Cutter;
 use source_session::{ClaimFault, SourceHalt, SourceSession};
 use turn_log::{TurnFault, Turns};
 
-/// Claims the mountpoint of this number.
+/// Claims the mountpoint of this number, for a source whose frames this cutter will cut.
 pub(crate) fn claim_at<T: Turns<Ring>>(
     rings: &mut [T],
     me: u32,
     mount: u32,
     chunked: bool,
+    cutter: Box<Cutter>,
 ) -> Result<SourceSession, ClaimFault>
     requires within { mount < length rings.old }
     requires speaks { AllSpeak T.speaks rings.old me }
@@ -39,7 +41,7 @@ pub(crate) fn claim_at<T: Turns<Ring>>(
         (map T.seen rings.old) (map T.seen rings.new) me (steps_unclaimed mount fault)) }
     ensures cause { IfErr result (IsClaimRefused (map T.worn rings.new)) }
 {
-    SourceSession::claim(me, chunked, &mut rings[mount as usize])
+    SourceSession::claim(me, chunked, cutter, &mut rings[mount as usize])
 }
 
 /// Publishes, at the mountpoint of this number, each frame that more of the body completes.

@@ -20,6 +20,7 @@ use crate::stage::Stage;
 use mount_ring::Ring;
 use ntrip_head::Version;
 use ntrip_reply::Reply;
+use rtcm_frame::Cutter;
 use source_session::ClaimFault;
 use turn_log::Turns;
 
@@ -68,7 +69,10 @@ pub(crate) fn begin_source<T: Turns<Ring>>(
     let Ok(()) = out.reserve(REPLY_ROOM) else {
         return Begun::over(Ending::Memory);
     };
-    match claim_at(rings, me, mount, chunked) {
+    let Ok(cutter) = Box::new(*out.allocator(), Cutter::new()) else {
+        return Begun::over(Ending::Memory);
+    };
+    match claim_at(rings, me, mount, chunked, cutter) {
         Ok(session) => {
             push_reply(version, Reply::SourceOk, out);
             Begun {

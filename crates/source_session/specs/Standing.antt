@@ -52,7 +52,7 @@ StandsBy (Some Memory) chunks cutter body = IsCutShort (is_some chunks) cutter b
 
 -- the session stands where this body, fed so far, leaves it
 abbrev pub StandsFor : SourceSession → List ℕ → Type 0
-StandsFor session body = StandsBy session.halt session.chunks session.cutter body
+StandsFor session body = StandsBy session.halt session.chunks session.cutter.value body
 
 -- whether the body that the session is fed is in the chunked transfer coding
 abbrev pub is_chunked : SourceSession → Bool

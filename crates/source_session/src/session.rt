@@ -29,18 +29,19 @@ pub struct SourceSession {
     me: u32,
     claim: u64,
     chunks: Option<Dechunk>,
-    cutter: Cutter,
+    cutter: Box<Cutter>,
     halt: Option<SourceHalt>,
 }
 
 impl SourceSession {
     /// Claims a mountpoint for the caller `me`: one turn, which calls Claim. `chunked` says how the
-    /// body will come.
+    /// body will come, and `cutter` is what will cut its frames: what that held is let go.
     ///
     /// Answers `Taken` where the mountpoint is held, by this caller or another.
     pub fn claim<T: Turns<Ring>>(
         me: u32,
         chunked: bool,
+        cutter: Box<Cutter>,
         place: &mut T,
     ) -> Result<SourceSession, ClaimFault>
         requires speaks { IsTrue (T.speaks place.old me) }
@@ -63,7 +64,7 @@ impl SourceSession {
     {
         let mut room = Outbox::new();
         match place.turn(me, RingCall::Claim, &mut room)? {
-            RingAnswer::Given(claim) => Ok(SourceSession::begin(me, claim, chunked)),
+            RingAnswer::Given(claim) => Ok(SourceSession::begin(me, claim, chunked, cutter)),
             RingAnswer::Taken { caller, claim } => Err(ClaimFault::Taken { caller, claim }),
             _ => unreachable!(),
         }
@@ -155,7 +156,7 @@ impl SourceSession {
     }
 
     // A session that was fed nothing.
-    fn begin(me: u32, claim: u64, chunked: bool) -> SourceSession
+    fn begin(me: u32, claim: u64, chunked: bool, mut cutter: Box<Cutter>) -> SourceSession
         ensures begins { StandsFor result [] }
         ensures goes_on { result.halt ≡ None }
         ensures me { result.me ≡ me }
@@ -163,7 +164,7 @@ impl SourceSession {
         ensures chunked { is_chunked result ≡ chunked }
     {
         let chunks = chunk_reader(chunked);
-        let cutter = Cutter::new();
+        *cutter = Cutter::new();
         SourceSession {
             me,
             claim,
@@ -177,7 +178,7 @@ impl SourceSession {
     fn take<T: Turns<Ring>>(&mut self, bytes: &[u8], place: &mut T) -> Result<(), SourceHalt>
         requires speaks { IsTrue (T.speaks place.old self.old.me) }
         requires holds { IsHolding self.old.me self.old.claim (T.seen place.old) }
-        requires few { (body : List ℕ) × StandsBy None self.old.chunks self.old.cutter body
+        requires few { (body : List ℕ) × StandsBy None self.old.chunks self.old.cutter.value body
             × (length body + length bytes.now < 2 ^ 63) }
         ensures same { SamePlace T.shape T.speaks T.may_lack T.alone T.home place.old place.new }
         ensures worn { T.worn place.old ≤ T.worn place.new }
@@ -185,18 +186,18 @@ impl SourceSession {
         ensures source { (self.new.me ≡ self.old.me) × (self.new.claim ≡ self.old.claim)
             × (is_chunked self.new ≡ is_chunked self.old) }
         ensures stands { OnOk result ((body : List ℕ)
-            → StandsBy None self.old.chunks self.old.cutter body
-            → StandsBy None self.new.chunks self.new.cutter (body ++ bytes.now)) }
+            → StandsBy None self.old.chunks self.old.cutter.value body
+            → StandsBy None self.new.chunks self.new.cutter.value (body ++ bytes.now)) }
         ensures halted { IfErr result (λ halt. (body : List ℕ)
-            → StandsBy None self.old.chunks self.old.cutter body
-            → StandsBy (Some halt) self.new.chunks self.new.cutter (body ++ bytes.now)) }
+            → StandsBy None self.old.chunks self.old.cutter.value body
+            → StandsBy (Some halt) self.new.chunks self.new.cutter.value (body ++ bytes.now)) }
         ensures heard { OnOk result ((body : List ℕ)
-            → StandsBy None self.old.chunks self.old.cutter body
+            → StandsBy None self.old.chunks self.old.cutter.value body
             → HeardAll (T.alone place.old) (⟦<Ring as Played>⟧.answer (T.shape place.old))
             (T.seen place.old) (T.seen place.new) self.old.me
             (publishes self.old.claim (completed (is_chunked self.old) body bytes.now))) }
         ensures until { IfErr result (λ halt. (body : List ℕ)
-            → StandsBy None self.old.chunks self.old.cutter body
+            → StandsBy None self.old.chunks self.old.cutter.value body
             → HeardUntil halt (T.alone place.old) (⟦<Ring as Played>⟧.answer (T.shape place.old))
             (T.seen place.old) (T.seen place.new) self.old.me
             (publishes self.old.claim (completed (is_chunked self.old) body bytes.now))) }

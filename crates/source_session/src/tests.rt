@@ -4,7 +4,7 @@ ghost use Rattle.turn_log.specs.Desks.{desk_seen, desk_shape};
 
 use crate::{ClaimFault, SourceHalt, SourceSession};
 use mount_ring::{Cursor, Outbox, Ring, RingCall};
-use rtcm_frame::Frame;
+use rtcm_frame::{Cutter, Frame};
 use std::alloc::Global;
 use std::test::Fail;
 use turn_log::{Desk, TurnFault, Turns};
@@ -77,7 +77,8 @@ fn sent_in_two(alloc: Global, chunked: bool, body: &[u8], at: usize) -> Result<T
     requires within { at ≤ length body.now }
 {
     let mut desk = ring_desk(alloc)?;
-    let mut session = SourceSession::claim(1, chunked, &mut desk)?;
+    let cutter = Box::new(alloc, Cutter::new())?;
+    let mut session = SourceSession::claim(1, chunked, cutter, &mut desk)?;
     let _first = session.feed(&body[..at], &mut desk);
     let ended = session.feed(&body[at..], &mut desk);
     Ok(Told {
@@ -92,7 +93,8 @@ fn sent_by_bytes(alloc: Global, chunked: bool, body: &[u8]) -> Result<Told, Fail
     requires { length body.now < 2 ^ 62 }
 {
     let mut desk = ring_desk(alloc)?;
-    let mut session = SourceSession::claim(1, chunked, &mut desk)?;
+    let cutter = Box::new(alloc, Cutter::new())?;
+    let mut session = SourceSession::claim(1, chunked, cutter, &mut desk)?;
     let mut ended = Ok(());
     for byte in body {
         ended = session.feed(&[*byte], &mut desk);
@@ -155,9 +157,11 @@ fn a_damaged_frame_is_junk(rt: HostRuntime) -> Result<(), Fail> {
 #[test]
 fn a_release_lets_the_next_claim_be_given(rt: HostRuntime) -> Result<(), Fail> {
     let mut desk = ring_desk(rt.alloc())?;
-    let mut first = SourceSession::claim(1, false, &mut desk)?;
+    let cutter = Box::new(rt.alloc(), Cutter::new())?;
+    let mut first = SourceSession::claim(1, false, cutter, &mut desk)?;
     assert_eq!(rt; first.claim_number(), 1);
-    let taken = SourceSession::claim(2, false, &mut desk).err();
+    let cutter = Box::new(rt.alloc(), Cutter::new())?;
+    let taken = SourceSession::claim(2, false, cutter, &mut desk).err();
     assert_eq!(rt;
         taken,
         Some(ClaimFault::Taken {
@@ -166,7 +170,8 @@ fn a_release_lets_the_next_claim_be_given(rt: HostRuntime) -> Result<(), Fail> {
         })
     );
     first.release(&mut desk)?;
-    let second = SourceSession::claim(2, false, &mut desk)?;
+    let cutter = Box::new(rt.alloc(), Cutter::new())?;
+    let second = SourceSession::claim(2, false, cutter, &mut desk)?;
     assert_eq!(rt; second.claim_number(), 2);
     Ok(())
 }

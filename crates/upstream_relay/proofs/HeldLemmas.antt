@@ -17,7 +17,7 @@ use Rattle.upstream_relay.specs.Called.{IsHoldingBy, IsHeldAt}
 
 pub held_by : (me : ℕ) (stage : Stage) (h : History RingCall) → IfNone (halt_at stage) (IsHoldingBy me (claim_at stage) h)
     → IsHeldAt me stage h
-held_by me (Head head) h holds = tt
+held_by me (Head head cutter) h holds = tt
 held_by me (Body session) h holds = by_halt session.halt holds
   where
     by_halt : (halt : Option SourceHalt) → IfNone (option_map halt_of_source halt) (IsHolding me session.claim h)

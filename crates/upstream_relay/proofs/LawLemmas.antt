@@ -62,7 +62,7 @@ given_claim mount claim (step ∷ steps) x = ap (λ (s : Step). given_in (answer
 
 pub claim_first : (mount me : ℕ) (stage : Stage) (bytes : List ℕ) (steps : List Step)
     → StandsAt mount me stage bytes steps → claim_at stage ≡ first_claim steps
-claim_first mount me (Head head) bytes steps x = none_first steps (open_steps mount me head bytes steps x)
+claim_first mount me (Head head cutter) bytes steps x = none_first steps (open_steps mount me head cutter bytes steps x)
 claim_first mount me (Body session) bytes steps x = given_claim mount session.claim steps x.at_stage.claimed
 claim_first mount me (Halted halt) bytes steps x = halted_claim mount x.answer bytes steps halt x.at_stage x.made
 
@@ -126,7 +126,7 @@ refusal_halts mount answer steps Memory why x says = absurd (accepts_none answer
 
 to_halt : (mount me : ℕ) (stage : Stage) (bytes : List ℕ) (steps : List Step) (why : Refusal)
     → (x : StandsAt mount me stage bytes steps) → x.answer ≡ Refused why → halt_at stage ≡ Some (halt_of_refusal why)
-to_halt mount me (Head head) bytes steps why x is =
+to_halt mount me (Head head cutter) bytes steps why x is =
     let open_ : x.answer ≡ Open = x.at_stage.1 in
     absurd cc
 to_halt mount me (Body session) bytes steps why x is =
@@ -144,7 +144,7 @@ refusal_of mount answer steps (refusals.Status status) x = x
 
 from_halt : (mount me : ℕ) (stage : Stage) (bytes : List ℕ) (steps : List Step) (why : Refusal)
     → (x : StandsAt mount me stage bytes steps) → halt_at stage ≡ Some (halt_of_refusal why) → x.answer ≡ Refused why
-from_halt mount me (Head head) bytes steps why x is = absurd cc
+from_halt mount me (Head head cutter) bytes steps why x is = absurd cc
 from_halt mount me (Body session) bytes steps why x is = absurd (no_refusal session.halt why is)
 from_halt mount me (Halted halt) bytes steps why x is =
     let same : halt ≡ halt_of_refusal why = cc in
@@ -180,9 +180,9 @@ source_bad (Some sources.Memory) at is = absurd cc
 pub done_ended : (mount me : ℕ) (stage : Stage) (bytes : List ℕ) (steps : List Step) (at : ℕ) (chunked : Bool)
     → StandsAt mount me stage bytes steps → IsAnswer bytes (Accepted at chunked) → halt_at stage ≡ Some Done
     → HasEnded (drop at bytes)
-done_ended mount me (Head head) bytes steps at chunked x says is = absurd cc
+done_ended mount me (Head head cutter) bytes steps at chunked x says is = absurd cc
 done_ended mount me (Body session) bytes steps at chunked x says is =
-    ended_at_done session.halt session.chunks session.cutter (drop at bytes) (source_done session.halt is)
+    ended_at_done session.halt session.chunks session.cutter.value (drop at bytes) (source_done session.halt is)
     (body_said mount me session bytes steps at chunked x says).0
 done_ended mount me (Halted halt) bytes steps at chunked x says is =
     let same : halt ≡ Done = cc in
@@ -191,9 +191,9 @@ done_ended mount me (Halted halt) bytes steps at chunked x says is =
 pub bad_chunk : (mount me : ℕ) (stage : Stage) (bytes : List ℕ) (steps : List Step) (at : ℕ) (chunked : Bool) (place : ℕ)
     → StandsAt mount me stage bytes steps → IsAnswer bytes (Accepted at chunked) → halt_at stage ≡ Some (BadChunk place)
     → IsBadAt (drop at bytes) place
-bad_chunk mount me (Head head) bytes steps at chunked place x says is = absurd cc
+bad_chunk mount me (Head head cutter) bytes steps at chunked place x says is = absurd cc
 bad_chunk mount me (Body session) bytes steps at chunked place x says is =
-    bad_at_fault session.halt session.chunks session.cutter (drop at bytes) place (source_bad session.halt place is)
+    bad_at_fault session.halt session.chunks session.cutter.value (drop at bytes) place (source_bad session.halt place is)
     (body_said mount me session bytes steps at chunked x says).0
 bad_chunk mount me (Halted halt) bytes steps at chunked place x says is =
     let same : halt ≡ BadChunk place = cc in

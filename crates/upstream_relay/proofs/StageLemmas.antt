@@ -155,10 +155,16 @@ front_and_rest old new bytes count is =
     ∙ append_assoc old (take count bytes) (drop count bytes)
     ∙ ap (λ (l : List ℕ). old ++ l) (take-append-drop count bytes)
 
+-- a head that goes on, of which these bytes came
+pub open_stands : (mount me : ℕ) (head : List ℕ) (cutter : _) (bytes : List ℕ) → head ≡ bytes → IsAnswer head Open
+    → StandsAt mount me (Head head cutter) bytes []
+open_stands mount me head cutter bytes is says =
+    record { answer = Open; says = subst (λ (l : List ℕ). IsAnswer l Open) is says; made = refl; at_stage = (is, refl) }
+
 -- before the head ended nothing was called
-pub open_steps : (mount me : ℕ) (head before : List ℕ) (steps : List Step)
-    → StandsAt mount me (Head head) before steps → steps ≡ []
-open_steps mount me head before steps x =
+pub open_steps : (mount me : ℕ) (head : List ℕ) (cutter : _) (before : List ℕ) (steps : List Step)
+    → StandsAt mount me (Head head cutter) before steps → steps ≡ []
+open_steps mount me head cutter before steps x =
     subst (λ (a : Answer). IsMade (owed mount a before) steps) x.at_stage.1 x.made
 
 -- ---- a body

@@ -29,7 +29,7 @@ IsHoldingBy me (Some claim) history = IsHolding me claim history
 
 -- where a body goes on, its claim was not given back
 abbrev pub IsHeldAt : ℕ → Stage → History RingCall → Type 0
-IsHeldAt me (Head head) history = ⊤
+IsHeldAt me (Head head cutter) history = ⊤
 IsHeldAt me (Body session) history =
     IfNone session.halt (HeldSince me session.claim history)
 IsHeldAt me (Halted halt) history = ⊤

@@ -22,19 +22,19 @@ use Rattle.upstream_relay.specs.Owed.{owed, IsDone}
 
 -- what halted the relay, if it was
 abbrev pub halt_at : Stage → Option RelayHalt
-halt_at (Head head) = None
+halt_at (Head head cutter) = None
 halt_at (Body session) = option_map halt_of_source session.halt
 halt_at (Halted halt) = Some halt
 
 -- the number of the claim that it was given, if it was
 abbrev pub claim_at : Stage → Option ℕ
-claim_at (Head head) = None
+claim_at (Head head cutter) = None
 claim_at (Body session) = Some session.claim
 claim_at (Halted halt) = None
 
 -- whether a turn was refused
 abbrev pub is_short_at : Stage → Bool
-is_short_at (Head head) = false
+is_short_at (Head head cutter) = false
 is_short_at (Body session) = is_cut_short session.halt
 is_short_at (Halted halt) = is_refused_turn halt
 
@@ -74,7 +74,7 @@ pub record HasBody (mount me : ℕ) (session : SourceSession) (answer : Answer) 
   pub claimed : IsClaimed mount session.claim steps
 
 abbrev pub IsAtStage : ℕ → ℕ → Stage → Answer → List ℕ → List Step → Type 0
-IsAtStage mount me (Head head) answer bytes steps = (head ≡ bytes) × (answer ≡ Open)
+IsAtStage mount me (Head head cutter) answer bytes steps = (head ≡ bytes) × (answer ≡ Open)
 IsAtStage mount me (Body session) answer bytes steps = HasBody mount me session answer bytes steps
 IsAtStage mount me (Halted halt) answer bytes steps = IsHaltedBy mount answer steps halt
 

@@ -1,31 +1,35 @@
 //! From the head of an answer to its body.
-ghost use Rattle.std.specs.Prelude.{◌≡◌, ℕ, ◌+◌, ◌^◌, ◌<◌, ◌≤◌, IsTrue, List, [], ◌∷◌, ◌++◌, length, None, IfSome, IfNone, IfErr};
+ghost use Rattle.std.specs.Prelude.{◌≡◌, ℕ, ◌+◌, ◌^◌, ◌<◌, ◌≤◌, IsTrue, List, [], ◌∷◌, ◌++◌, length, IfSome, IfNone, IfErr};
 ghost use Rattle.turn_log.specs.Turn.{SamePlace};
 ghost use Rattle.session_calls.specs.Steps.{Step};
 ghost use Rattle.source_session.specs.Calls.{IsHolding, HeldSince};
 ghost use Rattle.ntrip_client.specs.Answer.{IsAnswer};
 ghost use Rattle.upstream_relay.specs.Standing.{StandsAt, halt_at, claim_at};
 ghost use Rattle.upstream_relay.specs.Halts.{IsHaltOf};
-ghost use Rattle.upstream_relay.specs.Called.{Adds, IsFed, IsHoldingBy};
+ghost use Rattle.upstream_relay.specs.Called.{Adds, IsFed, IsHeldAt, IsHoldingBy};
 
 use crate::fault::RelayHalt;
 use mount_ring::Ring;
 use ntrip_client::{Answer, AnswerHead};
+use rtcm_frame::Cutter;
 use source_session::SourceSession;
 use turn_log::{Played, Turns};
 
 /// How far a relay is with the answer of the other caster.
 #[derive(Debug, Drop)]
 pub enum Stage {
-    /// The head of the answer comes.
-    Head(AnswerHead),
+    /// The head of the answer comes; the frames of its body will be cut by this cutter.
+    Head {
+        head: AnswerHead,
+        cutter: Box<Cutter>,
+    },
     /// The answer was accepted and the mountpoint claimed, and the body comes.
     Body(SourceSession),
     /// There is no body, or the claim was not given.
     Halted(RelayHalt),
 }
 
-/// What a relay comes to with the bytes that end the head of the answer.
+/// What a relay comes to with more bytes of the answer.
 #[derive(Debug, Drop)]
 pub struct Begun {
     pub stage: Stage,
@@ -68,7 +72,13 @@ pub fn feed_body<T: Turns<Ring>>(
 }
 
 /// Claims the mountpoint, and publishes the frames of the body so far.
-pub fn begin<T: Turns<Ring>>(me: u32, chunked: bool, body: &[u8], place: &mut T) -> Begun
+pub fn begin<T: Turns<Ring>>(
+    me: u32,
+    chunked: bool,
+    cutter: Box<Cutter>,
+    body: &[u8],
+    place: &mut T,
+) -> Begun
     requires speaks { IsTrue (T.speaks place.old me) }
     requires accepted { (head : List ℕ) × IsAnswer head (Answer.Accepted (length head) chunked)
         × (length head + length body.now < 2 ^ 63) }
@@ -83,7 +93,7 @@ pub fn begin<T: Turns<Ring>>(me: u32, chunked: bool, body: &[u8], place: &mut T)
     ensures holds { IsHoldingBy me (claim_at result.stage) (T.seen place.new) }
     ensures cause { IfErr result.fed (IsHaltOf (T.may_lack place.old) (T.worn place.new)) }
 {
-    match SourceSession::claim(me, chunked, place) {
+    match SourceSession::claim(me, chunked, cutter, place) {
         Err(fault) => {
             let halt = RelayHalt::from(fault);
             Begun {
@@ -102,43 +112,79 @@ pub fn begin<T: Turns<Ring>>(me: u32, chunked: bool, body: &[u8], place: &mut T)
 }
 
 /// Takes more bytes of an answer whose head goes on, and where the head ends within them, what it
-/// says is done. None where the head still goes on.
+/// says is done.
 pub fn decide<T: Turns<Ring>>(
-    head: &mut AnswerHead,
+    mut head: AnswerHead,
+    cutter: Box<Cutter>,
     me: u32,
     bytes: &[u8],
     place: &mut T,
-) -> Option<Begun>
-    requires open { IsAnswer head.old Answer.Open }
+) -> Begun
+    requires open { IsAnswer head Answer.Open }
     requires speaks { IsTrue (T.speaks place.old me) }
-    requires few { length head.old + length bytes.now < 2 ^ 63 }
+    requires few { length head + length bytes.now < 2 ^ 63 }
     ensures same { SamePlace T.shape T.speaks T.may_lack T.alone T.home place.old place.new }
     ensures worn { T.worn place.old ≤ T.worn place.new }
-    ensures open { IfNone result (IsAnswer head.new Answer.Open) }
-    ensures bytes { IfNone result (head.new ≡ head.old ++ bytes.now) }
-    ensures none { IfNone result (T.seen place.new ≡ T.seen place.old) }
-    ensures adds { IfSome result (λ begun. (mount : ℕ)
+    ensures adds { (mount : ℕ)
         → Adds (T.alone place.old) (⟦<Ring as Played>⟧.answer (T.shape place.old))
         (T.seen place.old) (T.seen place.new) me mount
-        (StandsAt mount me begun.stage (head.old ++ bytes.now))) }
-    ensures fed { IfSome result (λ begun. IsFed (halt_at begun.stage) begun.fed) }
-    ensures holds { IfSome result (λ begun.
-        IsHoldingBy me (claim_at begun.stage) (T.seen place.new)) }
-    ensures cause { IfSome result (λ begun.
-        IfErr begun.fed (IsHaltOf (T.may_lack place.old) (T.worn place.new))) }
+        (StandsAt mount me result.stage (head ++ bytes.now)) }
+    ensures fed { IsFed (halt_at result.stage) result.fed }
+    ensures holds { IsHoldingBy me (claim_at result.stage) (T.seen place.new) }
+    ensures cause { IfErr result.fed (IsHaltOf (T.may_lack place.old) (T.worn place.new)) }
 {
     let taken = head.feed(bytes);
     match taken.answer {
-        Answer::Open => None,
+        Answer::Open => Begun {
+            stage: Stage::Head { head, cutter },
+            fed: Ok(()),
+        },
         Answer::Accepted { at: _, chunked } => {
-            Some(begin(me, chunked, &bytes[taken.count..], place))
+            begin(me, chunked, cutter, &bytes[taken.count..], place)
         }
         Answer::Refused(refusal) => {
             let halt = RelayHalt::from(refusal);
-            Some(Begun {
+            Begun {
                 stage: Stage::Halted(halt),
                 fed: Err(halt),
-            })
+            }
         }
+    }
+}
+
+/// Takes more bytes of an answer at this stage.
+pub fn go_on<T: Turns<Ring>>(stage: Stage, me: u32, bytes: &[u8], place: &mut T) -> Begun
+    requires speaks { IsTrue (T.speaks place.old me) }
+    requires held { IsHeldAt me stage (T.seen place.old) }
+    requires few { (mount : ℕ) × (before : List ℕ) × (steps : List Step)
+        × StandsAt mount me stage before steps × (length before + length bytes.now < 2 ^ 63) }
+    ensures same { SamePlace T.shape T.speaks T.may_lack T.alone T.home place.old place.new }
+    ensures worn { T.worn place.old ≤ T.worn place.new }
+    ensures adds { (mount : ℕ) (before : List ℕ) (steps : List Step)
+        → StandsAt mount me stage before steps
+        → Adds (T.alone place.old) (⟦<Ring as Played>⟧.answer (T.shape place.old))
+        (T.seen place.old) (T.seen place.new) me mount (λ more.
+        StandsAt mount me result.stage (before ++ bytes.now) (steps ++ more)) }
+    ensures fed { IsFed (halt_at result.stage) result.fed }
+    ensures halted { IfSome (halt_at stage) (λ halt.
+        (result.stage ≡ stage) × (place.new ≡ place.old)) }
+    ensures holds { IfNone (halt_at stage)
+        (IsHoldingBy me (claim_at result.stage) (T.seen place.new)) }
+    ensures cause { IfNone (halt_at stage)
+        (IfErr result.fed (IsHaltOf (T.may_lack place.old) (T.worn place.new))) }
+{
+    match stage {
+        Stage::Halted(halt) => Begun {
+            stage: Stage::Halted(halt),
+            fed: Err(halt),
+        },
+        Stage::Body(mut source) => {
+            let fed = feed_body(&mut source, bytes, place);
+            Begun {
+                stage: Stage::Body(source),
+                fed,
+            }
+        }
+        Stage::Head { head, cutter } => decide(head, cutter, me, bytes, place),
     }
 }

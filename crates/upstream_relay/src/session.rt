@@ -12,14 +12,16 @@ ghost use Rattle.upstream_relay.specs.Junk.{IsJunk, IsAtMostJunk};
 ghost use Rattle.upstream_relay.specs.Halts.{IsHaltOf};
 ghost use Rattle.upstream_relay.specs.Called.{Adds, IsFed, IsHoldingBy, IsHeldAt};
 
-use crate::body::{Stage, decide, feed_body};
+use crate::body::{Stage, go_on};
 use crate::fault::RelayHalt;
 use cast_config::Relay;
 use mount_ring::{Ring, RingAnswer, RingCall};
 use ntrip_client::{AnswerHead, push_request};
 use ntrip_head::Version;
+use rtcm_frame::Cutter;
 use std::alloc::{AllocError, Global};
 use std::fmt;
+use std::mem;
 use turn_log::{Played, TurnFault, Turns};
 
 /// The version of NTRIP that this protocol is.
@@ -68,10 +70,11 @@ impl RelaySession {
             &mut request,
         )?;
         let head = AnswerHead::new(alloc)?;
+        let cutter = Box::new(alloc, Cutter::new())?;
         Ok(RelaySession {
             me,
             request,
-            stage: Stage::Head(head),
+            stage: Stage::Head { head, cutter },
         })
     }
 
@@ -121,17 +124,10 @@ impl RelaySession {
         ensures cause { IfNone (halt_at self.old.stage)
             (IfErr result (IsHaltOf (T.may_lack place.old) (T.worn place.new))) }
     {
-        match &mut self.stage {
-            Stage::Halted(halt) => Err(*halt),
-            Stage::Body(source) => feed_body(source, bytes, place),
-            Stage::Head(head) => match decide(head, self.me, bytes, place) {
-                None => Ok(()),
-                Some(begun) => {
-                    self.stage = begun.stage;
-                    begun.fed
-                }
-            },
-        }
+        let stage = mem::replace(&mut self.stage, Stage::Halted(RelayHalt::Memory));
+        let begun = go_on(stage, self.me, bytes, place);
+        self.stage = begun.stage;
+        begun.fed
     }
 
     /// Gives the claim back, which was given: one turn, which calls Release. After a refusal it is
@@ -157,7 +153,7 @@ impl RelaySession {
     {
         match &mut self.stage {
             Stage::Body(source) => source.release(place),
-            Stage::Head(_) => unreachable!(),
+            Stage::Head { head: _, cutter: _ } => unreachable!(),
             Stage::Halted(_) => unreachable!(),
         }
     }
@@ -168,7 +164,7 @@ impl RelaySession {
     {
         match &self.stage {
             Stage::Body(source) => Some(source.claim_number()),
-            Stage::Head(_) => None,
+            Stage::Head { head: _, cutter: _ } => None,
             Stage::Halted(_) => None,
         }
     }
@@ -182,7 +178,7 @@ impl RelaySession {
     {
         match &self.stage {
             Stage::Body(source) => source.junk(),
-            Stage::Head(_) => 0,
+            Stage::Head { head: _, cutter: _ } => 0,
             Stage::Halted(_) => 0,
         }
     }

@@ -1,13 +1,29 @@
-use Rattle.std.proofs.Common.{ℕ, List, [], ◌∷◌, ◌++◌, ap, refl}
+use Rattle.std.proofs.Common.{ℕ, List, [], ◌∷◌, ◌++◌, ap, refl, subst, sym, Option, None, Some}
+use Rattle.std.specs.Prelude.{IfNone}
 use Rattle.mount_ring.specs.declared.RingCall.TheVariants.{Claim}
 use Rattle.mount_ring.specs.declared.RingAnswer.TheVariants.{Given}
 use Rattle.mount_ring.specs.declared.RingShape.{RingShape}
 use Rattle.session_calls.specs.Steps.{Step, at_ring}
+use Rattle.source_session.specs.declared.fault.SourceHalt.{SourceHalt}
+use Rattle.source_session.specs.Calls.{IsHolding}
+use Rattle.source_session.proofs.HeldLemmas.{held_here}
 use Rattle.source_session.proofs.CallLemmas.{answer_at}
 use Rattle.upstream_relay.specs.declared.body.Stage.TheVariants.{Body}
 use Rattle.upstream_relay.specs.Standing.{StandsAt}
 use Rattle.upstream_relay.proofs.StageLemmas.{claim_stands, adds_unclaimed_as, adds_behind, adds_again}
 use Rattle.upstream_relay.proofs.body.begin.Goals as goal
+
+pub feed_body-fed-requires-clause-held : goal.feed_body-fed-requires-clause-held
+feed_body-fed-requires-clause-held g c =
+    let source = c.in-Ok.source in
+    if_none source.halt
+    (held_here source.me source.claim (g.T.Turns.seen c.claim.new.place)
+    (subst (λ (m : ℕ). IsHolding m source.claim (g.T.Turns.seen c.claim.new.place)) (sym c.in-Ok.ensures.me)
+    c.in-Ok.ensures.holds))
+  where
+    if_none : {P : Type 0} (halt : Option SourceHalt) → P → IfNone halt P
+    if_none None x = x
+    if_none (Some halt) x = tt
 
 pub feed_body-fed-requires-clause-few : goal.feed_body-fed-requires-clause-few
 feed_body-fed-requires-clause-few g c =

@@ -13,7 +13,7 @@ returns-in-Some-clause-stands g c = λ body stands.
 pub returns-in-Some-clause-until : goal.returns-in-Some-clause-until
 returns-in-Some-clause-until g c = λ body stands.
     halted_calls _ _ c.args.self.now.me c.args.self.now.claim c.args.self.now.halt c.in-Some.halt c.args.self.now.chunks
-    c.args.self.now.cutter _ body c.args.bytes.now c.in-Some.is stands
+    c.args.self.now.cutter.value _ body c.args.bytes.now c.in-Some.is stands
 
 pub take-fed-requires-clause-holds : goal.take-fed-requires-clause-holds
 take-fed-requires-clause-holds g c =
