@@ -2,16 +2,19 @@
  * Loads a caster on loopback: sources that push frames to mountpoints M1, M2, .., and rovers that take
  * them, the rover of number i from mountpoint i modulo the number of sources.
  *
- *     load PORT SOURCES ROVERS RATE SECONDS SIZE
+ *     load PORT SOURCES ROVERS RATE SECONDS SIZE [FLOOD]
  *
  * Each source sends RATE frames of SIZE bytes a second, evenly spaced; with SECONDS 0 it sends RATE
- * frames at once. With RATE 0 nothing is sent for SECONDS seconds. Prints "ready" where all are let in,
+ * frames at once. With RATE 0 nothing is sent for SECONDS seconds. With FLOOD, "preambles" or "frames", one
+ * more source sends 4,000,000 bytes a second for SECONDS seconds to the mountpoint FLOOD, of which nobody
+ * is a rover: nothing but 0xD3, or frames of 1,000 bytes. Prints "ready" where all are let in,
  * waits for a line, sends, and prints "done" where each rover has the last frame of its source, or where
  * nothing came for 15 seconds; then waits for a line, and prints
  *
  *     sent SOURCE FRAMES BUSY            of each source; BUSY: seconds from its first write to its last
  *     got ROVER FRAMES LAST              of each rover; LAST: it has its source's last frame
  *     last SECONDS                       from the first write to the last read
+ *     flood FRAMES BYTES BUSY            where there is one
  *     latency COUNT P50 P90 P99 LARGEST  in microseconds, over all frames that came
  *
  * A frame's latency is from before the write that held it to behind the read that brought its last byte.
@@ -34,6 +37,9 @@
 
 enum { MOST = 256, READERS = 2, SMALLEST = 12, LARGEST = 1029, PATIENCE = 15 };
 
+/* The flood: so many bytes in each hundredth of a second, in frames of so many bytes. */
+enum { PIECE = 40000, FLOOD_FRAME = 1000 };
+
 struct source {
     int socket;
     uint8_t *frames; /* all that it sends, one behind the other */
@@ -52,6 +58,10 @@ struct rover {
 };
 
 static int port, sources, rovers, rate, seconds, size;
+static const char *flood; /* what the source of FLOOD sends; NULL */
+static int flood_socket;
+static size_t flood_frames, flood_bytes;
+static int64_t flood_busy;
 static size_t count; /* of each source */
 static struct source source[MOST];
 static struct rover rover[MOST];
@@ -83,8 +93,8 @@ static void sleep_until(int64_t at)
         ;
 }
 
-/* A frame of message 1005 and SIZE bytes whose payload says its source and its place. */
-static void make_frame(uint8_t *at, int from, size_t place)
+/* A frame of message 1005 and so many bytes whose payload says its source and its place. */
+static void make_frame(uint8_t *at, size_t size, int from, size_t place)
 {
     size_t payload = size - 6;
     memset(at, 0, size);
@@ -249,6 +259,25 @@ static void *write_source(void *argument)
     return NULL;
 }
 
+/* Sends preambles, or one frame after the other, at 4,000,000 bytes a second. */
+static void *write_flood(void *argument)
+{
+    static uint8_t piece[PIECE];
+    int whole = strcmp(flood, "frames") == 0;
+    memset(piece, 0xD3, sizeof piece);
+    for (size_t at = 0; whole && at < PIECE; at += FLOOD_FRAME)
+        make_frame(piece + at, FLOOD_FRAME, 0, at);
+    int64_t begun = *(int64_t *)argument;
+    for (int part = 0; part < seconds * 100; part++) {
+        sleep_until(begun + (int64_t)part * 10000000);
+        write_all(flood_socket, piece, sizeof piece);
+        flood_bytes += sizeof piece;
+        flood_frames += whole ? PIECE / FLOOD_FRAME : 0;
+    }
+    flood_busy = now() - begun;
+    return NULL;
+}
+
 static int by_size(const void *a, const void *b)
 {
     uint32_t x = *(const uint32_t *)a, y = *(const uint32_t *)b;
@@ -285,7 +314,7 @@ static void prepare(void)
         if (!latency || !source[s].frames || !source[s].times)
             fail("memory");
         for (size_t place = 0; place < count; place++)
-            make_frame(source[s].frames + place * size, s, place);
+            make_frame(source[s].frames + place * size, size, s, place);
     }
 }
 
@@ -296,6 +325,8 @@ static void connect_all(void)
         snprintf(head, sizeof head, "SOURCE pw M%d\r\n\r\n", s + 1);
         source[s].socket = enter(head);
     }
+    if (flood)
+        flood_socket = enter("SOURCE pw FLOOD\r\n\r\n");
     for (int k = 0; k < rovers; k++) {
         rover[k].source = k % sources;
         rover[k].place = -1;
@@ -307,7 +338,7 @@ static void connect_all(void)
 /* Sends everything, and waits until it has come or nothing comes any more. */
 static void run(void)
 {
-    pthread_t readers[READERS], writers[MOST];
+    pthread_t readers[READERS], writers[MOST], flooding;
     for (int k = 0; k < READERS; k++)
         if (pthread_create(&readers[k], NULL, read_rovers, (void *)(intptr_t)k) != 0)
             fail("thread");
@@ -318,8 +349,12 @@ static void run(void)
         if (pthread_create(&writers[s], NULL, write_source, &source[s]) != 0)
             fail("thread");
     }
+    if (flood && pthread_create(&flooding, NULL, write_flood, &begun) != 0)
+        fail("thread");
     for (int s = 0; s < sources; s++)
         pthread_join(writers[s], NULL);
+    if (flood)
+        pthread_join(flooding, NULL);
     if (count == 0)
         sleep_until(begun + (int64_t)seconds * 1000000000);
     int64_t written = now();
@@ -337,8 +372,10 @@ static void run(void)
 
 int main(int words, char **word)
 {
-    if (words != 7) {
-        fprintf(stderr, "usage: load PORT SOURCES ROVERS RATE SECONDS SIZE\n");
+    if (words == 8 && (strcmp(word[7], "preambles") == 0 || strcmp(word[7], "frames") == 0))
+        flood = word[7];
+    if (words != 7 && !flood) {
+        fprintf(stderr, "usage: load PORT SOURCES ROVERS RATE SECONDS SIZE [preambles|frames]\n");
         return 2;
     }
     port = atoi(word[1]);
@@ -364,6 +401,8 @@ int main(int words, char **word)
             status = 1;
         }
     }
+    if (flood)
+        printf("flood %zu %zu %.3f\n", flood_frames, flood_bytes, flood_busy / 1e9);
     printf("last %.3f\n", count > 0 ? (atomic_load(&last_read) - first) / 1e9 : 0.0);
     size_t all = atomic_load(&latencies);
     if (all > 0) {
@@ -375,5 +414,7 @@ int main(int words, char **word)
         close(rover[k].socket);
     for (int s = 0; s < sources; s++)
         close(source[s].socket);
+    if (flood)
+        close(flood_socket);
     return status;
 }

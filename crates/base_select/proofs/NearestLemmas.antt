@@ -39,9 +39,11 @@ none_after all i e =
       | inr le ↦ le
     ]
 
-best_from : (all : List ℕ) (best place : ℕ) (rest : List ℕ) → place ≤ length all → drop place all ≡ rest → IsBest all place best
+best_from : (all : List ℕ) (best place : ℕ) (rest : List ℕ) → place ≤ length all → drop place all ≡ rest
+    → IsBest all place best
     → IsNearest all (nearest_from best (get_or all best 0) place rest)
-best_from all best place [] within e is = best_of_all all place best (let most = none_after all place e in omega arith) is
+best_from all best place [] within e is = best_of_all all place best (let most = none_after all place e in omega arith)
+    is
 best_from all best place (m ∷ more) within e is =
     let next = next_at all place m more e in
     elim (cases_lt m (get_or all best 0)) [
@@ -49,10 +51,12 @@ best_from all best place (m ∷ more) within e is =
           let nearer : get_or all place 0 < get_or all best 0 = omega (arith, next.here) in
           rw (lt-ltb _ _ less)
           (subst (λ (k : ℕ). IsNearest all (nearest_from place k (place + 1) more)) next.here
-          (best_from all place (place + 1) more (omega (arith, next.within)) next.after (best_takes all place best is nearer)))
+          (best_from all place (place + 1) more (omega (arith, next.within)) next.after
+          (best_takes all place best is nearer)))
       | inr le ↦
           let farther : get_or all best 0 ≤ get_or all place 0 = omega (arith, next.here) in
-          rw (le-ltb _ _ le) (best_from all best (place + 1) more (omega (arith, next.within)) next.after (best_keeps all place best is farther))
+          rw (le-ltb _ _ le) (best_from all best (place + 1) more (omega (arith, next.within)) next.after
+          (best_keeps all place best is farther))
     ]
 
 nearest_is : (all : List ℕ) → 0 < length all → IsNearest all (nearest_of all)
@@ -78,7 +82,8 @@ choice_is_of current rover (base ∷ bases) h mount =
     let all = measures rover (base ∷ bases) in
     let some : 0 < length (measures rover (base ∷ bases)) = omega arith in (
       λ c. ap Some (sym (c.is_chosen
-          ∙ ap (λ (n : ℕ). slice_index (mounts (base ∷ bases)) (chosen (measures rover (base ∷ bases)) h n (place_of current (base ∷ bases))))
+          ∙ ap (λ (n : ℕ). slice_index (mounts (base ∷ bases)) (chosen (measures rover (base ∷ bases)) h n
+          (place_of current (base ∷ bases))))
           ((nearest_is_of (measures rover (base ∷ bases)) c.nearest some).0 c.is_nearest))),
       λ e. record {
         nearest = nearest_of (measures rover (base ∷ bases));

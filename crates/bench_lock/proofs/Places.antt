@@ -20,7 +20,8 @@ at_front (x ∷ l) a b zero is = is
 at_front (x ∷ l) a b (suc i) is = at_front l a b i is
 
 -- what stands in a list with one more stood there before, or is that one
-pub at_either : {A : Type 0} (P : A → Type 0) (l : List A) (a : A) → ((i : ℕ) (b : A) → get_elem? l i ≡ some b → P b) → P a
+pub at_either : {A : Type 0} (P : A → Type 0) (l : List A) (a : A) → ((i : ℕ) (b : A) → get_elem? l i ≡ some b → P b)
+    → P a
     → (i : ℕ) (b : A) → get_elem? (l ++ a ∷ []) i ≡ some b → P b
 at_either P [] a each last zero b is = let same : a ≡ b = cc in subst P same last
 at_either P [] a each last (suc i) b is = absurd cc

@@ -34,8 +34,10 @@ position_is n ms p e =
     taken (IsPosition n) _ _ p e (λ v1 f1 e1.
     taken (IsPosition n) _ _ p e1 (λ v2 f2 e2.
     subst (IsPosition n) (value_is _ p e2) (record {
-      lat = again (whole (negsuc 899999999) (pos 900000000)) integer (whole_keeps (negsuc 899999999) (pos 900000000)) _ (get_member (codes "latitude") ms) v1 f1;
-      lon = again (whole (negsuc 1799999999) (pos 1800000000)) integer (whole_keeps (negsuc 1799999999) (pos 1800000000)) _ (get_member (codes "longitude") ms) v2 f2;
+      lat = again (whole (negsuc 899999999) (pos 900000000)) integer (whole_keeps (negsuc 899999999) (pos 900000000)) _
+          (get_member (codes "latitude") ms) v1 f1;
+      lon = again (whole (negsuc 1799999999) (pos 1800000000)) integer
+          (whole_keeps (negsuc 1799999999) (pos 1800000000)) _ (get_member (codes "longitude") ms) v2 f2;
     })))
 
 pub record IsMount (n : ℕ) (before : List Mount) (m : Mount) : Type 0 where
@@ -53,11 +55,13 @@ pub record IsMount (n : ℕ) (before : List Mount) (m : Mount) : Type 0 where
   pub bitrate : count 0 1000000000 (place 5 n 13) (integer (pos m.bitrate)) ≡ Ok m.bitrate
   pub misc : text Plain (place 5 n 14) (string m.misc) ≡ Ok m.misc
 
-required_new : (names : List (List ℕ)) (key : Key) (o : Option Data) (s : List ℕ) → required (new_name names) key o ≡ Ok s → IsNew names key s
+required_new : (names : List (List ℕ)) (key : Key) (o : Option Data) (s : List ℕ)
+    → required (new_name names) key o ≡ Ok s → IsNew names key s
 required_new names key None s e = absurd cc
 required_new names key (Some d) s e = (new_is names key d s e).1
 
-pub mount_is : (n : ℕ) (before : List Mount) (ms : Members) (m : Mount) → mount_of n before ms ≡ Ok m → IsMount n before m
+pub mount_is : (n : ℕ) (before : List Mount) (ms : Members) (m : Mount) → mount_of n before ms ≡ Ok m
+    → IsMount n before m
 unfolding mount_of
 mount_is n before ms m e =
     taken (IsMount n before) _ _ m e (λ v1 f1 e1.
@@ -73,21 +77,31 @@ mount_is n before ms m e =
     taken (IsMount n before) _ _ m e10 (λ v11 f11 e11.
     taken (IsMount n before) _ _ m e11 (λ v12 f12 e12.
     taken (IsMount n before) _ _ m e12 (λ v13 f13 e13.
-    let new : IsNew (mount_names before) (place 5 n 1) v1 = required_new (mount_names before) (place 5 n 1) (get_member (codes "name") ms) v1 f1 in
+    let new : IsNew (mount_names before) (place 5 n 1) v1 = required_new (mount_names before) (place 5 n 1)
+    (get_member (codes "name") ms) v1 f1 in
     subst (IsMount n before) (value_is _ m e13) (record {
       name = new;
       password = again (text Plain) string (text_keeps Plain) _ (get_member (codes "password") ms) v2 f2;
       ring = again (count 1 4096) (λ n. integer (pos n)) (count_keeps 1 4096) _ (get_member (codes "ring") ms) v3 f3;
       at = position_is n ms v4 f4;
-      identifier = again_or (text Plain) string (text_keeps Plain) _ v1 (get_member (codes "identifier") ms) v5 (fit_text Plain _ v1 (name_fits v1 (name_is _ v1 new.is))) f5;
-      details = again_or (text Plain) string (text_keeps Plain) _ [] (get_member (codes "details") ms) v6 (fit_text Plain _ [] empty_fits) f6;
-      carrier = again_or (text Plain) string (text_keeps Plain) _ (codes "2") (get_member (codes "carrier") ms) v7 (fit_text Plain _ (codes "2") carrier_fits) f7;
-      navigation = again_or (text Plain) string (text_keeps Plain) _ (codes "GPS") (get_member (codes "navigation") ms) v8 (fit_text Plain _ (codes "GPS") navigation_fits) f8;
-      network = again_or (text Plain) string (text_keeps Plain) _ [] (get_member (codes "network") ms) v9 (fit_text Plain _ [] empty_fits) f9;
-      country = again_or (text Plain) string (text_keeps Plain) _ [] (get_member (codes "country") ms) v10 (fit_text Plain _ [] empty_fits) f10;
-      generator = again_or (text Plain) string (text_keeps Plain) _ [] (get_member (codes "generator") ms) v11 (fit_text Plain _ [] empty_fits) f11;
-      bitrate = again_or (count 0 1000000000) (λ n. integer (pos n)) (count_keeps 0 1000000000) _ 0 (get_member (codes "bitrate") ms) v12 refl f12;
-      misc = again_or (text Plain) string (text_keeps Plain) _ [] (get_member (codes "misc") ms) v13 (fit_text Plain _ [] empty_fits) f13;
+      identifier = again_or (text Plain) string (text_keeps Plain) _ v1 (get_member (codes "identifier") ms) v5
+          (fit_text Plain _ v1 (name_fits v1 (name_is _ v1 new.is))) f5;
+      details = again_or (text Plain) string (text_keeps Plain) _ [] (get_member (codes "details") ms) v6
+          (fit_text Plain _ [] empty_fits) f6;
+      carrier = again_or (text Plain) string (text_keeps Plain) _ (codes "2") (get_member (codes "carrier") ms) v7
+          (fit_text Plain _ (codes "2") carrier_fits) f7;
+      navigation = again_or (text Plain) string (text_keeps Plain) _ (codes "GPS") (get_member (codes "navigation") ms)
+          v8 (fit_text Plain _ (codes "GPS") navigation_fits) f8;
+      network = again_or (text Plain) string (text_keeps Plain) _ [] (get_member (codes "network") ms) v9
+          (fit_text Plain _ [] empty_fits) f9;
+      country = again_or (text Plain) string (text_keeps Plain) _ [] (get_member (codes "country") ms) v10
+          (fit_text Plain _ [] empty_fits) f10;
+      generator = again_or (text Plain) string (text_keeps Plain) _ [] (get_member (codes "generator") ms) v11
+          (fit_text Plain _ [] empty_fits) f11;
+      bitrate = again_or (count 0 1000000000) (λ n. integer (pos n)) (count_keeps 0 1000000000) _ 0
+          (get_member (codes "bitrate") ms) v12 refl f12;
+      misc = again_or (text Plain) string (text_keeps Plain) _ [] (get_member (codes "misc") ms) v13
+          (fit_text Plain _ [] empty_fits) f13;
     }))))))))))))))
 
 -- ---- near mountpoints
@@ -101,7 +115,8 @@ required_all : (names : List (List ℕ)) (least most : ℕ) (key : Key) (o : Opt
 required_all names least most key None ns e = absurd cc
 required_all names least most key (Some d) ns e = all_is names least most key d ns e
 
-pub near_is : (mounts : List Mount) (n : ℕ) (before : List Near) (ms : Members) (m : Near) → near_of mounts n before ms ≡ Ok m → IsNear mounts n before m
+pub near_is : (mounts : List Mount) (n : ℕ) (before : List Near) (ms : Members) (m : Near)
+    → near_of mounts n before ms ≡ Ok m → IsNear mounts n before m
 unfolding near_of
 near_is mounts n before ms m e =
     taken (IsNear mounts n before) _ _ m e (λ v1 f1 e1.
@@ -113,13 +128,15 @@ near_is mounts n before ms m e =
 
 -- ---- groups
 
-pub record IsGroup (version : ℕ) (mounts : List Mount) (nears : List Near) (n : ℕ) (before : List Group) (g : Group) : Type 0 where
+pub record IsGroup (version : ℕ) (mounts : List Mount) (nears : List Near) (n : ℕ) (before : List Group) (g : Group) :
+    Type 0 where
   pub name : IsNew (group_names before) (place 7 n 1) g.name
   pub heard : IsAllNamed (heard_names mounts nears) 0 64 (place 7 n 2) g.mounts
   pub types : (d : Data) × (types (place 7 n 3) d ≡ Ok g.types)
   pub filter : IsFiltered (mount_names mounts) (place 7 n 4) g.filter
 
-some_data : {A : Type 0} (rule : Rule A) (key : Key) (o : Option Data) (x : A) → required rule key o ≡ Ok x → (d : Data) × (rule key d ≡ Ok x)
+some_data : {A : Type 0} (rule : Rule A) (key : Key) (o : Option Data) (x : A) → required rule key o ≡ Ok x → (d : Data)
+    × (rule key d ≡ Ok x)
 some_data rule key None x e = absurd cc
 some_data rule key (Some d) x e = (d, e)
 
@@ -133,7 +150,8 @@ by_version : (one : Bool) (names : List (List ℕ)) (key : Key) (o : Option Data
 by_version true names key o fs e = subst (IsFiltered names key) (value_is [] fs e) (none_filtered names key)
 by_version false names key o fs e = optional_filters names key o fs e
 
-pub group_is : (version : ℕ) (mounts : List Mount) (nears : List Near) (n : ℕ) (before : List Group) (ms : Members) (g : Group)
+pub group_is : (version : ℕ) (mounts : List Mount) (nears : List Near) (n : ℕ) (before : List Group) (ms : Members)
+    (g : Group)
     → group_of version mounts nears n before ms ≡ Ok g → IsGroup version mounts nears n before g
 unfolding group_of
 group_is version mounts nears n before ms g e =
@@ -150,7 +168,8 @@ group_is version mounts nears n before ms g e =
 
 -- ---- accounts, relays, and who has no account
 
-required_named : (names : List (List ℕ)) (key : Key) (o : Option Data) (n : ℕ) → required (named names) key o ≡ Ok n → IsNamed names key n
+required_named : (names : List (List ℕ)) (key : Key) (o : Option Data) (n : ℕ) → required (named names) key o ≡ Ok n
+    → IsNamed names key n
 required_named names key None n e = absurd cc
 required_named names key (Some d) n e = named_is names key d n e
 
@@ -172,7 +191,8 @@ account_is groups n before ms a e =
       user = required_new (user_names before) (place 8 n 1) (get_member (codes "user") ms) v1 f1;
       password = again (text Secret) string (text_keeps Secret) _ (get_member (codes "password") ms) v2 f2;
       group = required_named (group_names groups) (place 8 n 3) (get_member (codes "group") ms) v3 f3;
-      cap = again (count 1 1000000) (λ n. integer (pos n)) (count_keeps 1 1000000) _ (get_member (codes "cap") ms) v4 f4;
+      cap = again (count 1 1000000) (λ n. integer (pos n)) (count_keeps 1 1000000) _ (get_member (codes "cap") ms) v4
+          f4;
     })))))
 
 pub record IsRelay (mounts : List Mount) (n : ℕ) (r : Relay) : Type 0 where
@@ -183,17 +203,20 @@ pub record IsRelay (mounts : List Mount) (n : ℕ) (r : Relay) : Type 0 where
   pub user : IfSome r.user (λ user. name (place 9 n 5) (string user) ≡ Ok user)
   pub password : text Secret (place 9 n 6) (string r.password) ≡ Ok r.password
 
-some_name : (key : Key) (d : Data) (o : Option (List ℕ)) → some_of name key d ≡ Ok o → IfSome o (λ user. name key (string user) ≡ Ok user)
+some_name : (key : Key) (d : Data) (o : Option (List ℕ)) → some_of name key d ≡ Ok o
+    → IfSome o (λ user. name key (string user) ≡ Ok user)
 some_name key d o e =
     taken (λ o. IfSome o (λ user. name key (string user) ≡ Ok user)) (name key d) _ o e (λ s f last.
     subst (λ o. IfSome o (λ user. name key (string user) ≡ Ok user)) (value_is (Some s) o last)
     (again name string name_keeps key (Some d) s f))
 
-optional_name : (key : Key) (o : Option Data) (u : Option (List ℕ)) → optional None (some_of name) key o ≡ Ok u → IfSome u (λ user. name key (string user) ≡ Ok user)
+optional_name : (key : Key) (o : Option Data) (u : Option (List ℕ)) → optional None (some_of name) key o ≡ Ok u
+    → IfSome u (λ user. name key (string user) ≡ Ok user)
 optional_name key None u e = subst (λ o. IfSome o (λ user. name key (string user) ≡ Ok user)) (value_is None u e) tt
 optional_name key (Some d) u e = some_name key d u e
 
-pub relay_is : (mounts : List Mount) (n : ℕ) (ms : Members) (r : Relay) → relay_of mounts n ms ≡ Ok r → IsRelay mounts n r
+pub relay_is : (mounts : List Mount) (n : ℕ) (ms : Members) (r : Relay) → relay_of mounts n ms ≡ Ok r
+    → IsRelay mounts n r
 unfolding relay_of
 relay_is mounts n ms r e =
     taken (IsRelay mounts n) _ _ r e (λ v1 f1 e1.
@@ -208,24 +231,28 @@ relay_is mounts n ms r e =
       upstream = again name string name_keeps _ (get_member (codes "upstream") ms) v3 f3;
       protocol = again (count 1 2) (λ n. integer (pos n)) (count_keeps 1 2) _ (get_member (codes "protocol") ms) v4 f4;
       user = optional_name (place 9 n 5) (get_member (codes "user") ms) v5 f5;
-      password = again_or (text Secret) string (text_keeps Secret) _ [] (get_member (codes "password") ms) v6 (fit_text Secret _ [] empty_secret) f6;
+      password = again_or (text Secret) string (text_keeps Secret) _ [] (get_member (codes "password") ms) v6
+          (fit_text Secret _ [] empty_secret) f6;
     })))))))
 
 pub record IsAnonymous (groups : List Group) (a : Anonymous) : Type 0 where
   pub group : IsNamed (group_names groups) (place 10 0 1) a.group
   pub cap : count 1 1000000 (place 10 0 2) (integer (pos a.cap)) ≡ Ok a.cap
 
-anonymous_in_is : (groups : List Group) (ms : Members) (a : Anonymous) → anonymous_in groups ms ≡ Ok a → IsAnonymous groups a
+anonymous_in_is : (groups : List Group) (ms : Members) (a : Anonymous) → anonymous_in groups ms ≡ Ok a
+    → IsAnonymous groups a
 unfolding anonymous_in
 anonymous_in_is groups ms a e =
     taken (IsAnonymous groups) _ _ a e (λ v1 f1 e1.
     taken (IsAnonymous groups) _ _ a e1 (λ v2 f2 e2.
     subst (IsAnonymous groups) (value_is _ a e2) (record {
       group = required_named (group_names groups) (place 10 0 1) (get_member (codes "group") ms) v1 f1;
-      cap = again (count 1 1000000) (λ n. integer (pos n)) (count_keeps 1 1000000) _ (get_member (codes "cap") ms) v2 f2;
+      cap = again (count 1 1000000) (λ n. integer (pos n)) (count_keeps 1 1000000) _ (get_member (codes "cap") ms) v2
+          f2;
     })))
 
-anonymous_is : (groups : List Group) (key : Key) (d : Data) (a : Anonymous) → anonymous_of groups key d ≡ Ok a → IsAnonymous groups a
+anonymous_is : (groups : List Group) (key : Key) (d : Data) (a : Anonymous) → anonymous_of groups key d ≡ Ok a
+    → IsAnonymous groups a
 anonymous_is groups key (table ms) a e = anonymous_in_is groups ms a e
 anonymous_is groups key (string z) a e = absurd cc
 anonymous_is groups key (integer z) a e = absurd cc

@@ -102,5 +102,6 @@ example = record {
 }
 
 document_says_it : config_of document ≡ Ok example
-unfolding config_of heard_of parties_of mount_of position_of near_of group_of account_of tables new_name names_once named types is_utf8 chars encode
+unfolding config_of heard_of parties_of mount_of position_of near_of group_of account_of tables new_name names_once
+    named types is_utf8 chars encode
 document_says_it = refl

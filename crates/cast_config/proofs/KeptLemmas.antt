@@ -51,9 +51,11 @@ within least most n h =
 names_count : (mounts : List Mount) → length (mount_names mounts) ≡ length mounts
 names_count mounts = length-map mounts (λ (m : Mount). m.name)
 
-heard_count : (mounts : List Mount) (nears : List Near) → length (heard_names mounts nears) ≡ length mounts + length nears
+heard_count : (mounts : List Mount) (nears : List Near) → length (heard_names mounts nears) ≡ length mounts + length
+    nears
 heard_count mounts nears =
-    let both : length (heard_names mounts nears) ≡ length (mount_names mounts) + length (near_names nears) = length-append (mount_names mounts) (near_names nears) in
+    let both : length (heard_names mounts nears) ≡ length (mount_names mounts) + length (near_names nears) =
+    length-append (mount_names mounts) (near_names nears) in
     let one : length (mount_names mounts) ≡ length mounts = names_count mounts in
     let two : length (near_names nears) ≡ length nears = length-map nears (λ (n : Near). n.name) in
     omega arith
@@ -83,7 +85,8 @@ keeps_mount n before ms m e =
       misc = text_fits Plain _ m.misc is.misc;
     }
 
-keeps_near : (mounts : List Mount) (n : ℕ) (before : List Near) (ms : Members) (m : Near) → near_of mounts n before ms ≡ Ok m → KeepsNear (length mounts) m
+keeps_near : (mounts : List Mount) (n : ℕ) (before : List Near) (ms : Members) (m : Near)
+    → near_of mounts n before ms ≡ Ok m → KeepsNear (length mounts) m
 keeps_near mounts n before ms m e =
     let is = near_is mounts n before ms m e in
     record {
@@ -92,7 +95,8 @@ keeps_near mounts n before ms m e =
       bases = subst (λ k. AreNumbers k m.bases) (names_count mounts) is.bases.numbers;
     }
 
-keeps_group : (version : ℕ) (mounts : List Mount) (nears : List Near) (n : ℕ) (before : List Group) (ms : Members) (g : Group)
+keeps_group : (version : ℕ) (mounts : List Mount) (nears : List Near) (n : ℕ) (before : List Group) (ms : Members)
+    (g : Group)
     → group_of version mounts nears n before ms ≡ Ok g → KeepsGroup (length mounts) (length nears) g
 keeps_group version mounts nears n before ms g e =
     let is = group_is version mounts nears n before ms g e in
@@ -115,11 +119,13 @@ keeps_account groups n before ms a e =
       cap = count_within 1 1000000 _ a.cap is.cap;
     }
 
-keeps_user : (key : Key) (user : Option (List ℕ)) → IfSome user (λ u. name key (string u) ≡ Ok u) → IfSome user (λ u. IsTrue (is_name u))
+keeps_user : (key : Key) (user : Option (List ℕ)) → IfSome user (λ u. name key (string u) ≡ Ok u)
+    → IfSome user (λ u. IsTrue (is_name u))
 keeps_user key None is = tt
 keeps_user key (Some u) is = name_is key u is
 
-keeps_relay : (mounts : List Mount) (n : ℕ) (before : List Relay) (ms : Members) (r : Relay) → relay_of mounts n ms ≡ Ok r → KeepsRelay (length mounts) r
+keeps_relay : (mounts : List Mount) (n : ℕ) (before : List Relay) (ms : Members) (r : Relay)
+    → relay_of mounts n ms ≡ Ok r → KeepsRelay (length mounts) r
 keeps_relay mounts n before ms r e =
     let is = relay_is mounts n ms r e in
     record {
@@ -131,7 +137,8 @@ keeps_relay mounts n before ms r e =
       password = text_fits Secret _ r.password is.password;
     }
 
-keeps_anonymous : (groups : List Group) (a : Option Anonymous) → IfSome a (IsAnonymous groups) → IfSome a (KeepsAnonymous 1000000 (length groups))
+keeps_anonymous : (groups : List Group) (a : Option Anonymous) → IfSome a (IsAnonymous groups)
+    → IfSome a (KeepsAnonymous 1000000 (length groups))
 keeps_anonymous groups None is = tt
 keeps_anonymous groups (Some a) is = record {
   group = subst (λ k. a.group < k) (groups_count groups) is.group.within;
@@ -167,9 +174,11 @@ records_from key before [] rs kept e =
     let same = value_is before rs e in
     (subst (λ rs. All IsKept rs) same kept, ap length (sym same) ∙ omega arith)
 records_from key before (line ∷ lines) rs kept e =
-    taken (λ rs. All IsKept rs × (length rs ≡ length before + length (line ∷ lines))) (record_at key line) _ rs e (λ r read rest.
+    taken (λ rs. All IsKept rs × (length rs ≡ length before + length (line ∷ lines))) (record_at key line) _ rs e
+    (λ r read rest.
     let one : IsKept r = line_kept line r (given_some (Range key) (record_line line) r read) in
-    let more = records_from key (before ++ r ∷ []) lines rs (All-append IsKept before (r ∷ []) kept (All-cons IsKept r [] one (All-nil IsKept))) rest in
+    let more = records_from key (before ++ r ∷ []) lines rs (All-append IsKept before (r ∷ []) kept
+    (All-cons IsKept r [] one (All-nil IsKept))) rest in
     let size : length (before ++ r ∷ []) ≡ length before + 1 = length-append before (r ∷ []) in
     let all : length rs ≡ length (before ++ r ∷ []) + length lines = more.1 in
     (more.0, omega arith))
@@ -184,8 +193,10 @@ records_rule key d rs e =
     let most : length lines ≤ 64 = leb-true (length lines) 64 few in
     (kept.0, omega arith)))
 
-keeps_records : (key : Key) (o : Option Data) (rs : List Record) → optional [] records key o ≡ Ok rs → All IsKept rs × (length rs ≤ 64)
-keeps_records key None rs e = subst (λ rs. All IsKept rs × (length rs ≤ 64)) (value_is [] rs e) (All-nil IsKept, omega arith)
+keeps_records : (key : Key) (o : Option Data) (rs : List Record) → optional [] records key o ≡ Ok rs → All IsKept rs
+    × (length rs ≤ 64)
+keeps_records key None rs e = subst (λ rs. All IsKept rs × (length rs ≤ 64)) (value_is [] rs e)
+    (All-nil IsKept, omega arith)
 keeps_records key (Some d) rs e = records_rule key d rs e
 
 -- ---- the document
@@ -200,7 +211,8 @@ pub record KeepsHeard (h : Heard) : Type 0 where
   pub filters : h.permits ≡ all_filters h.mount h.group
 
 group_limit : (one : Bool) (n : ℕ) → is_within 1 (cond one 16 64) n ≡ true → is_within 1 64 n ≡ true
-group_limit true n h = let parts = within 1 16 n h in and_from _ _ (le-leb 1 n parts.0) (le-leb n 64 (omega (arith, parts.1)))
+group_limit true n h = let parts = within 1 16 n h in and_from _ _ (le-leb 1 n parts.0)
+    (le-leb n 64 (omega (arith, parts.1)))
 group_limit false n h = h
 
 keeps_heard : (version : ℕ) (ms : Members) (h : Heard) → heard_of version ms ≡ Ok h → KeepsHeard h
@@ -210,16 +222,23 @@ keeps_heard version ms h e =
     taken KeepsHeard _ _ h e1 (λ v2 f2 e2.
     taken KeepsHeard _ _ h e2 (λ v3 f3 e3.
     let mounts = listed_kept KeepsMount mount_of keeps_mount 1 64 (top 5) (get_member (codes "mount") ms) v1 f1 in
-    let names = listed_differ (λ (m : Mount). m.name) [] mount_of (λ n before ms m e. (mount_is n before ms m e).name.new) refl 1 64 (top 5) (get_member (codes "mount") ms) v1 f1 in
-    let groups = listed_kept (KeepsGroup (length v1) (length v2)) (group_of version v1 v2) (keeps_group version v1 v2) 1 (most_groups version) (top 7) (get_member (codes "group") ms) v3 f3 in
+    let names = listed_differ (λ (m : Mount). m.name) [] mount_of (λ n before ms m e.
+    (mount_is n before ms m e).name.new) refl 1 64 (top 5) (get_member (codes "mount") ms) v1 f1 in
+    let groups = listed_kept (KeepsGroup (length v1) (length v2)) (group_of version v1 v2) (keeps_group version v1 v2) 1
+    (most_groups version) (top 7) (get_member (codes "group") ms) v3 f3 in
     subst KeepsHeard (value_is _ h e3) (record {
       mount = mounts;
-      near = listed_or_none_kept (KeepsNear (length v1)) (near_of v1) (keeps_near v1) (64 - length v1) (top 6) (get_member (codes "near") ms) v2 f2;
-      names = listed_or_none_differ (λ (n : Near). n.name) (mount_names v1) (near_of v1) (λ n before ms m e. (near_is v1 n before ms m e).name.new)
-          (subst (λ ns. each_once ns ≡ true) (sym (append-nil (mount_names v1))) names) (64 - length v1) (top 6) (get_member (codes "near") ms) v2 f2;
+      near = listed_or_none_kept (KeepsNear (length v1)) (near_of v1) (keeps_near v1) (64 - length v1) (top 6)
+          (get_member (codes "near") ms) v2 f2;
+      names = listed_or_none_differ (λ (n : Near). n.name) (mount_names v1) (near_of v1)
+          (λ n before ms m e. (near_is v1 n before ms m e).name.new)
+          (subst (λ ns. each_once ns ≡ true) (sym (append-nil (mount_names v1))) names) (64 - length v1) (top 6)
+          (get_member (codes "near") ms) v2 f2;
       group = groups.each;
       count_groups = group_limit (version == 1) (length v3) groups.count;
-      groups = listed_differ (λ (g : Group). g.name) [] (group_of version v1 v2) (λ n before ms g e. (group_is version v1 v2 n before ms g e).name.new) refl 1 (most_groups version) (top 7) (get_member (codes "group") ms) v3 f3;
+      groups = listed_differ (λ (g : Group). g.name) [] (group_of version v1 v2)
+          (λ n before ms g e. (group_is version v1 v2 n before ms g e).name.new) refl 1 (most_groups version) (top 7)
+          (get_member (codes "group") ms) v3 f3;
       filters = refl;
     }))))
 
@@ -229,17 +248,23 @@ pub record KeepsParties (mounts groups : ℕ) (p : Parties) : Type 0 where
   pub relay : AreKept (KeepsRelay mounts) 0 16 p.relay
   pub anonymous : IfSome p.anonymous (KeepsAnonymous 1000000 groups)
 
-keeps_parties : (mounts : List Mount) (groups : List Group) (ms : Members) (p : Parties) → parties_of mounts groups ms ≡ Ok p → KeepsParties (length mounts) (length groups) p
+keeps_parties : (mounts : List Mount) (groups : List Group) (ms : Members) (p : Parties)
+    → parties_of mounts groups ms ≡ Ok p → KeepsParties (length mounts) (length groups) p
 unfolding parties_of
 keeps_parties mounts groups ms p e =
     taken (KeepsParties (length mounts) (length groups)) _ _ p e (λ v1 f1 e1.
     taken (KeepsParties (length mounts) (length groups)) _ _ p e1 (λ v2 f2 e2.
     taken (KeepsParties (length mounts) (length groups)) _ _ p e2 (λ v3 f3 e3.
     subst (KeepsParties (length mounts) (length groups)) (value_is _ p e3) (record {
-      account = listed_or_none_kept (KeepsAccount 1000000 (length groups)) (account_of groups) (keeps_account groups) 1024 (top 8) (get_member (codes "account") ms) v1 f1;
-      users = listed_or_none_differ (λ (a : Account). a.user) [] (account_of groups) (λ n before ms a e. (account_is groups n before ms a e).user.new) refl 1024 (top 8) (get_member (codes "account") ms) v1 f1;
-      relay = listed_or_none_kept (KeepsRelay (length mounts)) (λ n before. relay_of mounts n) (keeps_relay mounts) 16 (top 9) (get_member (codes "relay") ms) v2 f2;
-      anonymous = keeps_anonymous groups v3 (optional_anonymous groups (top 10) (get_member (codes "anonymous") ms) v3 f3);
+      account = listed_or_none_kept (KeepsAccount 1000000 (length groups)) (account_of groups) (keeps_account groups)
+          1024 (top 8) (get_member (codes "account") ms) v1 f1;
+      users = listed_or_none_differ (λ (a : Account). a.user) [] (account_of groups)
+          (λ n before ms a e. (account_is groups n before ms a e).user.new) refl 1024 (top 8)
+          (get_member (codes "account") ms) v1 f1;
+      relay = listed_or_none_kept (KeepsRelay (length mounts)) (λ n before. relay_of mounts n) (keeps_relay mounts) 16
+          (top 9) (get_member (codes "relay") ms) v2 f2;
+      anonymous = keeps_anonymous groups v3 (optional_anonymous groups (top 10) (get_member (codes "anonymous") ms) v3
+          f3);
     }))))
 
 abbrev pub made : ℕ → ℕ → List Record → Heard → Parties → Config
@@ -273,8 +298,10 @@ keeps_rules ms c e =
     let accounts = within 0 1024 (length v6.account) parties.account.count in
     let relays = within 0 16 (length v6.relay) parties.relay.count in
     subst (KeepsRules 1000000) (value_is (made v2 v3 v4 v5 v6) c e6) (record {
-      workers = count_within 1 256 (top 2) v2 (again_or (count 1 256) (λ n. integer (pos n)) (count_keeps 1 256) (top 2) 4 (get_member (codes "workers") ms) v2 refl f2);
-      hysteresis = (within 0 50 v3 (count_within 0 50 (top 3) v3 (again_or (count 0 50) (λ n. integer (pos n)) (count_keeps 0 50) (top 3) 10 (get_member (codes "hysteresis") ms) v3 refl f3))).1;
+      workers = count_within 1 256 (top 2) v2 (again_or (count 1 256) (λ n. integer (pos n)) (count_keeps 1 256) (top 2)
+          4 (get_member (codes "workers") ms) v2 refl f2);
+      hysteresis = (within 0 50 v3 (count_within 0 50 (top 3) v3 (again_or (count 0 50) (λ n. integer (pos n))
+          (count_keeps 0 50) (top 3) 10 (get_member (codes "hysteresis") ms) v3 refl f3))).1;
       few_records = kept.1;
       records = kept.0;
       some_mounts = some.0;

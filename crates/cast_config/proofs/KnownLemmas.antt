@@ -9,7 +9,8 @@ use Rattle.cast_config.specs.declared.config.Mount.{Mount}
 use Rattle.cast_config.specs.declared.config.Near.{Near}
 use Rattle.cast_config.specs.Names.{mount_names, near_names, heard_names, place_of}
 
-pub among_both : (names others : List (List ℕ)) (name : List ℕ) → is_among (names ++ others) name ≡ (is_among names name || is_among others name)
+pub among_both : (names others : List (List ℕ)) (name : List ℕ) → is_among (names ++ others) name ≡
+    (is_among names name || is_among others name)
 among_both [] others name = refl
 among_both (n ∷ names) others name =
     elim (cases_Bool (bytes_eq n name)) [
@@ -19,7 +20,8 @@ among_both (n ∷ names) others name =
 
 -- found in the first list
 found_first : (names others : List (List ℕ)) (name : List ℕ) (from place : ℕ)
-    → position_from (λ n. bytes_eq n name) from names ≡ Some place → position_from (λ n. bytes_eq n name) from (names ++ others) ≡ Some place
+    → position_from (λ n. bytes_eq n name) from names ≡ Some place → position_from (λ n. bytes_eq n name) from
+    (names ++ others) ≡ Some place
 found_first [] others name from place e = absurd cc
 found_first (n ∷ names) others name from place e =
     elim (cases_Bool (bytes_eq n name)) [
@@ -30,7 +32,8 @@ found_first (n ∷ names) others name from place e =
 -- not found there, and so looked for in the second one
 found_second : (names others : List (List ℕ)) (name : List ℕ) (from : ℕ)
     → position_from (λ n. bytes_eq n name) from names ≡ None
-    → position_from (λ n. bytes_eq n name) from (names ++ others) ≡ position_from (λ n. bytes_eq n name) (from + length names) others
+    → position_from (λ n. bytes_eq n name) from (names ++ others) ≡ position_from (λ n. bytes_eq n name)
+    (from + length names) others
 found_second [] others name from e = let same : from + 0 ≡ from = omega arith in rw same refl
 found_second (n ∷ names) others name from e =
     elim (cases_Bool (bytes_eq n name)) [
@@ -42,7 +45,8 @@ found_second (n ∷ names) others name from e =
 
 -- looked for from another number on
 shifted : (names : List (List ℕ)) (name : List ℕ) (from more : ℕ)
-    → position_from (λ n. bytes_eq n name) (from + more) names ≡ option_map (λ i. from + i) (position_from (λ n. bytes_eq n name) more names)
+    → position_from (λ n. bytes_eq n name) (from + more) names ≡ option_map (λ i. from + i)
+    (position_from (λ n. bytes_eq n name) more names)
 shifted [] name from more = refl
 shifted (n ∷ names) name from more =
     elim (cases_Bool (bytes_eq n name)) [
@@ -62,7 +66,8 @@ pub not_in_mounts : (mounts : List Mount) (nears : List Near) (name : List ℕ) 
     → place_of (mount_names mounts) name ≡ None → place_of (near_names nears) name ≡ place
     → place_of (heard_names mounts nears) name ≡ option_map (λ i. length mounts + i) place
 not_in_mounts mounts nears name place e f =
-    let from : 0 + length (mount_names mounts) ≡ length mounts + 0 = let same : length (mount_names mounts) ≡ length mounts = length-map mounts (λ (m : Mount). m.name) in omega arith in
+    let from : 0 + length (mount_names mounts) ≡ length mounts + 0 = let same : length (mount_names mounts) ≡ length
+    mounts = length-map mounts (λ (m : Mount). m.name) in omega arith in
     found_second (mount_names mounts) (near_names nears) name 0 e
     ∙ ap (λ n. position_from (λ other. bytes_eq other name) n (near_names nears)) from
     ∙ shifted (near_names nears) name (length mounts) 0

@@ -36,7 +36,8 @@ not_true true e = absurd cc
 not_true false e = refl
 
 -- a name that was read as new is one, and new
-pub new_is : (names : List (List ℕ)) (key : Key) (d : Data) (s : List ℕ) → new_name names key d ≡ Ok s → (d ≡ string s) × IsNew names key s
+pub new_is : (names : List (List ℕ)) (key : Key) (d : Data) (s : List ℕ) → new_name names key d ≡ Ok s → (d ≡ string s)
+    × IsNew names key s
 unfolding new_name
 new_is names key d s e =
     taken (λ s. (d ≡ string s) × IsNew names key s) (name key d) _ s e (λ x read more.
@@ -53,7 +54,8 @@ pub record IsPlace (names : List (List ℕ)) (s : List ℕ) (n : ℕ) : Type 0 w
   pub within : n < length names
   pub name : name_at names n ≡ s
 
-found_from : (names : List (List ℕ)) (s : List ℕ) (from n : ℕ) → position_from (λ other. bytes_eq other s) from names ≡ Some n
+found_from : (names : List (List ℕ)) (s : List ℕ) (from n : ℕ) → position_from (λ other. bytes_eq other s) from names ≡
+    Some n
     → (k : ℕ) × (n ≡ from + k) × IsPlace names s k
 found_from [] s from n e = absurd cc
 found_from (x ∷ names) s from n e =
@@ -79,7 +81,8 @@ pub given_some : {A : Type 0} (fault : KeyFault) (o : Option A) (x : A) → give
 given_some fault None x e = absurd cc
 given_some fault (Some y) x e = ap Some (value_is y x e)
 
-pub place_read : (key : Key) (names : List (List ℕ)) (s : List ℕ) (n : ℕ) → place_at key names s ≡ Ok n → IsPlace names s n
+pub place_read : (key : Key) (names : List (List ℕ)) (s : List ℕ) (n : ℕ) → place_at key names s ≡ Ok n
+    → IsPlace names s n
 place_read key names s n e = place_is names s n (given_some (Unknown key) (place_of names s) n e)
 
 pub record IsNamed (names : List (List ℕ)) (key : Key) (n : ℕ) : Type 0 where
@@ -97,13 +100,16 @@ named_is names key d n e =
 
 -- ---- names that differ
 
-among_more : (names : List (List ℕ)) (s x : List ℕ) → is_among names x ≡ false → bytes_eq s x ≡ false → is_among (names ++ s ∷ []) x ≡ false
+among_more : (names : List (List ℕ)) (s x : List ℕ) → is_among names x ≡ false → bytes_eq s x ≡ false
+    → is_among (names ++ s ∷ []) x ≡ false
 among_more names s x none other = list_any-append (λ n. bytes_eq n x) names (s ∷ []) ∙ rw (none, other) refl
 
 turned : (x s : List ℕ) → bytes_eq x s ≡ false → bytes_eq s x ≡ false
-turned x s e = false_from_ne_true _ (λ same. false≢true (sym e ∙ (let eq : s ≡ x = same_bytes s x same in rw eq (bytes_same x))))
+turned x s e = false_from_ne_true _ (λ same. false≢true (sym e ∙ (let eq : s ≡ x = same_bytes s x same in
+    rw eq (bytes_same x))))
 
-pub once_more : (names : List (List ℕ)) (s : List ℕ) → each_once names ≡ true → is_among names s ≡ false → each_once (names ++ s ∷ []) ≡ true
+pub once_more : (names : List (List ℕ)) (s : List ℕ) → each_once names ≡ true → is_among names s ≡ false
+    → each_once (names ++ s ∷ []) ≡ true
 once_more [] s once new = refl
 once_more (x ∷ names) s once new =
     let parts = and_parts (not (is_among names x)) (each_once names) once in

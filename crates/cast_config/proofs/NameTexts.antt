@@ -41,7 +41,8 @@ all_low (b ∷ s) h zero = low_byte b (and_parts (is_name_byte b) (list_all is_n
 all_low (b ∷ s) h (suc i) = all_low s (and_parts (is_name_byte b) (list_all is_name_byte s) h).1 i
 
 pub name_utf8 : (s : List ℕ) → is_name s ≡ true → IsUtf8 s
-name_utf8 s name = IsUtf8-from_ascii s (all_low s (and_parts (leb 1 (length s) && leb (length s) 100) (list_all is_name_byte s) name).1)
+name_utf8 s name = IsUtf8-from_ascii s (all_low s (and_parts (leb 1 (length s) && leb (length s) 100)
+    (list_all is_name_byte s) name).1)
 
 pub name_fits : (s : List ℕ) → is_name s ≡ true → is_fit Plain s ≡ true
 name_fits s name =

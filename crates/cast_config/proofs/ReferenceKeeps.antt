@@ -28,12 +28,14 @@ pub record ArePlaces (names : List (List ℕ)) (texts : List (List ℕ)) (ns : L
   pub texts_are : map (name_at names) ns ≡ texts
 
 places_from : (key : Key) (names : List (List ℕ)) (before : List ℕ) (texts : List (List ℕ)) (ns : List ℕ)
-    → each_of (place_at key names) before texts ≡ Ok ns → (more : List ℕ) × (ns ≡ before ++ more) × ArePlaces names texts more
+    → each_of (place_at key names) before texts ≡ Ok ns → (more : List ℕ) × (ns ≡ before ++ more)
+    × ArePlaces names texts more
 places_from key names before [] ns e =
     let same : before ≡ ns = value_is before ns e in
     ([], sym same ∙ sym (append-nil before), record { within = All-nil (λ n. n < length names); texts_are = refl })
 places_from key names before (s ∷ texts) ns e =
-    taken (λ ns. (more : List ℕ) × (ns ≡ before ++ more) × ArePlaces names (s ∷ texts) more) (place_at key names s) _ ns e (λ n read rest.
+    taken (λ ns. (more : List ℕ) × (ns ≡ before ++ more) × ArePlaces names (s ∷ texts) more) (place_at key names s) _ ns
+    e (λ n read rest.
     let place = place_read key names s n read in
     let more = places_from key names (before ++ n ∷ []) texts ns rest in (
       n ∷ more.0,
@@ -44,18 +46,22 @@ places_from key names before (s ∷ texts) ns e =
       },
     ))
 
-none_among : (names : List (List ℕ)) (n : ℕ) (ns : List ℕ) → is_among (map (name_at names) ns) (name_at names n) ≡ false → list_any (λ m. eqb m n) ns ≡ false
+none_among : (names : List (List ℕ)) (n : ℕ) (ns : List ℕ) → is_among (map (name_at names) ns) (name_at names n) ≡ false
+    → list_any (λ m. eqb m n) ns ≡ false
 none_among names n [] e = refl
 none_among names n (m ∷ ns) e =
-    let parts = or_parts (bytes_eq (name_at names m) (name_at names n)) (is_among (map (name_at names) ns) (name_at names n)) e in
+    let parts = or_parts (bytes_eq (name_at names m) (name_at names n))
+    (is_among (map (name_at names) ns) (name_at names n)) e in
     or_from (eqb m n) (list_any (λ m. eqb m n) ns)
-    (false_from_ne_true _ (λ same. false≢true (sym parts.0 ∙ (let eq : m ≡ n = eqb-true m n same in rw eq (bytes_same (name_at names n))))))
+    (false_from_ne_true _ (λ same. false≢true (sym parts.0 ∙ (let eq : m ≡ n = eqb-true m n same in
+    rw eq (bytes_same (name_at names n))))))
     (none_among names n ns parts.1)
 
 pub once_from : (names : List (List ℕ)) (ns : List ℕ) → each_once (map (name_at names) ns) ≡ true → once ns ≡ true
 once_from names [] e = refl
 once_from names (n ∷ ns) e =
-    let parts = and_parts (not (is_among (map (name_at names) ns) (name_at names n))) (each_once (map (name_at names) ns)) e in
+    let parts = and_parts (not (is_among (map (name_at names) ns) (name_at names n)))
+    (each_once (map (name_at names) ns)) e in
     rw (none_among names n ns (not_true _ parts.0), once_from names ns parts.1) refl
 
 -- ---- texts of a list
@@ -96,7 +102,8 @@ pub record AreOnce (least most : ℕ) (all : List (List ℕ)) : Type 0 where
   pub names : list_all is_name all ≡ true
   pub once : each_once all ≡ true
 
-pub names_are : (least most : ℕ) (key : Key) (d : Data) (all : List (List ℕ)) → names_once least most key d ≡ Ok all → (d ≡ array (text_items all)) × AreOnce least most all
+pub names_are : (least most : ℕ) (key : Key) (d : Data) (all : List (List ℕ)) → names_once least most key d ≡ Ok all
+    → (d ≡ array (text_items all)) × AreOnce least most all
 unfolding names_once
 names_are least most key d all e =
     taken (λ all. (d ≡ array (text_items all)) × AreOnce least most all) (texts key d) _ all e (λ found read e1.
@@ -111,7 +118,8 @@ pub record IsAllNamed (names : List (List ℕ)) (least most : ℕ) (key : Key) (
   pub count : IsTrue (is_within least most (length ns))
   pub again : all_named names least most key (array (text_items (map (name_at names) ns))) ≡ Ok ns
 
-pub all_is : (names : List (List ℕ)) (least most : ℕ) (key : Key) (d : Data) (ns : List ℕ) → all_named names least most key d ≡ Ok ns → IsAllNamed names least most key ns
+pub all_is : (names : List (List ℕ)) (least most : ℕ) (key : Key) (d : Data) (ns : List ℕ)
+    → all_named names least most key d ≡ Ok ns → IsAllNamed names least most key ns
 all_is names least most key d ns e =
     taken (IsAllNamed names least most key) (names_once least most key d) _ ns e (λ all read rest.
     let are = names_are least most key d all read in
@@ -125,7 +133,8 @@ all_is names least most key d ns e =
         once = once_from names ns (subst (λ all. each_once all ≡ true) (sym texts_are) are.1.once);
       };
       count = subst (λ n. is_within least most n ≡ true) (sym size) are.1.count;
-      again = subst (λ (v : Data). all_named names least most key v ≡ done ns) (are.0 ∙ ap (λ all. array (text_items all)) (sym texts_are)) e;
+      again = subst (λ (v : Data). all_named names least most key v ≡ done ns)
+          (are.0 ∙ ap (λ all. array (text_items all)) (sym texts_are)) e;
     })
 
 -- ---- filters for single mountpoints
@@ -135,16 +144,22 @@ pub record IsFiltered (names : List (List ℕ)) (key : Key) (fs : List GroupFilt
   pub few : length fs ≤ 64
 
 pub none_filtered : (names : List (List ℕ)) (key : Key) → IsFiltered names key []
-none_filtered names key = record { numbers = record { within = All-nil (λ n. n < length names); once = refl }; few = omega arith }
+none_filtered names key = record {
+  numbers = record { within = All-nil (λ n. n < length names); once = refl };
+  few =
+      omega arith;
+}
 
-pub joined_ok : {A B C : Type 0} (make : A → B → C) (a : Read A) (b : Read B) (c : C) → both make a b ≡ Ok c → (x : A) × (y : B) × (a ≡ Ok x) × (b ≡ Ok y) × (make x y ≡ c)
+pub joined_ok : {A B C : Type 0} (make : A → B → C) (a : Read A) (b : Read B) (c : C) → both make a b ≡ Ok c → (x : A)
+    × (y : B) × (a ≡ Ok x) × (b ≡ Ok y) × (make x y ≡ c)
 joined_ok make (Ok x) (Ok y) c e = (x, y, refl, refl, value_is (make x y) c e)
 joined_ok make (Ok x) (Err g) c e = absurd cc
 joined_ok make (Err f) (Ok y) c e = absurd cc
 joined_ok make (Err f) (Err g) c e = absurd cc
 
 -- each element was read, behind those before
-few_filters : (key : Key) (before : Read (List FilterEntry)) (ds : Items) (all : List FilterEntry) → each_filter key before ds ≡ Ok all
+few_filters : (key : Key) (before : Read (List FilterEntry)) (ds : Items) (all : List FilterEntry)
+    → each_filter key before ds ≡ Ok all
     → (first : List FilterEntry) × (before ≡ Ok first) × (length all ≡ length first + item_count ds)
 few_filters key before no_items all e = (all, e, omega arith)
 few_filters key before (item d ds) all e =
@@ -154,7 +169,8 @@ few_filters key before (item d ds) all e =
     let all_is : length all ≡ length rest.0 + item_count ds = rest.2 in
     (parts.0, parts.2, omega arith)
 
-nothing_first : (key : Key) (ds : Items) (first : List FilterEntry) → at_most 64 key ds ≡ Ok first → (item_count ds ≤ 64) × (first ≡ [])
+nothing_first : (key : Key) (ds : Items) (first : List FilterEntry) → at_most 64 key ds ≡ Ok first
+    → (item_count ds ≤ 64) × (first ≡ [])
 nothing_first key ds first e =
     elim (cases_Bool (leb (item_count ds) 64)) [
       | inl few ↦ (leb-true (item_count ds) 64 few, sym (value_is [] first (rw few at e)))
@@ -176,27 +192,33 @@ few_read key (boolean z) all e = absurd cc
 few_read key (datetime z) all e = absurd cc
 few_read key (table z) all e = absurd cc
 
-filter_place : (key : Key) (names : List (List ℕ)) (s : FilterEntry) (f : GroupFilter) → filter_at key names s ≡ Ok f → IsPlace names s.mount f.mount
+filter_place : (key : Key) (names : List (List ℕ)) (s : FilterEntry) (f : GroupFilter) → filter_at key names s ≡ Ok f
+    → IsPlace names s.mount f.mount
 filter_place key names s f e =
     taken (λ (f : GroupFilter). IsPlace names s.mount f.mount) (place_at key names s.mount) _ f e (λ n read last.
-    subst (λ (f : GroupFilter). IsPlace names s.mount f.mount) (value_is _ f last) (place_read key names s.mount n read))
+    subst (λ (f : GroupFilter). IsPlace names s.mount f.mount) (value_is _ f last)
+    (place_read key names s.mount n read))
 
-entries_are : (key : Key) (d : Data) (all : List FilterEntry) → entries_once key d ≡ Ok all → (each_once (entry_names all) ≡ true) × (length all ≤ 64)
+entries_are : (key : Key) (d : Data) (all : List FilterEntry) → entries_once key d ≡ Ok all
+    → (each_once (entry_names all) ≡ true) × (length all ≤ 64)
 unfolding entries_once
 entries_are key d all e =
     taken (λ all. (each_once (entry_names all) ≡ true) × (length all ≤ 64)) (filters key d) _ all e (λ found read e1.
     held (λ all. (each_once (entry_names all) ≡ true) × (length all ≤ 64)) (Twice key) _ _ all e1 (λ once e2.
-    subst (λ all. (each_once (entry_names all) ≡ true) × (length all ≤ 64)) (value_is found all e2) (once, few_read key d found read)))
+    subst (λ all. (each_once (entry_names all) ≡ true) × (length all ≤ 64)) (value_is found all e2)
+    (once, few_read key d found read)))
 
 -- the mountpoints of filters that were read
-filters_from : (key : Key) (names : List (List ℕ)) (before : List GroupFilter) (entries : List FilterEntry) (fs : List GroupFilter)
+filters_from : (key : Key) (names : List (List ℕ)) (before : List GroupFilter) (entries : List FilterEntry)
+    (fs : List GroupFilter)
     → each_of (filter_at key names) before entries ≡ Ok fs
     → (more : List GroupFilter) × (fs ≡ before ++ more) × ArePlaces names (entry_names entries) (filtered more)
 filters_from key names before [] fs e =
     let same : before ≡ fs = value_is before fs e in
     ([], sym same ∙ sym (append-nil before), record { within = All-nil (λ n. n < length names); texts_are = refl })
 filters_from key names before (s ∷ entries) fs e =
-    taken (λ fs. (more : List GroupFilter) × (fs ≡ before ++ more) × ArePlaces names (entry_names (s ∷ entries)) (filtered more)) (filter_at key names s) _ fs e (λ f read rest.
+    taken (λ fs. (more : List GroupFilter) × (fs ≡ before ++ more) × ArePlaces names (entry_names (s ∷ entries))
+    (filtered more)) (filter_at key names s) _ fs e (λ f read rest.
     let at = filter_place key names s f read in
     let more = filters_from key names (before ++ f ∷ []) entries fs rest in (
       f ∷ more.0,
@@ -207,7 +229,8 @@ filters_from key names before (s ∷ entries) fs e =
       },
     ))
 
-pub filtered_is : (names : List (List ℕ)) (key : Key) (d : Data) (fs : List GroupFilter) → filters_at names key d ≡ Ok fs → IsFiltered names key fs
+pub filtered_is : (names : List (List ℕ)) (key : Key) (d : Data) (fs : List GroupFilter)
+    → filters_at names key d ≡ Ok fs → IsFiltered names key fs
 filtered_is names key d fs e =
     taken (IsFiltered names key) (entries_once key d) _ fs e (λ entries read rest.
     let are = entries_are key d entries read in
@@ -215,7 +238,8 @@ filtered_is names key d fs e =
     let same : fs ≡ places.0 = places.1 in
     let names_are : map (name_at names) (filtered fs) ≡ entry_names entries = rw same places.2.texts_are in
     let size : length fs ≡ length entries =
-    sym (length-map fs (λ (f : GroupFilter). f.mount)) ∙ sym (length-map (filtered fs) (name_at names)) ∙ ap length names_are
+    sym (length-map fs (λ (f : GroupFilter). f.mount)) ∙ sym (length-map (filtered fs) (name_at names))
+    ∙ ap length names_are
     ∙ length-map entries (λ (e : FilterEntry). e.mount) in
     let few : length entries ≤ 64 = are.1 in
     record {

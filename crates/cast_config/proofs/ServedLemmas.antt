@@ -21,4 +21,5 @@ filters_length mounts groups = length-map-range_with_len (filters_of groups) 0 (
 
 pub filters_index : (mounts : List Mount) (groups : List Group) (m : ℕ) (other : List FilterValue) → m < length mounts
     → get_or (all_filters mounts groups) m other ≡ filters_of groups m
-filters_index mounts groups m other within = get_or-map-range_with_len (filters_of groups) 0 (length mounts) m m other within (zero-add m)
+filters_index mounts groups m other within = get_or-map-range_with_len (filters_of groups) 0 (length mounts) m m other
+    within (zero-add m)

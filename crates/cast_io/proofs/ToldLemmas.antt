@@ -7,6 +7,10 @@ use Rattle.cast_io.specs.Told.{Grew}
 use Rattle.cast_io.specs.Links.{TakesStep, HasRead, has_failed, step_of}
 use Rattle.cast_io.specs.FakeLinks.{LinkState, link_told, steps_left, IsReadOf}
 
+-- a count that rose later rose since
+pub rose_since : (a b c : ℕ) → a ≤ b → Rose b c → Rose a c
+rose_since a b c later rose = omega (arith, later, rose)
+
 -- a read took a step, and noted it
 pub link_read : (old mid new : LinkState) (result : Got) (buf : List _)
     → TakesStep result buf (steps_left old) (steps_left mid) → mid.taken ≡ old.taken

@@ -80,5 +80,6 @@ pub none_is_name : (text : List ℕ) → is_none (name_fault text) ≡ is_name t
 none_is_name text =
     elim (cases_Bool (is_name text)) [
       | inl name ↦ rw name (fault_unless text (name_fault text) (name_of-name text name))
-      | inr other ↦ rw other (false_from_ne_true _ (λ none. false≢true (sym other ∙ is_name_unless text (no_fault (name_fault text) none))))
+      | inr other ↦ rw other (false_from_ne_true _ (λ none. false≢true
+          (sym other ∙ is_name_unless text (no_fault (name_fault text) none))))
     ]

@@ -6,7 +6,8 @@ use Rattle.cast_text.specs.Name.{name_of}
 use Rattle.cast_text.specs.Lines.{whole_lines, unfinished}
 
 -- three bytes at most: `cdef`, `abc` CR `d` and `abcd` are too long, and `wait` has not ended
-rows : whole_lines 3 (codes "ab\r\ncdef\n\nabc\r\nabc\rd\nabcd\r\nab\r\r\nwait") ≡ codes "ab" ∷ [] ∷ codes "abc" ∷ codes "ab\r" ∷ []
+rows : whole_lines 3 (codes "ab\r\ncdef\n\nabc\r\nabc\rd\nabcd\r\nab\r\r\nwait") ≡ codes "ab" ∷ [] ∷ codes "abc" ∷ codes
+    "ab\r" ∷ []
 rows = refl
 
 waiting : unfinished (codes "ab\r\nwait") ≡ codes "wait"

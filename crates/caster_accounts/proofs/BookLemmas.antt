@@ -28,10 +28,12 @@ caps accounts = map (λ (account : Account). account.cap) accounts
 pub cap_found : (accounts : List Account) (place : ℕ) (account : Account) → slice_get accounts place ≡ Some account →
     cap_at (caps accounts) place ≡ account.cap
 cap_found accounts place account at =
-    ap (λ o. unwrap_or o 0) (slice_get-map (λ (a : Account). a.cap) accounts place ∙ ap (option_map (λ (a : Account). a.cap)) at)
+    ap (λ o. unwrap_or o 0) (slice_get-map (λ (a : Account). a.cap) accounts place
+    ∙ ap (option_map (λ (a : Account). a.cap)) at)
 
 -- the caps stay where an account keeps its cap
-pub caps_stay : (accounts : List Account) (place : ℕ) (account now : Account) → slice_get accounts place ≡ Some account →
+pub caps_stay : (accounts : List Account) (place : ℕ) (account now : Account)
+    → slice_get accounts place ≡ Some account →
     now.cap ≡ account.cap → caps (set accounts place now) ≡ caps accounts
 caps_stay accounts place account now at same =
     map-set_same (λ (a : Account). a.cap) accounts place now account
@@ -43,7 +45,8 @@ total_after place h by call = fold-append (λ sum entry. after_call place sum en
 
 -- ---- callers
 
-pub length_without : (me : ℕ) (callers : List ℕ) → is_among me callers ≡ true → suc (length (without me callers)) ≡ length callers
+pub length_without : (me : ℕ) (callers : List ℕ) → is_among me callers ≡ true
+    → suc (length (without me callers)) ≡ length callers
 length_without me [] mine = absurd cc
 length_without me (caller ∷ callers) mine = by_test (length_without me callers) (caller == me) mine where
   by_test : (is_among me callers ≡ true → suc (length (without me callers)) ≡ length callers) → (b : Bool) →
@@ -87,8 +90,10 @@ all_after h by call = fold-append (λ sum entry. after_any sum entry.1) nothing 
 -- ---- one account
 
 -- an entry that changes neither who is inside nor the sums
-kept_more : (h : List (ℕ × BookCall)) (entry : ℕ × BookCall) (place : ℕ) (account : Account) → KeepsAccount h place account →
-    inside account.cap place (h ++ entry ∷ []) ≡ inside account.cap place h → total place (h ++ entry ∷ []) ≡ total place h →
+kept_more : (h : List (ℕ × BookCall)) (entry : ℕ × BookCall) (place : ℕ) (account : Account)
+    → KeepsAccount h place account →
+    inside account.cap place (h ++ entry ∷ []) ≡ inside account.cap place h
+    → total place (h ++ entry ∷ []) ≡ total place h →
     KeepsAccount (h ++ entry ∷ []) place account
 kept_more h entry place account keeps same_inside same_total =
     record {
@@ -100,10 +105,12 @@ kept_more h entry place account keeps same_inside same_total =
 
 -- who is inside after an Enter of this account
 inside_entered : (cap place me : ℕ) (h : List (ℕ × BookCall)) →
-    inside cap place (h ++ (me, Enter place) ∷ []) ≡ (if inside cap place h == cap then inside cap place h else inside cap place h + 1)
+    inside cap place (h ++ (me, Enter place) ∷ []) ≡ (if inside cap place h == cap then inside cap place h else inside
+    cap place h + 1)
 inside_entered cap place me h =
     ap length (callers_after cap place h me (Enter place))
-    ∙ ap (λ (b : Bool). length (if b then if inside cap place h == cap then callers_in cap place h else me ∷ callers_in cap place h else callers_in cap place h)) (eq-eqb place place refl)
+    ∙ ap (λ (b : Bool). length (if b then if inside cap place h == cap then callers_in cap place h else me ∷ callers_in
+    cap place h else callers_in cap place h)) (eq-eqb place place refl)
     ∙ by_test (inside cap place h == cap) where
       by_test : (b : Bool) → length (if b then callers_in cap place h else me ∷ callers_in cap place h)
           ≡ (if b then inside cap place h else inside cap place h + 1)
@@ -118,14 +125,17 @@ kept_entered h place me account keeps = by_test (account.busy == account.cap) re
   same_test b is = ap (λ n. n == account.cap) (sym keeps.busy) ∙ is
 
   inside_now : (b : Bool) → (account.busy == account.cap) ≡ b →
-      inside account.cap place (h ++ (me, Enter place) ∷ []) ≡ (if b then inside account.cap place h else inside account.cap place h + 1)
+      inside account.cap place (h ++ (me, Enter place) ∷ []) ≡ (if b then inside account.cap place h else inside
+      account.cap place h + 1)
   inside_now b is =
       inside_entered account.cap place me h
       ∙ ap (λ (t : Bool). if t then inside account.cap place h else inside account.cap place h + 1) (same_test b is)
 
   by_test : (b : Bool) → (account.busy == account.cap) ≡ b →
-      KeepsAccount (h ++ (me, Enter place) ∷ []) place (if b then account else record account { busy = account.busy + 1 })
-  by_test true is = kept_more h (me, Enter place) place account keeps (inside_now true is) (total_after place h me (Enter place))
+      KeepsAccount (h ++ (me, Enter place) ∷ []) place (if b then account else
+      record account { busy = account.busy + 1 })
+  by_test true is = kept_more h (me, Enter place) place account keeps (inside_now true is)
+      (total_after place h me (Enter place))
   by_test false is =
       let apart : account.busy ≢ account.cap = eqb-false account.busy account.cap is in
       record {
@@ -139,9 +149,11 @@ kept_entered h place me account keeps = by_test (account.busy == account.cap) re
 inside_left : (cap place me sent overrun : ℕ) (h : List (ℕ × BookCall)) → is_among me (callers_in cap place h) ≡ true →
     inside cap place h ≡ inside cap place (h ++ (me, Leave place sent overrun) ∷ []) + 1
 inside_left cap place me sent overrun h mine =
-    let goes_is : inside cap place (h ++ (me, Leave place sent overrun) ∷ []) ≡ length (without me (callers_in cap place h)) =
+    let goes_is : inside cap place (h ++ (me, Leave place sent overrun) ∷ []) ≡ length
+    (without me (callers_in cap place h)) =
     ap length (callers_after cap place h me (Leave place sent overrun))
-    ∙ ap (λ (b : Bool). length (if b then without me (callers_in cap place h) else callers_in cap place h)) (eq-eqb place place refl) in
+    ∙ ap (λ (b : Bool). length (if b then without me (callers_in cap place h) else callers_in cap place h))
+    (eq-eqb place place refl) in
     omega (arith, goes_is, length_without me (callers_in cap place h) mine)
 
 -- the sums after a Leave of this account
@@ -166,7 +178,8 @@ kept_left h place me sent overrun account keeps mine sent_small overrun_small =
       busy = omega (arith, keeps.busy, inside_left account.cap place me sent overrun h mine);
       within = omega (arith, keeps.within);
       sum = ap (λ (s : Sum). added s sent overrun) keeps.sum ∙ sym (total_left place me sent overrun h);
-      bounded = bounded_added h (me, Leave place sent overrun) sent overrun account.sum keeps.bounded sent_small overrun_small;
+      bounded = bounded_added h (me, Leave place sent overrun) sent overrun account.sum keeps.bounded sent_small
+          overrun_small;
     }
 
 -- ---- other accounts
@@ -183,16 +196,20 @@ goes_other cap other me callers (Enter place) apart =
 goes_other cap other me callers (Leave place sent overrun) apart =
     ap (λ (b : Bool). if b then without me callers else callers) apart
 
-total_other : (other : ℕ) (sum : Sum) (call : BookCall) → (account_of call == other) ≡ false → after_call other sum call ≡ sum
+total_other : (other : ℕ) (sum : Sum) (call : BookCall) → (account_of call == other) ≡ false
+    → after_call other sum call ≡ sum
 total_other other sum (Enter place) apart = refl
-total_other other sum (Leave place sent overrun) apart = ap (λ (b : Bool). if b then added sum sent overrun else sum) apart
+total_other other sum (Leave place sent overrun) apart = ap (λ (b : Bool). if b then added sum sent overrun else sum)
+    apart
 
 -- an account that the call is not of
-kept_other : (h : List (ℕ × BookCall)) (me other : ℕ) (call : BookCall) (account : Account) → (account_of call == other) ≡ false →
+kept_other : (h : List (ℕ × BookCall)) (me other : ℕ) (call : BookCall) (account : Account)
+    → (account_of call == other) ≡ false →
     KeepsAccount h other account → KeepsAccount (h ++ (me, call) ∷ []) other account
 kept_other h me other call account apart keeps =
     kept_more h (me, call) other account keeps
-    (ap length (callers_after account.cap other h me call ∙ goes_other account.cap other me (callers_in account.cap other h) call apart))
+    (ap length (callers_after account.cap other h me call ∙ goes_other account.cap other me
+    (callers_in account.cap other h) call apart))
     (total_after other h me call ∙ total_other other (total other h) call apart)
 
 -- ---- all accounts
@@ -213,24 +230,30 @@ each_after accounts h me call account now at keeps kept = λ other found there.
           KeepsAccount (h ++ (me, call) ∷ []) other found
       by_place other found is low true same =
           let place_is : account_of call ≡ other = eqb-true (account_of call) other same in
-          let now_is : now ≡ found = sym (get_or-set_at accounts (account_of call) other now found (sym place_is) inside_of) ∙ is in
+          let now_is : now ≡ found = sym (get_or-set_at accounts (account_of call) other now found (sym place_is)
+          inside_of) ∙ is in
           subst (λ (a : Account). KeepsAccount (h ++ (me, call) ∷ []) other a) now_is
           (subst (λ (n : ℕ). KeepsAccount (h ++ (me, call) ∷ []) n now) place_is kept)
       by_place other found is low false apart =
           let unlike : other ≢ account_of call = λ e. eqb-false (account_of call) other apart (sym e) in
-          let old_is : get_or accounts other found ≡ found = sym (get_or-set_other accounts (account_of call) other now found unlike) ∙ is in
+          let old_is : get_or accounts other found ≡ found = sym (get_or-set_other accounts (account_of call) other now
+          found unlike) ∙ is in
           let old_low : other < length accounts = omega (arith, low, length-set accounts (account_of call) now) in
-          kept_other h me other call found apart (keeps other found (slice_get-get_or accounts other found old_low ∙ ap Some old_is))
+          kept_other h me other call found apart (keeps other found (slice_get-get_or accounts other found old_low
+          ∙ ap Some old_is))
 
 pub each_entered : (accounts : List Account) (h : List (ℕ × BookCall)) (me place : ℕ) (account now : Account) →
     slice_get accounts place ≡ Some account → KeepsEach accounts h → now ≡ entered account →
     KeepsEach (set accounts place now) (h ++ (me, Enter place) ∷ [])
 each_entered accounts h me place account now at keeps is =
     each_after accounts h me (Enter place) account now at keeps
-    (subst (λ (a : Account). KeepsAccount (h ++ (me, Enter place) ∷ []) place a) (sym is) (kept_entered h place me account (keeps place account at)))
+    (subst (λ (a : Account). KeepsAccount (h ++ (me, Enter place) ∷ []) place a) (sym is)
+    (kept_entered h place me account (keeps place account at)))
 
-pub each_left : (accounts : List Account) (h : List (ℕ × BookCall)) (me place sent overrun : ℕ) (account now : Account) →
-    slice_get accounts place ≡ Some account → KeepsEach accounts h → is_among me (callers_in account.cap place h) ≡ true →
+pub each_left : (accounts : List Account) (h : List (ℕ × BookCall)) (me place sent overrun : ℕ) (account now : Account)
+    →
+    slice_get accounts place ≡ Some account → KeepsEach accounts h → is_among me (callers_in account.cap place h) ≡ true
+    →
     sent < 2 ^ 64 → overrun < 2 ^ 64 → now ≡ left account sent overrun →
     KeepsEach (set accounts place now) (h ++ (me, Leave place sent overrun) ∷ [])
 each_left accounts h me place sent overrun account now at keeps mine sent_small overrun_small is =
@@ -244,27 +267,32 @@ read_at : (accounts : List Account) (place : ℕ) (account : Account) → nat_lt
     account ≡ get_or accounts place account → slice_get accounts place ≡ Some account
 read_at accounts place account low is =
     let bound : place < length (caps accounts) = leb-true (suc place) (length (caps accounts)) low in
-    slice_get_read accounts (length accounts) place account refl (omega (arith, bound, length-map accounts (λ (a : Account). a.cap))) is
+    slice_get_read accounts (length accounts) place account refl (omega
+    (arith, bound, length-map accounts (λ (a : Account). a.cap))) is
 
-pub found_to_enter : (accounts : List Account) (h : List (ℕ × BookCall)) (me place : ℕ) (call : BookCall) (account : Account) →
+pub found_to_enter : (accounts : List Account) (h : List (ℕ × BookCall)) (me place : ℕ) (call : BookCall)
+    (account : Account) →
     call ≡ Enter place → fits (caps accounts) h me call ≡ true → account ≡ get_or accounts place account →
     slice_get accounts place ≡ Some account
 found_to_enter accounts h me place call account is fitting at =
     read_at accounts place account (ap (fits (caps accounts) h me) (sym is) ∙ fitting) at
 
-pub found_to_leave : (accounts : List Account) (h : List (ℕ × BookCall)) (me place sent overrun : ℕ) (call : BookCall) (account : Account) →
+pub found_to_leave : (accounts : List Account) (h : List (ℕ × BookCall)) (me place sent overrun : ℕ) (call : BookCall)
+    (account : Account) →
     call ≡ Leave place sent overrun → fits (caps accounts) h me call ≡ true → account ≡ get_or accounts place account →
     slice_get accounts place ≡ Some account
 found_to_leave accounts h me place sent overrun call account is fitting at =
     read_at accounts place account
     (and_parts (nat_lt place (length (caps accounts))) _ (ap (fits (caps accounts) h me) (sym is) ∙ fitting)).0 at
 
-pub inside_to_leave : (accounts : List Account) (h : List (ℕ × BookCall)) (me place sent overrun : ℕ) (call : BookCall) (account : Account) →
+pub inside_to_leave : (accounts : List Account) (h : List (ℕ × BookCall)) (me place sent overrun : ℕ) (call : BookCall)
+    (account : Account) →
     call ≡ Leave place sent overrun → fits (caps accounts) h me call ≡ true → account ≡ get_or accounts place account →
     is_among me (callers_in account.cap place h) ≡ true
 inside_to_leave accounts h me place sent overrun call account is fitting at =
     ap (λ (cap : ℕ). is_among me (callers_in cap place h))
-    (sym (cap_found accounts place account (found_to_leave accounts h me place sent overrun call account is fitting at)))
+    (sym (cap_found accounts place account (found_to_leave accounts h me place sent overrun call account is fitting
+    at)))
     ∙ (and_parts (nat_lt place (length (caps accounts))) _ (ap (fits (caps accounts) h me) (sym is) ∙ fitting)).1
 
 -- what is answered of the account that is entered
@@ -284,7 +312,8 @@ cap_entered account = by_test (account.busy == account.cap) where
 
 -- ---- a new book
 
-new_or_old : (accounts : List Account) (last found : Account) (place : ℕ) → slice_get (accounts ++ last ∷ []) place ≡ Some found →
+new_or_old : (accounts : List Account) (last found : Account) (place : ℕ)
+    → slice_get (accounts ++ last ∷ []) place ≡ Some found →
     (slice_get accounts place ≡ Some found) ⊎ (last ≡ found)
 new_or_old [] last found zero at = inr (ap (λ o. unwrap_or o found) at)
 new_or_old [] last found (suc place) at = absurd cc
@@ -292,11 +321,14 @@ new_or_old (first ∷ accounts) last found zero at = inl at
 new_or_old (first ∷ accounts) last found (suc place) at = new_or_old accounts last found place at
 
 -- one more account that nobody entered
-pub each_opened : (accounts more : List Account) (last : Account) → more ≡ accounts ++ last ∷ [] → last.busy ≡ 0 → last.sum ≡ nothing →
+pub each_opened : (accounts more : List Account) (last : Account) → more ≡ accounts ++ last ∷ [] → last.busy ≡ 0
+    → last.sum ≡ nothing →
     KeepsEach accounts [] → KeepsEach more []
 each_opened accounts more last more_is nobody none keeps = λ place found there.
-    by_side place found (new_or_old accounts last found place (ap (λ (l : List Account). slice_get l place) (sym more_is) ∙ there)) where
-      by_side : (place : ℕ) (found : Account) → (slice_get accounts place ≡ Some found) ⊎ (last ≡ found) → KeepsAccount [] place found
+    by_side place found (new_or_old accounts last found place (ap (λ (l : List Account). slice_get l place)
+    (sym more_is) ∙ there)) where
+      by_side : (place : ℕ) (found : Account) → (slice_get accounts place ≡ Some found) ⊎ (last ≡ found)
+          → KeepsAccount [] place found
       by_side place found (inl old) = keeps place found old
       by_side place found (inr is) =
           let busy : found.busy ≡ 0 = ap (λ (a : Account). a.busy) (sym is) ∙ nobody in
@@ -309,8 +341,10 @@ each_opened accounts more last more_is nobody none keeps = λ place found there.
           }
 
 -- its caps are those of the list that were reached
-pub caps_opened : (list : List ℕ) (index : ℕ) (accounts more : List Account) (last : Account) → more ≡ accounts ++ last ∷ [] →
-    last.cap ≡ get_or list index 0 → index < length list → caps accounts ≡ take index list → caps more ≡ take (index + 1) list
+pub caps_opened : (list : List ℕ) (index : ℕ) (accounts more : List Account) (last : Account)
+    → more ≡ accounts ++ last ∷ [] →
+    last.cap ≡ get_or list index 0 → index < length list → caps accounts ≡ take index list
+    → caps more ≡ take (index + 1) list
 caps_opened list index accounts more last more_is cap low before =
     ap caps more_is ∙ map-append (λ (a : Account). a.cap) accounts (last ∷ [])
     ∙ ap (λ (l : List ℕ). l ++ last.cap ∷ []) before ∙ ap (λ (n : ℕ). take index list ++ n ∷ []) cap
@@ -325,7 +359,8 @@ entered_may caps h now me account is low answered =
     and_from _ _ low
     (ap (λ (l : List (ℕ × BookCall)). is_among me (callers_in cap account l)) is
     ∙ ap (is_among me) (callers_after cap account h me (Enter account))
-    ∙ ap (λ (b : Bool). is_among me (if b then if inside cap account h == cap then callers_in cap account h else me ∷ callers_in cap account h else callers_in cap account h)) (eq-eqb account account refl)
+    ∙ ap (λ (b : Bool). is_among me (if b then if inside cap account h == cap then callers_in cap account h else me ∷
+    callers_in cap account h else callers_in cap account h)) (eq-eqb account account refl)
     ∙ by_test (inside cap account h == cap) answered) where
       cap : ℕ
       cap = cap_at caps account
@@ -333,13 +368,15 @@ entered_may caps h now me account is low answered =
       by_test : (b : Bool) → (if b then Full (inside cap account h) cap else Entered) ≡ Entered →
           is_among me (if b then callers_in cap account h else me ∷ callers_in cap account h) ≡ true
       by_test true full = absurd cc
-      by_test false entered = ap (λ (b : Bool). if b then true else is_among me (callers_in cap account h)) (eq-eqb me me refl)
+      by_test false entered = ap (λ (b : Bool). if b then true else is_among me (callers_in cap account h))
+          (eq-eqb me me refl)
 
 -- a turn that leaves, whether it was taken or refused, takes from no other caller what it may leave
 pub leave_stays : (caps later : List ℕ) (h now : List (ℕ × BookCall)) (me account sent overrun by place : ℕ)
     (result : Result BookAnswer TurnFault) (before after : Unit {0}) → later ≡ caps →
     IfOk result (λ reply. (now ≡ h ++ (me, Leave account sent overrun) ∷ []) × (reply ≡ Left) × (after ≡ before)) →
-    IfErr result (λ fault. (now ≡ h) × (after ≡ before) × IsFault false (worn_of (length now)) fault) → may_leave caps h me account ≡ true → by ≢ me →
+    IfErr result (λ fault. (now ≡ h) × (after ≡ before) × IsFault false (worn_of (length now)) fault)
+    → may_leave caps h me account ≡ true → by ≢ me →
     may_leave caps h by place ≡ true → may_leave later now by place ≡ true
 leave_stays caps later h now me account sent overrun by place (Ok reply) before after same ok err leaves apart may =
     ap (λ (l : List ℕ). may_leave l now by place) same

@@ -18,12 +18,13 @@ fewer_without me (caller ∷ callers) = by_test (fewer_without me callers) (call
 
 goes_capped : (cap account : ℕ) (callers : List ℕ) (me : ℕ) (call : BookCall) → length callers ≤ cap →
     length (goes cap account callers me call) ≤ cap
-goes_capped cap account callers me (Enter entered) few = by_tests (entered == account) (length callers == cap) refl where
-  by_tests : (b c : Bool) → (length callers == cap) ≡ c →
-      length (if b then if c then callers else me ∷ callers else callers) ≤ cap
-  by_tests true true is = few
-  by_tests true false is = omega (arith, few, eqb-false (length callers) cap is)
-  by_tests false c is = few
+goes_capped cap account callers me (Enter entered) few = by_tests (entered == account) (length callers == cap) refl
+  where
+    by_tests : (b c : Bool) → (length callers == cap) ≡ c →
+        length (if b then if c then callers else me ∷ callers else callers) ≤ cap
+    by_tests true true is = few
+    by_tests true false is = omega (arith, few, eqb-false (length callers) cap is)
+    by_tests false c is = few
 goes_capped cap account callers me (Leave left sent overrun) few = by_test (left == account) where
   by_test : (b : Bool) → length (if b then without me callers else callers) ≤ cap
   by_test true = omega (arith, few, fewer_without me callers)
@@ -33,7 +34,8 @@ capped_from : (cap account : ℕ) (callers : List ℕ) (h : List (ℕ × BookCal
     length (fold (λ callers entry. goes cap account callers entry.0 entry.1) callers h) ≤ cap
 capped_from cap account callers [] few = few
 capped_from cap account callers (entry ∷ h) few =
-    capped_from cap account (goes cap account callers entry.0 entry.1) h (goes_capped cap account callers entry.0 entry.1 few)
+    capped_from cap account (goes cap account callers entry.0 entry.1) h
+    (goes_capped cap account callers entry.0 entry.1 few)
 
 pub inside_capped : (cap account : ℕ) (h : List (ℕ × BookCall)) → inside cap account h ≤ cap
 inside_capped cap account h = capped_from cap account [] h (omega arith)
@@ -41,4 +43,8 @@ inside_capped cap account h = capped_from cap account [] h (omega arith)
 pub leaver_inside : (caps : List ℕ) (h : List (ℕ × BookCall)) (me account : ℕ) → may_leave caps h me account ≡ true →
     0 < inside (cap_at caps account) account h
 leaver_inside caps h me account may =
-    omega (arith, length_without me (callers_in (cap_at caps account) account h) (and_parts (nat_lt account (length caps)) _ may).1)
+    omega (
+      arith,
+      length_without me (callers_in (cap_at caps account) account h)
+          (and_parts (nat_lt account (length caps)) _ may).1,
+    )

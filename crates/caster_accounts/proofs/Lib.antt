@@ -1,3 +1,4 @@
 pub mod BookLemmas
 pub mod LawLemmas
 pub mod CountLemmas
+pub mod CallSums

@@ -23,7 +23,7 @@ among_more me by callers mine = by_test (by == me) where
   by_test false = mine
 
 -- and when another one goes
-among_without : (me by : ℕ) (callers : List ℕ) → by ≢ me → is_among me callers ≡ true →
+pub among_without : (me by : ℕ) (callers : List ℕ) → by ≢ me → is_among me callers ≡ true →
     is_among me (without by callers) ≡ true
 among_without me by [] apart mine = mine
 among_without me by (caller ∷ callers) apart mine =

@@ -1,29 +1,26 @@
 -- Desks speak for everybody, and nobody else calls at them.
-use Rattle.std.proofs.Common.{◌≡◌, ◌∙◌, ◌&&◌, ◌++◌, ◌+◌, ◌<◌, ◌≤◌, ℕ, zero, suc, Bool, true, false, IsTrue, List, [], ◌∷◌, length, map, take, get_or, refl, sym, ap, subst, All, Result, Some, arith}
+use Rattle.std.proofs.Common.{◌≡◌, ◌∙◌, ◌&&◌, ◌++◌, ◌+◌, ◌<◌, ℕ, zero, suc, Bool, true, false, List, [], ◌∷◌, length, map, take, get_or, refl, sym, ap, subst, Result, Some, arith}
 use Rattle.std.specs.Prelude.{IfOk}
 use Rattle.std.specs.declared.alloc.AllocError.{AllocError}
 use Rattle.turn_log.specs.History.{History}
 use Rattle.mount_ring.specs.declared.call.RingCall.{RingCall}
 use Rattle.mount_ring.specs.declared.shape.RingShape.{RingShape}
 use Rattle.caster_accounts.specs.declared.call.BookCall.{BookCall}
-use Rattle.caster_accounts.specs.Sums.{total}
 use Rattle.session_calls.specs.Rings.{all_alone}
 use Rattle.session_calls.specs.Steps.{Step}
-use Rattle.cast_config.specs.declared.config.Account.{Account}
 use Rattle.cast_config.specs.declared.config.Config.{Config}
 use Rattle.cast_config.specs.declared.config.Group.{Group}
 use Rattle.cast_config.specs.declared.config.Mount.{Mount}
 use Rattle.cast_config.specs.Served.{filters_of}
 use Rattle.type_filter.specs.Permitted.{FilterValue}
 use Rattle.session_core.specs.declared.ending.Last.{Last}
-use Rattle.session_core.specs.declared.report.MountTotal.{MountTotal}
 use Rattle.session_core.specs.declared.report.Receipt.{Receipt}
 use Rattle.session_core.specs.declared.session.Session.{Session}
 use Rattle.session_core.specs.Headings.{Heading}
 use Rattle.session_core.specs.Judged.{Opening, judged}
-use Rattle.session_core.specs.Reports.{IsHeadingOf, mount_total, sums_from}
+use Rattle.session_core.specs.Reports.{IsHeadingOf, mount_total}
 use Rattle.session_core.specs.Run.{Histories}
-use Rattle.session_core.specs.Setting.{shapes_from, shapes}
+use Rattle.session_core.specs.Setting.{shapes_from}
 use Rattle.session_core.specs.Called.{alone_at, seen_at, OthersCalled}
 use Rattle.session_core.specs.Standing.{StandsFor, Fed, IsClosed}
 use Rattle.session_core.specs.Turned.{Turned, is_rover}
@@ -153,35 +150,7 @@ pub uncalled_next : (mounts : List Mount) (i : ℕ) → i < length mounts
 uncalled_next mounts i within =
     ap (λ (n : ℕ). map (λ (mount : Mount). no_call) (take n mounts)) (sym (one_next i)) ∙ uncalled_suc mounts i within
 
--- ---- the sums of the named accounts
-
-sums_suc : (h : Histories) (k n : ℕ) (accounts : List Account) → n < length accounts
-    → sums_from k h (take (suc n) accounts) ≡ sums_from k h (take n accounts) ++ total (k + n) h.book ∷ []
-sums_suc h k n [] within = absurd (omega (arith, within))
-sums_suc h k zero (account ∷ accounts) within = ap (λ (m : ℕ). total m h.book ∷ []) (none_more k)
-  where
-    none_more : (m : ℕ) → m ≡ m + 0
-    none_more m = omega arith
-sums_suc h k (suc n) (account ∷ accounts) within =
-    ap (λ l. total k h.book ∷ l) (sums_suc h (k + 1) n accounts (omega (arith, within)))
-    ∙ ap (λ (m : ℕ). total k h.book ∷ (sums_from (k + 1) h (take n accounts) ++ total m h.book ∷ [])) (moved k n)
-  where
-    moved : (j m : ℕ) → (j + 1) + m ≡ j + suc m
-    moved j m = omega arith
-
-pub sums_more : (h : Histories) (n : ℕ) (accounts : List Account) → n < length accounts
-    → sums_from 1 h (take (n + 1) accounts) ≡ sums_from 1 h (take n accounts) ++ total (n + 1) h.book ∷ []
-sums_more h n accounts within =
-    ap (λ (m : ℕ). sums_from 1 h (take m accounts)) (sym (one_next n)) ∙ sums_suc h 1 n accounts within
-    ∙ ap (λ (m : ℕ). sums_from 1 h (take n accounts) ++ total m h.book ∷ []) (swapped n)
-  where
-    swapped : (m : ℕ) → 1 + m ≡ m + 1
-    swapped m = omega arith
-
 -- ---- what the mountpoints came to
-
-abbrev pub total_with : ℕ → ℕ → MountTotal
-total_with published claims = record { published = published; claims = claims }
 
 -- one more of the places, which saw this
 pub totals_more : {P : Type 0} (places : List P) (i : ℕ) (place : P) (seen : P → History RingCall) → i < length places

@@ -124,7 +124,8 @@ as_it_is olds news len long same =
 -- each served, by its place in the list
 pub served_each : {X : Type 0} (c : Config) (limit : ℕ) (told : X → HandTold) (olds news : List X)
     → length news ≡ length olds
-    → ((k : ℕ) (d : X) → k < length olds → HandServed c limit (told (slice_index_or olds k d)) (told (slice_index_or news k d)))
+    → ((k : ℕ) (d : X) → k < length olds → HandServed c limit (told (slice_index_or olds k d))
+    (told (slice_index_or news k d)))
     → AreMatched (HandServed c limit) (map told olds) (map told news)
 served_each c limit told [] [] same each = tt
 served_each c limit told [] (y ∷ news) same each = absurd (omega (arith, same))
@@ -142,7 +143,8 @@ slice_size olds slice news len is long same =
 
 pub slice_served : {X : Type 0} (c : Config) (limit : ℕ) (told : X → HandTold) (olds slice news : List X) (len : ℕ)
     → slice ≡ olds → len ≡ length olds → length news ≡ length slice
-    → ((k : ℕ) (d : X) → k < length slice → HandServed c limit (told (slice_index_or slice k d)) (told (slice_index_or news k d)))
+    → ((k : ℕ) (d : X) → k < length slice → HandServed c limit (told (slice_index_or slice k d))
+    (told (slice_index_or news k d)))
     → AreMatched (HandServed c limit) (map told olds) (map told (take len (news ++ drop (length news) olds)))
 slice_served c limit told olds slice news len is long same each =
     subst (λ l. AreMatched (HandServed c limit) (map told olds) (map told l))
@@ -187,7 +189,8 @@ have_served shared limit n (end ∷ ends) (old ∷ olds) (new ∷ news) unused s
     record {
       served = (one, later.served);
       kinds_kept = ap (λ k. k ∷ map kind_of (ends_of (callers_of news)))
-          (kind_kept shared.config.now limit n one.end new.caller.end (uncalled shared.config.now one.end) new.caller one.served)
+          (kind_kept shared.config.now limit n one.end new.caller.end (uncalled shared.config.now one.end) new.caller
+          one.served)
           ∙ ap (λ l. kind_of end ∷ l) later.kinds_kept;
       at = (subst (λ known. AreAt n known shared.rings.items shared.book) (sym served.0.known) seated.0.at, later.at);
     }
@@ -268,5 +271,6 @@ some_failed c limit n (caller ∷ callers) served short =
         → (is_whole limit caller ≡ false) ⊎ (list_all (is_whole limit) callers ≡ false)
         → IsTrue (list_any door_failed (ends_of (caller ∷ callers)))
     from later (inl here) = or_left (door_failed caller.end) (list_any door_failed (ends_of callers))
-        (failed_over c limit n served.0.end caller.end (uncalled c served.0.end) caller served.0.unused served.0.served here)
+        (failed_over c limit n served.0.end caller.end (uncalled c served.0.end) caller served.0.unused served.0.served
+        here)
     from later (inr there) = or_right (door_failed caller.end) (list_any door_failed (ends_of callers)) (later there)

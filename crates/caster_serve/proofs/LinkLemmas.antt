@@ -1,9 +1,8 @@
 -- What a link tells after several calls.
-use Rattle.std.proofs.Common.{◌∙◌, ◌≤◌, ℕ, List, [], ◌∷◌, ◌++◌, refl, sym, subst, arith}
+use Rattle.std.proofs.Common.{◌∙◌, ℕ, List, [], ◌∷◌, ◌++◌, refl, sym, subst, arith}
 use Rattle.std.proofs.lemmas.List.{append-nil}
 use Rattle.cast_io.specs.declared.steps.Step.{Step}
 use Rattle.cast_io.specs.declared.link.Got.{Got}
-use Rattle.cast_io.specs.Causes.{Rose}
 use Rattle.cast_io.specs.Told.{LinkTold, Grew}
 use Rattle.cast_io.specs.Links.{HasRead, step_of}
 use Rattle.cast_io.proofs.ToldLemmas.{grew_none, grew_both}
@@ -50,7 +49,3 @@ pub link_piece : (a b c : LinkTold) (taken : List Step) (written piece : List �
 link_piece a b c taken written piece so_far sent =
     subst (λ (steps : List Step). LinkGrew a c steps (written ++ piece)) (append-nil taken)
     (link_both a b c taken [] written piece so_far sent)
-
--- a count that rose later rose since
-pub rose_since : (a b c : ℕ) → a ≤ b → Rose b c → Rose a c
-rose_since a b c later rose = omega (arith, later, rose)

@@ -43,37 +43,43 @@ reads_aside : (mount : ℕ) (steps : List Step)
     → filter is_call_owed (calls_at mount steps) ≡ calls_at mount (owed_among steps)
 reads_aside mount [] = refl
 reads_aside mount (at_ring asked calls.Claim answer ∷ steps) =
-    elim (eqb asked mount) as (λ t. filter is_call_owed (calls_in (cond t ((calls.Claim, answer) ∷ []) [] ++ on_ring mount steps))
+    elim (eqb asked mount) as (λ t. filter is_call_owed (calls_in (cond t ((calls.Claim, answer) ∷ []) [] ++ on_ring
+    mount steps))
     ≡ calls_in (cond t ((calls.Claim, answer) ∷ []) [] ++ on_ring mount (owed_among steps))) [
       | true ↦ ap (λ l. calls.Claim ∷ l) (reads_aside mount steps)
       | false ↦ reads_aside mount steps
     ]
 reads_aside mount (at_ring asked (calls.Release claim) answer ∷ steps) =
-    elim (eqb asked mount) as (λ t. filter is_call_owed (calls_in (cond t ((calls.Release claim, answer) ∷ []) [] ++ on_ring mount steps))
+    elim (eqb asked mount) as (λ t. filter is_call_owed (calls_in (cond t ((calls.Release claim, answer) ∷ []) [] ++
+    on_ring mount steps))
     ≡ calls_in (cond t ((calls.Release claim, answer) ∷ []) [] ++ on_ring mount (owed_among steps))) [
       | true ↦ ap (λ l. calls.Release claim ∷ l) (reads_aside mount steps)
       | false ↦ reads_aside mount steps
     ]
 reads_aside mount (at_ring asked (calls.Publish claim frame) answer ∷ steps) =
-    elim (eqb asked mount) as (λ t. filter is_call_owed (calls_in (cond t ((calls.Publish claim frame, answer) ∷ []) [] ++ on_ring mount steps))
+    elim (eqb asked mount) as (λ t. filter is_call_owed (calls_in (cond t ((calls.Publish claim frame, answer) ∷ []) []
+    ++ on_ring mount steps))
     ≡ calls_in (cond t ((calls.Publish claim frame, answer) ∷ []) [] ++ on_ring mount (owed_among steps))) [
       | true ↦ ap (λ l. calls.Publish claim frame ∷ l) (reads_aside mount steps)
       | false ↦ reads_aside mount steps
     ]
 reads_aside mount (at_ring asked (calls.Join number) answer ∷ steps) =
-    elim (eqb asked mount) as (λ t. filter is_call_owed (calls_in (cond t ((calls.Join number, answer) ∷ []) [] ++ on_ring mount steps))
+    elim (eqb asked mount) as (λ t. filter is_call_owed (calls_in (cond t ((calls.Join number, answer) ∷ []) [] ++
+    on_ring mount steps))
     ≡ calls_in (cond t ((calls.Join number, answer) ∷ []) [] ++ on_ring mount (owed_among steps))) [
       | true ↦ ap (λ l. calls.Join number ∷ l) (reads_aside mount steps)
       | false ↦ reads_aside mount steps
     ]
 reads_aside mount (at_ring asked calls.Look answer ∷ steps) =
-    elim (eqb asked mount) as (λ t. filter is_call_owed (calls_in (cond t ((calls.Look, answer) ∷ []) [] ++ on_ring mount steps))
+    elim (eqb asked mount) as (λ t. filter is_call_owed (calls_in (cond t ((calls.Look, answer) ∷ []) [] ++ on_ring
+    mount steps))
     ≡ calls_in (cond t ((calls.Look, answer) ∷ []) [] ++ on_ring mount (owed_among steps))) [
       | true ↦ ap (λ l. calls.Look ∷ l) (reads_aside mount steps)
       | false ↦ reads_aside mount steps
     ]
 reads_aside mount (at_ring asked (calls.Read cursor budget) answer ∷ steps) =
-    elim (eqb asked mount) as (λ t. filter is_call_owed (calls_in (cond t ((calls.Read cursor budget, answer) ∷ []) [] ++ on_ring mount steps))
+    elim (eqb asked mount) as (λ t. filter is_call_owed (calls_in (cond t ((calls.Read cursor budget, answer) ∷ []) []
+    ++ on_ring mount steps))
     ≡ calls_at mount (owed_among steps)) [
       | true ↦ reads_aside mount steps
       | false ↦ reads_aside mount steps

@@ -22,7 +22,8 @@ use Rattle.caster_serve.specs.Sending.{HasSent, HasTorn}
 use Rattle.caster_serve.specs.Served.{Reached, Arrived, Serving, Came}
 use Rattle.caster_serve.proofs.CalledLemmas.{called_none}
 use Rattle.caster_serve.proofs.CourseLemmas.{text-snoc, text-more}
-use Rattle.caster_serve.proofs.LinkLemmas.{link_none, link_both, link_step, link_piece, rose_since}
+use Rattle.caster_serve.proofs.LinkLemmas.{link_none, link_both, link_step, link_piece}
+use Rattle.cast_io.proofs.ToldLemmas.{rose_since}
 use Rattle.caster_serve.proofs.ReachLemmas.{stands_going, follows_reached}
 
 -- ---- the beginning

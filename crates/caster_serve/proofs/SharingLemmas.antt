@@ -228,7 +228,8 @@ shapes_more shape c turns turn m within so_far is =
 pub shapes_all : {T : Type 0} (shape : T → RingShape) (c : Config) (turns : List T) (m : ℕ) → m ≡ length c.mount
     → map shape turns ≡ take m (shapes c) → map shape turns ≡ shapes c
 shapes_all shape c turns m is so_far =
-    so_far ∙ ap (λ (k : ℕ). take k (shapes c)) (is ∙ sym (length_shapes c)) ∙ take_all (length (shapes c)) (shapes c) (omega arith)
+    so_far ∙ ap (λ (k : ℕ). take k (shapes c)) (is ∙ sym (length_shapes c))
+    ∙ take_all (length (shapes c)) (shapes c) (omega arith)
 
 -- ---- facts of each
 
@@ -249,7 +250,8 @@ speaks_more {X} {P} speaks number_of number mid new seat passes rest pass popped
     subst (AllSay number) (sym is)
     (All-append (λ (s : ℕ → Bool). IsTrue (s number)) (map speaks mid) (speaks seat ∷ [])
     (before (all_front (λ (p : P). number_of p ≡ number) rest pass all))
-    (All-cons (λ (s : ℕ → Bool). IsTrue (s number)) (speaks seat) [] own (All-nil (λ (s : ℕ → Bool). IsTrue (s number)))))
+    (All-cons (λ (s : ℕ → Bool). IsTrue (s number)) (speaks seat) [] own
+    (All-nil (λ (s : ℕ → Bool). IsTrue (s number)))))
 
 -- no place speaks for another
 pub none_say : {X : Type 0} (speaks : X → ℕ → Bool) (places : List X) (me : ℕ) → places ≡ []

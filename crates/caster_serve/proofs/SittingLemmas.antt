@@ -78,7 +78,8 @@ unseen number passes shared ready fresh =
     ap (λ rings. record { rings = rings; book = pass_seen passes.book })
     (all_unseen number passes.rings.items shared.rings.items fresh.rings
     ∙ as_many [] shared.rings.items shared.config.now.mount long)
-    ∙ ap (λ (book : History _). record { rings = map (λ mount. []) shared.config.now.mount; book = book }) fresh.book.unseen
+    ∙ ap (λ (book : History _). record { rings = map (λ mount. []) shared.config.now.mount; book = book })
+    fresh.book.unseen
 
 -- ---- callers that sat down
 
@@ -100,7 +101,8 @@ seated-snoc shared n (e ∷ ends) (x ∷ hands) end hand so_far one = (
 )
 
 -- one more sat down behind the others
-pub seated_more : {X E : Type 0} (shared : Shared) (tell : E → EndTold) (told : X → HandTold) (ends front : List E) (end : E)
+pub seated_more : {X E : Type 0} (shared : Shared) (tell : E → EndTold) (told : X → HandTold) (ends front : List E)
+    (end : E)
     (old mid new more : List X) (hand : X) (number : ℕ) → ends ≡ front ++ end ∷ [] → mid ≡ old ++ more
     → AreSeated shared 0 (map tell front) (map told more) → new ≡ mid ++ hand ∷ [] → number ≡ length front
     → IsSeated shared number (tell end) (told hand)

@@ -31,7 +31,7 @@ use Rattle.caster_serve.specs.Sharing.{IsReady}
 use Rattle.caster_serve.specs.Callers.{Caller, ends_of, seen_of}
 use Rattle.caster_serve.specs.Seated.{HaveCalled}
 use Rattle.caster_serve.specs.Caster.{HasGivenBack, AllServed, NoneServed, ClosedWhole, EndedEarly, Ended, Refused, HasServed}
-use Rattle.caster_serve.proofs.LinkLemmas.{rose_since}
+use Rattle.cast_io.proofs.ToldLemmas.{rose_since}
 use Rattle.caster_serve.proofs.CallersLemmas.{some_failed, tallies_are}
 
 -- ---- how many callers there are
@@ -81,7 +81,8 @@ all_served : (shared : Shared) (limit : ℕ) (old new : StreetTold) (ends : List
 all_served shared limit old new ends piles whole histories called is back = record {
   kinds_are = ap (map kind_of) (sym called.ends_are) ∙ called.kinds_are;
   served = called.served;
-  given_back = subst (λ (list : List EndTold). HasGivenBack list old new) called.ends_are (given_back ends old new back);
+  given_back = subst (λ (list : List EndTold). HasGivenBack list old new) called.ends_are
+      (given_back ends old new back);
   whole = is;
 }
 
@@ -119,7 +120,12 @@ ended_early shared limit old new ends piles whole closed called closes back shor
 
 pub none_served : (ends : List EndTold) (old new : StreetTold) → All IsUnused ends → HasTakenBack ends old new
     → NoneServed old new
-none_served ends old new unused back = record { ends = ends; unused = unused; given_back = given_back ends old new back }
+none_served ends old new unused back = record {
+  ends = ends;
+  unused = unused;
+  given_back =
+      given_back ends old new back;
+}
 
 -- ---- the whole of it
 
@@ -164,7 +170,11 @@ pub refused_network : (c : Config) (addr : List ℕ) (limit n : ℕ) (ends : Lis
     → HasTakenBack ends mid new → HasServed c addr limit old new (Err faults.Network)
 refused_network c addr limit n ends old mid new first rose unused back = record {
   later = omega (arith, first.later, back.later);
-  answered = inr (refused c addr n ends old mid new first unused back, rose_on old.faults mid.faults new.faults rose back.later);
+  answered = inr (
+    refused c addr n ends old mid new first unused back,
+    rose_on old.faults mid.faults new.faults rose
+        back.later,
+  );
 }
 
 pub refused_memory : (c : Config) (addr : List ℕ) (limit n : ℕ) (ends : List EndTold) (old mid new : StreetTold)
@@ -235,7 +245,8 @@ went c addr limit n old mid new (Err faults.Memory) first all same later ended =
 -- ---- what is taken before
 
 -- empty piles are those of no callers
-pub piles_empty : (shared : Shared) (piles : Piles) (mounts : ℕ) → IsReady shared → mounts ≡ length shared.config.now.mount
+pub piles_empty : (shared : Shared) (piles : Piles) (mounts : ℕ) → IsReady shared
+    → mounts ≡ length shared.config.now.mount
     → ((rings : _) (book : _) → length rings ≡ mounts → ArePiles [] piles rings book)
     → ArePiles [] piles shared.rings.items shared.book
 piles_empty shared piles mounts ready many empty =
@@ -265,7 +276,8 @@ passes_are shared limit tell before now piles whole kinds_are called =
       length-map before tell,
     )
 
-pub went_as : (c d : Config) (addr : List ℕ) (limit n : ℕ) (old mid new : StreetTold) (result : Result Closed ServeFault)
+pub went_as : (c d : Config) (addr : List ℕ) (limit n : ℕ) (old mid new : StreetTold)
+    (result : Result Closed ServeFault)
     → d ≡ c → HasAsked (take n (asked_of c addr)) old mid → n ≡ length (asked_of c addr) → new.asked ≡ mid.asked
     → mid.faults ≤ new.faults → Ended d limit mid new result → HasServed c addr limit old new result
 went_as c d addr limit n old mid new result is first all same later ended =

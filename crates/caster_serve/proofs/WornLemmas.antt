@@ -95,7 +95,8 @@ still : (rings later : List ℕ) (book now : ℕ) (turns : ℕ) → length later
     → (place : ℕ) × (turns ≤ get_or (later ++ now ∷ []) place 0)
 still rings later book now turns long rise book_rise here = from (Contains-append_cases rings (book ∷ []) turns here)
   where
-    from : Contains rings turns ⊎ Contains (book ∷ []) turns → (place : ℕ) × (turns ≤ get_or (later ++ now ∷ []) place 0)
+    from : Contains rings turns ⊎ Contains (book ∷ []) turns → (place : ℕ)
+        × (turns ≤ get_or (later ++ now ∷ []) place 0)
     from (inl ring) = ring_still rings later now turns long rise ring
     from (inr at_book) = book_still later book now turns book_rise at_book
 

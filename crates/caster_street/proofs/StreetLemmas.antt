@@ -129,7 +129,8 @@ pub opened : {relays : List Relay} (c : Config) (addr : List ℕ) (n : ℕ) (x y
 opened c addr n x y z same one more =
     asked_both (asked.Open addr c.workers ∷ []) (take n (map dial_of c.relay)) x y z
     (asked_one (asked.Open addr c.workers) x y one)
-    (subst (λ (l : List Asked). HasAsked l y z) (ap (λ l. map dial_of (take n l)) same ∙ sym (take-map dial_of n c.relay)) more)
+    (subst (λ (l : List Asked). HasAsked l y z) (ap (λ l. map dial_of (take n l)) same
+    ∙ sym (take-map dial_of n c.relay)) more)
 
 -- ---- what is given
 
@@ -152,13 +153,15 @@ pub told_snoc : {D L : Type 0} (f : D → DoorTold) (g : L → LinkTold) (all fr
 told_snoc f g all front last is = ap (map (end_told f g)) is ∙ map-append (end_told f g) front (last ∷ [])
 
 -- where the rest was dialled, all were
-pub counted : {T E : Type 0} (relay : Relay) (later relays : List Relay) (result : Result T E) (n : ℕ) → relays ≡ relay ∷ later
+pub counted : {T E : Type 0} (relay : Relay) (later relays : List Relay) (result : Result T E) (n : ℕ)
+    → relays ≡ relay ∷ later
     → OnOk result (n ≡ length later) → OnOk result (suc n ≡ length relays)
 counted relay later relays (Ok answer) n is all = ap suc all ∙ sym (ap length is)
 counted relay later relays (Err fault) n is all = tt
 
 -- the relays that were dialled behind what was given before
-pub kinds_more : {D L T E : Type 0} {relays : List Relay} (f : D → DoorTold) (g : L → LinkTold) (c : Config) (doors : List D)
+pub kinds_more : {D L T E : Type 0} {relays : List Relay} (f : D → DoorTold) (g : L → LinkTold) (c : Config)
+    (doors : List D)
     (more all : List (End D L)) (result : Result T E) → relays ≡ c.relay → length doors ≡ c.workers
     → all ≡ map ends.Door doors ++ more
     → OnOk result (map kind_of (map (end_told f g) more) ≡ relays_from 0 relays)

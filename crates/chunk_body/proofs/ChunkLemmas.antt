@@ -92,7 +92,8 @@ pub goes_written : (bytes : List ℕ) → 0 < length bytes → length bytes < 16
     → Goes start (chunk_of bytes) start bytes
 unfolding tree_of
 goes_written bytes some small =
-    subst (λ (t : List ℕ). Goes start t start bytes) (printed bytes) (goes_chunk (tree_of bytes) (written bytes some small))
+    subst (λ (t : List ℕ). Goes start t start bytes) (printed bytes) (goes_chunk (tree_of bytes)
+    (written bytes some small))
 
 pub goes_frames : (frames : List (List ℕ)) → All (λ frame. IsTrue (is_frame frame)) frames
     → Goes start (flat_map chunk_of frames) start (concat frames)
@@ -107,7 +108,8 @@ pub frames_open : (frames : List (List ℕ)) → All (λ frame. IsTrue (is_frame
     → IsOpen (flat_map chunk_of frames)
 frames_open frames all =
     let goes = goes_frames frames all in
-    open_at (flat_map chunk_of frames) (λ e. absurd (not_broken (sym goes.ends ∙ e))) (λ e. absurd (not_ended (sym goes.ends ∙ e)))
+    open_at (flat_map chunk_of frames) (λ e. absurd (not_broken (sym goes.ends ∙ e)))
+    (λ e. absurd (not_ended (sym goes.ends ∙ e)))
   where
     not_broken : start ≡ Broken → ⊥
     not_broken e = absurd cc
@@ -118,7 +120,8 @@ frames_open frames all =
 pub frames_plain : (frames : List (List ℕ)) → All (λ frame. IsTrue (is_frame frame)) frames
     → IsPlain (flat_map chunk_of frames) (concat frames)
 frames_plain frames all =
-    subst (λ (x : List ℕ). IsPlain (flat_map chunk_of frames) x) (goes_frames frames all).gives (plain_is (flat_map chunk_of frames))
+    subst (λ (x : List ℕ). IsPlain (flat_map chunk_of frames) x) (goes_frames frames all).gives
+    (plain_is (flat_map chunk_of frames))
 
 -- with the shortest end behind them they are a body
 pub frames_whole : (frames : List (List ℕ)) → All (λ frame. IsTrue (is_frame frame)) frames

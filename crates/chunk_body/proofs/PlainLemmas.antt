@@ -55,7 +55,8 @@ plain_front : (front behind : List ℕ) (body : Body) → IsBody body
     → front ++ behind ≡ print_body body
     → plain start front ≡ data_within (length front) body.chunks
 plain_front front behind body is text =
-    ap (λ (t : List ℕ). plain start t) (sym (take-append_seam front behind) ∙ ap (λ (t : List ℕ). take (length front) t) text)
+    ap (λ (t : List ℕ). plain start t) (sym (take-append_seam front behind)
+    ∙ ap (λ (t : List ℕ). take (length front) t) text)
     ∙ plain_body (length front) body is
 
 -- the phase after one more byte
@@ -69,7 +70,8 @@ plain_stops front b more broken =
     let q = run start front in
     let next : step q b ≡ Broken = sym (run_more front b) ∙ broken in
     let none : plain q (b ∷ more) ≡ [] =
-    ap₂ (λ (xs ys : List ℕ). xs ++ ys) (given_broken q b next) (ap (λ (p : Phase). plain p more) next ∙ plain_broken more)
+    ap₂ (λ (xs ys : List ℕ). xs ++ ys) (given_broken q b next) (ap (λ (p : Phase). plain p more) next
+    ∙ plain_broken more)
     in
     plain-append start front (b ∷ more)
     ∙ ap (λ (xs : List ℕ). plain start front ++ xs) none

@@ -128,7 +128,8 @@ goes_chunk chunk is =
     goes_append start _ _ (print_size chunk.size) (chunk.bytes ++ line_end) [] chunk.bytes (goes_sized chunk is) (
     subst (λ (x : List ℕ). Goes (Data (length chunk.bytes)) (chunk.bytes ++ line_end) start x)
     (append-nil chunk.bytes)
-    (goes_append _ _ _ chunk.bytes line_end chunk.bytes [] (goes_bytes (length chunk.bytes) chunk.bytes refl is.some) goes_behind)
+    (goes_append _ _ _ chunk.bytes line_end chunk.bytes [] (goes_bytes (length chunk.bytes) chunk.bytes refl is.some)
+    goes_behind)
     )
 
 -- ---- trailers
@@ -138,7 +139,8 @@ goes_trailer : (n : ℕ) (bytes : List ℕ) → All IsLineByte bytes → n + len
 goes_trailer n [] all room =
     goes_to _ _ _ _ _ (ap TrailerStart (omega arith))
     (goes_cons (Trailer n) (TrailerLf (n + 1)) (TrailerStart (n + 1 + 1)) 13 (10 ∷ []) [] (step_trailer_cr n)
-    (goes_cons (TrailerLf (n + 1)) (TrailerStart (n + 1 + 1)) (TrailerStart (n + 1 + 1)) 10 [] [] (step_trailer_lf (n + 1)) (nothing (TrailerStart (n + 1 + 1)))))
+    (goes_cons (TrailerLf (n + 1)) (TrailerStart (n + 1 + 1)) (TrailerStart (n + 1 + 1)) 10 [] []
+    (step_trailer_lf (n + 1)) (nothing (TrailerStart (n + 1 + 1)))))
 goes_trailer n (b ∷ bytes) all room =
     let one = step_trailer n b (All-head IsLineByte b bytes all) (omega arith) in
     let others = goes_trailer (n + 1) bytes (All-tail IsLineByte b bytes all) (omega arith) in
@@ -188,14 +190,16 @@ pub goes_chunks : (chunks : List Chunk) → All IsChunk chunks
     → Goes start (flat_map print_chunk chunks) start (flat_map (λ chunk. chunk.bytes) chunks)
 goes_chunks [] all = nothing start
 goes_chunks (chunk ∷ chunks) all =
-    goes_append start start start (print_chunk chunk) (flat_map print_chunk chunks) chunk.bytes (flat_map (λ c. c.bytes) chunks)
+    goes_append start start start (print_chunk chunk) (flat_map print_chunk chunks) chunk.bytes
+    (flat_map (λ c. c.bytes) chunks)
     (goes_chunk chunk (All-head IsChunk chunk chunks all))
     (goes_chunks chunks (All-tail IsChunk chunk chunks all))
 
 pub goes_body : (body : Body) → IsBody body → Goes start (print_body body) Ended (data_of body)
 goes_body body is =
     subst (λ (x : List ℕ). Goes start (print_body body) Ended x) (append-nil (data_of body))
-    (goes_append start start Ended (flat_map print_chunk body.chunks) (print_size body.last ++ print_trailers body.trailers) (data_of body) []
+    (goes_append start start Ended (flat_map print_chunk body.chunks) (print_size body.last ++ print_trailers
+    body.trailers) (data_of body) []
     (goes_chunks body.chunks is.chunks) (goes_last body is))
 
 -- ---- the data of a front
@@ -237,4 +241,5 @@ plain_chunks k (chunk ∷ chunks) behind all quietly =
 pub plain_body : (k : ℕ) (body : Body) → IsBody body
     → plain start (take k (print_body body)) ≡ data_within k body.chunks
 plain_body k body is =
-    plain_chunks k body.chunks (print_size body.last ++ print_trailers body.trailers) is.chunks (goes_last body is).gives
+    plain_chunks k body.chunks (print_size body.last ++ print_trailers body.trailers) is.chunks
+    (goes_last body is).gives

@@ -79,13 +79,15 @@ abbrev reading_of : Phase → ℕ → Reading
 reading_of q n = record { phase = q; taken = n }
 
 after_to : (q p : Phase) (n b : ℕ) → is_ended q ≡ false → step q b ≡ p → (over : Bool)
-    → (is_ended p || is_broken p) ≡ over → after record { phase = q; taken = n } b ≡ record { phase = p; taken = cond over n (n + 1) }
+    → (is_ended p || is_broken p) ≡ over → after record { phase = q; taken = n } b ≡
+    record { phase = p; taken = cond over n (n + 1) }
 unfolding after
 after_to q p n b open_phase next over is =
     rw (open_phase, next, is) refl
 
 answer_to : (q p : Phase) (n b : ℕ) → is_ended q ≡ false → step q b ≡ p
-    → answer record { phase = q; taken = n } b ≡ cond (is_ended p) Done (cond (is_broken p) (Bad n) (cond (is_data q) (Byte b) More))
+    → answer record { phase = q; taken = n } b ≡ cond (is_ended p) Done
+    (cond (is_broken p) (Bad n) (cond (is_data q) (Byte b) More))
 unfolding answer
 answer_to q p n b open_phase next = rw (open_phase, next) refl
 
@@ -136,7 +138,8 @@ after_open t r b is phase taken = elim (next_is (step r.phase b)) [
       in
       let answered : answer r b ≡ cond (is_data r.phase) (Byte b) More =
       answer_to r.phase p r.taken b open_phase refl
-      ∙ ap₂ (λ (x y : Bool). cond x Done (cond y (Bad r.taken) (cond (is_data r.phase) (Byte b) More))) not_end not_fault
+      ∙ ap₂ (λ (x y : Bool). cond x Done (cond y (Bad r.taken) (cond (is_data r.phase) (Byte b) More))) not_end
+      not_fault
       in
       let came_here : run start (t ++ b ∷ []) ≡ p = came p refl in
       let still : IsOpen (t ++ b ∷ []) =
@@ -254,7 +257,8 @@ taken_more r b =
     cond_both (is_ended r.phase) r (reading_of p (cond (is_ended p || is_broken p) r.taken (r.taken + 1)))
     (λ (s : Reading). s.taken ≤ r.taken + 1)
     (λ _. omega arith)
-    (λ _. cond_both (is_ended p || is_broken p) r.taken (r.taken + 1) (λ (n : ℕ). n ≤ r.taken + 1) (λ _. omega arith) (λ _. omega arith))
+    (λ _. cond_both (is_ended p || is_broken p) r.taken (r.taken + 1) (λ (n : ℕ). n ≤ r.taken + 1) (λ _. omega arith)
+    (λ _. omega arith))
 
 -- what the answer to one more byte says
 pub answered : (t : List ℕ) (b : ℕ) → Answers (t ++ b ∷ []) (answer (read t) b)

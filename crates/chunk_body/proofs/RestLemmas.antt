@@ -83,7 +83,13 @@ from_start u x r =
       numeral = (omega (arith, r.some), r.all);
       digits = omega (arith, r.few);
       extension = r.is;
-      bytes = omega (arith, r.room, length-append r.digits (r.extension ++ line_end), length-append r.extension line_end);
+      bytes = omega (
+        arith,
+        r.room,
+        length-append r.digits (r.extension ++ line_end),
+        length-append r.extension
+            line_end,
+      );
     } in
     subst (λ (t : List ℕ). BodyText t x) (sym (r.text ∙ line_text r.digits r.extension r.behind))
     (from_line line (size_of line) r.behind x is refl r.rest)
@@ -170,7 +176,8 @@ unfolding in_extension
 back_extension n v b u x few =
     cond_both (eqb b 13) _ _ (λ (p : Phase). Rest p u x → RestExtension n v (b ∷ u) x)
     (λ cr. λ r. end (eqb-true b 13 cr) r)
-    (λ other. cond_both (not (eqb b 10) && leb (n + 3) 256) _ _ (λ (p : Phase). Rest p u x → RestExtension n v (b ∷ u) x)
+    (λ other. cond_both (not (eqb b 10) && leb (n + 3) 256) _ _ (λ (p : Phase). Rest p u x
+    → RestExtension n v (b ∷ u) x)
     (λ both. λ r. another (line_byte b other (and_parts (not (eqb b 10)) (leb (n + 3) 256) both).0) r)
     (λ _. λ r. absurd r))
   where

@@ -10,7 +10,8 @@ pub step_digit : (n v b : ℕ) → n < 6 → digit_value b < 16
     → step (Digits n v) b ≡ Digits (n + 1) (v * 16 + digit_value b)
 unfolding step in_digits
 step_digit n v b few digit =
-    cond-true (is_digit b 16 && ltb n 6) _ _ (and_from (is_digit b 16) (ltb n 6) (lt-ltb (digit_value b) 16 digit) (lt-ltb n 6 few))
+    cond-true (is_digit b 16 && ltb n 6) _ _ (and_from (is_digit b 16) (ltb n 6) (lt-ltb (digit_value b) 16 digit)
+    (lt-ltb n 6 few))
 
 pub step_semicolon : (n v : ℕ) → 0 < n → step (Digits n v) 59 ≡ Extension (n + 1) v
 unfolding step in_digits

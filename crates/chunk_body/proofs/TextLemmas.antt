@@ -194,7 +194,8 @@ open_at t fine going =
 -- a text is no longer live behind a fault
 pub bad_dead : (t : List ℕ) (k : ℕ) → IsBadAt t k → IsLive t → ⊥
 bad_dead t k bad live =
-    bad.broken (live_front (take (k + 1) t) (drop (k + 1) t) (subst (λ (s : List ℕ). IsLive s) (sym (take-append-drop (k + 1) t)) live))
+    bad.broken (live_front (take (k + 1) t) (drop (k + 1) t) (subst (λ (s : List ℕ). IsLive s)
+    (sym (take-append-drop (k + 1) t)) live))
 
 -- a body does not end before or behind a fault
 pub bad_not_ended : (t : List ℕ) (k : ℕ) → IsBadAt t k → HasEnded t → ⊥

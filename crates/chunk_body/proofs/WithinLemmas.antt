@@ -75,7 +75,8 @@ unfolding in_data is_within
 in_data_within n small =
     cond_both (ltb 1 n) _ _ (λ (p : Phase). Within p)
     (λ more. let most = ltb-true 1 n more in
-    and_from (ltb 0 (n - 1)) (ltb (n - 1) (16 ^ 6)) (lt-ltb 0 (n - 1) (omega arith)) (lt-ltb (n - 1) (16 ^ 6) (omega arith)))
+    and_from (ltb 0 (n - 1)) (ltb (n - 1) (16 ^ 6)) (lt-ltb 0 (n - 1) (omega arith))
+    (lt-ltb (n - 1) (16 ^ 6) (omega arith)))
     (λ _. refl)
 
 in_trailers_within : (n b : ℕ) (q : Phase) → Within q → Within (in_trailers n b q)

@@ -56,7 +56,8 @@ lacking (Twice key) read e = absurd cc
 lacking (Unknown key) read e = absurd cc
 
 both_fail : {A B C : Type 0} (make : A → B → C) (fault other : KeyFault) (a : Read A) (b : Read B)
-    → (fault ≡ Memory) ⊎ (a ≡ failed fault) → (other ≡ Memory) ⊎ (b ≡ failed other) → Refuses (first_of fault other) (both make a b)
+    → (fault ≡ Memory) ⊎ (a ≡ failed fault) → (other ≡ Memory) ⊎ (b ≡ failed other)
+    → Refuses (first_of fault other) (both make a b)
 both_fail make fault other a b (inl e) h = lacking _ _ (ap (λ f. first_of f other) e ∙ memory_first other)
 both_fail make fault other a b (inr e) (inl o) = lacking _ _ (ap (first_of fault) o ∙ memory_second fault)
 both_fail make fault other a b (inr e) (inr o) = refuses _ _ (rw (e, o) refl)
@@ -77,15 +78,18 @@ pub both_give : {A B C : Type 0} (make : A → B → C) (a : Read A) (b : Read B
 both_give make (Ok x) (Ok y) first second h k = rw (h, k) refl
 both_give make (Ok x) (Err other) first second h k = second_fails make other x first second h (either other second k)
 both_give make (Err fault) (Ok y) first second h k = first_fails make fault y first second (either fault first h) k
-both_give make (Err fault) (Err other) first second h k = both_fail make fault other first second (either fault first h) (either other second k)
+both_give make (Err fault) (Err other) first second h k = both_fail make fault other first second (either fault first h)
+    (either other second k)
 
 pub pushed_fails : {A B C : Type 0} (make : A → B → C) (fault : KeyFault) (next : Read B) (all : Read A) (one : Read B)
     → Refuses fault all → Gives next one → Refuses (with_fault fault next) (both make all one)
 pushed_fails make fault (Ok y) all one h k = first_fails make fault y all one (either fault all h) k
-pushed_fails make fault (Err other) all one h k = both_fail make fault other all one (either fault all h) (either other one k)
+pushed_fails make fault (Err other) all one h k = both_fail make fault other all one (either fault all h)
+    (either other one k)
 
 -- an element of two parts
-pub element : (key : Key) (d : Data) (ms : Members) (mount types : Option Data) (a : Read (List ℕ)) (b : Read FilterValue)
+pub element : (key : Key) (d : Data) (ms : Members) (mount types : Option Data) (a : Read (List ℕ))
+    (b : Read FilterValue)
     → as_table d ≡ Some ms → mount ≡ get_member (codes "mount") ms → types ≡ get_member (codes "types") ms
     → Gives a (required name key mount) → Gives b (required types_rule key types)
     → Gives (both filter_entry a b) (filter_in key d)

@@ -43,7 +43,8 @@ again {A} rule back keeps key (Some d) x e = subst (λ (v : Data). rule key v �
 pub again_or : {A : Type 0} (rule : Rule A) (back : A → Data) → Keeps rule back
     → (key : Key) (default : A) (o : Option Data) (x : A) → rule key (back default) ≡ Ok default
     → optional default rule key o ≡ Ok x → rule key (back x) ≡ Ok x
-again_or {A} rule back keeps key default None x base e = subst (λ (v : A). rule key (back v) ≡ done v) (value_is default x e) base
+again_or {A} rule back keeps key default None x base e = subst (λ (v : A). rule key (back v) ≡ done v)
+    (value_is default x e) base
 again_or rule back keeps key default (Some d) x base e = subst (λ (v : Data). rule key v ≡ done x) (keeps key d x e) e
 
 -- ---- texts and names
@@ -91,7 +92,8 @@ name_is key s e = (names key s s e).0
 
 -- ---- numbers
 
-counted : (least most : ℕ) (key : Key) (n x : ℕ) → count least most key (integer (pos n)) ≡ Ok x → (is_within least most n ≡ true) × (n ≡ x)
+counted : (least most : ℕ) (key : Key) (n x : ℕ) → count least most key (integer (pos n)) ≡ Ok x
+    → (is_within least most n ≡ true) × (n ≡ x)
 counted least most key n x e =
     elim (cases_Bool (is_within least most n)) [
       | inl within ↦ (within, value_is n x (rw within at e))
@@ -108,10 +110,12 @@ count_keeps least most key (datetime z) x e = absurd cc
 count_keeps least most key (array z) x e = absurd cc
 count_keeps least most key (table z) x e = absurd cc
 
-pub count_within : (least most : ℕ) (key : Key) (n : ℕ) → count least most key (integer (pos n)) ≡ Ok n → IsTrue (is_within least most n)
+pub count_within : (least most : ℕ) (key : Key) (n : ℕ) → count least most key (integer (pos n)) ≡ Ok n
+    → IsTrue (is_within least most n)
 count_within least most key n e = (counted least most key n n e).0
 
-ranged : (least most : ℤ) (key : Key) (z x : ℤ) → whole least most key (integer z) ≡ Ok x → ((int_le least z && int_le z most) ≡ true) × (z ≡ x)
+ranged : (least most : ℤ) (key : Key) (z x : ℤ) → whole least most key (integer z) ≡ Ok x
+    → ((int_le least z && int_le z most) ≡ true) × (z ≡ x)
 ranged least most key z x e =
     elim (cases_Bool (int_le least z && int_le z most)) [
       | inl within ↦ (within, value_is z x (rw within at e))
@@ -127,11 +131,13 @@ whole_keeps least most key (datetime z) x e = absurd cc
 whole_keeps least most key (array z) x e = absurd cc
 whole_keeps least most key (table z) x e = absurd cc
 
-size_within : (most : ℕ) (z : ℤ) → (int_le (negsuc most) z && int_le z (pos (suc most))) ≡ true → unsigned_abs z ≤ suc most
+size_within : (most : ℕ) (z : ℤ) → (int_le (negsuc most) z && int_le z (pos (suc most))) ≡ true
+    → unsigned_abs z ≤ suc most
 size_within most (pos n) e = let h = leb-true n (suc most) e in h
 size_within most (negsuc n) e =
     let parts = and_parts (leb n most) true e in let h : n ≤ most = leb-true n most parts.0 in omega arith
 
 -- a whole number of this size at most
-pub whole_within : (most : ℕ) (key : Key) (z : ℤ) → whole (negsuc most) (pos (suc most)) key (integer z) ≡ Ok z → unsigned_abs z ≤ suc most
+pub whole_within : (most : ℕ) (key : Key) (z : ℤ) → whole (negsuc most) (pos (suc most)) key (integer z) ≡ Ok z
+    → unsigned_abs z ≤ suc most
 whole_within most key z e = size_within most z (ranged (negsuc most) (pos (suc most)) key z z e).0

@@ -10,7 +10,8 @@ use Rattle.config_keys.specs.declared.key.Key.{Key}
 use Rattle.config_keys.specs.Lists.{each_of}
 use Rattle.config_keys.specs.Types.{message_number}
 
-none_high_from : (place : ℕ) (numbers : List ℕ) → list_all (λ n. leb n 4095) numbers ≡ true → position_from is_too_high place numbers ≡ None
+none_high_from : (place : ℕ) (numbers : List ℕ) → list_all (λ n. leb n 4095) numbers ≡ true
+    → position_from is_too_high place numbers ≡ None
 none_high_from place [] low = refl
 none_high_from place (n ∷ numbers) low =
     let parts = and_parts (leb n 4095) (list_all (λ n. leb n 4095) numbers) low in
@@ -19,7 +20,8 @@ none_high_from place (n ∷ numbers) low =
 none_high : (numbers : List ℕ) → list_all (λ n. leb n 4095) numbers ≡ true → position is_too_high numbers ≡ None
 none_high numbers low = position_from-zero is_too_high numbers ∙ none_high_from 0 numbers low
 
-one_more : (numbers : List ℕ) (n : ℕ) → list_all (λ m. leb m 4095) numbers ≡ true → leb n 4095 ≡ true → list_all (λ m. leb m 4095) (numbers ++ n ∷ []) ≡ true
+one_more : (numbers : List ℕ) (n : ℕ) → list_all (λ m. leb m 4095) numbers ≡ true → leb n 4095 ≡ true
+    → list_all (λ m. leb m 4095) (numbers ++ n ∷ []) ≡ true
 one_more numbers n low here = list_all-append (λ m. leb m 4095) numbers (n ∷ []) ∙ rw (low, here) refl
 
 low_from : (key : Key) (before numbers : List ℕ) (whole : List ℤ) → list_all (λ n. leb n 4095) before ≡ true
@@ -32,5 +34,6 @@ low_from key before numbers (pos n ∷ whole) low e =
     ]
 low_from key before numbers (negsuc n ∷ whole) low e = absurd cc
 
-pub read_low : (key : Key) (whole : List ℤ) (numbers : List ℕ) → each_of (message_number key) [] whole ≡ Ok numbers → position is_too_high numbers ≡ None
+pub read_low : (key : Key) (whole : List ℤ) (numbers : List ℕ) → each_of (message_number key) [] whole ≡ Ok numbers
+    → position is_too_high numbers ≡ None
 read_low key whole numbers e = none_high numbers (low_from key [] numbers whole refl e)

@@ -12,6 +12,7 @@ pub mount_step : (c : Config) (i : ℕ) (mounts : List Mount) (done all end : Li
 mount_step c i mounts done all end r m within is made pushed so_far =
     ap (λ (rs : List Record). rs ++ mount_records c (i + 1) (drop (i + 1) mounts)) pushed
     ∙ append_assoc done (r ∷ []) (mount_records c (i + 1) (drop (i + 1) mounts))
-    ∙ ap (λ (one : Record). done ++ one ∷ mount_records c (i + 1) (drop (i + 1) mounts)) (made ∙ ap (mount_record c i) is)
+    ∙ ap (λ (one : Record). done ++ one ∷ mount_records c (i + 1) (drop (i + 1) mounts))
+    (made ∙ ap (mount_record c i) is)
     ∙ ap (λ (ms : List Mount). done ++ mount_records c i ms) (sym (drop_more mounts i m within))
     ∙ so_far

@@ -46,7 +46,8 @@ Parties = read_type (parties_of [] [] no_members)
 
 record IsHeard (h : Heard) : Type 0 where
   pub mount : listed mount_of 1 64 (top 5) (Some (mounts_data h.mount)) ≡ Ok h.mount
-  pub near : listed_or_none (near_of h.mount) (64 - length h.mount) (top 6) (Some (nears_data h.mount h.near)) ≡ Ok h.near
+  pub near : listed_or_none (near_of h.mount) (64 - length h.mount) (top 6) (Some (nears_data h.mount h.near)) ≡ Ok
+      h.near
   pub group : listed (group_of 2 h.mount h.near) 1 64 (top 7) (Some (groups_data h.mount h.near h.group)) ≡ Ok h.group
   pub permits : h.permits ≡ all_filters h.mount h.group
 
@@ -56,7 +57,8 @@ record IsParties (mounts : List Mount) (groups : List Group) (p : Parties) : Typ
   pub anonymous : IfSome p.anonymous (IsAnonymous groups)
 
 -- the numbers of entries are in range
-record AreFew (mount : List Mount) (near : List Near) (group : List Group) (account : List Account) (relay : List Relay) : Type 0 where
+record AreFew (mount : List Mount) (near : List Near) (group : List Group) (account : List Account)
+    (relay : List Relay) : Type 0 where
   pub mounts : is_within 1 64 (length mount) ≡ true
   pub nears : is_within 0 (64 - length mount) (length near) ≡ true
   pub groups : is_within 1 64 (length group) ≡ true
@@ -78,7 +80,8 @@ few c k =
     }
 
 record AreHeard (h : Heard) : Type 0 where
-  pub are : is_within 1 64 (length h.mount) ≡ true → is_within 0 (64 - length h.mount) (length h.near) ≡ true → is_within 1 64 (length h.group) ≡ true → IsHeard h
+  pub are : is_within 1 64 (length h.mount) ≡ true → is_within 0 (64 - length h.mount) (length h.near) ≡ true
+      → is_within 1 64 (length h.group) ≡ true → IsHeard h
 
 heard_is : (version : ℕ) (ms : Members) (h : Heard) → heard_of version ms ≡ Ok h → AreHeard h
 unfolding heard_of mounts_data nears_data groups_data
@@ -88,17 +91,22 @@ heard_is version ms h e =
     taken AreHeard _ _ h e2 (λ v3 f3 e3.
     subst AreHeard (value_is _ h e3) (record {
       are = λ mounts nears groups. record {
-        mount = listed_again (top 5) mount_of mount_of mount_tree mount_again 1 64 1 64 (get_member (codes "mount") ms) v1 f1 mounts;
-        near = listed_or_none_again (top 6) (near_of v1) (near_of v1) (near_tree v1) (near_again v1) (64 - length v1) (64 - length v1) (get_member (codes "near") ms) v2 f2 nears;
-        group = listed_again (top 7) (group_of version v1 v2) (group_of 2 v1 v2) (group_tree v1 v2) (group_again version v1 v2) 1 64 1 (most_groups version) (get_member (codes "group") ms) v3 f3 groups;
+        mount = listed_again (top 5) mount_of mount_of mount_tree mount_again 1 64 1 64 (get_member (codes "mount") ms)
+            v1 f1 mounts;
+        near = listed_or_none_again (top 6) (near_of v1) (near_of v1) (near_tree v1) (near_again v1) (64 - length v1)
+            (64 - length v1) (get_member (codes "near") ms) v2 f2 nears;
+        group = listed_again (top 7) (group_of version v1 v2) (group_of 2 v1 v2) (group_tree v1 v2)
+            (group_again version v1 v2) 1 64 1 (most_groups version) (get_member (codes "group") ms) v3 f3 groups;
         permits = refl;
       };
     }))))
 
 record AreParties (mounts : List Mount) (groups : List Group) (p : Parties) : Type 0 where
-  pub are : is_within 0 1024 (length p.account) ≡ true → is_within 0 16 (length p.relay) ≡ true → IsParties mounts groups p
+  pub are : is_within 0 1024 (length p.account) ≡ true → is_within 0 16 (length p.relay) ≡ true
+      → IsParties mounts groups p
 
-parties_is : (mounts : List Mount) (groups : List Group) (ms : Members) (p : Parties) → parties_of mounts groups ms ≡ Ok p → AreParties mounts groups p
+parties_is : (mounts : List Mount) (groups : List Group) (ms : Members) (p : Parties)
+    → parties_of mounts groups ms ≡ Ok p → AreParties mounts groups p
 unfolding parties_of accounts_data relays_data
 parties_is mounts groups ms p e =
     taken (AreParties mounts groups) _ _ p e (λ v1 f1 e1.
@@ -106,8 +114,10 @@ parties_is mounts groups ms p e =
     taken (AreParties mounts groups) _ _ p e2 (λ v3 f3 e3.
     subst (AreParties mounts groups) (value_is _ p e3) (record {
       are = λ accounts relays. record {
-        account = listed_or_none_again (top 8) (account_of groups) (account_of groups) (account_tree groups) (account_again groups) 1024 1024 (get_member (codes "account") ms) v1 f1 accounts;
-        relay = listed_or_none_again (top 9) (λ n before. relay_of mounts n) (λ n before. relay_of mounts n) (relay_tree mounts) (relay_again mounts) 16 16 (get_member (codes "relay") ms) v2 f2 relays;
+        account = listed_or_none_again (top 8) (account_of groups) (account_of groups) (account_tree groups)
+            (account_again groups) 1024 1024 (get_member (codes "account") ms) v1 f1 accounts;
+        relay = listed_or_none_again (top 9) (λ n before. relay_of mounts n) (λ n before. relay_of mounts n)
+            (relay_tree mounts) (relay_again mounts) 16 16 (get_member (codes "relay") ms) v2 f2 relays;
         anonymous = optional_anonymous groups (top 10) (get_member (codes "anonymous") ms) v3 f3;
       };
     }))))
@@ -119,11 +129,13 @@ record IsAgain (c : Config) : Type 0 where
   pub hysteresis : count 0 50 (top 3) (number c.hysteresis) ≡ Ok c.hysteresis
   pub records : records (top 4) (list_data (λ r. string (line_of r)) c.records) ≡ Ok c.records
   pub mount : listed mount_of 1 64 (top 5) (Some (mounts_data c.mount)) ≡ Ok c.mount
-  pub near : listed_or_none (near_of c.mount) (64 - length c.mount) (top 6) (Some (nears_data c.mount c.near)) ≡ Ok c.near
+  pub near : listed_or_none (near_of c.mount) (64 - length c.mount) (top 6) (Some (nears_data c.mount c.near)) ≡ Ok
+      c.near
   pub group : listed (group_of 2 c.mount c.near) 1 64 (top 7) (Some (groups_data c.mount c.near c.group)) ≡ Ok c.group
   pub permits : c.permits ≡ all_filters c.mount c.group
   pub account : listed_or_none (account_of c.group) 1024 (top 8) (Some (accounts_data c.group c.account)) ≡ Ok c.account
-  pub relay : listed_or_none (λ n before. relay_of c.mount n) 16 (top 9) (Some (relays_data c.mount c.relay)) ≡ Ok c.relay
+  pub relay : listed_or_none (λ n before. relay_of c.mount n) 16 (top 9) (Some (relays_data c.mount c.relay)) ≡ Ok
+      c.relay
   pub anonymous : IfSome c.anonymous (IsAnonymous c.group)
 
 record Again (c : Config) : Type 0 where
@@ -144,8 +156,10 @@ again_is ms c e =
           let heard = (heard_is v1 ms v5 f5).are are.mounts are.nears are.groups in
           let parties = (parties_is v5.mount v5.group ms v6 f6).are are.accounts are.relays in
           record {
-            workers = again_or (count 1 256) (λ n. number n) (count_keeps 1 256) (top 2) 4 (get_member (codes "workers") ms) v2 refl f2;
-            hysteresis = again_or (count 0 50) (λ n. number n) (count_keeps 0 50) (top 3) 10 (get_member (codes "hysteresis") ms) v3 refl f3;
+            workers = again_or (count 1 256) (λ n. number n) (count_keeps 1 256) (top 2) 4
+                (get_member (codes "workers") ms) v2 refl f2;
+            hysteresis = again_or (count 0 50) (λ n. number n) (count_keeps 0 50) (top 3) 10
+                (get_member (codes "hysteresis") ms) v3 refl f3;
             records = records_read (top 4) v4 k.records k.few_records;
             mount = heard.mount;
             near = heard.near;
@@ -161,19 +175,32 @@ abbrev permitting : (c : Config) → List (List FilterValue) → Read Config
 permitting c permits = Ok (record c { permits = permits })
 
 -- it is read from its keys
-back : (c : Config) (o : Option Anonymous) → IsAgain (record c { anonymous = o }) → config_of (config_tree (record c { anonymous = o })) ≡ Ok (record c { anonymous = o })
+back : (c : Config) (o : Option Anonymous) → IsAgain (record c { anonymous = o })
+    → config_of (config_tree (record c { anonymous = o })) ≡ Ok (record c { anonymous = o })
 unfolding config_of heard_of parties_of config_tree
 back c None h =
     rw (h.workers, h.hysteresis, h.records, h.mount, h.near, h.group, h.account, h.relay) refl
     ∙ ap (permitting (record c { anonymous = None })) (sym h.permits)
 back c (Some a) h =
-    rw (h.workers, h.hysteresis, h.records, h.mount, h.near, h.group, h.account, h.relay, anonymous_back c.group a h.anonymous) refl
+    rw (
+      h.workers,
+      h.hysteresis,
+      h.records,
+      h.mount,
+      h.near,
+      h.group,
+      h.account,
+      h.relay,
+      anonymous_back c.group a
+          h.anonymous,
+    ) refl
     ∙ ap (permitting (record c { anonymous = Some a })) (sym h.permits)
 
 pub config_again : (ms : Members) (c : Config) → config_of ms ≡ Ok c → config_of (config_tree c) ≡ Ok c
 config_again ms c e = back c c.anonymous ((again_is ms c e).is (keeps_rules ms c e))
 
-version_from : (c : Config) (o : Option Anonymous) → get_member (codes "version") (config_tree (record c { anonymous = o })) ≡ Some (number 2)
+version_from : (c : Config) (o : Option Anonymous) → get_member (codes "version")
+    (config_tree (record c { anonymous = o })) ≡ Some (number 2)
 unfolding config_tree
 version_from c None = refl
 version_from c (Some a) = refl

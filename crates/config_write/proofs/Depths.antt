@@ -45,15 +45,18 @@ none k = record { depth = omega arith; dates = refl }
 
 -- ---- lists
 
-items_depths : {A : Type 0} (k : ℕ) (one : A → Data) → ((x : A) → IsShallow k (one x)) → (xs : List A) → items_depth (items_of (map one xs)) ≤ k
+items_depths : {A : Type 0} (k : ℕ) (one : A → Data) → ((x : A) → IsShallow k (one x)) → (xs : List A)
+    → items_depth (items_of (map one xs)) ≤ k
 items_depths k one each [] = omega arith
 items_depths k one each (x ∷ xs) = max-le (each x).depth (items_depths k one each xs)
 
-items_dates : {A : Type 0} (k : ℕ) (one : A → Data) → ((x : A) → IsShallow k (one x)) → (xs : List A) → items_have_valid_dates (items_of (map one xs)) ≡ true
+items_dates : {A : Type 0} (k : ℕ) (one : A → Data) → ((x : A) → IsShallow k (one x)) → (xs : List A)
+    → items_have_valid_dates (items_of (map one xs)) ≡ true
 items_dates k one each [] = refl
 items_dates k one each (x ∷ xs) = and_from _ _ (each x).dates (items_dates k one each xs)
 
-list : {A : Type 0} (k : ℕ) (one : A → Data) → ((x : A) → IsShallow k (one x)) → (xs : List A) → IsShallow (suc k) (list_data one xs)
+list : {A : Type 0} (k : ℕ) (one : A → Data) → ((x : A) → IsShallow k (one x)) → (xs : List A)
+    → IsShallow (suc k) (list_data one xs)
 list k one each xs = record {
   depth = let d : items_depth (items_of (map one xs)) ≤ k = items_depths k one each xs in omega arith;
   dates = items_dates k one each xs;
@@ -61,7 +64,8 @@ list k one each xs = record {
 
 -- ---- keys
 
-more : (k : ℕ) (key : List ℕ) (d : Data) (ms : Members) → IsShallow k d → AreShallow k ms → AreShallow k (member key d ms)
+more : (k : ℕ) (key : List ℕ) (d : Data) (ms : Members) → IsShallow k d → AreShallow k ms
+    → AreShallow k (member key d ms)
 more k key d ms is are = record { depth = max-le is.depth are.depth; dates = and_from _ _ is.dates are.dates }
 
 rest : (k : ℕ) (key : List ℕ) (d : Data) (ms : Members) → AreShallow k (member key d ms) → AreShallow k ms
@@ -76,7 +80,8 @@ head k key d ms are = record {
   dates = (and_parts (has_valid_dates d) (members_have_valid_dates ms) are.dates).0;
 }
 
-one_more : (k : ℕ) (key : List ℕ) (d : Data) (ms : Members) → IsShallow k d → AreShallow k ms → AreShallow k (put key d ms)
+one_more : (k : ℕ) (key : List ℕ) (d : Data) (ms : Members) → IsShallow k d → AreShallow k ms
+    → AreShallow k (put key d ms)
 one_more k key d no_members is are = more k key d no_members is are
 one_more k key d (member other e ms) is are =
     elim (slice_cmp nat_cmp key other) as (λ r. AreShallow k
@@ -99,10 +104,32 @@ all_more k (key ∷ keys) ms each are = all_more k keys (put key.0 key.1 ms) eac
 mount_shallow : (m : Mount) → AreShallow 0 (mount_tree m)
 unfolding mount_tree
 mount_shallow m =
-    all_more 0 (record_keys m) (put_keys (station_keys m) no_members)
-    (text 0 m.identifier, (text 0 m.details, (text 0 m.carrier, (text 0 m.navigation, (text 0 m.network, (text 0 m.country, (text 0 m.generator, (whole 0 m.bitrate, (text 0 m.misc, tt)))))))))
-    (all_more 0 (station_keys m) no_members
-    (text 0 m.name, (text 0 m.password, (whole 0 m.ring, (record { depth = omega arith; dates = refl }, (record { depth = omega arith; dates = refl }, tt)))))
+    all_more 0 (record_keys m) (put_keys (station_keys m) no_members) (
+      text 0 m.identifier,
+      (
+        text 0 m.details,
+        (
+          text 0 m.carrier,
+          (
+            text 0 m.navigation,
+            (text 0 m.network, (text 0 m.country, (text 0 m.generator, (whole 0 m.bitrate, (text 0 m.misc, tt))))),
+          ),
+        ),
+      ),
+    )
+    (all_more 0 (station_keys m) no_members (
+      text 0 m.name,
+      (
+        text 0 m.password,
+        (
+          whole 0 m.ring,
+          (
+            record { depth = omega arith; dates = refl },
+            (record { depth = omega arith; dates = refl }, tt),
+          ),
+        ),
+      ),
+    )
     (none 0))
 
 names_shallow : (k : ℕ) (names : List (List ℕ)) (ns : List ℕ) → IsShallow (suc k) (list_data (name_data names) ns)
@@ -110,7 +137,10 @@ names_shallow k names ns = list k (name_data names) (λ n. text k _) ns
 
 near_shallow : (mounts : List Mount) (n : Near) → AreShallow 1 (near_tree mounts n)
 unfolding near_tree
-near_shallow mounts n = all_more 1 (near_keys mounts n) no_members (text 1 n.name, (names_shallow 0 (mount_names mounts) n.bases, tt)) (none 1)
+near_shallow mounts n = all_more 1 (near_keys mounts n) no_members (
+  text 1 n.name,
+  (names_shallow 0 (mount_names mounts) n.bases, tt),
+) (none 1)
 
 types_shallow : (k : ℕ) (f : FilterValue) → IsShallow (suc k) (types_data f)
 types_shallow k All = text (suc k) (codes "all")
@@ -128,7 +158,11 @@ group_shallow mounts nears g =
         names_shallow 2 (heard_names mounts nears) g.mounts,
         (
           types_shallow 2 g.types,
-          (list 2 (λ f. table (filter_tree (mount_names mounts) f)) (λ f. inner 1 (filter_tree (mount_names mounts) f) (filter_shallow (mount_names mounts) f)) g.filter, tt),
+          (
+            list 2 (λ f. table (filter_tree (mount_names mounts) f)) (λ f. inner 1 (filter_tree (mount_names mounts) f)
+                (filter_shallow (mount_names mounts) f)) g.filter,
+            tt,
+          ),
         ),
       ),
     ) (none 3)
@@ -136,7 +170,8 @@ group_shallow mounts nears g =
 account_shallow : (groups : List Group) (a : Account) → AreShallow 0 (account_tree groups a)
 unfolding account_tree
 account_shallow groups a =
-    all_more 0 (account_keys groups a) no_members (text 0 a.user, (text 0 a.password, (text 0 _, (whole 0 a.cap, tt)))) (none 0)
+    all_more 0 (account_keys groups a) no_members (text 0 a.user, (text 0 a.password, (text 0 _, (whole 0 a.cap, tt))))
+    (none 0)
 
 user_shallow : (o : Option (List ℕ)) (ms : Members) → AreShallow 0 ms → AreShallow 0 (with_user o ms)
 user_shallow None ms are = are
@@ -146,7 +181,13 @@ relay_shallow : (mounts : List Mount) (r : Relay) → AreShallow 0 (relay_tree m
 unfolding relay_tree
 relay_shallow mounts r =
     user_shallow r.user _
-    (all_more 0 (relay_keys mounts r) no_members (text 0 _, (text 0 r.address, (text 0 r.upstream, (whole 0 r.protocol, (text 0 r.password, tt))))) (none 0))
+    (all_more 0 (relay_keys mounts r) no_members (
+      text 0 _,
+      (
+        text 0 r.address,
+        (text 0 r.upstream, (whole 0 r.protocol, (text 0 r.password, tt))),
+      ),
+    ) (none 0))
 
 anonymous_shallow : (groups : List Group) (a : Anonymous) → AreShallow 0 (anonymous_tree groups a)
 unfolding anonymous_tree
@@ -157,7 +198,8 @@ anonymous_shallow groups a = all_more 0 (anonymous_keys groups a) no_members (te
 deeper : (k most : ℕ) (d : Data) → k ≤ most → IsShallow k d → IsShallow most d
 deeper k most d le is = record { depth = let at : depth d ≤ k = is.depth in omega arith; dates = is.dates }
 
-with_anonymous_shallow : (groups : List Group) (o : Option Anonymous) (ms : Members) → AreShallow 5 ms → AreShallow 5 (with_anonymous groups o ms)
+with_anonymous_shallow : (groups : List Group) (o : Option Anonymous) (ms : Members) → AreShallow 5 ms
+    → AreShallow 5 (with_anonymous groups o ms)
 with_anonymous_shallow groups None ms are = are
 with_anonymous_shallow groups (Some a) ms are =
     one_more 5 (codes "anonymous") (table (anonymous_tree groups a)) ms
@@ -165,19 +207,33 @@ with_anonymous_shallow groups (Some a) ms are =
 
 top_shallow : (c : Config) → AreShallow 5 (put_keys (top_keys c) no_members)
 top_shallow c =
-    all_more 5 (top_keys c) no_members (whole 5 2, (whole 5 c.workers, (whole 5 c.hysteresis, (list 4 (λ r. string (line_of r)) (λ r. text 4 _) c.records, tt)))) (none 5)
+    all_more 5 (top_keys c) no_members (
+      whole 5 2,
+      (
+        whole 5 c.workers,
+        (whole 5 c.hysteresis, (list 4 (λ r. string (line_of r)) (λ r. text 4 _) c.records, tt)),
+      ),
+    ) (none 5)
 
 lists_shallow : (c : Config) → AreKeys 5 (list_keys c)
 unfolding mounts_data nears_data groups_data accounts_data relays_data
 lists_shallow c = (
-  deeper 2 5 _ (omega arith) (list 1 (λ m. table (mount_tree m)) (λ m. inner 0 (mount_tree m) (mount_shallow m)) c.mount),
+  deeper 2 5 _ (omega arith) (list 1 (λ m. table (mount_tree m)) (λ m. inner 0 (mount_tree m) (mount_shallow m))
+      c.mount),
   (
-    deeper 3 5 _ (omega arith) (list 2 (λ n. table (near_tree c.mount n)) (λ n. inner 1 (near_tree c.mount n) (near_shallow c.mount n)) c.near),
+    deeper 3 5 _ (omega arith) (list 2 (λ n. table (near_tree c.mount n))
+        (λ n. inner 1 (near_tree c.mount n) (near_shallow c.mount n)) c.near),
     (
-      list 4 (λ g. table (group_tree c.mount c.near g)) (λ g. inner 3 (group_tree c.mount c.near g) (group_shallow c.mount c.near g)) c.group,
+      list 4 (λ g. table (group_tree c.mount c.near g)) (λ g. inner 3 (group_tree c.mount c.near g)
+          (group_shallow c.mount c.near g)) c.group,
       (
-        deeper 2 5 _ (omega arith) (list 1 (λ a. table (account_tree c.group a)) (λ a. inner 0 (account_tree c.group a) (account_shallow c.group a)) c.account),
-        (deeper 2 5 _ (omega arith) (list 1 (λ r. table (relay_tree c.mount r)) (λ r. inner 0 (relay_tree c.mount r) (relay_shallow c.mount r)) c.relay), tt),
+        deeper 2 5 _ (omega arith) (list 1 (λ a. table (account_tree c.group a))
+            (λ a. inner 0 (account_tree c.group a) (account_shallow c.group a)) c.account),
+        (
+          deeper 2 5 _ (omega arith) (list 1 (λ r. table (relay_tree c.mount r))
+              (λ r. inner 0 (relay_tree c.mount r) (relay_shallow c.mount r)) c.relay),
+          tt,
+        ),
       ),
     ),
   ),
@@ -186,4 +242,5 @@ lists_shallow c = (
 pub config_shallow : (c : Config) → AreShallow 5 (config_tree c)
 unfolding config_tree
 config_shallow c =
-    with_anonymous_shallow c.group c.anonymous _ (all_more 5 (list_keys c) (put_keys (top_keys c) no_members) (lists_shallow c) (top_shallow c))
+    with_anonymous_shallow c.group c.anonymous _ (all_more 5 (list_keys c) (put_keys (top_keys c) no_members)
+    (lists_shallow c) (top_shallow c))

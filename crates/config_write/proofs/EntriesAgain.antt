@@ -50,20 +50,24 @@ mount_back n before m h =
       h.misc,
     ) refl
 
-pub mount_again : (n : ℕ) (before : List Mount) (ms : Members) (m : Mount) → mount_of n before ms ≡ Ok m → mount_of n before (mount_tree m) ≡ Ok m
+pub mount_again : (n : ℕ) (before : List Mount) (ms : Members) (m : Mount) → mount_of n before ms ≡ Ok m
+    → mount_of n before (mount_tree m) ≡ Ok m
 mount_again n before ms m e = mount_back n before m (mount_is n before ms m e)
 
 -- ---- near mountpoints
 
-items_same : (names : List (List ℕ)) (ns : List ℕ) → text_items (map (name_at names) ns) ≡ items_of (map (name_data names) ns)
+items_same : (names : List (List ℕ)) (ns : List ℕ) → text_items (map (name_at names) ns) ≡ items_of
+    (map (name_data names) ns)
 items_same names [] = refl
 items_same names (n ∷ ns) = ap (item (name_data names n)) (items_same names ns)
 
 all_again : (names : List (List ℕ)) (least most : ℕ) (key : Key) (ns : List ℕ) → IsAllNamed names least most key ns
     → all_named names least most key (list_data (name_data names) ns) ≡ Ok ns
-all_again names least most key ns h = subst (λ (ds : Items). all_named names least most key (array ds) ≡ Ok ns) (items_same names ns) h.again
+all_again names least most key ns h = subst (λ (ds : Items). all_named names least most key (array ds) ≡ Ok ns)
+    (items_same names ns) h.again
 
-near_back : (mounts : List Mount) (n : ℕ) (before : List Near) (m : Near) → IsNear mounts n before m → near_of mounts n before (near_tree mounts m) ≡ Ok m
+near_back : (mounts : List Mount) (n : ℕ) (before : List Near) (m : Near) → IsNear mounts n before m
+    → near_of mounts n before (near_tree mounts m) ≡ Ok m
 unfolding near_of near_tree
 near_back mounts n before m h = rw (new_again _ _ m.name h.name, all_again _ _ _ _ m.bases h.bases) refl
 
@@ -75,27 +79,34 @@ near_again mounts n before ms m e = near_back mounts n before m (near_is mounts 
 
 record IsFilterAgain (mounts : List Mount) (n : ℕ) (g : Group) : Type 0 where
   pub again : length g.filter ≤ 64
-      → filters_at (mount_names mounts) (place 7 n 4) (list_data (λ f. table (filter_tree (mount_names mounts) f)) g.filter) ≡ Ok g.filter
+      → filters_at (mount_names mounts) (place 7 n 4) (list_data (λ f. table (filter_tree (mount_names mounts) f))
+      g.filter) ≡ Ok g.filter
 
-filter_given : (names : List (List ℕ)) (key : Key) (o : Option Data) (fs : List GroupFilter) → optional [] (filters_at names) key o ≡ Ok fs
+filter_given : (names : List (List ℕ)) (key : Key) (o : Option Data) (fs : List GroupFilter)
+    → optional [] (filters_at names) key o ≡ Ok fs
     → length fs ≤ 64 → filters_at names key (list_data (λ f. table (filter_tree names f)) fs) ≡ Ok fs
 filter_given names key None fs e few =
-    subst (λ (fs : List GroupFilter). filters_at names key (list_data (λ f. table (filter_tree names f)) fs) ≡ Ok fs) (value_is [] fs e) (none_again names key)
+    subst (λ (fs : List GroupFilter). filters_at names key (list_data (λ f. table (filter_tree names f)) fs) ≡ Ok fs)
+    (value_is [] fs e) (none_again names key)
 filter_given names key (Some d) fs e few = filters_again names key d fs few e
 
 by_version : (one : Bool) (names : List (List ℕ)) (key : Key) (o : Option Data) (fs : List GroupFilter)
     → cond one (Ok []) (optional [] (filters_at names) key o) ≡ Ok fs
     → length fs ≤ 64 → filters_at names key (list_data (λ f. table (filter_tree names f)) fs) ≡ Ok fs
 by_version true names key o fs e few =
-    subst (λ (fs : List GroupFilter). filters_at names key (list_data (λ f. table (filter_tree names f)) fs) ≡ Ok fs) (value_is [] fs e) (none_again names key)
+    subst (λ (fs : List GroupFilter). filters_at names key (list_data (λ f. table (filter_tree names f)) fs) ≡ Ok fs)
+    (value_is [] fs e) (none_again names key)
 by_version false names key o fs e few = filter_given names key o fs e few
 
-filter_again : (version : ℕ) (mounts : List Mount) (nears : List Near) (n : ℕ) (before : List Group) (ms : Members) (g : Group)
+filter_again : (version : ℕ) (mounts : List Mount) (nears : List Near) (n : ℕ) (before : List Group) (ms : Members)
+    (g : Group)
     → group_of version mounts nears n before ms ≡ Ok g → IsFilterAgain mounts n g
 unfolding group_of
 filter_again version mounts nears n before ms g e =
-    taken (IsFilterAgain mounts n) (required (new_name (group_names before)) (place 7 n 1) (get_member (codes "name") ms)) _ g e (λ v1 f1 e1.
-    taken (IsFilterAgain mounts n) (required (all_named (heard_names mounts nears) 0 64) (place 7 n 2) (get_member (codes "mounts") ms)) _ g e1 (λ v2 f2 e2.
+    taken (IsFilterAgain mounts n) (required (new_name (group_names before)) (place 7 n 1)
+    (get_member (codes "name") ms)) _ g e (λ v1 f1 e1.
+    taken (IsFilterAgain mounts n) (required (all_named (heard_names mounts nears) 0 64) (place 7 n 2)
+    (get_member (codes "mounts") ms)) _ g e1 (λ v2 f2 e2.
     taken (IsFilterAgain mounts n) (required types (place 7 n 3) (get_member (codes "types") ms)) _ g e2 (λ v3 f3 e3.
     taken (IsFilterAgain mounts n) _ _ g e3 (λ v4 f4 e4.
     subst (IsFilterAgain mounts n) (value_is _ g e4) (record {
@@ -103,15 +114,24 @@ filter_again version mounts nears n before ms g e =
     })))))
 
 group_back : (version : ℕ) (mounts : List Mount) (nears : List Near) (n : ℕ) (before : List Group) (g : Group)
-    → IsGroup version mounts nears n before g → IsFilterAgain mounts n g → group_of 2 mounts nears n before (group_tree mounts nears g) ≡ Ok g
+    → IsGroup version mounts nears n before g → IsFilterAgain mounts n g
+    → group_of 2 mounts nears n before (group_tree mounts nears g) ≡ Ok g
 unfolding group_of group_tree
 group_back version mounts nears n before g h filter =
-    rw (new_again _ _ g.name h.name, all_again _ _ _ _ g.mounts h.heard, types_again _ h.types.0 g.types h.types.1, filter.again h.filter.few) refl
+    rw (
+      new_again _ _ g.name h.name,
+      all_again _ _ _ _ g.mounts h.heard,
+      types_again _ h.types.0 g.types h.types.1,
+      filter.again h.filter.few,
+    ) refl
 
-pub group_again : (version : ℕ) (mounts : List Mount) (nears : List Near) (n : ℕ) (before : List Group) (ms : Members) (g : Group)
-    → group_of version mounts nears n before ms ≡ Ok g → group_of 2 mounts nears n before (group_tree mounts nears g) ≡ Ok g
+pub group_again : (version : ℕ) (mounts : List Mount) (nears : List Near) (n : ℕ) (before : List Group) (ms : Members)
+    (g : Group)
+    → group_of version mounts nears n before ms ≡ Ok g → group_of 2 mounts nears n before (group_tree mounts nears g) ≡
+    Ok g
 group_again version mounts nears n before ms g e =
-    group_back version mounts nears n before g (group_is version mounts nears n before ms g e) (filter_again version mounts nears n before ms g e)
+    group_back version mounts nears n before g (group_is version mounts nears n before ms g e)
+    (filter_again version mounts nears n before ms g e)
 
 -- ---- accounts, relays, and who has no account
 
@@ -134,6 +154,7 @@ pub relay_again : (mounts : List Mount) (n : ℕ) (before : List Relay) (ms : Me
     → relay_of mounts n ms ≡ Ok r → relay_of mounts n (relay_tree mounts r) ≡ Ok r
 relay_again mounts n before ms r e = relay_back mounts n r r.user (relay_is mounts n ms r e)
 
-pub anonymous_back : (groups : List Group) (a : Anonymous) → IsAnonymous groups a → anonymous_in groups (anonymous_tree groups a) ≡ Ok a
+pub anonymous_back : (groups : List Group) (a : Anonymous) → IsAnonymous groups a
+    → anonymous_in groups (anonymous_tree groups a) ≡ Ok a
 unfolding anonymous_in anonymous_tree
 anonymous_back groups a h = rw (h.group.again, h.cap) refl

@@ -35,14 +35,16 @@ pub record IsEntry (key : Key) (e : FilterEntry) : Type 0 where
 abbrev pub entry_tree : FilterEntry → Members
 entry_tree e = put_keys ((codes "mount", string e.mount) ∷ (codes "types", types_data e.types) ∷ []) no_members
 
-read_types : (key : Key) (o : Option Data) (f : FilterValue) → required types key o ≡ Ok f → types key (types_data f) ≡ Ok f
+read_types : (key : Key) (o : Option Data) (f : FilterValue) → required types key o ≡ Ok f
+    → types key (types_data f) ≡ Ok f
 read_types key None f e = absurd cc
 read_types key (Some d) f e = types_again key d f e
 
 element_is : (key : Key) (d : Data) (e : FilterEntry) → filter_in key d ≡ Ok e → IsEntry key e
 unfolding filter_in
 element_is key (table ms) e read =
-    let parts = joined_ok filter_entry (required name key (get_member (codes "mount") ms)) (required types key (get_member (codes "types") ms)) e read in
+    let parts = joined_ok filter_entry (required name key (get_member (codes "mount") ms))
+    (required types key (get_member (codes "types") ms)) e read in
     subst (IsEntry key) parts.4 (record {
       mount = again name string name_keeps key (get_member (codes "mount") ms) parts.0 parts.2;
       types = read_types key (get_member (codes "types") ms) parts.1 parts.3;
@@ -60,7 +62,8 @@ element_again key e is = rw (is.mount, is.types) refl
 
 -- ---- all of them
 
-elements_from : (key : Key) (before : Read (List FilterEntry)) (ds : Items) (all : List FilterEntry) → each_filter key before ds ≡ Ok all
+elements_from : (key : Key) (before : Read (List FilterEntry)) (ds : Items) (all : List FilterEntry)
+    → each_filter key before ds ≡ Ok all
     → (first : List FilterEntry) × (before ≡ Ok first) × (All (IsEntry key) first → All (IsEntry key) all)
 elements_from key before no_items all e = (all, e, λ kept. kept)
 elements_from key before (item d ds) all e =
@@ -70,10 +73,12 @@ elements_from key before (item d ds) all e =
       parts.0,
       parts.2,
       λ kept. rest.2 (subst (All (IsEntry key)) parts.4
-          (All-append (IsEntry key) parts.0 (parts.1 ∷ []) kept (All-cons (IsEntry key) parts.1 [] one (All-nil (IsEntry key))))),
+          (All-append (IsEntry key) parts.0 (parts.1 ∷ []) kept (All-cons (IsEntry key) parts.1 [] one
+          (All-nil (IsEntry key))))),
     )
 
-nothing_first : (key : Key) (ds : Items) (first : List FilterEntry) → at_most 64 key ds ≡ Ok first → All (IsEntry key) first
+nothing_first : (key : Key) (ds : Items) (first : List FilterEntry) → at_most 64 key ds ≡ Ok first
+    → All (IsEntry key) first
 nothing_first key ds first e =
     elim (cases_Bool (leb (item_count ds) 64)) [
       | inl few ↦ subst (All (IsEntry key)) (value_is [] first (rw few at e)) (All-nil (IsEntry key))
@@ -101,7 +106,8 @@ elements_again_from key before (e ∷ all) are =
     ∙ elements_again_from key (before ++ e ∷ []) all (All-tail (IsEntry key) e all are)
     ∙ ap Ok (append_assoc before (e ∷ []) all)
 
-elements_again : (key : Key) (all : List FilterEntry) → All (IsEntry key) all → length all ≤ 64 → filters key (list_data (λ e. table (entry_tree e)) all) ≡ Ok all
+elements_again : (key : Key) (all : List FilterEntry) → All (IsEntry key) all → length all ≤ 64
+    → filters key (list_data (λ e. table (entry_tree e)) all) ≡ Ok all
 unfolding filters
 elements_again key all are few =
     rw (count_is (λ e. table (entry_tree e)) all, le-leb (length all) 64 few) (elements_again_from key [] all are)
@@ -111,30 +117,37 @@ elements_again key all are few =
 abbrev entry_of : List (List ℕ) → GroupFilter → FilterEntry
 entry_of names f = filter_entry (name_at names f.mount) f.types
 
-numbered : (key : Key) (names : List (List ℕ)) (e : FilterEntry) (f : GroupFilter) → filter_at key names e ≡ Ok f → entry_of names f ≡ e
+numbered : (key : Key) (names : List (List ℕ)) (e : FilterEntry) (f : GroupFilter) → filter_at key names e ≡ Ok f
+    → entry_of names f ≡ e
 numbered key names e f read =
     taken (λ (f : GroupFilter). entry_of names f ≡ e) (place_at key names e.mount) _ f read (λ n place last.
     subst (λ (f : GroupFilter). entry_of names f ≡ e) (value_is _ f last)
     (ap (λ (s : List ℕ). filter_entry s e.types) (place_read key names e.mount n place).name))
 
-numbered_from : (key : Key) (names : List (List ℕ)) (before : List GroupFilter) (all : List FilterEntry) (fs : List GroupFilter)
-    → each_of (filter_at key names) before all ≡ Ok fs → (more : List GroupFilter) × (fs ≡ before ++ more) × (map (entry_of names) more ≡ all)
+numbered_from : (key : Key) (names : List (List ℕ)) (before : List GroupFilter) (all : List FilterEntry)
+    (fs : List GroupFilter)
+    → each_of (filter_at key names) before all ≡ Ok fs → (more : List GroupFilter) × (fs ≡ before ++ more)
+    × (map (entry_of names) more ≡ all)
 numbered_from key names before [] fs e =
     let same : before ≡ fs = value_is before fs e in ([], sym same ∙ sym (append-nil before), refl)
 numbered_from key names before (s ∷ all) fs e =
-    taken (λ fs. (more : List GroupFilter) × (fs ≡ before ++ more) × (map (entry_of names) more ≡ s ∷ all)) (filter_at key names s) _ fs e (λ f read rest.
+    taken (λ fs. (more : List GroupFilter) × (fs ≡ before ++ more) × (map (entry_of names) more ≡ s ∷ all))
+    (filter_at key names s) _ fs e (λ f read rest.
     let more = numbered_from key names (before ++ f ∷ []) all fs rest in (
       f ∷ more.0,
       more.1 ∙ append_assoc before (f ∷ []) more.0,
-      ap (λ one. one ∷ map (entry_of names) more.0) (numbered key names s f read) ∙ ap (λ (all : List FilterEntry). s ∷ all) more.2,
+      ap (λ one. one ∷ map (entry_of names) more.0) (numbered key names s f read)
+          ∙ ap (λ (all : List FilterEntry). s ∷ all) more.2,
     ))
 
 data_same : (names : List (List ℕ)) (fs : List GroupFilter)
-    → items_of (map (λ e. table (entry_tree e)) (map (entry_of names) fs)) ≡ items_of (map (λ f. table (filter_tree names f)) fs)
+    → items_of (map (λ e. table (entry_tree e)) (map (entry_of names) fs)) ≡ items_of
+    (map (λ f. table (filter_tree names f)) fs)
 data_same names [] = refl
 data_same names (f ∷ fs) = ap (item (table (filter_tree names f))) (data_same names fs)
 
-once_again : (key : Key) (all : List FilterEntry) → All (IsEntry key) all → length all ≤ 64 → each_once (entry_names all) ≡ true
+once_again : (key : Key) (all : List FilterEntry) → All (IsEntry key) all → length all ≤ 64
+    → each_once (entry_names all) ≡ true
     → entries_once key (list_data (λ e. table (entry_tree e)) all) ≡ Ok all
 unfolding entries_once
 once_again key all are few once = rw (elements_again key all are few, once) refl
@@ -151,18 +164,22 @@ once_is key d all e =
     held (IsOnce key) (Twice key) (each_once (entry_names found)) _ all e1 (λ once e2.
     subst (IsOnce key) (value_is found all e2) (record { each = elements_are key d found read; once = once })))
 
-pub filters_again : (names : List (List ℕ)) (key : Key) (d : Data) (fs : List GroupFilter) → length fs ≤ 64 → filters_at names key d ≡ Ok fs
+pub filters_again : (names : List (List ℕ)) (key : Key) (d : Data) (fs : List GroupFilter) → length fs ≤ 64
+    → filters_at names key d ≡ Ok fs
     → filters_at names key (list_data (λ f. table (filter_tree names f)) fs) ≡ Ok fs
 filters_again names key d fs few e =
-    taken (λ (fs : List GroupFilter). length fs ≤ 64 → filters_at names key (list_data (λ f. table (filter_tree names f)) fs) ≡ Ok fs) (entries_once key d) _ fs e (λ all read rest few.
+    taken (λ (fs : List GroupFilter). length fs ≤ 64 → filters_at names key
+    (list_data (λ f. table (filter_tree names f)) fs) ≡ Ok fs) (entries_once key d) _ fs e (λ all read rest few.
     let is = once_is key d all read in
     let more = numbered_from key names [] all fs rest in
     let entries : map (entry_of names) fs ≡ all = ap (map (entry_of names)) more.1 ∙ more.2 in
     let size : length all ≡ length fs = ap length (sym entries) ∙ length-map fs (entry_of names) in
     let same : list_data (λ e. table (entry_tree e)) all ≡ list_data (λ f. table (filter_tree names f)) fs =
-    ap (λ (all : List FilterEntry). list_data (λ e. table (entry_tree e)) all) (sym entries) ∙ ap array (data_same names fs) in
+    ap (λ (all : List FilterEntry). list_data (λ e. table (entry_tree e)) all) (sym entries)
+    ∙ ap array (data_same names fs) in
     rw (← same, once_again key all is.each (subst (λ n. n ≤ 64) (sym size) few) is.once) rest) few
 
-pub none_again : (names : List (List ℕ)) (key : Key) → filters_at names key (list_data (λ f. table (filter_tree names f)) []) ≡ Ok []
+pub none_again : (names : List (List ℕ)) (key : Key) → filters_at names key
+    (list_data (λ f. table (filter_tree names f)) []) ≡ Ok []
 unfolding entries_once filters
 none_again names key = refl

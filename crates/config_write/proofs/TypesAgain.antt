@@ -31,7 +31,8 @@ put_few : (x : ℕ) (xs : List ℕ) → length (insert_key nat_cmp xs x) ≤ suc
 put_few x [] = omega arith
 put_few x (y ∷ ys) =
     let more : length (insert_key nat_cmp ys x) ≤ suc (length ys) = put_few x ys in
-    elim (nat_cmp x y) as (λ r. length (match_ordering r (x ∷ y ∷ ys) (y ∷ ys) (y ∷ insert_key nat_cmp ys x)) ≤ suc (suc (length ys))) [
+    elim (nat_cmp x y) as (λ r. length (match_ordering r (x ∷ y ∷ ys) (y ∷ ys) (y ∷ insert_key nat_cmp ys x)) ≤ suc
+    (suc (length ys))) [
       | Less ↦ omega arith
       | Equal ↦ omega arith
       | Greater ↦ omega arith
@@ -57,7 +58,8 @@ some_in_order : (ns : List ℕ) → 1 ≤ length ns → 1 ≤ length (in_order n
 some_in_order [] some = absurd (omega arith)
 some_in_order (n ∷ ns) some = put_some n (in_order ns)
 
-numbers_listed : (ns : List ℕ) → 1 ≤ length ns → length ns ≤ 64 → position is_too_high ns ≡ None → IsNumberList (in_order ns)
+numbers_listed : (ns : List ℕ) → 1 ≤ length ns → length ns ≤ 64 → position is_too_high ns ≡ None
+    → IsNumberList (in_order ns)
 numbers_listed ns some few low =
     let fewer : length (in_order ns) ≤ length ns = few_in_order ns in
     record {
@@ -71,11 +73,13 @@ numbers_listed ns some few low =
 
 -- ---- filters
 
-numbers_from : (key : Key) (before ns : List ℕ) → All (λ n. n ≤ 4095) ns → each_of (message_number key) before (map pos ns) ≡ Ok (before ++ ns)
+numbers_from : (key : Key) (before ns : List ℕ) → All (λ n. n ≤ 4095) ns
+    → each_of (message_number key) before (map pos ns) ≡ Ok (before ++ ns)
 numbers_from key before [] low = ap Ok (sym (append-nil before))
 numbers_from key before (n ∷ ns) low =
     rw (le-leb n 4095 (All-head (λ n. n ≤ 4095) n ns low))
-    (numbers_from key (before ++ n ∷ []) ns (All-tail (λ n. n ≤ 4095) n ns low) ∙ ap Ok (append_assoc before (n ∷ []) ns))
+    (numbers_from key (before ++ n ∷ []) ns (All-tail (λ n. n ≤ 4095) n ns low)
+    ∙ ap Ok (append_assoc before (n ∷ []) ns))
 
 list_again : (key : Key) (ns : List ℕ) → IsNumberList ns → types key (list_data number ns) ≡ Ok (Listed ns)
 unfolding types

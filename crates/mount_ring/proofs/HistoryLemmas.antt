@@ -78,38 +78,6 @@ pub own_answers-append : (shape : Shape) (me : ℕ) (history more : List (ℕ ×
     ≡ own_answers shape me history ++ answers_from shape me (state_of history) more
 own_answers-append shape me history more = answers_from-append shape me start history more
 
-none_by : (own : Bool) (a : RingAnswer) (later : List RingAnswer) (others : Bool) → cond own false others ≡ true
-    → (others ≡ true → later ≡ []) → with_own own a later ≡ []
-none_by true a later others h rest = absurd cc
-none_by false a later others h rest = rest h
-
--- a caller without an entry has no answer
-pub answers_from-none : (shape : Shape) (me : ℕ) (state : State) (entries : List (ℕ × RingCall))
-    → has_none_of me entries ≡ true → answers_from shape me state entries ≡ []
-answers_from-none shape me state [] h = refl
-answers_from-none shape me state (entry ∷ entries) h =
-    none_by (entry.0 == me) (answer shape state entry.1) (answers_from shape me (after state entry) entries)
-    (has_none_of me entries) h
-    (λ rest. answers_from-none shape me (after state entry) entries rest)
-
--- entries of other callers leave a caller's answers as they were
-pub own_answers-others : (shape : Shape) (me : ℕ) (history more : List (ℕ × RingCall)) → has_none_of me more ≡ true →
-    own_answers shape me (history ++ more) ≡ own_answers shape me history
-own_answers-others shape me history more none =
-    own_answers-append shape me history more
-    ∙ ap (λ l. own_answers shape me history ++ l) (answers_from-none shape me (state_of history) more none)
-    ∙ append-nil (own_answers shape me history)
-
-pub has_none_of-append : (me : ℕ) (a b : List (ℕ × RingCall)) → has_none_of me a ≡ true → has_none_of me b ≡ true
-    → has_none_of me (a ++ b) ≡ true
-has_none_of-append me [] b first second = second
-has_none_of-append me (entry ∷ a) b first second = none_more (entry.0 == me) (has_none_of me a) first
-    (λ rest. has_none_of-append me a b rest second) where
-      none_more : (own others : Bool) → cond own false others ≡ true → (others ≡ true → has_none_of me (a ++ b) ≡ true)
-          → cond own false (has_none_of me (a ++ b)) ≡ true
-      none_more true others h rest = absurd cc
-      none_more false others h rest = rest h
-
 -- ---- claims and the holder
 
 claims-claim : (shape : Shape) (state : State) (me : ℕ) (holder : Option Holder) →

@@ -312,7 +312,13 @@ start_by test cursor dropped kept_from published = record {
   place = if test then kept_from else cursor.next;
   passed = if test then dropped else cursor.passed;
   lapped = if test
-      then Some (record { from = cursor.next; to = kept_from; published = published; overrun = dropped - cursor.passed })
+      then Some (record {
+        from = cursor.next;
+        to = kept_from;
+        published = published;
+        overrun =
+            dropped - cursor.passed;
+      })
       else None;
 }
 

@@ -23,9 +23,6 @@ line_behind a b has = list_any-append (λ x. x == 10) a b ∙ or_right (has_line
 pub line_there : (line rest : List ℕ) → has_line (line ++ 10 ∷ rest) ≡ true
 line_there line rest = line_behind line (10 ∷ rest) refl
 
-pub none_both : (a b : List ℕ) → has_line a ≡ false → has_line b ≡ false → has_line (a ++ b) ≡ false
-none_both a b none other = list_any-append (λ x. x == 10) a b ∙ ap (λ p. p || has_line b) none ∙ other
-
 -- a front of what has none has none
 pub none_front : (n : ℕ) (bytes : List ℕ) → has_line bytes ≡ false → has_line (take n bytes) ≡ false
 none_front n bytes none =

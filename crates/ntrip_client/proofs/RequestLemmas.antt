@@ -40,8 +40,10 @@ pub request_two_is : (mount m address a text : List ℕ) (credentials : List (Li
 request_two_is mount m address a text credentials is where_ are =
     let tail : List ℕ = codes "Ntrip-Version: Ntrip/2.0\r\n" ++ (agent_line ++ (text ++ close_lines)) in
     ap (λ (l : List ℕ). codes "GET /" ++ (l ++ (codes " HTTP/1.1\r\nHost: " ++ (a ++ (codes "\r\n" ++ tail))))) is
-    ∙ ap (λ (l : List ℕ). codes "GET /" ++ (mount ++ (codes " HTTP/1.1\r\nHost: " ++ (l ++ (codes "\r\n" ++ tail))))) where_
-    ∙ around (codes "GET /") mount (codes " HTTP/1.1") (codes "\r\n") (codes "Host: " ++ (address ++ (codes "\r\n" ++ tail)))
+    ∙ ap (λ (l : List ℕ). codes "GET /" ++ (mount ++ (codes " HTTP/1.1\r\nHost: " ++ (l ++ (codes "\r\n" ++ tail)))))
+    where_
+    ∙ around (codes "GET /") mount (codes " HTTP/1.1") (codes "\r\n") (codes "Host: " ++
+    (address ++ (codes "\r\n" ++ tail)))
     ∙ ap (λ (l : List ℕ). (start_line mount (codes " HTTP/1.1") ++ codes "\r\n") ++ l)
     (behind (codes "Host: ") address (codes "\r\n") tail)
     ∙ ap (λ (l : List ℕ). (start_line mount (codes " HTTP/1.1") ++ codes "\r\n")

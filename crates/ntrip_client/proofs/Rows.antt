@@ -17,7 +17,8 @@ open_one : request_text One (codes "UP") (codes "127.0.0.1:2101") None []
 open_one = refl
 
 open_two : request_text Two (codes "UP") (codes "127.0.0.1:2101") None []
-    ≡ codes "GET /UP HTTP/1.1\r\nHost: 127.0.0.1:2101\r\nNtrip-Version: Ntrip/2.0\r\nUser-Agent: NTRIP lapcast/1.0\r\nConnection: close\r\n\r\n"
+    ≡ codes
+    "GET /UP HTTP/1.1\r\nHost: 127.0.0.1:2101\r\nNtrip-Version: Ntrip/2.0\r\nUser-Agent: NTRIP lapcast/1.0\r\nConnection: close\r\n\r\n"
 open_two = refl
 
 rover_one : request_text One (codes "ALPHA") (codes "caster") (Some (codes "rover1")) (codes "secret")

@@ -1,14 +1,17 @@
 -- What a head says, and what one byte more makes of it.
-use Rattle.std.proofs.Common.{◌≡◌, ◌∙◌, ◌≤◌, ◌==◌, ℕ, true, false, List, [], ◌∷◌, ◌++◌, length, take, refl, sym, subst, inl, inr, arith, Some, Result, Ok, Err}
+use Rattle.std.proofs.Common.{◌≡◌, ◌∙◌, ◌≤◌, ◌==◌, ℕ, Bool, true, false, List, [], ◌∷◌, ◌++◌, append_assoc, length, take, drop, refl, ap, sym, subst, inl, inr, arith, Some, Result, Ok, Err}
 use Rattle.std.proofs.lemmas.Bool.{false≢true, false_from_ne_true, eqb-true}
-use Rattle.std.proofs.lemmas.List.{take_all}
+use Rattle.std.proofs.lemmas.List.{take_all, take-append-drop}
 use Rattle.ntrip_head.specs.declared.fault.HeadFault.{HeadFault}
 use Rattle.ntrip_head.specs.declared.upstream.Upstream.{Upstream}
 use Rattle.ntrip_head.specs.Head.{IsOpen, IsHead, IsLong}
 use Rattle.ntrip_head.specs.Upstream.{UpstreamAnswer}
+use Rattle.ntrip_client.specs.declared.answer.Answer.{Answer}
+use Rattle.ntrip_client.specs.declared.answer.Answer.TheVariants.{Accepted}
 use Rattle.ntrip_client.specs.declared.answer.Refusal.TheVariants.{Status}
 use Rattle.ntrip_client.specs.FirstLine.{has_line, kind_of, SpeaksHttp}
-use Rattle.ntrip_client.specs.Answer.{Said, said_by_line, said_by_response, IsLineHead, IsResponse, HasHead, HeadGoesOn, IsTooLong}
+use Rattle.ntrip_client.specs.Steps.{BeginsAt}
+use Rattle.ntrip_client.specs.Answer.{IsAnswer, Said, said_by_line, said_by_response, IsLineHead, IsResponse, HasHead, HeadGoesOn, IsTooLong}
 use Rattle.ntrip_client.proofs.LineLemmas.{none_front, none_empty, http_more}
 
 -- ---- a whole head
@@ -33,7 +36,8 @@ response_says head answer said http whole reads says = (
 pub other_status : (upstream : Upstream) → (upstream.status ≡ 200 → ⊥)
     → Err (Status upstream.status) ≡ said_by_response (Ok upstream)
 other_status upstream not =
-    let no : (upstream.status == 200) ≡ false = false_from_ne_true (upstream.status == 200) (λ yes. not (eqb-true upstream.status 200 yes)) in
+    let no : (upstream.status == 200) ≡ false = false_from_ne_true (upstream.status == 200)
+    (λ yes. not (eqb-true upstream.status 200 yes)) in
     rw no refl
 
 -- ---- a head that is too long
@@ -60,3 +64,20 @@ open_head bytes (inr (http, open_)) = open_
 pub http_on : (old : List ℕ) (byte : ℕ) → HeadGoesOn old → has_line old ≡ true → SpeaksHttp (old ++ byte ∷ [])
 http_on old byte (inl (free, few)) has = absurd (false≢true (sym free ∙ has))
 http_on old byte (inr (http, open_)) has = http_more old (byte ∷ []) http
+
+-- ---- what stands behind a head
+
+-- an answer that accepts with the last of these bytes
+pub accepted_at : (head : List ℕ) (answer : Answer) (at : ℕ) (chunked : Bool) → answer ≡ Accepted at chunked
+    → BeginsAt (length head) answer → IsAnswer head answer → IsAnswer head (Accepted (length head) chunked)
+accepted_at head answer at chunked is begins says =
+    let place : at ≡ length head = subst (BeginsAt (length head)) is begins in
+    subst (λ (n : ℕ). IsAnswer head (Accepted n chunked)) place (subst (IsAnswer head) is says)
+
+-- bytes up to some place, and those behind it
+pub front_and_rest : (old new bytes : List ℕ) (count : ℕ) → new ≡ old ++ take count bytes
+    → new ++ drop count bytes ≡ old ++ bytes
+front_and_rest old new bytes count is =
+    ap (λ (l : List ℕ). l ++ drop count bytes) is
+    ∙ append_assoc old (take count bytes) (drop count bytes)
+    ∙ ap (λ (l : List ℕ). old ++ l) (take-append-drop count bytes)

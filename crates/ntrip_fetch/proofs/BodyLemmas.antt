@@ -56,18 +56,6 @@ now_is start now most chunks cutter text count left enough fewer within goes wri
     by_count : count ≡ most → IsBodyLeft most (is_some chunks) text count Enough
     by_count all = all
 
--- the same, by whether more is wanted
-pub open_if : (count most : ℕ) (left : Option Left) → (count ≡ most → left ≡ Some Enough) → count ≤ most
-    → left ≡ None → count < most
-open_if count most left enough within none =
-    elim (cases_lt count most) [
-      | inl less ↦ less
-      | inr full ↦ absurd (never (sym none ∙ enough (omega (arith, within, full))))
-    ]
-  where
-    never : None ≡ Some Enough → ⊥
-    never same = cc
-
 -- ---- a body that was left
 
 -- as many frames as are wanted are those of a longer stream

@@ -36,7 +36,8 @@ left_since most a b c taken answer count Done later x = x
 left_since most a b c taken answer count (BadChunk place) later x = x
 
 -- the request was sent whole, and then the link took these steps
-course : {T E : Type 0} (target : Target) (most : ℕ) (a b c : LinkTold) (sent : T) (request : List ℕ) (taken : List Step)
+course : {T E : Type 0} (target : Target) (most : ℕ) (a b c : LinkTold) (sent : T) (request : List ℕ)
+    (taken : List Step)
     (answer : Answer) → links.HasWritten {T = T} {E = E} a b (Ok sent) request → request ≡ target_request target
     → HasTaken most b c taken → IsAnswer (bytes_in taken) answer
     → Course target most a c taken answer (take most (answered answer (bytes_in taken)))
@@ -52,8 +53,10 @@ course target most a b c sent request taken answer wrote is took says = record {
   first = refl;
 }
 
-pub fetched_behind : {T E : Type 0} (target : Target) (most : ℕ) (a b c : LinkTold) (start now : Option (List ℕ)) (tried : Try)
-    (sent : T) (request : List ℕ) → links.HasWritten {T = T} {E = E} a b (Ok sent) request → request ≡ target_request target
+pub fetched_behind : {T E : Type 0} (target : Target) (most : ℕ) (a b c : LinkTold) (start now : Option (List ℕ))
+    (tried : Try)
+    (sent : T) (request : List ℕ) → links.HasWritten {T = T} {E = E} a b (Ok sent) request
+    → request ≡ target_request target
     → HasReceived most b c start now tried → LinkFetched target most a c start now tried
 fetched_behind target most a b c start now tried sent request wrote is x = (
   take most (answered x.answer (bytes_in x.taken)),
@@ -68,7 +71,8 @@ fetched_behind target most a b c start now tried sent request wrote is x = (
 )
 
 pub broken_behind : {T E : Type 0} (target : Target) (most : ℕ) (a b c : LinkTold) (start now : Option (List ℕ))
-    (sent : T) (request : List ℕ) → links.HasWritten {T = T} {E = E} a b (Ok sent) request → request ≡ target_request target
+    (sent : T) (request : List ℕ) → links.HasWritten {T = T} {E = E} a b (Ok sent) request
+    → request ≡ target_request target
     → ReceivingBroken most b c start now → LinkBroken target most a c start now
 broken_behind target most a b c start now sent request wrote is x = (
   take most (answered x.torn.0 (bytes_in x.taken)),

@@ -115,15 +115,24 @@ pub goes_more : (most : ℕ) (before told later : LinkTold) (start now then_ : O
     → IsTrue (goes_on (step_of result buf)) → more ≡ given + length (bytes_of (step_of result buf))
     → IsAtStage start then_ most next (bytes_in x.taken ++ bytes_of (step_of result buf)) counted
     → Receiving most before later start then_ next counted more
-goes_more most before told later start now then_ stage next count counted given more result buf some x read so size stands =
+goes_more most before told later start now then_ stage next count counted given more result buf some x read so size
+    stands =
     let step = step_of result buf in record {
       taken = x.taken ++ step ∷ [];
       link = taken_more most before told later x.taken result buf x.link x.quiet
-          (wanting start now most (bytes_in x.taken) count (open_at start now most stage (bytes_in x.taken) count some x.stands))
+          (wanting start now most (bytes_in x.taken) count (open_at start now most stage (bytes_in x.taken) count some
+          x.stands))
           read;
       quiet = quiet_more x.taken step x.quiet so;
       stands = subst (λ l. IsAtStage start then_ most next l counted) (sym (bytes_more x.taken step)) stands;
-      size = omega (arith, size, x.size, ap length (bytes_more x.taken step), length-append (bytes_in x.taken) (bytes_of step));
+      size = omega (
+        arith,
+        size,
+        x.size,
+        ap length (bytes_more x.taken step),
+        length-append (bytes_in x.taken)
+            (bytes_of step),
+      );
     }
 
 -- the link told the same
@@ -161,7 +170,8 @@ is_left most before told later start now then_ stage count given tried n buf som
     subst (λ l. StageLeft start then_ most l tried.frames tried.left) (sym (bytes_more x.taken step)) left in record {
       taken = x.taken ++ step ∷ [];
       link = taken_more most before told later x.taken (got.Bytes n) buf x.link x.quiet
-          (wanting start now most (bytes_in x.taken) count (open_at start now most stage (bytes_in x.taken) count some x.stands))
+          (wanting start now most (bytes_in x.taken) count (open_at start now most stage (bytes_in x.taken) count some
+          x.stands))
           read;
       answer = on.answer;
       says = on.says;
@@ -178,7 +188,8 @@ is_broken most before told later start now then_ stage count given n buf some x 
     let step : Step = took.Bytes (take n buf) in record {
       taken = x.taken ++ step ∷ [];
       link = taken_more most before told later x.taken (got.Bytes n) buf x.link x.quiet
-          (wanting start now most (bytes_in x.taken) count (open_at start now most stage (bytes_in x.taken) count some x.stands))
+          (wanting start now most (bytes_in x.taken) count (open_at start now most stage (bytes_in x.taken) count some
+          x.stands))
           read;
       torn = subst (StageTorn start then_ most) (sym (bytes_more x.taken step)) torn;
     }
@@ -207,7 +218,8 @@ open_still start now most taken step count none x =
     subst (λ l. StillOpen start now most l count) (sym (none_more taken step none)) x
 
 -- it ended
-pub has_ended : (most : ℕ) (before told later : LinkTold) (start now : Option (List ℕ)) (stage : Stage) (count given : ℕ)
+pub has_ended : (most : ℕ) (before told later : LinkTold) (start now : Option (List ℕ)) (stage : Stage)
+    (count given : ℕ)
     (buf : List ℕ) → 0 < most → Receiving most before told start now stage count given
     → HasRead told later got.End buf
     → HasReceived most before later start now (record { frames = count; left = End })
@@ -224,7 +236,8 @@ has_ended most before told later start now stage count given buf some x read =
     }
 
 -- a read of it failed
-pub has_failed : (most : ℕ) (before told later : LinkTold) (start now : Option (List ℕ)) (stage : Stage) (count given : ℕ)
+pub has_failed : (most : ℕ) (before told later : LinkTold) (start now : Option (List ℕ)) (stage : Stage)
+    (count given : ℕ)
     (buf : List ℕ) → 0 < most → Receiving most before told start now stage count given
     → HasRead told later got.Failed buf
     → HasReceived most before later start now (record { frames = count; left = LinkFault })
@@ -237,5 +250,10 @@ has_failed most before told later start now stage count given buf some x read =
       answer = on.answer;
       says = on.says;
       wrote = on.wrote;
-      left = (on.fewer, on.follows, (x.taken, took.ReadFailed, refl, refl), omega (arith, x.link.later, read.failed refl));
+      left = (
+        on.fewer,
+        on.follows,
+        (x.taken, took.ReadFailed, refl, refl),
+        omega (arith, x.link.later, read.failed refl),
+      );
     }

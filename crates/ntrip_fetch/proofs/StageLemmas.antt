@@ -1,7 +1,7 @@
 -- From the head of an answer to its body.
-use Rattle.std.proofs.Common.{◌≡◌, ◌≢◌, ◌≤◌, ◌<◌, ℕ, Bool, true, false, List, [], ◌++◌, length, take, drop, Option, None, Some, refl, ap, sym, subst, ◌∙◌, arith, append_assoc, length-take}
+use Rattle.std.proofs.Common.{◌≡◌, ◌≢◌, ◌≤◌, ◌<◌, ℕ, Bool, true, false, List, [], ◌++◌, length, take, drop, Option, None, Some, refl, ap, sym, subst, ◌∙◌, arith, length-take}
 use Rattle.std.specs.Prelude.{is_some}
-use Rattle.std.proofs.lemmas.List.{drop-append-le, take-append-drop, take_all}
+use Rattle.std.proofs.lemmas.List.{drop-append-le, take_all}
 use Rattle.std.proofs.Math.Seq.{drop-append_seam}
 use Rattle.rtcm_frame.specs.Cut.{IsWaiting}
 use Rattle.rtcm_frame.specs.Pending.{Pending, Gave}
@@ -15,7 +15,6 @@ use Rattle.ntrip_client.specs.declared.answer.Answer.TheVariants.{Open, Accepted
 use Rattle.ntrip_client.specs.declared.answer.Refusal.{Refusal}
 use Rattle.ntrip_client.specs.declared.answer.Refusal.TheVariants as refusals
 use Rattle.ntrip_client.specs.Answer.{IsAnswer}
-use Rattle.ntrip_client.specs.Steps.{BeginsAt}
 use Rattle.ntrip_client.proofs.OnceLemmas.{answer_stays}
 use Rattle.ntrip_fetch.specs.declared.left.Left.{Left}
 use Rattle.ntrip_fetch.specs.declared.left.Left.TheVariants.{Enough, Dial, End, LinkFault, BadHead, LongHead, Coding, Table, Status, Done, BadChunk}
@@ -50,21 +49,6 @@ body_begins start now most chunks cutter count goes is wrote some = record {
 }
 
 -- ---- an answer that is there
-
--- an answer that accepts with the last of these bytes
-pub accepted_at : (head : List ℕ) (answer : Answer) (at : ℕ) (chunked : Bool) → answer ≡ Accepted at chunked
-    → BeginsAt (length head) answer → IsAnswer head answer → IsAnswer head (Accepted (length head) chunked)
-accepted_at head answer at chunked is begins says =
-    let place : at ≡ length head = subst (BeginsAt (length head)) is begins in
-    subst (λ (n : ℕ). IsAnswer head (Accepted n chunked)) place (subst (IsAnswer head) is says)
-
--- bytes up to some place, and those behind it
-pub front_and_rest : (old new bytes : List ℕ) (count : ℕ) → new ≡ old ++ take count bytes
-    → new ++ drop count bytes ≡ old ++ bytes
-front_and_rest old new bytes count is =
-    ap (λ (l : List ℕ). l ++ drop count bytes) is
-    ∙ append_assoc old (take count bytes) (drop count bytes)
-    ∙ ap (λ (l : List ℕ). old ++ l) (take-append-drop count bytes)
 
 accepted_said : (at : ℕ) (chunked : Bool) → Accepted at chunked ≢ Open
 accepted_said at chunked same = absurd cc
@@ -142,7 +126,8 @@ body_more start now most old new before bytes at count left says same x =
     body_is start now most new (before ++ bytes) at count left
     (subst (λ c. IsAnswer (before ++ bytes) (Accepted at c)) (sym same)
     (answer_stays before bytes (Accepted at (is_some old.chunks)) (accepted_said at (is_some old.chunks)) says))
-    (subst (λ l. BodyIs start now most new.chunks new.cutter l count left) (sym (drop-append-le at before bytes within)) x)
+    (subst (λ l. BodyIs start now most new.chunks new.cutter l count left) (sym (drop-append-le at before bytes within))
+    x)
 
 pub body_torn : (start now : Option (List ℕ)) (most : ℕ) (chunked : Bool) (before bytes : List ℕ) (at : ℕ)
     → IsAnswer before (Accepted at chunked)
@@ -152,7 +137,8 @@ body_torn start now most chunked before bytes at says torn =
     let within : at ≤ length before = says.0 in (
       Accepted at chunked,
       answer_stays before bytes (Accepted at chunked) (accepted_said at chunked) says,
-      subst (λ l. IsTorn start now (wanted most (payload chunked l))) (sym (drop-append-le at before bytes within)) torn,
+      subst (λ l. IsTorn start now (wanted most (payload chunked l))) (sym (drop-append-le at before bytes within))
+          torn,
     )
 
 -- ---- no body

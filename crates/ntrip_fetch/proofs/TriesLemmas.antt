@@ -213,7 +213,8 @@ asked_stopped (behind most target later old mid new run frames fault x open_ mor
 
 -- ---- how many frames
 
-went_within : (target : Target) (most : ℕ) (a b : StreetTold) (link : Option LinkTold) (frames : List (List ℕ)) (tried : Try)
+went_within : (target : Target) (most : ℕ) (a b : StreetTold) (link : Option LinkTold) (frames : List (List ℕ))
+    (tried : Try)
     → Went target most a b link frames tried → tried.frames ≤ most
 went_within target most a b None frames tried x = omega (arith, ap (λ (t : Try). t.frames) x.0)
 went_within target most a b (Some link) frames tried x =
@@ -225,7 +226,8 @@ went_within target most a b (Some link) frames tried x =
       length-take most (answered fetched.answer (bytes_in fetched.taken)),
     )
 
-went_full : (target : Target) (most : ℕ) (a b : StreetTold) (link : Option LinkTold) (frames : List (List ℕ)) (tried : Try)
+went_full : (target : Target) (most : ℕ) (a b : StreetTold) (link : Option LinkTold) (frames : List (List ℕ))
+    (tried : Try)
     → Went target most a b link frames tried → tried.left ≡ Enough → tried.frames ≡ most
 went_full target most a b None frames tried x full =
     absurd (never (sym (ap (λ (t : Try). t.left) x.0) ∙ full))
@@ -247,7 +249,13 @@ total_within (none_left most told) = omega arith
 total_within (enough most target later old new run x full) =
     omega (arith, went_within target most old new run.link run.frames run.tried x.went)
 total_within (another most target later old mid new run runs x open_ more) =
-    omega (arith, sum_more run runs, went_within target most old mid run.link run.frames run.tried x.went, total_within more)
+    omega (
+      arith,
+      sum_more run runs,
+      went_within target most old mid run.link run.frames run.tried x.went,
+      total_within
+          more,
+    )
 
 pub total_or_all : {most : ℕ} {targets : List Target} {a b : StreetTold} {runs : List Run}
     → AreRuns most targets a b runs
@@ -258,7 +266,13 @@ total_or_all (enough most target later old new run x full) =
 total_or_all (another most target later old mid new run runs x open_ more) =
     elim (total_or_all more) [
       | inl all ↦
-          inl (omega (arith, sum_more run runs, all, went_within target most old mid run.link run.frames run.tried x.went))
+          inl (omega (
+            arith,
+            sum_more run runs,
+            all,
+            went_within target most old mid run.link run.frames run.tried
+                x.went,
+          ))
       | inr each ↦ inr (ap suc each)
     ]
 
@@ -267,7 +281,8 @@ pub ended_within : (target : Target) (most : ℕ) (a b : StreetTold) (start now 
     → RunEnded target most a b start now tried → tried.frames ≤ most
 ended_within target most a b start now tried x = went_within target most a b x.1 x.0 tried x.2.went
 
-went_fewer : (target : Target) (most : ℕ) (a b : StreetTold) (link : Option LinkTold) (frames : List (List ℕ)) (tried : Try)
+went_fewer : (target : Target) (most : ℕ) (a b : StreetTold) (link : Option LinkTold) (frames : List (List ℕ))
+    (tried : Try)
     → 0 < most → tried.left ≢ Enough → Went target most a b link frames tried → tried.frames < most
 went_fewer target most a b None frames tried some open_ x = omega (arith, some, ap (λ (t : Try). t.frames) x.0)
 went_fewer target most a b (Some link) frames tried some open_ x =
@@ -312,7 +327,8 @@ all_of most targets a b start now tries x =
     ]
 
 -- a list that began empty
-pub as_given : (most : ℕ) (targets : List Target) (a b : StreetTold) (start now : Option (List ℕ)) (none items more : List Try)
+pub as_given : (most : ℕ) (targets : List Target) (a b : StreetTold) (start now : Option (List ℕ))
+    (none items more : List Try)
     → none ≡ [] → items ≡ none ++ more → HasTried most targets a b start now more
     → HasTried most targets a b start now items
 as_given most targets a b start now none items more empty is x =

@@ -45,6 +45,7 @@ fn fetch_from<N: Street, O: Sink, R: Wait>(
     ensures stopped { IfErr result (HasStopped frames targets.now (N.told street.old)
         (N.told street.new) (O.taken out.old) (O.taken out.new)) }
     ensures unharmed { OnOk result (O.faults out.new ≡ O.faults out.old) }
+    ensures calm { IsErrOf result FetchFault.Memory → O.faults out.new ≡ O.faults out.old }
     ensures cause { IsErrOf result FetchFault.Sink
         → Rose (O.faults out.old) (O.faults out.new) }
 {
@@ -91,6 +92,7 @@ pub fn fetch<N: Street, O: Sink, R: Wait>(
     ensures stopped { IfErr result (HasStopped frames targets.now (N.told street.old)
         (N.told street.new) (O.taken out.old) (O.taken out.new)) }
     ensures unharmed { OnOk result (O.faults out.new ≡ O.faults out.old) }
+    ensures calm { IsErrOf result FetchFault.Memory → O.faults out.new ≡ O.faults out.old }
     ensures cause { IsErrOf result FetchFault.Sink
         → Rose (O.faults out.old) (O.faults out.new) }
 {

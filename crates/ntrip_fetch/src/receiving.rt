@@ -107,6 +107,7 @@ pub fn fetch_link<L: Link, O: Sink, R: Wait>(
     ensures nothing { IsErrOf result FetchFault.Memory
         → (L.told link.new ≡ L.told link.old) × (O.taken out.new ≡ O.taken out.old) }
     ensures unharmed { OnOk result (O.faults out.new ≡ O.faults out.old) }
+    ensures calm { IsErrOf result FetchFault.Memory → O.faults out.new ≡ O.faults out.old }
     ensures cause { IsErrOf result FetchFault.Sink
         → Rose (O.faults out.old) (O.faults out.new) }
 {

@@ -45,6 +45,7 @@ pub(crate) fn try_one<N: Street, O: Sink, R: Wait>(
     ensures within { IfOk result (λ tried. tried.frames ≤ most) }
     ensures fewer { IfOk result (λ tried. tried.left ≢ Left.Enough → tried.frames < most) }
     ensures unharmed { OnOk result (O.faults out.new ≡ O.faults out.old) }
+    ensures calm { IsErrOf result FetchFault.Memory → O.faults out.new ≡ O.faults out.old }
     ensures cause { IsErrOf result FetchFault.Sink
         → Rose (O.faults out.old) (O.faults out.new) }
 {

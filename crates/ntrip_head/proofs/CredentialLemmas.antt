@@ -132,7 +132,8 @@ pub to_form : (value user password : List ℕ) → credentials value ≡ Basic u
 to_form value user password e =
     let rest : List ℕ = drop 5 value in
     let read = by_answer (is_basic value) (decode_of standard (after_spaces rest)) user password e in
-    let parts = and_parts (str_eq_ignore_ascii_case (take 5 value) (codes "Basic")) (slice_index value 5 == 32) read.basic in
+    let parts = and_parts (str_eq_ignore_ascii_case (take 5 value) (codes "Basic")) (slice_index value 5 == 32)
+    read.basic in
     let form = spaced rest in
     let pair = from_split read.pair user password read.split in
     let sixth : slice_index rest 0 ≡ 32 = get_or-drop 5 value 0 0 ∙ eqb-true (slice_index value 5) 32 parts.1 in
@@ -182,7 +183,8 @@ from_form value user password form =
     let word : str_eq_ignore_ascii_case (take 5 value) (codes "Basic") ≡ true =
     subst (λ (l : List ℕ). str_eq_ignore_ascii_case l (codes "Basic") ≡ true) (sym front) form.scheme_is in
     let basic : is_basic value ≡ true =
-    and_from (str_eq_ignore_ascii_case (take 5 value) (codes "Basic")) (slice_index value 5 == 32) word (eq-eqb (slice_index value 5) 32 sixth) in
+    and_from (str_eq_ignore_ascii_case (take 5 value) (codes "Basic")) (slice_index value 5 == 32) word
+    (eq-eqb (slice_index value 5) 32 sixth) in
     let text_is : after_spaces (drop 5 value) ≡ form.text =
     ap (λ (l : List ℕ). after_spaces l) rest ∙ after_replicate form.spaces form.text form.no_space in
     ap (λ (t : Bool). if t then decoded_pair (decode_of standard (after_spaces (drop 5 value))) else Unread) basic

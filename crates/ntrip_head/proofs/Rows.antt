@@ -31,7 +31,8 @@ at_beginning = refl
 -- ---- fields
 
 abbrev twice : List (List ℕ × List ℕ)
-twice = (codes "Host", codes "caster") ∷ (codes "NTRIP-version", codes "Ntrip/2.0") ∷ (codes "Ntrip-Version", codes "1") ∷ []
+twice = (codes "Host", codes "caster") ∷ (codes "NTRIP-version", codes "Ntrip/2.0") ∷ (codes "Ntrip-Version", codes "1")
+    ∷ []
 
 first_of_equal : value_in (codes "Ntrip-Version") twice ≡ Some (codes "Ntrip/2.0")
 first_of_equal = refl
@@ -105,7 +106,8 @@ three_words = refl
 
 -- ---- answers of upstream casters
 
-chunked : upstream_of 200 ((codes "transfer-encoding", codes "CHUNKED") ∷ []) ≡ Ok (record { status = 200; chunked = true })
+chunked : upstream_of 200 ((codes "transfer-encoding", codes "CHUNKED") ∷ []) ≡ Ok
+    (record { status = 200; chunked = true })
 chunked = refl
 
 coding_of_200 : upstream_of 200 gzip ≡ Err Coding

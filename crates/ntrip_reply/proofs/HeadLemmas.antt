@@ -100,8 +100,10 @@ abbrev last_fields : List Field
 last_fields = field (codes "Content-Length") (codes " 0") ∷ close_field ∷ []
 
 -- a message without body
-no_body : (first : List (List ℕ)) → message first [] ≡ lines (first ++ (codes "Content-Length: 0" ∷ close ∷ [] ∷ [])) ++ []
-no_body first = ap (λ (d : List ℕ). lines (first ++ ((codes "Content-Length: " ++ d) ∷ close ∷ [] ∷ [])) ++ []) (decimal_digit 0 (omega arith))
+no_body : (first : List (List ℕ)) → message first [] ≡ lines (first ++ (codes "Content-Length: 0" ∷ close ∷ [] ∷ [])) ++
+    []
+no_body first = ap (λ (d : List ℕ). lines (first ++ ((codes "Content-Length: " ++ d) ∷ close ∷ [] ∷ [])) ++ [])
+    (decimal_digit 0 (omega arith))
 
 pub reply_is_head : (version : Version) (r : Reply) (table : List ℕ) (upstream : Upstream)
     → read_in version r ≡ Some upstream → UpstreamAnswer (reply_text version r table) (Ok upstream)
@@ -109,29 +111,62 @@ unfolding httparse_on_literals
 reply_is_head One RoverOk table u e = absurd cc
 reply_is_head One SourceOk table u e = absurd cc
 reply_is_head One Table table u e = absurd cc
-reply_is_head One BadHead table u e = answers _ 1 (codes "400") (codes "Bad Request") (server_field ∷ last_fields) _ u (omega arith) refl refl refl refl (omega arith) (no_body (codes "HTTP/1.1 400 Bad Request" ∷ server ∷ [])) refl e
-reply_is_head One Method table u e = answers _ 1 (codes "501") (codes "Not Implemented") (server_field ∷ last_fields) _ u (omega arith) refl refl refl refl (omega arith) (no_body (codes "HTTP/1.1 501 Not Implemented" ∷ server ∷ [])) refl e
-reply_is_head One Coding table u e = answers _ 1 (codes "501") (codes "Not Implemented") (server_field ∷ last_fields) _ u (omega arith) refl refl refl refl (omega arith) (no_body (codes "HTTP/1.1 501 Not Implemented" ∷ server ∷ [])) refl e
+reply_is_head One BadHead table u e = answers _ 1 (codes "400") (codes "Bad Request") (server_field ∷ last_fields) _ u
+    (omega arith) refl refl refl refl (omega arith) (no_body (codes "HTTP/1.1 400 Bad Request" ∷ server ∷ [])) refl e
+reply_is_head One Method table u e = answers _ 1 (codes "501") (codes "Not Implemented") (server_field ∷ last_fields) _
+    u (omega arith) refl refl refl refl (omega arith) (no_body (codes "HTTP/1.1 501 Not Implemented" ∷ server ∷ []))
+    refl e
+reply_is_head One Coding table u e = answers _ 1 (codes "501") (codes "Not Implemented") (server_field ∷ last_fields) _
+    u (omega arith) refl refl refl refl (omega arith) (no_body (codes "HTTP/1.1 501 Not Implemented" ∷ server ∷ []))
+    refl e
 reply_is_head One RoverNoMount table u e = absurd cc
 reply_is_head One SourceNoMount table u e = absurd cc
-reply_is_head One Unauthorized table u e = answers _ 0 (codes "401") (codes "Unauthorized") (server_field ∷ challenge_field ∷ last_fields) _ u (omega arith) refl refl refl refl (omega arith) (no_body (codes "HTTP/1.0 401 Unauthorized" ∷ server ∷ challenge ∷ [])) refl e
-reply_is_head One Denied table u e = answers _ 0 (codes "403") (codes "Forbidden") (server_field ∷ last_fields) _ u (omega arith) refl refl refl refl (omega arith) (no_body (codes "HTTP/1.0 403 Forbidden" ∷ server ∷ [])) refl e
-reply_is_head One Full table u e = answers _ 0 (codes "503") (codes "Service Unavailable") (server_field ∷ last_fields) _ u (omega arith) refl refl refl refl (omega arith) (no_body (codes "HTTP/1.0 503 Service Unavailable" ∷ server ∷ [])) refl e
+reply_is_head One Unauthorized table u e = answers _ 0 (codes "401") (codes "Unauthorized")
+    (server_field ∷ challenge_field ∷ last_fields) _ u (omega arith) refl refl refl refl (omega arith)
+    (no_body (codes "HTTP/1.0 401 Unauthorized" ∷ server ∷ challenge ∷ [])) refl e
+reply_is_head One Denied table u e = answers _ 0 (codes "403") (codes "Forbidden") (server_field ∷ last_fields) _ u
+    (omega arith) refl refl refl refl (omega arith) (no_body (codes "HTTP/1.0 403 Forbidden" ∷ server ∷ [])) refl e
+reply_is_head One Full table u e = answers _ 0 (codes "503") (codes "Service Unavailable") (server_field ∷ last_fields)
+    _ u (omega arith) refl refl refl refl (omega arith) (no_body (codes "HTTP/1.0 503 Service Unavailable" ∷ server ∷
+    [])) refl e
 reply_is_head One SourcePassword table u e = absurd cc
 reply_is_head One Taken table u e = absurd cc
-reply_is_head Two RoverOk table u e = answers _ 1 (codes "200") (codes "OK") (version_field ∷ server_field ∷ field (codes "Content-Type") (codes " gnss/data") ∷ field (codes "Transfer-Encoding") (codes " chunked") ∷ close_field ∷ []) _ u (omega arith) refl refl refl refl (omega arith) refl refl e
-reply_is_head Two SourceOk table u e = answers _ 1 (codes "200") (codes "OK") (version_field ∷ server_field ∷ close_field ∷ []) _ u (omega arith) refl refl refl refl (omega arith) refl refl e
+reply_is_head Two RoverOk table u e = answers _ 1 (codes "200") (codes "OK")
+    (version_field ∷ server_field ∷ field (codes "Content-Type") (codes " gnss/data") ∷ field
+    (codes "Transfer-Encoding") (codes " chunked") ∷ close_field ∷ []) _ u (omega arith) refl refl refl refl
+    (omega arith) refl refl e
+reply_is_head Two SourceOk table u e = answers _ 1 (codes "200") (codes "OK")
+    (version_field ∷ server_field ∷ close_field ∷ []) _ u (omega arith) refl refl refl refl (omega arith) refl refl e
 reply_is_head Two Table table u e = absurd cc
-reply_is_head Two BadHead table u e = answers _ 1 (codes "400") (codes "Bad Request") (server_field ∷ last_fields) _ u (omega arith) refl refl refl refl (omega arith) (no_body (codes "HTTP/1.1 400 Bad Request" ∷ server ∷ [])) refl e
-reply_is_head Two Method table u e = answers _ 1 (codes "501") (codes "Not Implemented") (server_field ∷ last_fields) _ u (omega arith) refl refl refl refl (omega arith) (no_body (codes "HTTP/1.1 501 Not Implemented" ∷ server ∷ [])) refl e
-reply_is_head Two Coding table u e = answers _ 1 (codes "501") (codes "Not Implemented") (server_field ∷ last_fields) _ u (omega arith) refl refl refl refl (omega arith) (no_body (codes "HTTP/1.1 501 Not Implemented" ∷ server ∷ [])) refl e
-reply_is_head Two RoverNoMount table u e = answers _ 1 (codes "404") (codes "Not Found") (version_field ∷ server_field ∷ last_fields) _ u (omega arith) refl refl refl refl (omega arith) (no_body (codes "HTTP/1.1 404 Not Found" ∷ version_two ∷ server ∷ [])) refl e
-reply_is_head Two SourceNoMount table u e = answers _ 1 (codes "404") (codes "Not Found") (version_field ∷ server_field ∷ last_fields) _ u (omega arith) refl refl refl refl (omega arith) (no_body (codes "HTTP/1.1 404 Not Found" ∷ version_two ∷ server ∷ [])) refl e
-reply_is_head Two Unauthorized table u e = answers _ 1 (codes "401") (codes "Unauthorized") (version_field ∷ server_field ∷ challenge_field ∷ last_fields) _ u (omega arith) refl refl refl refl (omega arith) (no_body (codes "HTTP/1.1 401 Unauthorized" ∷ version_two ∷ server ∷ challenge ∷ [])) refl e
-reply_is_head Two Denied table u e = answers _ 1 (codes "403") (codes "Forbidden") (version_field ∷ server_field ∷ last_fields) _ u (omega arith) refl refl refl refl (omega arith) (no_body (codes "HTTP/1.1 403 Forbidden" ∷ version_two ∷ server ∷ [])) refl e
-reply_is_head Two Full table u e = answers _ 1 (codes "503") (codes "Service Unavailable") (version_field ∷ server_field ∷ last_fields) _ u (omega arith) refl refl refl refl (omega arith) (no_body (codes "HTTP/1.1 503 Service Unavailable" ∷ version_two ∷ server ∷ [])) refl e
-reply_is_head Two SourcePassword table u e = answers _ 1 (codes "401") (codes "Unauthorized") (version_field ∷ server_field ∷ challenge_field ∷ last_fields) _ u (omega arith) refl refl refl refl (omega arith) (no_body (codes "HTTP/1.1 401 Unauthorized" ∷ version_two ∷ server ∷ challenge ∷ [])) refl e
-reply_is_head Two Taken table u e = answers _ 1 (codes "409") (codes "Conflict") (version_field ∷ server_field ∷ last_fields) _ u (omega arith) refl refl refl refl (omega arith) (no_body (codes "HTTP/1.1 409 Conflict" ∷ version_two ∷ server ∷ [])) refl e
+reply_is_head Two BadHead table u e = answers _ 1 (codes "400") (codes "Bad Request") (server_field ∷ last_fields) _ u
+    (omega arith) refl refl refl refl (omega arith) (no_body (codes "HTTP/1.1 400 Bad Request" ∷ server ∷ [])) refl e
+reply_is_head Two Method table u e = answers _ 1 (codes "501") (codes "Not Implemented") (server_field ∷ last_fields) _
+    u (omega arith) refl refl refl refl (omega arith) (no_body (codes "HTTP/1.1 501 Not Implemented" ∷ server ∷ []))
+    refl e
+reply_is_head Two Coding table u e = answers _ 1 (codes "501") (codes "Not Implemented") (server_field ∷ last_fields) _
+    u (omega arith) refl refl refl refl (omega arith) (no_body (codes "HTTP/1.1 501 Not Implemented" ∷ server ∷ []))
+    refl e
+reply_is_head Two RoverNoMount table u e = answers _ 1 (codes "404") (codes "Not Found")
+    (version_field ∷ server_field ∷ last_fields) _ u (omega arith) refl refl refl refl (omega arith)
+    (no_body (codes "HTTP/1.1 404 Not Found" ∷ version_two ∷ server ∷ [])) refl e
+reply_is_head Two SourceNoMount table u e = answers _ 1 (codes "404") (codes "Not Found")
+    (version_field ∷ server_field ∷ last_fields) _ u (omega arith) refl refl refl refl (omega arith)
+    (no_body (codes "HTTP/1.1 404 Not Found" ∷ version_two ∷ server ∷ [])) refl e
+reply_is_head Two Unauthorized table u e = answers _ 1 (codes "401") (codes "Unauthorized")
+    (version_field ∷ server_field ∷ challenge_field ∷ last_fields) _ u (omega arith) refl refl refl refl (omega arith)
+    (no_body (codes "HTTP/1.1 401 Unauthorized" ∷ version_two ∷ server ∷ challenge ∷ [])) refl e
+reply_is_head Two Denied table u e = answers _ 1 (codes "403") (codes "Forbidden")
+    (version_field ∷ server_field ∷ last_fields) _ u (omega arith) refl refl refl refl (omega arith)
+    (no_body (codes "HTTP/1.1 403 Forbidden" ∷ version_two ∷ server ∷ [])) refl e
+reply_is_head Two Full table u e = answers _ 1 (codes "503") (codes "Service Unavailable")
+    (version_field ∷ server_field ∷ last_fields) _ u (omega arith) refl refl refl refl (omega arith)
+    (no_body (codes "HTTP/1.1 503 Service Unavailable" ∷ version_two ∷ server ∷ [])) refl e
+reply_is_head Two SourcePassword table u e = answers _ 1 (codes "401") (codes "Unauthorized")
+    (version_field ∷ server_field ∷ challenge_field ∷ last_fields) _ u (omega arith) refl refl refl refl (omega arith)
+    (no_body (codes "HTTP/1.1 401 Unauthorized" ∷ version_two ∷ server ∷ challenge ∷ [])) refl e
+reply_is_head Two Taken table u e = answers _ 1 (codes "409") (codes "Conflict")
+    (version_field ∷ server_field ∷ last_fields) _ u (omega arith) refl refl refl refl (omega arith)
+    (no_body (codes "HTTP/1.1 409 Conflict" ∷ version_two ∷ server ∷ [])) refl e
 
 -- ---- a head that says the length of a table
 
@@ -166,7 +201,8 @@ digits_are_value (c ∷ cs) e =
     rw here (digits_are_value cs p.1)
 
 abbrev fields_with : List ℕ → List Field
-fields_with d = version_field ∷ server_field ∷ field (codes "Content-Type") (codes " gnss/sourcetable") ∷ field (codes "Content-Length") (32 ∷ d) ∷ close_field ∷ []
+fields_with d = version_field ∷ server_field ∷ field (codes "Content-Type") (codes " gnss/sourcetable") ∷ field
+    (codes "Content-Length") (32 ∷ d) ∷ close_field ∷ []
 
 fields_with_ok : (d : List ℕ) → list_all is_value_byte d ≡ true → list_all is_field (fields_with d) ≡ true
 unfolding httparse_on_literals
@@ -178,7 +214,8 @@ table_is_body table small =
     let d = decimal (length table) in
     let digits : list_all is_ascii_digit d ≡ true = as_list_all d
     (digits_decimal (numerals_by_value _ tells_all_ascii_digits) (length table) small) in
-    let ends : (d ++ codes "\r\n") ++ (codes "Connection: close\r\n" ++ codes "\r\n") ≡ ((d ++ codes "\r\n") ++ codes "Connection: close\r\n") ++ codes "\r\n" =
+    let ends : (d ++ codes "\r\n") ++ (codes "Connection: close\r\n" ++ codes "\r\n") ≡
+    ((d ++ codes "\r\n") ++ codes "Connection: close\r\n") ++ codes "\r\n" =
     sym (append_assoc (d ++ codes "\r\n") (codes "Connection: close\r\n") (codes "\r\n")) in
     record {
       head = tree 1 (codes "200") (codes "OK") (fields_with d);
@@ -189,7 +226,9 @@ table_is_body table small =
           reason = AllPass-from_list_all is_value_byte (codes "OK") refl;
           fields = fields_ok (fields_with d) (fields_with_ok d (digits_are_value d digits));
         },
-        ap (λ (l : List ℕ). (codes "HTTP/1.1 200 OK\r\nNtrip-Version: Ntrip/2.0\r\nServer: NTRIP lapcast/1.0\r\nContent-Type: gnss/sourcetable\r\nContent-Length: " ++ l) ++ table) ends,
+        ap (λ (l : List ℕ).
+            (codes
+            "HTTP/1.1 200 OK\r\nNtrip-Version: Ntrip/2.0\r\nServer: NTRIP lapcast/1.0\r\nContent-Type: gnss/sourcetable\r\nContent-Length: " ++ l) ++ table) ends,
       );
       status_is = refl;
       length_is = ap (λ (v : List ℕ). Some v) (trim_digits d digits);

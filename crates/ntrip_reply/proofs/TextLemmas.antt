@@ -48,7 +48,8 @@ regroup old first name digits last body = simp append_assoc
 
 -- a message that is appended in pieces
 pub message_appended : (old : List ℕ) (first : List (List ℕ)) (body : List ℕ)
-    → ((((old ++ lines first) ++ codes "Content-Length: ") ++ decimal (length body)) ++ lines last_lines) ++ body ≡ old ++ message first body
+    → ((((old ++ lines first) ++ codes "Content-Length: ") ++ decimal (length body)) ++ lines last_lines) ++ body ≡ old
+    ++ message first body
 message_appended old first body =
     regroup old (lines first) (codes "Content-Length: ") (decimal (length body)) (lines last_lines) body
     ∙ ap (λ (l : List ℕ). old ++ (l ++ body)) (

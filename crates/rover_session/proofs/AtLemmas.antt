@@ -44,7 +44,8 @@ shape_here shape places mount d within =
     ap shape_of (get_or-map shape places mount d (record { capacity = 0; filters = [] }) within)
 
 -- what holds of each shape holds of the shape of each place
-pub filter_here : {P : Type 0} (shape : P → RingShape) (IsSuch : RingShape → Type 0) (places : List P) (mount : ℕ) (d : P)
+pub filter_here : {P : Type 0} (shape : P → RingShape) (IsSuch : RingShape → Type 0) (places : List P) (mount : ℕ)
+    (d : P)
     → mount < length places → All IsSuch (map shape places) → IsSuch (shape (get_or places mount d))
 filter_here shape IsSuch places mount d within all =
     let none : RingShape = record { capacity = 0; filters = [] } in
@@ -92,10 +93,15 @@ pub read_went : {P : Type 0} (shape : P → RingShape) (alone : P → Bool) (see
     (places : List P) (mount : ℕ) (d new : P) (me : ℕ) (cursor : Cursor) (budget : ℕ) → mount < length places
     → Heard (alone (get_or places mount d)) (ring_answer (shape (get_or places mount d)))
     (seen (get_or places mount d)) (seen new) me
-    ((calls.Read cursor budget, answers.Read (report_in (shape_of (shape (get_or places mount d))) (seen new) cursor budget)) ∷ [])
+    ((
+      calls.Read cursor budget,
+      answers.Read (report_in (shape_of (shape (get_or places mount d))) (seen new) cursor
+          budget),
+    ) ∷ [])
     → Went (map shape places) (list_all alone places) (map seen places) (map seen (set places mount new)) me
     (at_ring mount (calls.Read cursor budget)
-    (answers.Read (report_in (shape_at (map shape places) mount) (history_at (map seen (set places mount new)) mount) cursor
+    (answers.Read (report_in (shape_at (map shape places) mount) (history_at (map seen (set places mount new)) mount)
+    cursor
     budget)) ∷ [])
 read_went shape alone seen places mount d new me cursor budget within heard =
     subst (λ (report : ReadReport). Went (map shape places) (list_all alone places) (map seen places)
@@ -149,6 +155,8 @@ pub turn_refused : {P : Type 0} (may_lack : Bool) (worn : P → ℕ) (places : L
     → IsRefusedBy (map worn (set places mount new)) fault
 turn_refused may_lack worn places mount new (Worn given) within is =
     let there : Contains (set places mount new) new =
-    (mount, omega (arith, within, length-set places mount new), get_or-set_same places mount new new within) in
-    (subst (Contains (map worn (set places mount new))) (sym is.0) (worn_among worn (set places mount new) new there), is.1)
+    (mount, omega (arith, within, length-set places mount new), get_or-set_same places mount new new within) in (
+      subst (Contains (map worn (set places mount new))) (sym is.0) (worn_among worn (set places mount new) new there),
+      is.1,
+    )
 turn_refused may_lack worn places mount new Memory within is = tt

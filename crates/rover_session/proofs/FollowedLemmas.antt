@@ -109,7 +109,8 @@ pub followed_after : (shapes : List RingShape) (alone : Bool) (old mid now : Lis
     (joins terms.filter (changed present (chooses terms.hysteresis present rover held)) done) refused before after
     → Followed shapes alone old now me (follows terms present (rover ∷ [])) refused before after
 followed_after shapes alone old mid now me terms present rover held refused before after asked x =
-    let next : List Base → Plan = λ all. joins terms.filter (changed present (chooses terms.hysteresis present rover all)) done in
+    let next : List Base → Plan = λ all. joins terms.filter (changed present
+    (chooses terms.hysteresis present rover all)) done in
     let looks_made : List Step = looked asked.lives in record {
       steps = looks_made ++ x.steps;
       went = went_both shapes alone old mid now me looks_made x.steps asked.went x.went;
@@ -136,7 +137,8 @@ pub followed_first : (shapes : List RingShape) (alone : Bool) (old now : List (H
     → AskedFirst shapes alone old now me terms.bases
     → Followed shapes alone old now me (follows terms present (rover ∷ [])) (Some fault) before before
 followed_first shapes alone old now me terms present rover fault before (first, rest, held, split, asked) =
-    let next : List Base → Plan = λ all. joins terms.filter (changed present (chooses terms.hysteresis present rover all)) done in record {
+    let next : List Base → Plan = λ all. joins terms.filter (changed present
+    (chooses terms.hysteresis present rover all)) done in record {
       steps = looked asked.lives;
       went = asked.went;
       made = subst (λ (bases : List Base). IsBegun (looks bases [] next) (looked asked.lives))
@@ -236,5 +238,6 @@ pub heeds_nothing : (near : Bool) (terms : Terms) (present : Option ℕ) (report
     → IsMade (heeds near terms present (option_to_list report)) []
 heeds_nothing near terms present report none =
     subst (λ (plan : Plan). IsMade plan [])
-    (sym (ap (λ (o : Option Position). heeds near terms present (option_to_list o)) none ∙ heeds_none near terms present))
+    (sym (ap (λ (o : Option Position). heeds near terms present (option_to_list o)) none
+    ∙ heeds_none near terms present))
     refl

@@ -72,7 +72,8 @@ joins_move None (Some mount) filter plan stays moves =
 joins_move (Some base) (Some mount) filter plan stays moves =
     unless_moves base filter mount (base == mount) plan (eqb-true base mount) (eqb-false base mount) moves
 
-follows_move : (terms : Terms) (present : Option ℕ) (told : List Position) → MovesOn present (follows terms present told)
+follows_move : (terms : Terms) (present : Option ℕ) (told : List Position)
+    → MovesOn present (follows terms present told)
 follows_move terms present [] [] begun = tt
 follows_move terms present [] (step ∷ steps) begun = absurd begun
 follows_move terms present (rover ∷ told) steps begun =

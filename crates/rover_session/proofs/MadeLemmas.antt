@@ -50,7 +50,8 @@ mounts_both first second a b c one two =
 pub owed_both : (first second : List Step) → owed_among first ≡ first → owed_among second ≡ second
     → owed_among (first ++ second) ≡ first ++ second
 owed_both first second one two =
-    owed-append first second ∙ ap (λ (l : List Step). l ++ owed_among second) one ∙ ap (λ (l : List Step). first ++ l) two
+    owed-append first second ∙ ap (λ (l : List Step). l ++ owed_among second) one
+    ∙ ap (λ (l : List Step). first ++ l) two
 
 -- what was made of a plan, and then of what is left of one that goes on with it, or the first of it
 pub until_both : (refused : Option SegFault) (plan later next : Plan) (first second : List Step) → Begins plan later

@@ -33,13 +33,15 @@ module _ (shapes : List RingShape) (items : List Segment) (n : ℕ) (d segment :
   pub segment_within : (me : ℕ) (histories : List (History RingCall)) → IsResumable shapes me histories (reverse items)
       → segment.mount < length shapes
   segment_within me histories is =
-      let first : IsResumable shapes me histories (segment ∷ older) = subst (IsResumable shapes me histories) newest is in
+      let first : IsResumable shapes me histories (segment ∷ older) = subst (IsResumable shapes me histories) newest
+      is in
       first.0
 
   pub segment_told : (me : ℕ) (histories : List (History RingCall)) → IsResumable shapes me histories (reverse items)
       → IsSegment (shape_at shapes segment.mount) me (history_at histories segment.mount) segment
   segment_told me histories is =
-      let first : IsResumable shapes me histories (segment ∷ older) = subst (IsResumable shapes me histories) newest is in
+      let first : IsResumable shapes me histories (segment ∷ older) = subst (IsResumable shapes me histories) newest
+      is in
       first.1
 
   -- what the turn's read takes
@@ -59,7 +61,8 @@ module _ (shapes : List RingShape) (items : List Segment) (n : ℕ) (d segment :
 
     pub turn_read : (rover : Rover) (first : Option Position) (bytes : List ℕ) (steps : List Step) → rover.me ≡ me
         → rover.segments ≡ reverse items → Stands rover first bytes steps
-        → ReadOn shapes alone old now budget rover.segments (record rover { segments = reverse (set items n next) }) first
+        → ReadOn shapes alone old now budget rover.segments (record rover { segments = reverse (set items n next) })
+        first
         bytes steps
     turn_read rover first bytes steps mine all stands =
         let report : ReadReport = report_at shapes now budget segment in

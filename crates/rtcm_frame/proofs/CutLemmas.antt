@@ -15,7 +15,8 @@ use Rattle.rtcm_frame.proofs.FrameLemmas.{frame_claim, frame_least, frame_preamb
 -- the claimed length of three bytes or more does not depend on what follows
 claim_stays : (a b : List ℕ) → 3 ≤ length a → frame_length (a ++ b) ≡ frame_length a
 claim_stays a b long =
-    ap₂ (λ (x y : ℕ). (x * 256 + y) % 1024 + 6) (get_or_append_left a b 0 1 (omega arith)) (get_or_append_left a b 0 2 (omega arith))
+    ap₂ (λ (x y : ℕ). (x * 256 + y) % 1024 + 6) (get_or_append_left a b 0 1 (omega arith))
+    (get_or_append_left a b 0 2 (omega arith))
 
 -- a frame in front has come whole
 front_fits : (bytes : List ℕ) → IsTrue (begins_with_frame bytes) → frame_length bytes ≤ length bytes
@@ -120,7 +121,8 @@ cut_induction P waits frame junk bytes = within (length bytes) bytes (omega arit
           let behind : length (drop count (x ∷ t)) ≤ n =
           omega (arith, length-drop count (x ∷ t), front_fits (x ∷ t) begins)
           in
-          subst P (take-append-drop count (x ∷ t)) (frame (take count (x ∷ t)) (drop count (x ∷ t)) begins (within n (drop count (x ∷ t)) behind))
+          subst P (take-append-drop count (x ∷ t)) (frame (take count (x ∷ t)) (drop count (x ∷ t)) begins
+          (within n (drop count (x ∷ t)) behind))
       | inr no_frame ↦ elim (cases_Bool (is_unfinished (x ∷ t))) [
         | inl waiting ↦ waits (x ∷ t) waiting
         | inr finished ↦ junk x t no_frame finished (within n t (omega arith))
@@ -189,7 +191,8 @@ cut-append a b = cut_induction Splits waiting frame junk a b
         ∙ ap (λ (p : Parts). with_frame f p) (splits b)
         ∙ ap (parts_with b) (sym (cut-frame f t valid))
 
-    junk : (x : ℕ) (t : List ℕ) → begins_with_frame (x ∷ t) ≡ false → is_unfinished (x ∷ t) ≡ false → Splits t → Splits (x ∷ t)
+    junk : (x : ℕ) (t : List ℕ) → begins_with_frame (x ∷ t) ≡ false → is_unfinished (x ∷ t) ≡ false → Splits t
+        → Splits (x ∷ t)
     junk x t no_frame finished splits b =
         let stays = junk_stays x t b no_frame finished in
         let q = cut ((cut t).rest ++ b) in
@@ -210,9 +213,11 @@ all-frames = cut_induction (λ bytes. Valid (cut bytes)) waiting frame junk
     waiting bytes waits = subst Valid (sym (cut_waiting bytes waits)) (λ k d below. absurd (omega arith))
 
     frame : (f t : List ℕ) → IsTrue (is_frame f) → Valid (cut t) → Valid (cut (f ++ t))
-    frame f t valid others = subst Valid (sym (cut-frame f t valid)) (All-cons (λ g. IsTrue (is_frame g)) f (cut t).frames valid others)
+    frame f t valid others = subst Valid (sym (cut-frame f t valid)) (All-cons (λ g. IsTrue (is_frame g)) f
+        (cut t).frames valid others)
 
-    junk : (x : ℕ) (t : List ℕ) → begins_with_frame (x ∷ t) ≡ false → is_unfinished (x ∷ t) ≡ false → Valid (cut t) → Valid (cut (x ∷ t))
+    junk : (x : ℕ) (t : List ℕ) → begins_with_frame (x ∷ t) ≡ false → is_unfinished (x ∷ t) ≡ false → Valid (cut t)
+        → Valid (cut (x ∷ t))
     junk x t no_frame finished others = subst Valid (sym (cut_junk x t no_frame finished)) others
 
 -- the parts stand in the stream in order
@@ -229,7 +234,8 @@ cut_order = cut_induction (λ bytes. Stand bytes (cut bytes)) waiting frame junk
     frame f t valid others =
         subst (Stand (f ++ t)) (sym (cut-frame f t valid)) (at_frame f _ _ _ _ others)
 
-    junk : (x : ℕ) (t : List ℕ) → begins_with_frame (x ∷ t) ≡ false → is_unfinished (x ∷ t) ≡ false → Stand t (cut t) → Stand (x ∷ t) (cut (x ∷ t))
+    junk : (x : ℕ) (t : List ℕ) → begins_with_frame (x ∷ t) ≡ false → is_unfinished (x ∷ t) ≡ false → Stand t (cut t)
+        → Stand (x ∷ t) (cut (x ∷ t))
     junk x t no_frame finished others =
         subst (Stand (x ∷ t)) (sym (cut_junk x t no_frame finished)) (at_junk x _ _ _ _ others)
 
@@ -257,7 +263,8 @@ pub cut-frames-joined : (frames : List (List ℕ)) → All (λ frame. IsTrue (is
 cut-frames-joined [] valid = cut_waiting [] refl
 cut-frames-joined (f ∷ frames) valid =
     cut-frame f (concat frames) (All-head (λ frame. IsTrue (is_frame frame)) f frames valid)
-    ∙ ap (λ (p : Parts). with_frame f p) (cut-frames-joined frames (All-tail (λ frame. IsTrue (is_frame frame)) f frames valid))
+    ∙ ap (λ (p : Parts). with_frame f p) (cut-frames-joined frames (All-tail (λ frame. IsTrue (is_frame frame)) f frames
+    valid))
 
 -- a frame in front, of whatever length it was found to have
 pub front_frame : (bytes : List ℕ) (count : ℕ) → IsTrue (is_frame (take count bytes))

@@ -87,15 +87,19 @@ frame_padded_again f bytes cleared all from h valid few held is written =
   where
     whole : from + (length bytes - from) ≡ length bytes
     whole = omega arith
+
     left : longest - from - (length bytes - from) ≡ longest - length bytes
     left = omega (arith, few)
+
     front : length (take from f.bytes) ≡ from
     front = length-take-le from f.bytes (omega (arith, h.size, h.within, held))
+
     joined : replicate (f.len - from) 0 ++ drop f.len f.bytes ≡ replicate (longest - from) 0
     joined =
         ap (λ (xs : List ℕ). replicate (f.len - from) 0 ++ xs) h.zeros
         ∙ replicate-append-replicate (f.len - from) (longest - f.len) 0
         ∙ ap (λ (n : ℕ). replicate n 0) (omega (arith, h.within, held))
+
     behind : drop from cleared ≡ replicate (longest - from) 0
     behind =
         ap₂ (λ (n : ℕ) (xs : List ℕ). drop n xs) (sym front) is

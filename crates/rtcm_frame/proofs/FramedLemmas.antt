@@ -97,7 +97,8 @@ framed_of_frame (a ∷ (b ∷ (c ∷ rest))) bytes valid =
     let length_content : length content ≡ m = length-take-le m rest (omega arith) in
     let length_tail : length tail ≡ 3 = omega (arith, length-drop m rest) in
     let header = header_bytes b c m (bytes 1 0 (omega arith)) (bytes 2 0 (omega arith)) (omega arith) in
-    let high : b ≡ b / 4 * 4 + length content / 256 = header.0 ∙ ap (λ (k : ℕ). b / 4 * 4 + k / 256) (sym length_content) in
+    let high : b ≡ b / 4 * 4 + length content / 256 = header.0 ∙ ap (λ (k : ℕ). b / 4 * 4 + k / 256)
+    (sym length_content) in
     let low : c ≡ length content % 256 = header.1 ∙ ap (λ (k : ℕ). k % 256) (sym length_content) in
     let body : a ∷ b ∷ c ∷ content ≡ unchecked (b / 4) content =
     ap₂ ◌∷◌ (frame_preamble frame valid) (ap₂ ◌∷◌ high (ap (λ (k : ℕ). k ∷ content) low))

@@ -8,7 +8,8 @@ use Rattle.rtcm_frame.specs.Held.{IsHeld}
 use Rattle.rtcm_frame.proofs.SumLemmas.{chained_none}
 
 -- they are as many as are held
-pub held_length : (buffer : List ℕ) (start len : ℕ) → start + len ≤ length buffer → length (take len (drop start buffer)) ≡ len
+pub held_length : (buffer : List ℕ) (start len : ℕ) → start + len ≤ length buffer
+    → length (take len (drop start buffer)) ≡ len
 held_length buffer start len within =
     length-take-le len (drop start buffer) (omega (arith, length-drop start buffer))
 
@@ -25,7 +26,8 @@ pub put_behind : (old new : List ℕ) (start count more : ℕ) → take (start +
     → take (count + more) (drop start new) ≡ take count (drop start old) ++ take more (drop (start + count) new)
 put_behind old new start count more front =
     take-add count more (drop start new)
-    ∙ ap₂ (λ (xs ys : List ℕ). xs ++ take more ys) (part new ∙ ap (λ (xs : List ℕ). drop start xs) front ∙ sym (part old)) (drop-drop count start new)
+    ∙ ap₂ (λ (xs ys : List ℕ). xs ++ take more ys) (part new ∙ ap (λ (xs : List ℕ). drop start xs) front
+    ∙ sym (part old)) (drop-drop count start new)
   where
     part : (xs : List ℕ) → take count (drop start xs) ≡ drop start (take (start + count) xs)
     part xs = sym (drop-take start count xs)

@@ -166,8 +166,22 @@ bits_of_xor x y =
 
 are_bits : (z : ℕ) → AreBits (bits_of z)
 unfolding bits_of
-are_bits z =
-    (low (z / 128), (low (z / 64), (low (z / 32), (low (z / 16), (low (z / 8), (low (z / 4), (low (z / 2), (low z, tt))))))))
+are_bits z = (
+  low (z / 128),
+  (
+    low (z / 64),
+    (
+      low (z / 32),
+      (
+        low (z / 16),
+        (
+          low (z / 8),
+          (low (z / 4), (low (z / 2), (low z, tt))),
+        ),
+      ),
+    ),
+  ),
+)
   where
     low : (n : ℕ) → n % 2 < 2
     low n = omega arith

@@ -82,7 +82,8 @@ took_run p n some no_frame finished within others =
     let sum : p.junk + 1 + n ≡ p.junk + (1 + n) = omega arith in
     let there : drop n (drop 1 p.bytes) ≡ drop (1 + n) p.bytes = drop-drop n 1 p.bytes in
     subst (λ (q : Pending). Took p q []) (ap₂ pending_of there sum) (
-    took_others n p next (took_junk p p (took_none p) some no_frame finished) (omega (arith, length-drop 1 p.bytes)) others)
+    took_others n p next (took_junk p p (took_none p) some no_frame finished) (omega (arith, length-drop 1 p.bytes))
+    others)
 
 -- a frame in front is given
 pub took_frame : (old p : Pending) (count : ℕ) → Took old p [] → count ≤ length p.bytes

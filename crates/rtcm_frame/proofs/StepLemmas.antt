@@ -30,7 +30,8 @@ small_byte low fits =
     chain (2 * (2 * (2 * low))) (
     chain (2 * (2 * low)) (
     chain (2 * low) (
-    double low (omega arith)) (omega arith)) (omega arith)) (omega arith)) (omega arith)) (omega arith)) (omega arith)) (omega arith)
+    double low (omega arith)) (omega arith)) (omega arith)) (omega arith)) (omega arith)) (omega arith)) (omega arith))
+    (omega arith)
     ∙ total
   where
     chain : {start : ℕ} (value : ℕ) → start ≡ value → value < 2 ^ 23 → after_bit start 0 ≡ 2 * value
@@ -139,7 +140,8 @@ register_moved value fits =
     )
     in
     ap (moved 8) parts
-    ∙ moved_xor 8 (a * 2 ^ 16) (bit_xor (b * 2 ^ 8) c) (omega arith) (xor_lt 24 (b * 2 ^ 8) c (omega arith) (omega arith))
+    ∙ moved_xor 8 (a * 2 ^ 16) (bit_xor (b * 2 ^ 8) c) (omega arith) (xor_lt 24 (b * 2 ^ 8) c (omega arith)
+    (omega arith))
     ∙ ap₂ bit_xor (top 7 a (omega arith)) (
     moved_xor 8 (b * 2 ^ 8) c (omega arith) (omega arith)
     ∙ ap₂ bit_xor (middle 6 b (omega arith)) (bottom 5 c (omega arith)))
@@ -176,7 +178,8 @@ eight_bytes value xs fits eight =
     crc_on_from xs value fits
     ∙ ap₂ bit_xor (ap (λ (n : ℕ). moved n value) eight ∙ register_moved value fits) (
     ap (crc_on 0) (eight_items xs eight)
-    ∙ nest (get_or xs 0 0) (get_or xs 1 0) (get_or xs 2 0) (get_or xs 3 0) (get_or xs 4 0) (get_or xs 5 0) (get_or xs 6 0) (get_or xs 7 0))
+    ∙ nest (get_or xs 0 0) (get_or xs 1 0) (get_or xs 2 0) (get_or xs 3 0) (get_or xs 4 0) (get_or xs 5 0)
+    (get_or xs 6 0) (get_or xs 7 0))
   where
     nest : (a b c d e f g h : ℕ) → crc_on 0 (a ∷ b ∷ c ∷ d ∷ e ∷ f ∷ g ∷ h ∷ [])
         ≡ bit_xor (moved 7 (row a)) (
@@ -223,7 +226,8 @@ six_digits v fits =
     lowest : v / 2 ^ 0 % 16 * 2 ^ 0 ≡ v % 2 ^ 4
     lowest = omega arith
 
-    join : (k high low whole : ℕ) → low < 2 ^ k → 0 < 2 ^ k → high * 2 ^ k + low ≡ whole → bit_xor (high * 2 ^ k) low ≡ whole
+    join : (k high low whole : ℕ) → low < 2 ^ k → 0 < 2 ^ k → high * 2 ^ k + low ≡ whole
+        → bit_xor (high * 2 ^ k) low ≡ whole
     join k high low whole low_fits some sum = xor_comm (high * 2 ^ k) low ∙ xor_split k high low low_fits some ∙ sum
 
 -- **bytes of zero by digits**

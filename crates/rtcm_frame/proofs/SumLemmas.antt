@@ -12,7 +12,8 @@ pub chained_none : (buffer sums : List ℕ) (start end : ℕ) → end ≤ start 
 chained_none buffer sums start end none = record { link = λ k from below. absurd (omega arith) }
 
 -- the sums go on as the checksum does
-chained_on : (buffer sums : List ℕ) (start n end : ℕ) → Chained buffer sums start end → start + n ≤ end → start + n ≤ length buffer
+chained_on : (buffer sums : List ℕ) (start n end : ℕ) → Chained buffer sums start end → start + n ≤ end
+    → start + n ≤ length buffer
     → get_or sums (start + n) 0 ≡ crc_on (get_or sums start 0) (take n (drop start buffer))
 chained_on buffer sums start zero end chained within fits =
     let here : start + 0 ≡ start = omega arith in
@@ -24,14 +25,16 @@ chained_on buffer sums start (suc n) end chained within fits =
     let first = get_or sums start 0 in
     ap (λ (k : ℕ). get_or sums k 0) next
     ∙ chained.link (start + n) (omega arith) (omega arith)
-    ∙ ap₂ after_byte (chained_on buffer sums start n end chained (omega arith) (omega arith)) (sym (get_or-drop start buffer n 0))
+    ∙ ap₂ after_byte (chained_on buffer sums start n end chained (omega arith) (omega arith))
+    (sym (get_or-drop start buffer n 0))
     ∙ sym (crc_more first left n (omega (arith, length-drop start buffer)))
     ∙ ap (λ (k : ℕ). crc_on first (take k left)) (sym more)
 
 -- **the checksum of a part** from the sums at its two ends
 pub part_is : (buffer sums : List ℕ) (start end summed : ℕ) → Chained buffer sums start summed → AreSums sums
     → start ≤ end → end ≤ summed → end ≤ length buffer
-    → bit_xor (get_or sums end 0) (moved (end - start) (get_or sums start 0)) ≡ crc24q_of (take (end - start) (drop start buffer))
+    → bit_xor (get_or sums end 0) (moved (end - start) (get_or sums start 0)) ≡ crc24q_of
+    (take (end - start) (drop start buffer))
 part_is buffer sums start end summed chained fits order within fits_too =
     let n = end - start in
     let part = take n (drop start buffer) in

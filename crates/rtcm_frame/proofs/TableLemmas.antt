@@ -113,9 +113,11 @@ digit_fits (suc (suc (suc (suc (suc (suc n)))))) digit low fits = absurd (omega 
 pub near_below : (zeros place digit : ℕ) → zeros < 32 → place < 6 → digit < 16
     → get_or NEAR (zeros * 96 + (place * 16 + digit)) 0 < 2 ^ 24
 near_below zeros place digit few low fits =
-    subst (λ (x : ℕ). x < 2 ^ 24) (sym (near_at zeros place digit few low fits)) (moved_fits zeros _ (digit_fits place digit low fits))
+    subst (λ (x : ℕ). x < 2 ^ 24) (sym (near_at zeros place digit few low fits))
+    (moved_fits zeros _ (digit_fits place digit low fits))
 
 pub far_below : (steps place digit : ℕ) → steps < 33 → place < 6 → digit < 16
     → get_or FAR (steps * 96 + (place * 16 + digit)) 0 < 2 ^ 24
 far_below steps place digit few low fits =
-    subst (λ (x : ℕ). x < 2 ^ 24) (sym (far_at steps place digit few low fits)) (moved_fits (32 * steps) _ (digit_fits place digit low fits))
+    subst (λ (x : ℕ). x < 2 ^ 24) (sym (far_at steps place digit few low fits))
+    (moved_fits (32 * steps) _ (digit_fits place digit low fits))

@@ -1,7 +1,7 @@
 //! A whole frame of RTCM 10403.3's transport layer.
 ghost use Rattle.std.specs.Prelude.{◌≡◌, ℕ, ◌+◌, ◌-◌, ◌<◌, ◌≤◌, List, [], ◌∷◌, ◌++◌, ◌*◌, length, take, drop, replicate, if◌then◌else◌, IsTrue, IfSome};
 ghost use Rattle.rtcm_frame.specs.Crc.{crc24q_of};
-ghost use Rattle.rtcm_frame.specs.Transport.{preamble, frame_length, is_frame, number_of};
+ghost use Rattle.rtcm_frame.specs.Transport.{preamble, longest, frame_length, is_frame, number_of};
 
 use crate::checksum::crc24q;
 use std::marker::Model;
@@ -94,7 +94,7 @@ impl Frame {
         ensures value { result.now ≡ self.now }
         ensures valid { IsTrue (is_frame self.now) }
         ensures least { 6 ≤ length self.now }
-        ensures most { length self.now ≤ 1029 }
+        ensures most { length self.now ≤ longest }
     {
         &self.bytes[..self.len]
     }

@@ -1,7 +1,7 @@
 //! Cutting a stream as its bytes come, one at a time or in blocks.
 ghost use Rattle.std.specs.Prelude.{◌≡◌, ℕ, ◌+◌, ◌-◌, ◌^◌, ◌*◌, ◌<◌, ◌≤◌, List, [], ◌∷◌, ◌++◌, length};
 ghost use Rattle.std.specs.Prelude.{take, drop, false, IfSome, IfNone, IsTrue};
-ghost use Rattle.rtcm_frame.specs.Transport.{is_frame};
+ghost use Rattle.rtcm_frame.specs.Transport.{longest, is_frame};
 ghost use Rattle.rtcm_frame.specs.Cut.{IsWaiting, begins_with_frame, is_unfinished};
 ghost use Rattle.rtcm_frame.specs.Front.{IsFrontOf};
 ghost use Rattle.rtcm_frame.specs.Pending.{Pending, Gave, GaveAll, Took, IsBehindJunk};
@@ -204,7 +204,7 @@ impl Cutter {
     fn is_frame(&mut self, count: usize) -> bool
         requires within { count ≤ length self.old.bytes }
         requires least { 6 ≤ count }
-        requires most { count ≤ 1029 }
+        requires most { count ≤ longest }
         ensures value { result ≡ is_frame (take count self.old.bytes) }
         ensures same { self.new ≡ self.old }
     {
@@ -218,7 +218,7 @@ impl Cutter {
     fn is_frame_by_sums(&mut self, count: usize) -> bool
         requires within { count ≤ length self.old.bytes }
         requires least { 6 ≤ count }
-        requires most { count ≤ 1029 }
+        requires most { count ≤ longest }
         ensures value { result ≡ is_frame (take count self.old.bytes) }
         ensures same { self.new ≡ self.old }
     {

@@ -1,6 +1,6 @@
 -- The report of every run fits its configuration: there is a total for each mountpoint and a sum for each
 -- named account.
-use Rattle.std.proofs.Common.{◌≡◌, ◌∙◌, ◌++◌, ◌+◌, ℕ, suc, Bool, true, false, List, [], ◌∷◌, length, map, fold, refl, sym, ap, subst, Option, None, Some}
+use Rattle.std.proofs.Common.{◌≡◌, ◌∙◌, ◌++◌, ◌+◌, ℕ, Bool, true, false, List, [], ◌∷◌, length, map, fold, refl, sym, subst, Option, None, Some}
 use Rattle.std.proofs.lemmas.List.{length-map, length-set}
 use Rattle.session_script.specs.declared.Event.{Event}
 use Rattle.session_script.specs.declared.Event.TheVariants as events
@@ -8,7 +8,6 @@ use Rattle.session_calls.specs.Steps.{Ask, to_ring, to_book, Step, ask_of}
 use Rattle.session_calls.specs.Plans.{Plan}
 use Rattle.session_calls.specs.Rings.{history_at}
 use Rattle.cast_config.specs.declared.config.Config.{Config}
-use Rattle.cast_config.specs.declared.config.Account.{Account}
 use Rattle.cast_config.specs.declared.config.Mount.{Mount}
 use Rattle.session_core.specs.declared.ending.Ending.{Ending}
 use Rattle.session_core.specs.declared.ending.Last.TheVariants as lasts
@@ -17,7 +16,8 @@ use Rattle.session_core.specs.Headings.{Heading}
 use Rattle.session_core.specs.Judged.{Opening, sends_head, relays, bare_source, bare_rover, Judged}
 use Rattle.session_core.specs.Owed.{received, closing, Happening, arrives, takes_turn, ends, owed}
 use Rattle.session_core.specs.Endings.{ended_by}
-use Rattle.session_core.specs.Reports.{IsReport, report, mount_total, sums_from}
+use Rattle.session_core.proofs.ReportSums.{sums_long}
+use Rattle.session_core.specs.Reports.{IsReport, report, mount_total}
 use Rattle.session_core.specs.Run.{Histories, Connected, World, Moved, nothing_called, with_call, with_calls, made, judged_of, makes, closed_if, with_text, with_last, moved, moved_if, is_concerned, happens_in, happens, is_opened, opened_if, fresh, opens, after_event, after_events, closes, world}
 
 -- ---- the rings stay as many
@@ -129,10 +129,6 @@ world_long c headings list =
     (length-map c.mount (λ (mount : Mount). [])))
 
 -- ---- the report
-
-sums_long : (n : ℕ) (h : Histories) (accounts : List Account) → length (sums_from n h accounts) ≡ length accounts
-sums_long n h [] = refl
-sums_long n h (account ∷ more) = ap suc (sums_long (n + 1) h more)
 
 -- what a report's text asks of it
 pub record Fits (c : Config) (r : Report) : Type 0 where

@@ -69,12 +69,17 @@ went_by_one shapes alone old seen me mount call answer within heard =
       size = length-set old mount seen;
       rings = λ other. elim (cases_eq mount other) [
         | inl same ↦
-            subst (λ (m : ℕ). Heard alone (answer_at shapes m) (history_at old m) (history_at (set old mount seen) m) me (on_ring m (step ∷ []))) same
-            (subst (λ pairs. Heard alone (answer_at shapes mount) (history_at old mount) (history_at (set old mount seen) mount) me pairs) (sym (here mount call answer))
-            (subst (λ h. Heard alone (answer_at shapes mount) (history_at old mount) h me ((call, answer) ∷ [])) (sym (get_or-set_same old mount seen [] within)) heard))
+            subst (λ (m : ℕ). Heard alone (answer_at shapes m) (history_at old m) (history_at (set old mount seen) m) me
+            (on_ring m (step ∷ []))) same
+            (subst (λ pairs. Heard alone (answer_at shapes mount) (history_at old mount)
+            (history_at (set old mount seen) mount) me pairs) (sym (here mount call answer))
+            (subst (λ h. Heard alone (answer_at shapes mount) (history_at old mount) h me ((call, answer) ∷ []))
+            (sym (get_or-set_same old mount seen [] within)) heard))
         | inr apart ↦
-            subst (λ pairs. Heard alone (answer_at shapes other) (history_at old other) (history_at (set old mount seen) other) me pairs) (sym (elsewhere other mount call answer apart))
-            (subst (λ h. Heard alone (answer_at shapes other) (history_at old other) h me []) (sym (get_or-set_other old mount other seen [] (λ e. apart (sym e))))
+            subst (λ pairs. Heard alone (answer_at shapes other) (history_at old other)
+            (history_at (set old mount seen) other) me pairs) (sym (elsewhere other mount call answer apart))
+            (subst (λ h. Heard alone (answer_at shapes other) (history_at old other) h me [])
+            (sym (get_or-set_other old mount other seen [] (λ e. apart (sym e))))
             (heard_none alone (answer_at shapes other) (history_at old other) me))
       ];
     }
@@ -92,15 +97,21 @@ went_turn shape alone seen places mount d new me call answer within heard =
     let none : RingShape = record { capacity = 0; filters = [] } in
     let long : length old ≡ length places = length-map places seen in
     let here : get_or old mount [] ≡ seen (get_or places mount d) = get_or-map seen places mount d [] within in
-    let shaped : get_or shapes mount none ≡ shape (get_or places mount d) = get_or-map shape places mount d none within in
-    let less = heard_less (alone (get_or places mount d)) (list_all alone places) (ring_answer (shape (get_or places mount d)))
+    let shaped : get_or shapes mount none ≡ shape (get_or places mount d) =
+    get_or-map shape places mount d none within in
+    let less = heard_less (alone (get_or places mount d)) (list_all alone places)
+    (ring_answer (shape (get_or places mount d)))
     (seen (get_or places mount d)) (seen new) me ((call, answer) ∷ []) (alone_at alone places mount d within) heard in
-    let named : Heard (list_all alone places) (answer_at shapes mount) (seen (get_or places mount d)) (seen new) me ((call, answer) ∷ []) =
-    subst (λ z. Heard (list_all alone places) (ring_answer z) (seen (get_or places mount d)) (seen new) me ((call, answer) ∷ [])) (sym shaped) less in
-    subst (λ (now : List (History RingCall)). Went shapes (list_all alone places) old now me (at_ring mount call answer ∷ []))
+    let named : Heard (list_all alone places) (answer_at shapes mount) (seen (get_or places mount d)) (seen new) me
+    ((call, answer) ∷ []) =
+    subst (λ z. Heard (list_all alone places) (ring_answer z) (seen (get_or places mount d)) (seen new) me
+    ((call, answer) ∷ [])) (sym shaped) less in
+    subst (λ (now : List (History RingCall)). Went shapes (list_all alone places) old now me
+    (at_ring mount call answer ∷ []))
     (sym (map-set seen places mount new))
     (went_by_one shapes (list_all alone places) old (seen new) me mount call answer (omega (arith, long, within))
-    (subst (λ h. Heard (list_all alone places) (answer_at shapes mount) h (seen new) me ((call, answer) ∷ [])) (sym here) named))
+    (subst (λ h. Heard (list_all alone places) (answer_at shapes mount) h (seen new) me ((call, answer) ∷ []))
+    (sym here) named))
 
 -- ---- places that are what they were, but for what they have seen
 

@@ -14,8 +14,11 @@ made_both done later [] second begins made rest = subst (λ p. IsMade p second) 
 made_both done later (step ∷ first) second begins made rest = absurd cc
 made_both (asks ask next) done first second begins made rest = absurd begins
 made_both (asks ask next) (asks later_ask later_next) [] second begins made rest = absurd made
-made_both (asks ask next) (asks later_ask later_next) (step ∷ first) second begins made rest =
-    (cc, made_both (next (answer_of step)) (later_next (answer_of step)) first second (begins.1 (answer_of step)) made.1 rest)
+made_both (asks ask next) (asks later_ask later_next) (step ∷ first) second begins made rest = (
+  cc,
+  made_both (next (answer_of step)) (later_next (answer_of step)) first second (begins.1 (answer_of step)) made.1
+      rest,
+)
 
 pub begun_both : (plan later : Plan) (first second : List Step) → Begins plan later
     → IsMade plan first → IsBegun (left later first) second → IsBegun later (first ++ second)
@@ -23,8 +26,11 @@ begun_both done later [] second begins made rest = subst (λ p. IsBegun p second
 begun_both done later (step ∷ first) second begins made rest = absurd cc
 begun_both (asks ask next) done first second begins made rest = absurd begins
 begun_both (asks ask next) (asks later_ask later_next) [] second begins made rest = absurd made
-begun_both (asks ask next) (asks later_ask later_next) (step ∷ first) second begins made rest =
-    (cc, begun_both (next (answer_of step)) (later_next (answer_of step)) first second (begins.1 (answer_of step)) made.1 rest)
+begun_both (asks ask next) (asks later_ask later_next) (step ∷ first) second begins made rest = (
+  cc,
+  begun_both (next (answer_of step)) (later_next (answer_of step)) first second (begins.1 (answer_of step))
+      made.1 rest,
+)
 
 -- what is made is begun
 pub made_begun : (plan : Plan) (steps : List Step) → IsMade plan steps → IsBegun plan steps

@@ -83,7 +83,8 @@ heard_given c cap group n kept = by_near (nat_lt n (length c.mount)) refl
     by_near false is =
         let there = near_bases c cap (slice_get c.near (n - length c.mount)) kept (n - length c.mount) refl in (
           omega (arith, filter_few (hears c group) (bases_of (slice_get c.near (n - length c.mount))), there.0),
-          All-filter (hears c group) (IsBelow (length c.mount)) (bases_of (slice_get c.near (n - length c.mount))) there.1,
+          All-filter (hears c group) (IsBelow (length c.mount)) (bases_of (slice_get c.near (n - length c.mount)))
+              there.1,
           λ e. absurd cc,
         )
 

@@ -18,7 +18,8 @@ use Rattle.session_core.specs.Standing.{Begins, BeginsFor, Fed, IsSentBy, Stands
 use Rattle.session_core.proofs.CloseLemmas.{called_none}
 
 -- what is sent to nobody
-pub untold : (version : Option Version) (with : Reply) (before after : List ℕ) → after ≡ before ++ text_if version with []
+pub untold : (version : Option Version) (with : Reply) (before after : List ℕ)
+    → after ≡ before ++ text_if version with []
     → IfNone version (after ≡ before)
 untold None with before after is = is ∙ append-nil before
 untold (Some version) with before after is = tt

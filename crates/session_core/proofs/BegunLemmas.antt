@@ -1,6 +1,6 @@
 -- How a source begins.
 use Rattle.std.proofs.Common.{◌≡◌, ◌∙◌, ◌<◌, ℕ, Bool, true, false, IsTrue, List, [], ◌∷◌, ◌++◌, length, refl, sym, ap, subst, inl, inr, Option, None, Some}
-use Rattle.std.specs.Prelude.{IfSome, is_none}
+use Rattle.std.specs.Prelude.{is_none}
 use Rattle.std.proofs.lemmas.List.{append-nil}
 use Rattle.ntrip_head.specs.declared.request.Version.{Version}
 use Rattle.ntrip_reply.specs.declared.kind.Reply.TheVariants as replies
@@ -34,8 +34,8 @@ use Rattle.chunk_body.specs.Machine as machine
 use Rattle.session_core.specs.Endings.{claimed_ending}
 use Rattle.session_core.specs.Judged.{SourceTerms, source}
 use Rattle.session_core.specs.Replies.{text_if}
-use Rattle.session_core.specs.Published.{steps_unclaimed, IsClaimRefused}
-use Rattle.session_core.specs.Called.{book_answer, IsCause}
+use Rattle.session_core.specs.Published.{steps_unclaimed}
+use Rattle.session_core.specs.Called.{book_answer}
 use Rattle.session_core.specs.Beginnings.{histories_of, end_unclaimed, text_unclaimed}
 use Rattle.session_core.specs.Standing.{BeginsFor}
 
@@ -129,7 +129,15 @@ begins_unclaimed c alone old now book me mount version chunked (claims.Taken cal
       owes = (refl, refl);
       ends = inr refl;
       stage_is = λ opening text.
-          rw over (record { known = λ e. cc; closed = refl; segments = refl; junk = refl; outside = refl; no_read = refl });
+          rw over (record {
+            known = λ e. cc;
+            closed = refl;
+            segments = refl;
+            junk = refl;
+            outside = refl;
+            no_read =
+                refl;
+          });
       halts = over_ends stage _ _ over refl;
       sent_is = sym (append-nil (text_if version replies.Taken []));
     }))
@@ -144,7 +152,15 @@ begins_unclaimed c alone old now book me mount version chunked (claims.Worn give
       owes = tt;
       ends = inl refl;
       stage_is = λ opening text.
-          rw over (record { known = λ e. cc; closed = refl; segments = refl; junk = refl; outside = refl; no_read = refl });
+          rw over (record {
+            known = λ e. cc;
+            closed = refl;
+            segments = refl;
+            junk = refl;
+            outside = refl;
+            no_read =
+                refl;
+          });
       halts = over_ends stage _ _ over refl;
       sent_is = ([], refl);
     }))
@@ -159,15 +175,17 @@ begins_unclaimed c alone old now book me mount version chunked claims.Memory sta
       owes = tt;
       ends = inl refl;
       stage_is = λ opening text.
-          rw over (record { known = λ e. cc; closed = refl; segments = refl; junk = refl; outside = refl; no_read = refl });
+          rw over (record {
+            known = λ e. cc;
+            closed = refl;
+            segments = refl;
+            junk = refl;
+            outside = refl;
+            no_read =
+                refl;
+          });
       halts = over_ends stage _ _ over refl;
       sent_is = ([], refl);
     }))
 
 -- ---- causes
-
-pub cause_unclaimed : (worn : List ℕ) (fault : ClaimFault) (ended : Option Ending) → ended ≡ Some (end_unclaimed fault)
-    → IsClaimRefused worn fault → IfSome ended (IsCause worn)
-cause_unclaimed worn (claims.Taken caller claim) ended is refused = rw is tt
-cause_unclaimed worn (claims.Worn given) ended is refused = rw is refused
-cause_unclaimed worn claims.Memory ended is refused = rw is tt

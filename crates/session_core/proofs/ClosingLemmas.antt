@@ -96,7 +96,8 @@ halted_received mount answer text steps (halts.Worn turns) short made is = inl (
 halted_received mount answer text steps halts.Memory short made is = inl (ap received is.1)
 
 -- a relay that was given its claim
-pub claimed_received : (mount claim : ℕ) (steps : List Step) → IsClaimed mount claim steps → received steps ≡ claimed claim
+pub claimed_received : (mount claim : ℕ) (steps : List Step) → IsClaimed mount claim steps
+    → received steps ≡ claimed claim
 claimed_received mount claim [] is = absurd is
 claimed_received mount claim (step ∷ steps) is = ap (λ (s : Step). received (s ∷ steps)) is
 

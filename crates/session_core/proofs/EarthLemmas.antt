@@ -22,13 +22,15 @@ use Rattle.ntrip_head.specs.Answer.{HttpAnswer, HeadAnswer}
 use Rattle.session_core.specs.Beginnings.{IsRequestOnEarth}
 
 -- an option that a test gives holds what the test says
-if_some : {X : Type 0} (P : X → Type 0) (b : Bool) (o : Option X) → (b ≡ true → IfSome o P) → IfSome (if b then o else None) P
+if_some : {X : Type 0} (P : X → Type 0) (b : Bool) (o : Option X) → (b ≡ true → IfSome o P)
+    → IfSome (if b then o else None) P
 if_some P true o holds = holds refl
 if_some P false o holds = tt
 
 within_limit : (limit degrees at : ℕ) (text : List ℕ) → IfSome (angle_within limit degrees at text) (λ n. n ≤ limit)
 within_limit limit degrees at text =
-    if_some (λ n. n ≤ limit) (has_minutes at text && nat_le (magnitude degrees at text) limit) (Some (magnitude degrees at text))
+    if_some (λ n. n ≤ limit) (has_minutes at text && nat_le (magnitude degrees at text) limit)
+    (Some (magnitude degrees at text))
     (λ both. leb-true (magnitude degrees at text) limit
     (and_parts (has_minutes at text) (nat_le (magnitude degrees at text) limit) both).1)
 
@@ -50,11 +52,13 @@ negative (suc n) = refl
 signed_within : (limit plus minus : ℕ) (letter : List ℕ) (size : Option ℕ) → IfSome size (λ n. n ≤ limit)
     → IfSome (signed plus minus letter size) (λ z. unsigned_abs z ≤ limit)
 signed_within limit plus minus letter None within = tt
-signed_within limit plus minus letter (Some n) within = by_letters (is_letter plus letter) (is_letter minus letter) where
-  by_letters : (a b : Bool) → IfSome (if a then Some (pos n) else if b then Some (neg_ℤ (pos n)) else None) (λ z. unsigned_abs z ≤ limit)
-  by_letters true b = within
-  by_letters false true = subst (λ (m : ℕ). m ≤ limit) (sym (negative n)) within
-  by_letters false false = tt
+signed_within limit plus minus letter (Some n) within = by_letters (is_letter plus letter) (is_letter minus letter)
+  where
+    by_letters : (a b : Bool) → IfSome (if a then Some (pos n) else if b then Some (neg_ℤ (pos n)) else None)
+        (λ z. unsigned_abs z ≤ limit)
+    by_letters true b = within
+    by_letters false true = subst (λ (m : ℕ). m ≤ limit) (sym (negative n)) within
+    by_letters false false = tt
 
 angles_on_earth : (lat lon : Option ℤ) → IfSome lat (λ z. unsigned_abs z ≤ 900000000)
     → IfSome lon (λ z. unsigned_abs z ≤ 1800000000) → IfSome (position_of lat lon) IsOnEarth
@@ -65,7 +69,8 @@ angles_on_earth (Some lat) (Some lon) low long = record { lat = low; lon = long 
 report_on_earth : (line : List ℕ) → IfSome (report_of line) IsOnEarth
 unfolding report_of
 report_on_earth line =
-    if_some IsOnEarth (is_framed line && is_gga (inner line) && is_fix (field 6 (inner line))) (position_in (inner line))
+    if_some IsOnEarth (is_framed line && is_gga (inner line) && is_fix (field 6 (inner line)))
+    (position_in (inner line))
     (λ is. angles_on_earth _ _
     (signed_within 900000000 78 83 (field 3 (inner line)) _ (latitude_within (field 2 (inner line))))
     (signed_within 1800000000 69 87 (field 5 (inner line)) _ (longitude_within (field 4 (inner line)))))
@@ -114,7 +119,8 @@ http_head bytes answer (inl whole) =
     subst IsAnswer (sym whole.2) (search (rules, request_answer))
 http_head bytes answer (inr none) = subst IsAnswer (sym none.1) tt
 
-pub head_on_earth : (bytes : List ℕ) (answer : Result Request HeadFault) → HeadAnswer bytes answer → IfOk answer IsRequestOnEarth
+pub head_on_earth : (bytes : List ℕ) (answer : Result Request HeadFault) → HeadAnswer bytes answer
+    → IfOk answer IsRequestOnEarth
 head_on_earth bytes answer is = by_source (is_source bytes) is where
   by_source : (b : Bool) → MatchBool b (SourceAnswer bytes answer) (HttpAnswer bytes answer) → IsAnswer answer
   by_source true is = source_head bytes answer is

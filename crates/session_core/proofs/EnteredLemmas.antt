@@ -233,7 +233,15 @@ begins_full c alone old now me terms busy cap stage ended before after heard sam
       owes = (refl, refl);
       ends = inr refl;
       stage_is = λ opening text.
-          rw over (record { known = λ e. cc; closed = refl; segments = refl; junk = refl; outside = refl; no_read = refl });
+          rw over (record {
+            known = λ e. cc;
+            closed = refl;
+            segments = refl;
+            junk = refl;
+            outside = refl;
+            no_read =
+                refl;
+          });
       halts = over_ends stage _ _ over refl;
       sent_is = sym (append-nil (text_if terms.version replies.Full []));
     }))
@@ -255,7 +263,15 @@ begins_unentered c alone old now me terms (turn_faults.Worn given) stage ended b
       owes = tt;
       ends = inl refl;
       stage_is = λ opening text.
-          rw over (record { known = λ e. cc; closed = refl; segments = refl; junk = refl; outside = refl; no_read = refl });
+          rw over (record {
+            known = λ e. cc;
+            closed = refl;
+            segments = refl;
+            junk = refl;
+            outside = refl;
+            no_read =
+                refl;
+          });
       halts = over_ends stage _ _ over refl;
       sent_is = ([], refl);
     }))
@@ -269,7 +285,15 @@ begins_unentered c alone old now me terms turn_faults.Memory stage ended before 
       owes = tt;
       ends = inl refl;
       stage_is = λ opening text.
-          rw over (record { known = λ e. cc; closed = refl; segments = refl; junk = refl; outside = refl; no_read = refl });
+          rw over (record {
+            known = λ e. cc;
+            closed = refl;
+            segments = refl;
+            junk = refl;
+            outside = refl;
+            no_read =
+                refl;
+          });
       halts = over_ends stage _ _ over refl;
       sent_is = ([], refl);
     }))

@@ -82,7 +82,8 @@ source_halt : (r : Result (Unit {0}) SourceHalt) (halt : Option SourceHalt) → 
 source_halt (Ok x) halt goes halts = sym goes
 source_halt (Err why) halt goes halts = sym halts
 
-pub source_ended : (r : Result (Unit {0}) SourceHalt) (halt : Option SourceHalt) (told claim : ℕ) (ended : Option Ending)
+pub source_ended : (r : Result (Unit {0}) SourceHalt) (halt : Option SourceHalt) (told claim : ℕ)
+    (ended : Option Ending)
     → ended ≡ option_map (end_of_source told) (result_err r) → told ≡ claim → OnOk r (halt ≡ None)
     → IfErr r (λ why. halt ≡ Some why) → ended ≡ option_map (end_of_source claim) halt
 source_ended r halt told claim ended is same goes halts =

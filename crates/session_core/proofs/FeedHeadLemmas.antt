@@ -28,17 +28,16 @@ use Rattle.session_core.specs.declared.stage.Stage.{Stage}
 use Rattle.session_core.specs.declared.stage.Stage.TheVariants.{Head, Over, Source, Relay, Rover}
 use Rattle.session_core.specs.Setting.{shapes}
 use Rattle.session_core.specs.Headings.{Heading, incomplete, too_long, whole, IsHeading}
-use Rattle.session_core.specs.Judged.{Opening, sends_head, relays, Judged, waiting, refused, once, request_judged, heading_judged, judged}
-use Rattle.session_core.specs.Owed.{received, plan_of}
+use Rattle.session_core.specs.Judged.{Opening, sends_head, relays, Judged, refused, once, request_judged, heading_judged, judged}
+use Rattle.session_core.specs.Owed.{received}
 use Rattle.session_core.specs.Replies.{sent_by}
 use Rattle.session_core.specs.Reports.{IsHeadingOf}
 use Rattle.session_core.specs.Run.{Histories}
 use Rattle.session_core.specs.Called.{Called, OthersCalled, alone_at, book_answer}
 use Rattle.session_core.specs.Feeding.{FedOn, HasBegun, HasBegunFor, IsBehindHead}
-use Rattle.session_core.specs.Standing.{Begins, BeginsFor, EndsAt, Fed, Follows, IsAtStage, IsLostAt, IsMadeBy, IsSentBy, Stands, StandsFor, StartsAs, is_going, is_halted, is_halted_uncalled}
+use Rattle.session_core.specs.Standing.{Begins, BeginsFor, Fed, Follows, IsAtStage, IsLostAt, IsSentBy, Stands, StandsFor, StartsAs, is_going, is_halted_uncalled}
 use Rattle.session_core.proofs.CloseLemmas.{called_none}
 use Rattle.session_core.proofs.HeadingLemmas.{one_heading}
-use Rattle.session_core.proofs.FollowLemmas.{GoesOnFrom, goes_from}
 use Rattle.session_core.proofs.OverLemmas.{ended_more}
 
 -- ---- what the head says
@@ -136,37 +135,6 @@ is_awaited c session opening text steps h sent head is unended (inl s) =
     (subst (λ (e : Option Ending). IsSentBy (is_halted_uncalled e steps) sent (sent_by c h.rings opening
     (judged c opening s.heading text) (received steps) (reverse (segments_after [] steps)))) unended s.sent_is)
 
--- it stands for the bytes of its head so far
-waits_for : (c : Config) (session : Session) (h : Histories) (head : List ℕ) → session.stage ≡ Head head
-    → session.ended ≡ None → IsOpen head → Stands c session sends_head head [] h []
-waits_for c session h head is unended goes = record {
-  heading = incomplete;
-  is_heading = goes;
-  owes = subst (λ (e : Option Ending). IsMadeBy (is_halted e) (plan_of c waiting) []) (sym unended) refl;
-  ends = inr unended;
-  stage = subst (IsAtStage c session.me h sends_head waiting head []) (sym is) (refl, refl, refl, goes);
-  halts = subst (λ (s : Stage). EndsAt s session.ended) (sym is) (record {
-    goes = λ none. refl;
-    refused = λ short. absurd cc;
-  });
-  sent_is = subst (λ (e : Option Ending). IsSentBy (is_halted_uncalled e []) [] []) (sym unended) refl;
-}
-
--- the head goes on with all of the bytes
-pub fed_waiting : (c : Config) (alone : Bool) (h : Histories) (new : Session) (opening : Opening)
-    (text bytes : List ℕ) (steps : List Step) (sent head out : List ℕ) → IsAwaited opening text steps sent head
-    → new.stage ≡ Head (head ++ bytes) → new.ended ≡ None → IsOpen (head ++ bytes)
-    → Fed c alone h h new opening (text ++ bytes) steps sent out out
-fed_waiting c alone h new opening text bytes steps sent head out is stage unended goes = record {
-  more = [];
-  added = [];
-  out = sym (append-nil out);
-  called = called_none c alone h new.me;
-  no_read = refl;
-  stands = rw is.opens (rw (sym is.text_is) (rw is.uncalled (rw is.unsent (inl (waits_for c new h (head ++ bytes) stage
-      unended goes)))));
-}
-
 -- ---- a head that ended
 
 begun_stands : (c : Config) (alone : Bool) (old now : Histories) (me : ℕ) (front : List ℕ) (new : Session)
@@ -231,7 +199,8 @@ called_both : (c : Config) (alone : Bool) (a b d : Histories) (me : ℕ) (first 
     → Called c alone a b me first → Called c alone b d me second → Called c alone a d me (first ++ second)
 called_both c alone a b d me first second x y = record {
   rings = went_both (shapes c) alone a.rings b.rings d.rings me first second x.rings y.rings;
-  book = subst (λ pairs. Heard alone (book_answer c) a.book d.book me pairs) (sym (flat_map-append book_part first second))
+  book = subst (λ pairs. Heard alone (book_answer c) a.book d.book me pairs)
+      (sym (flat_map-append book_part first second))
       (heard_both alone (book_answer c) a.book b.book d.book me (on_book first) (on_book second) x.book y.book);
 }
 
@@ -301,7 +270,8 @@ fed_behind c alone old mid_h now me mid new opening text bytes steps sent head b
 pub fed_on : (c : Config) (alone : Bool) (old now : Histories) (session new : Session) (opening : Opening)
     (text bytes : List ℕ) (steps : List Step) (histories : Histories) (sent out : List ℕ) → session.ended ≡ None
     → StandsFor c session opening text steps histories sent
-    → (Stands c session opening text steps histories sent → FedOn c alone old now new opening (text ++ bytes) steps sent)
+    → (Stands c session opening text steps histories sent → FedOn c alone old now new opening (text ++ bytes) steps
+    sent)
     → Fed c alone old now new opening (text ++ bytes) steps sent out out
 fed_on c alone old now session new opening text bytes steps histories sent out unended (inr lost) fed =
     let clash : Some _ ≡ None = sym lost.ended ∙ unended in absurd cc
@@ -321,20 +291,6 @@ fed_on c alone old now session new opening text bytes steps histories sent out u
 
 over_goes : false ≡ true → ⊥
 over_goes e = cc
-
--- a session that goes on and awaits no head is behind it
-pub behind_head : (c : Config) (session : Session) (now : Histories) (more : ℕ) → session.ended ≡ None
-    → Follows c session now more → ((head : List ℕ) → session.stage ≡ Head head → ⊥) → IsBehindHead session.stage
-behind_head c session now more unended follows not = by session.stage refl where
-  stands : GoesOnFrom c session now more
-  stands = goes_from c session now more unended follows
-
-  by : (stage : Stage) → session.stage ≡ stage → IsBehindHead stage
-  by (Head head) is = absurd (not head is)
-  by Over is = absurd (over_goes (ap is_going (sym is) ∙ stands.stands.halts.goes unended))
-  by (Source mount inner) is = tt
-  by (Relay mount inner) is = tt
-  by (Rover account inner) is = tt
 
 -- and so is one that began and goes on
 pub begun_behind : (c : Config) (alone : Bool) (old now : Histories) (me : ℕ) (front : List ℕ) (stage : Stage)

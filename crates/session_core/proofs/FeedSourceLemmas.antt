@@ -234,7 +234,8 @@ source_fed_on c alone old now histories session new opening text bytes steps sen
           refused = λ short. halted ∙ short;
         });
         sent_is = sent_all (is_halted_uncalled new.ended (steps ++ more)) sent _
-            (subst (λ (e : Option Ending). IsSentBy (is_halted_uncalled e steps) sent (sent_by c histories.rings opening j
+            (subst (λ (e : Option Ending). IsSentBy (is_halted_uncalled e steps) sent
+            (sent_by c histories.rings opening j
             (received steps) (reverse (segments_after [] steps)))) unended stands.sent_is
             ∙ ap (λ (x : Judged). sent_by c histories.rings opening x (received steps)
             (reverse (segments_after [] steps))) at.judged_is

@@ -1,14 +1,14 @@
 -- What a connection holds it holds while others call.
 use Rattle.std.proofs.Common.{◌≡◌, ◌≢◌, ◌∙◌, ◌<◌, ◌++◌, ◌+◌, ℕ, suc, Bool, true, false, IsTrue, List, [], ◌∷◌, length, refl, sym, ap, subst, Option, None, Some, append_assoc}
 use Rattle.std.specs.Prelude.{◌==◌, nat_lt, if◌then◌else◌, IfSome}
-use Rattle.std.proofs.lemmas.Bool.{and_parts, and_from, eqb-true, eqb-false}
+use Rattle.std.proofs.lemmas.Bool.{and_parts, and_from, eqb-false}
 use Rattle.std.proofs.lemmas.List.{append-nil}
 use Rattle.turn_log.specs.History.{History, GoesOn, own}
 use Rattle.mount_ring.specs.declared.call.RingCall.{RingCall}
 use Rattle.caster_accounts.specs.declared.call.BookCall.{BookCall}
 use Rattle.caster_accounts.specs.declared.call.BookCall.TheVariants.{Enter, Leave}
 use Rattle.caster_accounts.specs.History.{cap_at, without, is_among, goes, callers_in, may_leave}
-use Rattle.caster_accounts.specs.StillFits.{callers_after}
+use Rattle.caster_accounts.specs.StillFits.{callers_after, among_without}
 use Rattle.session_calls.specs.Steps.{Step}
 use Rattle.session_calls.specs.Rings.{history_at}
 use Rattle.source_session.specs.Calls.{HeldSince}
@@ -27,23 +27,6 @@ use Rattle.session_core.specs.Standing.{IsAtStage}
 use Rattle.session_core.specs.Closing.{IsHeldBy}
 
 -- ---- an account
-
-among_without : (me by : ℕ) (callers : List ℕ) → by ≢ me → is_among me callers ≡ true →
-    is_among me (without by callers) ≡ true
-among_without me by [] apart mine = mine
-among_without me by (caller ∷ callers) apart mine =
-    by_test (among_without me by callers apart) (caller == by) refl (caller == me) refl mine where
-      by_test : (is_among me callers ≡ true → is_among me (without by callers) ≡ true)
-          → (b : Bool) → (caller == by) ≡ b → (c : Bool) → (caller == me) ≡ c
-          → (if c then true else is_among me callers) ≡ true
-          → is_among me (if b then callers else caller ∷ without by callers) ≡ true
-      by_test later true is true also here =
-          absurd (apart (sym (eqb-true caller by is) ∙ eqb-true caller me also))
-      by_test later true is false other here = here
-      by_test later false not true is here =
-          ap (λ (b : Bool). if b then true else is_among me (without by callers)) is
-      by_test later false not false other here =
-          ap (λ (b : Bool). if b then true else is_among me (without by callers)) other ∙ later here
 
 among_after : (cap account : ℕ) (callers : List ℕ) (me by : ℕ) (call : BookCall) → by ≢ me →
     is_among me callers ≡ true → is_among me (goes cap account callers by call) ≡ true

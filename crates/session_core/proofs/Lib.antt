@@ -35,3 +35,4 @@ pub mod FeedBodyLemmas
 pub mod TurningLemmas
 pub mod FeedHeadLemmas
 pub mod DigitLemmas
+pub mod ReportSums

@@ -176,7 +176,8 @@ owes_over c true j rest steps segments closed out grows begun =
 
 -- ---- a connection of which nothing is left to be closed
 
-over_more : (c : Config) (session : Session) (opening : Opening) (text rest : List ℕ) (steps : List Step) (h : Histories)
+over_more : (c : Config) (session : Session) (opening : Opening) (text rest : List ℕ) (steps : List Step)
+    (h : Histories)
     (sent : List ℕ) → session.stage ≡ Over → Stands c session opening text steps h sent
     → Stands c session opening (text ++ rest) steps h sent
 over_more c session opening text rest steps h sent is s =

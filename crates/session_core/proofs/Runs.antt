@@ -29,7 +29,8 @@ bare_run : report_text (bare 4) (report (bare 4) (no_heads)
     ≡ text ((codes "connection 1 source-end 1" ∷ codes "junk 0" ∷ codes "bytes -" ∷ codes "connection 2 rover-end" ∷
     codes "junk 0" ∷ codes "segment A 0 2 2 0" ∷ sent (frame_a ++ frame_b) ∷ codes "mount A 2 1" ∷
     codes "total 1 2 0" ∷ []))
-unfolding cut cut_after is_frame crc24q_of bits_of after_bit connection_lines closed_text digits encode_with admission source_admission
+unfolding cut cut_after is_frame crc24q_of bits_of after_bit connection_lines closed_text digits encode_with admission
+    source_admission
 bare_run = refl
 
 -- the usual session of NTRIP 1.0
@@ -39,7 +40,8 @@ usual : report_text example (report example (heads_of (alpha_source ∷ alpha_ro
     ++ (codes "connection 2 rover-end" ∷ codes "junk 0" ∷ codes "segment ALPHA 0 1 1 0" ∷ sent (icy ++ frame_a) ∷
     codes "mount ALPHA 1 1" ∷ codes "mount BRAVO 0 0" ∷ codes "account rover1 1 1 0" ∷
     codes "account rover2 0 0 0" ∷ codes "total 1 1 0" ∷ []))
-unfolding cut cut_after is_frame crc24q_of bits_of after_bit connection_lines closed_text digits encode_with admission source_admission table_records
+unfolding cut cut_after is_frame crc24q_of bits_of after_bit connection_lines closed_text digits encode_with admission
+    source_admission table_records
 usual = refl
 
 -- a rover of NTRIP 2.0 is sent its frames in chunks
@@ -54,7 +56,8 @@ version_two : report_text example (report example (heads_of (alpha_source ∷ ro
     ++ codes "8\r\n" ++ frame_a ++ codes "\r\n") ∷
     codes "mount ALPHA 1 1" ∷ codes "mount BRAVO 0 0" ∷ codes "account rover1 1 1 0" ∷
     codes "account rover2 0 0 0" ∷ codes "total 1 1 0" ∷ []))
-unfolding cut cut_after is_frame crc24q_of bits_of after_bit connection_lines closed_text digits encode_with admission source_admission table_records
+unfolding cut cut_after is_frame crc24q_of bits_of after_bit connection_lines closed_text digits encode_with admission
+    source_admission table_records
 version_two = refl
 
 -- refusals of NTRIP 2.0, in this order: the name, the account, its password, its group
@@ -79,7 +82,8 @@ refusals : report_text example (report example (heads_of (rover_two 1 (codes "NO
     ∷ codes "Server: NTRIP lapcast/1.0" ∷ codes "Content-Length: 0" ∷ codes "Connection: close" ∷ [])) ∷
     codes "mount ALPHA 0 0" ∷ codes "mount BRAVO 0 0" ∷ codes "account rover1 0 0 0" ∷
     codes "account rover2 0 0 0" ∷ codes "total 0 0 0" ∷ []))
-unfolding cut cut_after is_frame crc24q_of bits_of after_bit connection_lines closed_text digits encode_with admission source_admission table_records
+unfolding cut cut_after is_frame crc24q_of bits_of after_bit connection_lines closed_text digits encode_with admission
+    source_admission table_records
 refusals = refl
 
 -- an account of one session: the second rover is refused, and a third enters after the first left
@@ -92,7 +96,8 @@ full_account : report_text example (report example (heads_of (alpha_rover ∷ al
     codes "connection 3 rover-end" ∷ codes "junk 0" ∷ codes "segment ALPHA 0 0 0 0" ∷ sent icy ∷
     codes "mount ALPHA 0 0" ∷ codes "mount BRAVO 0 0" ∷ codes "account rover1 2 0 0" ∷
     codes "account rover2 0 0 0" ∷ codes "total 2 0 0" ∷ []))
-unfolding cut cut_after is_frame crc24q_of bits_of after_bit connection_lines closed_text digits encode_with admission source_admission table_records
+unfolding cut cut_after is_frame crc24q_of bits_of after_bit connection_lines closed_text digits encode_with admission
+    source_admission table_records
 full_account = refl
 
 -- a near rover goes from one base to the other and back: a segment for each
@@ -106,7 +111,8 @@ there_and_back : report_text example (report example (heads_of (alpha_source ∷
     codes "segment BRAVO 1 2 1 0" ∷ codes "segment ALPHA 3 4 1 0" ∷
     sent (icy ++ frame_b ++ frame_b ++ frame_z) ∷ codes "mount ALPHA 4 1" ∷ codes "mount BRAVO 2 1" ∷
     codes "account rover1 1 3 0" ∷ codes "account rover2 0 0 0" ∷ codes "total 1 3 0" ∷ []))
-unfolding cut cut_after is_frame crc24q_of bits_of after_bit connection_lines closed_text digits encode_with admission source_admission table_records report_of measure_of
+unfolding cut cut_after is_frame crc24q_of bits_of after_bit connection_lines closed_text digits encode_with admission
+    source_admission table_records report_of measure_of
 there_and_back = refl
 
 -- only a base that a source holds is chosen; where none is, the rover stays
@@ -120,7 +126,8 @@ live_bases : report_text example (report example (heads_of (alpha_source ∷ bra
     codes "segment BRAVO 1 2 1 0" ∷ codes "segment ALPHA 1 1 0 0" ∷ sent (icy ++ frame_a ++ frame_a) ∷
     codes "mount ALPHA 1 1" ∷ codes "mount BRAVO 2 1" ∷ codes "account rover1 1 2 0" ∷
     codes "account rover2 0 0 0" ∷ codes "total 1 2 0" ∷ []))
-unfolding cut cut_after is_frame crc24q_of bits_of after_bit connection_lines closed_text digits encode_with admission source_admission table_records report_of measure_of
+unfolding cut cut_after is_frame crc24q_of bits_of after_bit connection_lines closed_text digits encode_with admission
+    source_admission table_records report_of measure_of
 live_bases = refl
 
 -- a near rover whose bases nobody holds has no segment
@@ -129,7 +136,8 @@ no_live_base : report_text example (report example (heads_of (near_rover ∷ [])
     ≡ text ((codes "connection 1 rover-end" ∷ codes "junk 0" ∷ sent icy ∷ codes "mount ALPHA 0 0" ∷
     codes "mount BRAVO 0 0" ∷ codes "account rover1 1 0 0" ∷ codes "account rover2 0 0 0" ∷
     codes "total 1 0 0" ∷ []))
-unfolding cut cut_after is_frame crc24q_of bits_of after_bit connection_lines closed_text digits encode_with admission source_admission table_records report_of measure_of
+unfolding cut cut_after is_frame crc24q_of bits_of after_bit connection_lines closed_text digits encode_with admission
+    source_admission table_records report_of measure_of
 no_live_base = refl
 
 -- a chunked body breaks at its seventh digit of a size, and the mountpoint is free again
@@ -142,7 +150,9 @@ malformed_chunk : report_text example (report example (heads_of (source_two ∷ 
     ++ source_lines (codes "3") (codes "2")
     ++ (codes "mount ALPHA 1 2" ∷ codes "mount BRAVO 0 0" ∷ codes "account rover1 0 0 0" ∷
     codes "account rover2 0 0 0" ∷ codes "total 0 0 0" ∷ []))
-unfolding cut cut_after is_frame crc24q_of bits_of after_bit connection_lines closed_text digits encode_with admission source_admission table_records plain_of answer expected in_digits in_extension behind_size in_data in_trailers step after read
+unfolding cut cut_after is_frame crc24q_of bits_of after_bit connection_lines closed_text digits encode_with admission
+    source_admission table_records plain_of answer expected in_digits in_extension behind_size in_data in_trailers step
+    after read
 malformed_chunk = refl
 
 -- the filter of a group at one mountpoint permits one of two frames
@@ -155,7 +165,8 @@ own_filter : report_text with_filter (report with_filter (heads_of (alpha_source
     codes "segment ALPHA 0 1 1 0" ∷ sent (icy ++ frame_a ++ frame_b) ∷ codes "mount ALPHA 1 1" ∷
     codes "mount BRAVO 2 1" ∷ codes "account rover1 1 2 0" ∷ codes "account rover2 0 0 0" ∷
     codes "total 1 2 0" ∷ []))
-unfolding cut cut_after is_frame crc24q_of bits_of after_bit connection_lines closed_text digits encode_with admission source_admission table_records report_of measure_of number_of
+unfolding cut cut_after is_frame crc24q_of bits_of after_bit connection_lines closed_text digits encode_with admission
+    source_admission table_records report_of measure_of number_of
 own_filter = refl
 
 -- a relay publishes what the other caster sends behind its first line
@@ -165,7 +176,8 @@ relayed : report_text with_relay (report with_relay (heads_of (answered 12 (Ok f
     sent (head_of (codes "GET /UP HTTP/1.0" ∷ codes "User-Agent: NTRIP lapcast/1.0" ∷ [])) ∷
     codes "mount ALPHA 1 1" ∷ codes "mount BRAVO 0 0" ∷ codes "account rover1 0 0 0" ∷
     codes "account rover2 0 0 0" ∷ codes "total 0 0 0" ∷ []))
-unfolding cut cut_after is_frame crc24q_of bits_of after_bit connection_lines closed_text digits encode_with admission source_admission table_records
+unfolding cut cut_after is_frame crc24q_of bits_of after_bit connection_lines closed_text digits encode_with admission
+    source_admission table_records
 relayed = refl
 
 -- another caster that answers with another status feeds nothing
@@ -175,7 +187,8 @@ not_relayed : report_text with_relay (report with_relay (heads_of (answered 26 (
     sent (head_of (codes "GET /UP HTTP/1.0" ∷ codes "User-Agent: NTRIP lapcast/1.0" ∷ [])) ∷
     codes "mount ALPHA 0 0" ∷ codes "mount BRAVO 0 0" ∷ codes "account rover1 0 0 0" ∷
     codes "account rover2 0 0 0" ∷ codes "total 0 0 0" ∷ []))
-unfolding cut cut_after is_frame crc24q_of bits_of after_bit connection_lines closed_text digits encode_with admission source_admission table_records
+unfolding cut cut_after is_frame crc24q_of bits_of after_bit connection_lines closed_text digits encode_with admission
+    source_admission table_records
 not_relayed = refl
 
 -- 8,192 bytes without the end of a head, and one fewer
@@ -187,5 +200,6 @@ long_head : report_text example (report example (heads_of (too_long ∷ incomple
     codes "connection 2 no-head" ∷ codes "junk 0" ∷ codes "bytes -" ∷ codes "mount ALPHA 0 0" ∷
     codes "mount BRAVO 0 0" ∷ codes "account rover1 0 0 0" ∷ codes "account rover2 0 0 0" ∷
     codes "total 0 0 0" ∷ []))
-unfolding cut cut_after is_frame crc24q_of bits_of after_bit connection_lines closed_text digits encode_with admission source_admission table_records
+unfolding cut cut_after is_frame crc24q_of bits_of after_bit connection_lines closed_text digits encode_with admission
+    source_admission table_records
 long_head = refl

@@ -259,7 +259,8 @@ more_sent : (opening reply body more sent : List ℕ) → sent ≡ opening ++ re
 more_sent opening reply body more sent is =
     ap (λ (l : List ℕ). l ++ more) is ∙ append_assoc (opening ++ reply) body more
 
-body_sent : (c : Config) (h old now : List (History RingCall)) (me : ℕ) (version : Version) (before after : List Segment)
+body_sent : (c : Config) (h old now : List (History RingCall)) (me : ℕ) (version : Version)
+    (before after : List Segment)
     (frames : List (List ℕ)) → IsResumable (shapes c) me h before
     → ((mount : ℕ) → (more : History RingCall) × (history_at old mount ≡ history_at h mount ++ more))
     → frames_sent (shapes c) now after ≡ frames_sent (shapes c) old before ++ frames
@@ -403,7 +404,8 @@ turned_rover c ring_alone book_alone old now book budget session o text steps h 
         sent_is = sent_all (is_halted_uncalled ended (steps ++ more)) _ _
             (sent_on c session.me h old now o j steps more account was (rover_of next).segments turned.frames sent at
             (λ mount. ((others.rings.rings mount).0, (others.rings.rings mount).1)) turned.sent read.stands.segments
-            (subst (λ (e : Option Ending). IsSentBy (is_halted_uncalled e steps) sent (sent_by c h.rings o j (received steps)
+            (subst (λ (e : Option Ending). IsSentBy (is_halted_uncalled e steps) sent
+            (sent_by c h.rings o j (received steps)
             (reverse (segments_after [] steps)))) going stands.sent_is));
       });
     }

@@ -70,7 +70,8 @@ closed_moves (Some end) c j old m moves =
       sound = more.sound;
     }
 
-pub moved_moves : (c : Config) (heading : Heading) (h : Histories) (d : Connected) (what : Happening) → AreFrames h.rings
+pub moved_moves : (c : Config) (heading : Heading) (h : Histories) (d : Connected) (what : Happening)
+    → AreFrames h.rings
     → IsSoundOf c h.rings d → Moves c h (moved c heading h d what)
 moved_moves c heading h d (arrives more) frames sound =
     let now = with_text d (d.text ++ more) in

@@ -64,42 +64,54 @@ short_form : (kind : ScriptKind) (word number : List ℕ) (k : ℕ) (event : Eve
     → AreNear event (word ∷ number ∷ [])
 short_form kind word number k event n e =
     elim (cases_Bool (bytes_eq word (codes "break"))) [
-      | inl w ↦ near_at (word ∷ number ∷ []) (Break k) event (some_is _ _ (rw w at e)) (λ _. two_parts word number (codes "break") k (word_is word (codes "break") w) n)
+      | inl w ↦ near_at (word ∷ number ∷ []) (Break k) event (some_is _ _ (rw w at e))
+          (λ _. two_parts word number (codes "break") k (word_is word (codes "break") w) n)
       | inr a ↦ elim (cases_Bool (bytes_eq word (codes "end"))) [
-        | inl w ↦ near_at (word ∷ number ∷ []) (End k) event (some_is _ _ (rw (a, w) at e)) (λ _. two_parts word number (codes "end") k (word_is word (codes "end") w) n)
+        | inl w ↦ near_at (word ∷ number ∷ []) (End k) event (some_is _ _ (rw (a, w) at e))
+            (λ _. two_parts word number (codes "end") k (word_is word (codes "end") w) n)
         | inr b ↦
             let h = cond_is (bytes_eq word (codes "open") && is_replay kind) (Open k) event (rw (a, b) at e) in
             let w = (and_parts (bytes_eq word (codes "open")) (is_replay kind) h.0).0 in
-            near_at (word ∷ number ∷ []) (Open k) event h.1 (λ _. two_parts word number (codes "open") k (word_is word (codes "open") w) n)
+            near_at (word ∷ number ∷ []) (Open k) event h.1 (λ _. two_parts word number (codes "open") k
+            (word_is word (codes "open") w) n)
       ]
     ]
 
 module _ (kind : ScriptKind) (word number value : List ℕ) (k : ℕ) (n : number ≡ decimal k) where
-  input_form : (event : Event) → word ≡ codes "in" → option_map (λ bytes. In k bytes) (input_of value) ≡ Some event → AreNear event (word ∷ number ∷ value ∷ [])
+  input_form : (event : Event) → word ≡ codes "in" → option_map (λ bytes. In k bytes) (input_of value) ≡ Some event
+      → AreNear event (word ∷ number ∷ value ∷ [])
   input_form event w e =
       let m = map_some (λ bytes. In k bytes) (input_of value) event e in
       let i = input_is (result_ok (decode_of value)) m.0 m.1 in
-      near_at (word ∷ number ∷ value ∷ []) (In k m.0) event m.2 (λ _. (value, ok_is_some (decode_of value) m.0 i.0, three_parts word number value (codes "in") k value w n refl))
+      near_at (word ∷ number ∷ value ∷ []) (In k m.0) event m.2
+      (λ _. (value, ok_is_some (decode_of value) m.0 i.0, three_parts word number value (codes "in") k value w n refl))
 
-  turn_form : (event : Event) → word ≡ codes "turn" → option_map (λ budget. Turn k budget) (at_most 16 (number_of value)) ≡ Some event → AreNear event (word ∷ number ∷ value ∷ [])
+  turn_form : (event : Event) → word ≡ codes "turn" → option_map (λ budget. Turn k budget)
+      (at_most 16 (number_of value)) ≡ Some event → AreNear event (word ∷ number ∷ value ∷ [])
   turn_form event w e =
       let m = map_some (λ budget. Turn k budget) (at_most 16 (number_of value)) event e in
       near_at (word ∷ number ∷ value ∷ []) (Turn k m.0) event m.2
-      (λ _. three_parts word number value (codes "turn") k (decimal m.0) w n (within_text 16 m.0 value (omega arith) m.1))
+      (λ _. three_parts word number value (codes "turn") k (decimal m.0) w n
+      (within_text 16 m.0 value (omega arith) m.1))
 
-  source_form : (event : Event) → word ≡ codes "source" → option_map (λ mount. Source k mount) (mount_of value) ≡ Some event → AreNear event (word ∷ number ∷ value ∷ [])
+  source_form : (event : Event) → word ≡ codes "source" → option_map (λ mount. Source k mount) (mount_of value) ≡ Some
+      event → AreNear event (word ∷ number ∷ value ∷ [])
   source_form event w e =
       let m = map_some (λ mount. Source k mount) (mount_of value) event e in
       near_at (word ∷ number ∷ value ∷ []) (Source k m.0) event m.2
-      (λ _. three_parts word number value (codes "source") k m.0 w n (name_of-ok value m.0 (ok_is_some (name_of value) m.0 m.1)).0)
+      (λ _. three_parts word number value (codes "source") k m.0 w n (name_of-ok value m.0
+      (ok_is_some (name_of value) m.0 m.1)).0)
 
-  rover_form : (event : Event) → word ≡ codes "rover" → option_map (λ mount. Rover k mount) (mount_of value) ≡ Some event → AreNear event (word ∷ number ∷ value ∷ [])
+  rover_form : (event : Event) → word ≡ codes "rover" → option_map (λ mount. Rover k mount) (mount_of value) ≡ Some
+      event → AreNear event (word ∷ number ∷ value ∷ [])
   rover_form event w e =
       let m = map_some (λ mount. Rover k mount) (mount_of value) event e in
       near_at (word ∷ number ∷ value ∷ []) (Rover k m.0) event m.2
-      (λ _. three_parts word number value (codes "rover") k m.0 w n (name_of-ok value m.0 (ok_is_some (name_of value) m.0 m.1)).0)
+      (λ _. three_parts word number value (codes "rover") k m.0 w n (name_of-ok value m.0
+      (ok_is_some (name_of value) m.0 m.1)).0)
 
-  relay_form : (event : Event) → word ≡ codes "relay" → option_map (λ m. Relay k (relay_number m)) (number_of value) ≡ Some event → AreNear event (word ∷ number ∷ value ∷ [])
+  relay_form : (event : Event) → word ≡ codes "relay" → option_map (λ m. Relay k (relay_number m)) (number_of value) ≡
+      Some event → AreNear event (word ∷ number ∷ value ∷ [])
   relay_form event w e =
       let m = map_some (λ x. Relay k (relay_number x)) (number_of value) event e in
       let pos = number_of-pos value m.0 m.1 in
@@ -107,7 +119,8 @@ module _ (kind : ScriptKind) (word number value : List ℕ) (k : ℕ) (n : numbe
       (λ near.
       let same : relay_number m.0 + 1 ≡ m.0 = omega (arith, near, pos) in
       let text : value ≡ decimal m.0 = number_text value m.0 m.1 (omega (arith, near, pos)) in
-      three_parts word number value (codes "relay") k (decimal (relay_number m.0 + 1)) w n (text ∙ ap decimal (sym same)))
+      three_parts word number value (codes "relay") k (decimal (relay_number m.0 + 1)) w n
+      (text ∙ ap decimal (sym same)))
 
   long_form : (event : Event) → long_event kind word k value ≡ Some event → AreNear event (word ∷ number ∷ value ∷ [])
   long_form event e =
@@ -116,11 +129,14 @@ module _ (kind : ScriptKind) (word number value : List ℕ) (k : ℕ) (n : numbe
         | inr a ↦ elim (cases_Bool (bytes_eq word (codes "turn"))) [
           | inl w ↦ turn_form event (word_is word (codes "turn") w) (rw (a, w) at e)
           | inr b ↦ elim (cases_Bool (bytes_eq word (codes "source") && is_bare kind)) [
-            | inl w ↦ source_form event (word_is word (codes "source") (and_parts (bytes_eq word (codes "source")) (is_bare kind) w).0) (rw (a, b, w) at e)
+            | inl w ↦ source_form event (word_is word (codes "source")
+                (and_parts (bytes_eq word (codes "source")) (is_bare kind) w).0) (rw (a, b, w) at e)
             | inr d ↦ elim (cases_Bool (bytes_eq word (codes "rover") && is_bare kind)) [
-              | inl w ↦ rover_form event (word_is word (codes "rover") (and_parts (bytes_eq word (codes "rover")) (is_bare kind) w).0) (rw (a, b, d, w) at e)
+              | inl w ↦ rover_form event (word_is word (codes "rover")
+                  (and_parts (bytes_eq word (codes "rover")) (is_bare kind) w).0) (rw (a, b, d, w) at e)
               | inr f ↦ elim (cases_Bool (bytes_eq word (codes "relay") && is_replay kind)) [
-                | inl w ↦ relay_form event (word_is word (codes "relay") (and_parts (bytes_eq word (codes "relay")) (is_replay kind) w).0) (rw (a, b, d, f, w) at e)
+                | inl w ↦ relay_form event (word_is word (codes "relay")
+                    (and_parts (bytes_eq word (codes "relay")) (is_replay kind) w).0) (rw (a, b, d, f, w) at e)
                 | inr g ↦ absurd (let none = rw (a, b, d, f, g) at e in cc)
               ]
             ]

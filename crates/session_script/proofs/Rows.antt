@@ -55,17 +55,20 @@ unfolding script_of events_of_lines event_of_line decode_pairs
 replay = refl
 
 -- K is from 1 to 9999, without leading zeros
-numbers : (event_of_line (Replay 0) (codes "open 0") ≡ None) × (event_of_line (Replay 0) (codes "open 9999") ≡ Some (Open 9999))
+numbers : (event_of_line (Replay 0) (codes "open 0") ≡ None) × (event_of_line (Replay 0) (codes "open 9999") ≡ Some
+    (Open 9999))
     × (event_of_line (Replay 0) (codes "open 10000") ≡ None) × (event_of_line (Replay 0) (codes "open 01") ≡ None)
     × (event_of_line (Replay 0) (codes "open  1") ≡ None) × (event_of_line (Replay 0) (codes "open 1 ") ≡ None)
     × (event_of_line Bare (codes "open 1") ≡ None) × (event_of_line (Replay 0) (codes "source 1 A") ≡ None)
 unfolding event_of_line
 numbers = (refl, refl, refl, refl, refl, refl, refl, refl)
 
-names : (event_of_line Bare (codes "rover 3 A;B") ≡ None) × (event_of_line Bare (codes "rover 3 ALPHA") ≡ Some (Rover 3 (codes "ALPHA")))
+names : (event_of_line Bare (codes "rover 3 A;B") ≡ None) × (event_of_line Bare (codes "rover 3 ALPHA") ≡ Some
+    (Rover 3 (codes "ALPHA")))
 unfolding event_of_line
 names = (refl, refl)
 
-printed : (line_text (In 12 (0xD3 ∷ 0 ∷ [])) ≡ codes "in 12 d300") × (line_text (Relay 1 1) ≡ codes "relay 1 2") × (line_text (Source 9999 (65 ∷ [])) ≡ codes "source 9999 A")
+printed : (line_text (In 12 (0xD3 ∷ 0 ∷ [])) ≡ codes "in 12 d300") × (line_text (Relay 1 1) ≡ codes "relay 1 2")
+    × (line_text (Source 9999 (65 ∷ [])) ≡ codes "source 9999 A")
 unfolding encode_with digits
 printed = (refl, refl, refl)

@@ -87,19 +87,24 @@ takes_event kind n numbers line ls event others reads may more =
     (reads.not_skipped, reads.not_stop, reads.found, may) refl in
     events_of_lines-step kind n numbers line ls ∙ ap (after_line kind n numbers ls) read ∙ ap (onto_events event) more
 
-stop_then : (kind : ScriptKind) (n : ℕ) (numbers : Numbers) (ls : List (List ℕ)) → events_of_lines kind n numbers (codes "stop" ∷ ls) ≡ Ok []
+stop_then : (kind : ScriptKind) (n : ℕ) (numbers : Numbers) (ls : List (List ℕ))
+    → events_of_lines kind n numbers (codes "stop" ∷ ls) ≡ Ok []
 unfolding events_of_lines
 stop_then kind n numbers ls = refl
 
 -- the line `stop`, and what comes behind it
-stop_ends : (kind : ScriptKind) (n : ℕ) (numbers : Numbers) (ending : List ℕ) → IsEnding ending → events_of_lines kind n numbers (lines (codes "stop" ++ ending)) ≡ Ok []
-stop_ends kind n numbers ending (inl none) = ap (λ (rest : List ℕ). events_of_lines kind n numbers (lines (codes "stop" ++ rest))) none ∙ stop_then kind n numbers []
+stop_ends : (kind : ScriptKind) (n : ℕ) (numbers : Numbers) (ending : List ℕ) → IsEnding ending
+    → events_of_lines kind n numbers (lines (codes "stop" ++ ending)) ≡ Ok []
+stop_ends kind n numbers ending (inl none) = ap (λ (rest : List ℕ). events_of_lines kind n numbers
+    (lines (codes "stop" ++ rest))) none ∙ stop_then kind n numbers []
 stop_ends kind n numbers ending (inr (more, inl feed)) =
     ap (λ (rest : List ℕ). events_of_lines kind n numbers (lines (codes "stop" ++ rest))) feed
-    ∙ ap (events_of_lines kind n numbers) (row_front (codes "stop") false more refl) ∙ stop_then kind n numbers (lines more)
+    ∙ ap (events_of_lines kind n numbers) (row_front (codes "stop") false more refl)
+    ∙ stop_then kind n numbers (lines more)
 stop_ends kind n numbers ending (inr (more, inr return)) =
     ap (λ (rest : List ℕ). events_of_lines kind n numbers (lines (codes "stop" ++ rest))) return
-    ∙ ap (events_of_lines kind n numbers) (row_front (codes "stop") true more refl) ∙ stop_then kind n numbers (lines more)
+    ∙ ap (events_of_lines kind n numbers) (row_front (codes "stop") true more refl)
+    ∙ stop_then kind n numbers (lines more)
 
 -- the rows and what follows them
 rows_front : (row : Row) (rows : List Row) (tail : List ℕ) → HasNone (λ b. eqb b 10) row.text

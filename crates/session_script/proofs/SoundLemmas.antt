@@ -10,8 +10,7 @@ use Rattle.std.proofs.lemmas.Bool.{cases_Bool, and_parts, and_from, eqb-false, l
 use Rattle.std.proofs.lemmas.List.{length-take}
 use Rattle.hex.specs.Hex.{IsBytes, decode_of}
 use Rattle.hex.proofs.HexLemmas.{decode_of-ok}
-use Rattle.cast_text.specs.Name.{is_name, name_of}
-use Rattle.cast_text.proofs.NameLemmas.{name_of-ok}
+use Rattle.cast_text.specs.Name.{is_name}
 use Rattle.session_script.specs.declared.Event.{Event}
 use Rattle.session_script.specs.declared.Event.TheVariants.{Source, Rover, Open, Relay, In, Turn, Break, End}
 use Rattle.session_script.specs.declared.ScriptKind.{ScriptKind}
@@ -165,11 +164,6 @@ short_sound kind word k size event number le e =
       ]
     ]
 
-mount_sound : (value mount : List ℕ) → mount_of value ≡ Some mount → is_name mount ≡ true
-mount_sound value mount e =
-    let h = name_of-ok value mount (ok_is_some (name_of value) mount e) in
-    subst (λ (text : List ℕ). is_name text ≡ true) h.0 h.1
-
 -- the lines of three parts
 module _ (kind : ScriptKind) (k size : ℕ) (value : List ℕ) (number : is_connection k ≡ true)
     (room : 2 + length value ≤ size) where
@@ -234,11 +228,14 @@ module _ (kind : ScriptKind) (k size : ℕ) (value : List ℕ) (number : is_conn
         | inr a ↦ elim (cases_Bool (bytes_eq word (codes "turn"))) [
           | inl w ↦ turn_sound event (rw (a, w) at e)
           | inr b ↦ elim (cases_Bool (bytes_eq word (codes "source") && is_bare kind)) [
-            | inl w ↦ source_sound event (and_parts (bytes_eq word (codes "source")) (is_bare kind) w).1 (rw (a, b, w) at e)
+            | inl w ↦ source_sound event (and_parts (bytes_eq word (codes "source")) (is_bare kind) w).1
+                (rw (a, b, w) at e)
             | inr d ↦ elim (cases_Bool (bytes_eq word (codes "rover") && is_bare kind)) [
-              | inl w ↦ rover_sound event (and_parts (bytes_eq word (codes "rover")) (is_bare kind) w).1 (rw (a, b, d, w) at e)
+              | inl w ↦ rover_sound event (and_parts (bytes_eq word (codes "rover")) (is_bare kind) w).1
+                  (rw (a, b, d, w) at e)
               | inr f ↦ elim (cases_Bool (bytes_eq word (codes "relay") && is_replay kind)) [
-                | inl w ↦ relay_sound event (and_parts (bytes_eq word (codes "relay")) (is_replay kind) w).1 (rw (a, b, d, f, w) at e)
+                | inl w ↦ relay_sound event (and_parts (bytes_eq word (codes "relay")) (is_replay kind) w).1
+                    (rw (a, b, d, f, w) at e)
                 | inr g ↦ absurd (let none = rw (a, b, d, f, g) at e in cc)
               ]
             ]

@@ -214,14 +214,16 @@ source_reads : (kind : ScriptKind) (k : ℕ) (mount : List ℕ) → is_event kin
 source_reads kind k mount fits =
     let a = and_parts (is_bare kind && is_connection k) (is_name mount) fits in
     let b = and_parts (is_bare kind) (is_connection k) a.0 in
-    three_reads kind (codes "source") k mount (Source k mount) source_word b.1 (plain_name mount a.1) (rw (b.0, mount_of-name mount a.1) refl)
+    three_reads kind (codes "source") k mount (Source k mount) source_word b.1 (plain_name mount a.1)
+    (rw (b.0, mount_of-name mount a.1) refl)
 
 rover_reads : (kind : ScriptKind) (k : ℕ) (mount : List ℕ) → is_event kind (Rover k mount) ≡ true
     → ReadsAs kind (join_with_byte 32 (parts_of (Rover k mount))) (Rover k mount)
 rover_reads kind k mount fits =
     let a = and_parts (is_bare kind && is_connection k) (is_name mount) fits in
     let b = and_parts (is_bare kind) (is_connection k) a.0 in
-    three_reads kind (codes "rover") k mount (Rover k mount) rover_word b.1 (plain_name mount a.1) (rw (b.0, mount_of-name mount a.1) refl)
+    three_reads kind (codes "rover") k mount (Rover k mount) rover_word b.1 (plain_name mount a.1)
+    (rw (b.0, mount_of-name mount a.1) refl)
 
 open_reads : (kind : ScriptKind) (k : ℕ) → is_event kind (Open k) ≡ true
     → ReadsAs kind (join_with_byte 32 (parts_of (Open k))) (Open k)
@@ -236,7 +238,8 @@ relay_reads kind k n fits =
     let b = and_parts (is_replay kind) (is_connection k) a.0 in
     let small : n < 2 ^ 32 = ltb-true n (2 ^ 32) a.1 in
     let same : relay_number (n + 1) ≡ n = omega arith in
-    three_reads kind (codes "relay") k (decimal (n + 1)) (Relay k n) relay_word b.1 (plain_decimal (n + 1) (omega arith))
+    three_reads kind (codes "relay") k (decimal (n + 1)) (Relay k n) relay_word b.1
+    (plain_decimal (n + 1) (omega arith))
     (rw (b.0, number_of-decimal (n + 1) (omega arith) (omega arith), same) refl)
 
 in_reads : (kind : ScriptKind) (k : ℕ) (bytes digits : List ℕ) → is_event kind (In k bytes) ≡ true
@@ -245,7 +248,8 @@ in_reads : (kind : ScriptKind) (k : ℕ) (bytes digits : List ℕ) → is_event 
 in_reads kind k bytes digits fits e =
     let a = and_parts (is_connection k && is_input bytes) (list_all (λ b. ltb b 256) bytes) fits in
     let b = and_parts (is_connection k) (is_input bytes) a.0 in
-    three_reads kind (codes "in") k digits (In k bytes) in_word b.0 (plain_digits digits bytes e) (rw (input_of-digits digits bytes b.1 e) refl)
+    three_reads kind (codes "in") k digits (In k bytes) in_word b.0 (plain_digits digits bytes e)
+    (rw (input_of-digits digits bytes b.1 e) refl)
 
 turn_reads : (kind : ScriptKind) (k budget : ℕ) → is_event kind (Turn k budget) ≡ true
     → ReadsAs kind (join_with_byte 32 (parts_of (Turn k budget))) (Turn k budget)
@@ -253,7 +257,8 @@ turn_reads kind k budget fits =
     let a = and_parts (is_connection k && leb 1 budget) (leb budget 16) fits in
     let b = and_parts (is_connection k) (leb 1 budget) a.0 in
     let most : budget ≤ 16 = leb-true budget 16 a.1 in
-    three_reads kind (codes "turn") k (decimal budget) (Turn k budget) turn_word b.0 (plain_decimal budget (omega arith))
+    three_reads kind (codes "turn") k (decimal budget) (Turn k budget) turn_word b.0
+    (plain_decimal budget (omega arith))
     (rw (within-decimal 16 budget (leb-true 1 budget b.1) most (omega arith)) refl)
 
 -- a line of an event reads as that event
@@ -266,5 +271,7 @@ line_reads kind text (Relay k n) fits (parts, are, is) = rw (is, are) (relay_rea
 line_reads kind text (In k bytes) fits (parts, (digits, decodes, are), is) = rw (is, are)
     (in_reads kind k bytes digits fits decodes)
 line_reads kind text (Turn k budget) fits (parts, are, is) = rw (is, are) (turn_reads kind k budget fits)
-line_reads kind text (Break k) fits (parts, are, is) = rw (is, are) (two_reads kind (codes "break") k (Break k) break_word fits refl)
-line_reads kind text (End k) fits (parts, are, is) = rw (is, are) (two_reads kind (codes "end") k (End k) end_word fits refl)
+line_reads kind text (Break k) fits (parts, are, is) = rw (is, are) (two_reads kind (codes "break") k (Break k)
+    break_word fits refl)
+line_reads kind text (End k) fits (parts, are, is) = rw (is, are) (two_reads kind (codes "end") k (End k) end_word fits
+    refl)

@@ -142,9 +142,12 @@ completed_both c a b d =
 pub completed_first : (c : Bool) (body : List ℕ) → completed c [] body ≡ frames_of c body
 unfolding plain_of
 completed_first false body = ap (λ (p : Parts). drop (length p.frames) (cut body).frames) (cut_waiting [] refl)
-completed_first true body = ap (λ (p : Parts). drop (length p.frames) (cut (plain_of body)).frames) (cut_waiting [] refl)
+completed_first true body = ap (λ (p : Parts). drop (length p.frames) (cut (plain_of body)).frames)
+    (cut_waiting [] refl)
 
 pub nothing_cut : (c : Bool) → cutter_at (payload c []) ≡ record { bytes = []; junk = 0 }
 unfolding plain_of
-nothing_cut false = ap (λ (p : Parts). let q : Pending = record { bytes = p.rest; junk = p.junk } in q) (cut_waiting [] refl)
-nothing_cut true = ap (λ (p : Parts). let q : Pending = record { bytes = p.rest; junk = p.junk } in q) (cut_waiting [] refl)
+nothing_cut false = ap (λ (p : Parts). let q : Pending = record { bytes = p.rest; junk = p.junk } in q)
+    (cut_waiting [] refl)
+nothing_cut true = ap (λ (p : Parts). let q : Pending = record { bytes = p.rest; junk = p.junk } in q)
+    (cut_waiting [] refl)

@@ -5,7 +5,6 @@ use Rattle.std.proofs.lemmas.List.Sums.{sum_by-append}
 use Rattle.rtcm_frame.specs.Cut.{cut, Parts, IsWaiting, only_rest}
 use Rattle.rtcm_frame.specs.Pending.{Pending, Took}
 use Rattle.rtcm_frame.proofs.CutLemmas.{cut_waiting}
-use Rattle.rtcm_frame.proofs.PendingLemmas.{took_none}
 use Rattle.turn_log.specs.History.{History, IsLegal, GoesOn}
 use Rattle.turn_log.specs.Turn.{Turned}
 use Rattle.turn_log.specs.Heard.{calls_in, Heard, HeardFirst}
@@ -34,9 +33,11 @@ pub holding_on : (shape : RingShape) (me claim : ℕ) (h now : History RingCall)
     → IsLegal (λ (before : History RingCall) by call. fits (shape_of shape) (state_of before) by call) now
     → IsHolding me claim now
 holding_on shape me claim h now holds goes legal =
-    let may : History RingCall → ℕ → RingCall → Bool = λ before by call. fits (shape_of shape) (state_of before) by call in
+    let may : History RingCall → ℕ → RingCall → Bool = λ before by call. fits (shape_of shape) (state_of before) by
+    call in
     let on = fits_on {fits = may}
-    (λ before mine by call other fitting apart theirs. still_fits_one (shape_of shape) before mine by call other fitting apart theirs)
+    (λ before mine by call other fitting apart theirs. still_fits_one (shape_of shape) before mine by call other fitting
+    apart theirs)
     h goes.0 me (Release claim) holds (subst (IsLegal may) goes.1 legal) goes.2 in
     subst (IsHolding me claim) (sym goes.1) on
 
@@ -72,26 +73,28 @@ all_none alone said h me = record { pairs = []; made = refl; heard = heard_none 
 pub all_both : {C A : Type 0} {alone : Bool} {said : History C → ℕ → C → A} {a b c : History C} {me : ℕ}
     {first second : List C} → HeardAll alone said a b me first → HeardAll alone said b c me second
     → HeardAll alone said a c me (first ++ second)
-all_both {alone = alone} {said = said} {a = a} {b = b} {c = c} {me = me} {first = first} {second = second} x y = record {
-  pairs = x.pairs ++ y.pairs;
-  made = map-append (λ p. p.0) x.pairs y.pairs
-      ∙ ap (λ l. l ++ calls_in y.pairs) x.made
-      ∙ ap (λ l. first ++ l) y.made;
-  heard = heard_both alone said a b c me x.pairs y.pairs x.heard y.heard;
-}
+all_both {alone = alone} {said = said} {a = a} {b = b} {c = c} {me = me} {first = first} {second = second} x y =
+    record {
+      pairs = x.pairs ++ y.pairs;
+      made = map-append (λ p. p.0) x.pairs y.pairs
+          ∙ ap (λ l. l ++ calls_in y.pairs) x.made
+          ∙ ap (λ l. first ++ l) y.made;
+      heard = heard_both alone said a b c me x.pairs y.pairs x.heard y.heard;
+    }
 
 pub first_both : {C A : Type 0} {alone : Bool} {said : History C → ℕ → C → A} {a b c : History C} {me : ℕ}
     {first second : List C} → HeardAll alone said a b me first → HeardFirst alone said b c me second
     → HeardFirst alone said a c me (first ++ second)
-first_both {alone = alone} {said = said} {a = a} {b = b} {c = c} {me = me} {first = first} {second = second} x y = record {
-  pairs = x.pairs ++ y.pairs;
-  unmade = y.unmade;
-  split = ap (λ l. l ++ second) (sym x.made)
-      ∙ ap (λ l. calls_in x.pairs ++ l) y.split
-      ∙ sym (append_assoc (calls_in x.pairs) (calls_in y.pairs) y.unmade)
-      ∙ ap (λ l. l ++ y.unmade) (sym (map-append (λ p. p.0) x.pairs y.pairs));
-  heard = heard_both alone said a b c me x.pairs y.pairs x.heard y.heard;
-}
+first_both {alone = alone} {said = said} {a = a} {b = b} {c = c} {me = me} {first = first} {second = second} x y =
+    record {
+      pairs = x.pairs ++ y.pairs;
+      unmade = y.unmade;
+      split = ap (λ l. l ++ second) (sym x.made)
+          ∙ ap (λ l. calls_in x.pairs ++ l) y.split
+          ∙ sym (append_assoc (calls_in x.pairs) (calls_in y.pairs) y.unmade)
+          ∙ ap (λ l. l ++ y.unmade) (sym (map-append (λ p. p.0) x.pairs y.pairs));
+      heard = heard_both alone said a b c me x.pairs y.pairs x.heard y.heard;
+    }
 
 -- the first of some calls are the first of more
 pub first_more : {C A : Type 0} {alone : Bool} {said : History C → ℕ → C → A} {a b : History C} {me : ℕ}
@@ -132,10 +135,6 @@ pub record GivenSoFar {A : Type 0} (alone : Bool) (said : History RingCall → �
   pub took : Took from to frames
   pub heard : HeardAll alone said old now me (publishes claim frames)
 
-pub given_none : {A : Type 0} (alone : Bool) (said : History RingCall → ℕ → RingCall → A) (h : History RingCall)
-    (me claim : ℕ) (p : Pending) → GivenSoFar alone said h h me claim p p
-given_none alone said h me claim p = record { frames = []; took = took_none p; heard = all_none alone said h me }
-
 pub given_more : {A : Type 0} {alone : Bool} {said : History RingCall → ℕ → RingCall → A}
     {old mid now : History RingCall} {me claim : ℕ} {from to next : Pending} {frame : List ℕ} {reply : A}
     → GivenSoFar alone said old mid me claim from to → Took to next (frame ∷ [])
@@ -149,36 +148,13 @@ given_more {alone = alone} {said = said} {old = old} {mid = mid} {now = now} {me
           (all_both x.heard (record { pairs = (Publish claim frame, reply) ∷ []; made = refl; heard = heard }));
     }
 
--- where a frame that was taken is refused, those before it were published
-pub given_refused : {A : Type 0} {alone : Bool} {said : History RingCall → ℕ → RingCall → A}
-    {old mid now : History RingCall} {me claim : ℕ} {from to next : Pending} {frame : List ℕ}
-    → GivenSoFar alone said old mid me claim from to → Took to next (frame ∷ []) → now ≡ mid
-    → HeardFirst alone said old now me (publishes claim (cut from.bytes).frames)
-given_refused {alone = alone} {said = said} {old = old} {me = me} {claim = claim} {from = from} {next = next}
-    {frame = frame} x took same =
-    let behind : List (List ℕ) = frame ∷ (cut next.bytes).frames in
-    subst (λ h. HeardFirst alone said old h me (publishes claim (cut from.bytes).frames)) (sym same)
-    (record {
-      pairs = x.heard.pairs;
-      unmade = publishes claim behind;
-      split = ap (publishes claim) (x.took.in_order ∙ ap (λ l. x.frames ++ l) took.in_order)
-          ∙ map-append (λ f. Publish claim f) x.frames behind
-          ∙ ap (λ l. l ++ publishes claim behind) (sym x.heard.made);
-      heard = x.heard.heard;
-    })
-
-pub given_junk : {A : Type 0} {alone : Bool} {said : History RingCall → ℕ → RingCall → A}
-    {old mid : History RingCall} {me claim : ℕ} {from to next : Pending} {frame : List ℕ}
-    → GivenSoFar alone said old mid me claim from to → Took to next (frame ∷ [])
-    → next.junk + (cut next.bytes).junk ≡ from.junk + (cut from.bytes).junk
-given_junk x took = sym took.junk ∙ sym x.took.junk
-
 -- where no more is given all frames were published, and the rest waits
 pub given_all : {A : Type 0} {alone : Bool} {said : History RingCall → ℕ → RingCall → A}
     {old now : History RingCall} {me claim : ℕ} {from to next : Pending}
     → GivenSoFar alone said old now me claim from to → Took to next [] → IsWaiting next.bytes
     → HeardAll alone said old now me (publishes claim (cut from.bytes).frames)
-given_all {alone = alone} {said = said} {old = old} {now = now} {me = me} {claim = claim} {from = from} {next = next} x took waits =
+given_all {alone = alone} {said = said} {old = old} {now = now} {me = me} {claim = claim} {from = from} {next = next} x
+    took waits =
     let all : (cut from.bytes).frames ≡ x.frames =
     x.took.in_order ∙ ap (λ l. x.frames ++ l)
     (took.in_order ∙ ap (λ (p : Parts). p.frames) (cut_waiting next.bytes waits)) ∙ append-nil x.frames in

@@ -1,6 +1,6 @@
 -- Where a session stands, with more of its body.
 use Rattle.std.proofs.Common.{◌≡◌, ℕ, ◌+◌, ◌≤◌, ◌<◌, ◌^◌, Bool, List, [], ◌∷◌, ◌++◌, ◌-◌, length, take, drop, get_or, length-drop, length-take-le, Result, Err, IfErr, ap, ◌∙◌, sym, subst, arith, append_assoc, length-append, Option, None, Some}
-use Rattle.std.proofs.lemmas.List.{append-nil, map-append, take_more, take_rest, take-append-drop}
+use Rattle.std.proofs.lemmas.List.{append-nil, take_more, take_rest, take-append-drop}
 use Rattle.std.specs.Prelude.{is_some, IsTrue}
 use Rattle.rtcm_frame.specs.Cut.{cut, IsWaiting}
 use Rattle.rtcm_frame.proofs.PendingLemmas.{fed_front}
@@ -14,14 +14,13 @@ use Rattle.chunk_body.specs.Machine.{Reading}
 use Rattle.chunk_body.specs.Text.{IsOpen, HasEnded, IsBadAt}
 use Rattle.chunk_body.proofs.TextLemmas.{ended_on, bad_on}
 use Rattle.mount_ring.specs.declared.RingCall.{RingCall}
-use Rattle.mount_ring.specs.declared.RingCall.TheVariants.{Publish}
 use Rattle.source_session.specs.declared.fault.SourceHalt.{SourceHalt}
 use Rattle.source_session.specs.declared.fault.SourceHalt.TheVariants.{Done, BadChunk, Worn, Memory}
 use Rattle.source_session.specs.Body.{payload, completed}
 use Rattle.source_session.specs.Calls.{publishes, HeardAll, HeardUntil}
 use Rattle.source_session.specs.Standing.{cutter_at, GoesOnAt, EndsAt, BreaksAt, IsCutUp, IsCutShort, StandsBy}
 use Rattle.source_session.specs.Refusals.{halt_refused}
-use Rattle.source_session.proofs.BodyLemmas.{plain_ended, plain_bad, payload_short, payload_more, cut_few, rest_waits, completed_by, completed_none, completed_both, cutter_more, junk_more}
+use Rattle.source_session.proofs.BodyLemmas.{plain_ended, plain_bad, payload_short, payload_more, cut_few, rest_waits, completed_by, completed_none, cutter_more, junk_more}
 use Rattle.source_session.proofs.CallLemmas.{all_none, all_both, first_more, until_both}
 
 -- ---- what has ended, is bad or was refused stays so
@@ -70,13 +69,6 @@ halted_on Memory chunks cutter body more x = short_on (is_some chunks) cutter bo
 
 -- ---- what was called until then
 
--- frames of a part that comes in two parts
-pub publishes_both : (claim : ℕ) (c : Bool) (a b d : List ℕ)
-    → publishes claim (completed c a (b ++ d)) ≡ publishes claim (completed c a b) ++ publishes claim (completed c (a ++ b) d)
-publishes_both claim c a b d =
-    ap (publishes claim) (completed_both c a b d)
-    ∙ map-append (λ frame. Publish claim frame) (completed c a b) (completed c (a ++ b) d)
-
 module _ {A : Type 0} (alone : Bool) (said : History RingCall → ℕ → RingCall → A) (me claim : ℕ) where
   pub heard_more : (old mid now : History RingCall) (c : Bool) (a b d : List ℕ)
       → HeardAll alone said old mid me (publishes claim (completed c a b))
@@ -101,7 +93,8 @@ module _ {A : Type 0} (alone : Bool) (said : History RingCall → ℕ → RingCa
   none_more old now c a b d same x =
       subst (HeardAll alone said old now me)
       (sym (publishes_both claim c a b d
-      ∙ ap (λ (fs : List (List ℕ)). publishes claim (completed c a b) ++ publishes claim fs) (completed_none c (a ++ b) d same)
+      ∙ ap (λ (fs : List (List ℕ)). publishes claim (completed c a b) ++ publishes claim fs)
+      (completed_none c (a ++ b) d same)
       ∙ append-nil (publishes claim (completed c a b)))) x
 
   pub none_called : (h : History RingCall) (c : Bool) (a b : List ℕ) → payload c (a ++ b) ≡ payload c a
@@ -148,7 +141,13 @@ pub cut_up_few : (chunks : Option Reading) (cutter : Pending) (body : List ℕ) 
     → cutter.junk + length cutter.bytes ≤ length body
 cut_up_few chunks cutter body is =
     let carried : List ℕ = payload (is_some chunks) body in
-    omega (arith, ap (λ (p : Pending). p.junk + length p.bytes) is, cut_few carried, payload_short (is_some chunks) body)
+    omega (
+      arith,
+      ap (λ (p : Pending). p.junk + length p.bytes) is,
+      cut_few carried,
+      payload_short (is_some chunks)
+          body,
+    )
 
 -- what waits is no whole frame
 pub cut_up_waits : (chunks : Option Reading) (cutter : Pending) (body : List ℕ) → IsCutUp chunks cutter body
@@ -216,7 +215,8 @@ pub stands_refused : (fault : TurnFault) (chunks : Option Reading) (cutter : Pen
 stands_refused (faults.Worn turns) chunks cutter body short = short
 stands_refused faults.Memory chunks cutter body short = short
 
-pub until_refused : {A : Type 0} {alone : Bool} {said : History RingCall → ℕ → RingCall → A} {old now : History RingCall}
+pub until_refused : {A : Type 0} {alone : Bool} {said : History RingCall → ℕ → RingCall
+    → A} {old now : History RingCall}
     {me : ℕ} {calls : List RingCall} (fault : TurnFault) → HeardFirst alone said old now me calls
     → HeardUntil (halt_refused fault) alone said old now me calls
 until_refused (faults.Worn turns) first = first
@@ -230,7 +230,8 @@ if_err P r y is holds = subst (λ s. IfErr s P) (sym is) holds
 pub all_same : {A : Type 0} {alone still : Bool} {said says : History RingCall → ℕ → RingCall → A}
     {old now : History RingCall} {me : ℕ} {calls : List RingCall} → still ≡ alone → says ≡ said
     → HeardAll still says old now me calls → HeardAll alone said old now me calls
-all_same {alone = alone} {still = still} {said = said} {says = says} {old = old} {now = now} {me = me} {calls = calls} same names x =
+all_same {alone = alone} {still = still} {said = said} {says = says} {old = old} {now = now} {me = me} {calls = calls}
+    same names x =
     subst (λ a. HeardAll a said old now me calls) same (subst (λ f. HeardAll still f old now me calls) names x)
 
 pub until_same : {A : Type 0} {alone still : Bool} {said says : History RingCall → ℕ → RingCall → A} (halt : SourceHalt)
@@ -243,7 +244,8 @@ until_same {alone = alone} {still = still} {said = said} {says = says} halt old 
 -- ---- a halt within the bytes
 
 -- what stands behind it changes nothing
-pub stands_within : (halt : SourceHalt) (chunks : Option Reading) (cutter : Pending) (body front more rest bytes : List ℕ)
+pub stands_within : (halt : SourceHalt) (chunks : Option Reading) (cutter : Pending)
+    (body front more rest bytes : List ℕ)
     → (front ++ more) ++ rest ≡ bytes → StandsBy (Some halt) chunks cutter ((body ++ front) ++ more)
     → StandsBy (Some halt) chunks cutter (body ++ bytes)
 stands_within halt chunks cutter body front more rest bytes split stands =
@@ -331,7 +333,8 @@ pub stands_on : (before : Option SourceHalt) (halt : SourceHalt) (chunks : Optio
     → StandsBy before chunks cutter (body ++ more)
 stands_on before halt chunks cutter body more is stands =
     subst (λ (o : Option SourceHalt). StandsBy o chunks cutter (body ++ more)) (sym is)
-    (halted_on halt chunks cutter body more (subst (λ (o : Option SourceHalt). StandsBy o chunks cutter body) is stands))
+    (halted_on halt chunks cutter body more (subst (λ (o : Option SourceHalt). StandsBy o chunks cutter body) is
+    stands))
 
 pub halted_calls : {A : Type 0} (alone : Bool) (said : History RingCall → ℕ → RingCall → A) (me claim : ℕ)
     (before : Option SourceHalt) (halt : SourceHalt) (chunks : Option Reading) (cutter : Pending) (h : History RingCall)

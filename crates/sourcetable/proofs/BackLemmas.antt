@@ -102,7 +102,8 @@ lines_records e (r ∷ rs) rest ends all =
     ∙ ends.ends (line_of r) (after ++ rest) (line_none r (All-head IsOneLine r rs all))
     ∙ ap (λ (ls : List (List ℕ)). line_of r ∷ ls) (lines_records e rs rest ends (All-tail IsOneLine r rs all))
 
-written_so_far : (e : List ℕ) (rs : List Record) → EndsLine e → All IsOneLine rs → IsReadSoFar (text_with e rs) (codes "ENDSOURCETABLE" ++ e) rs
+written_so_far : (e : List ℕ) (rs : List Record) → EndsLine e → All IsOneLine rs
+    → IsReadSoFar (text_with e rs) (codes "ENDSOURCETABLE" ++ e) rs
 written_so_far e rs ends all = record {
   stands = lines_records e rs (codes "ENDSOURCETABLE" ++ e) ends all;
   are = All-weaker IsOneLine IsRecord (λ r h. h.is) rs all;
@@ -110,7 +111,8 @@ written_so_far e rs ends all = record {
 
 end_line : (e : List ℕ) → EndsLine e → lines (codes "ENDSOURCETABLE" ++ e) ≡ codes "ENDSOURCETABLE" ∷ lines []
 end_line e ends =
-    ap (λ (t : List ℕ). lines (codes "ENDSOURCETABLE" ++ t)) (sym (append-nil e)) ∙ ends.ends (codes "ENDSOURCETABLE") [] refl
+    ap (λ (t : List ℕ). lines (codes "ENDSOURCETABLE" ++ t)) (sym (append-nil e))
+    ∙ ends.ends (codes "ENDSOURCETABLE") [] refl
 
 written_is_table : (e : List ℕ) (table : Table) → EndsLine e → All IsOneLine table.records
     → length (text_with e table.records) ≤ most_bytes

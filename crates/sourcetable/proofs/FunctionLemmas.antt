@@ -23,7 +23,8 @@ fields_first : (n : ℕ) (front field rest : List ℕ) → HasNone is_separator 
 fields_first n front [] rest none = rw (append-nil front)
 fields_first n front (b ∷ field) rest none =
     let parts = or_parts (is_separator b) (list_any is_separator field) none in
-    rw parts.0 (fields_first n (front ++ b ∷ []) field rest parts.1 ∙ ap (λ (f : List ℕ). f ∷ fields_of n [] rest) (append_assoc front (b ∷ []) field))
+    rw parts.0 (fields_first n (front ++ b ∷ []) field rest parts.1 ∙ ap (λ (f : List ℕ). f ∷ fields_of n [] rest)
+    (append_assoc front (b ∷ []) field))
 
 fields_all : (field : List ℕ) (more : List (List ℕ)) → AreFreeButLast (field ∷ more)
     → fields_of (length more) [] (field ++ fields_text more) ≡ field ∷ more
@@ -51,13 +52,15 @@ one_less Net = refl
 record_is_of : (line : List ℕ) (r : Record) → IsRecordOf line r → record_of line r.kind ≡ r
 record_is_of line r of =
     ap (λ (l : List ℕ). record_of l r.kind) of.line_is
-    ∙ ap (make r.kind) (fields_after r.kind (field_count r.kind - 1) r.fields (of.is.count ∙ one_less r.kind) of.is.free)
+    ∙ ap (make r.kind) (fields_after r.kind (field_count r.kind - 1) r.fields (of.is.count ∙ one_less r.kind)
+    of.is.free)
 
 kind_is_of : (line : List ℕ) (r : Record) → IsRecordOf line r → kind_of line ≡ Some r.kind
 kind_is_of line r of = ap kind_of of.line_is ∙ kind_of_line r of.is
 
 -- what the test of faults says, in each case of the kind
-no_kind : (line : List ℕ) (kind : Option Kind) → fault_as line kind ≡ Some faults.Kind → record_as line kind ≡ Err records.Kind
+no_kind : (line : List ℕ) (kind : Option Kind) → fault_as line kind ≡ Some faults.Kind
+    → record_as line kind ≡ Err records.Kind
 no_kind line None e = refl
 no_kind line (Some kind) e =
     elim (cases_lt (count_by is_separator line) (field_count kind)) [
@@ -65,7 +68,8 @@ no_kind line (Some kind) e =
       | inr enough ↦ absurd (let h = rw (le-ltb _ _ enough) at e in cc)
     ]
 
-too_few : (line : List ℕ) (kind : Option Kind) → fault_as line kind ≡ Some faults.Fields → record_as line kind ≡ Err records.Fields
+too_few : (line : List ℕ) (kind : Option Kind) → fault_as line kind ≡ Some faults.Fields
+    → record_as line kind ≡ Err records.Fields
 too_few line None e = absurd cc
 too_few line (Some kind) e =
     elim (cases_lt (count_by is_separator line) (field_count kind)) [
@@ -78,7 +82,8 @@ abbrev kinds_record : List ℕ → Option Kind → Result Record RecordFault
 kinds_record line None = Err records.Kind
 kinds_record line (Some kind) = record_before (record_of line kind) (line_end_in line)
 
-no_fault : (line : List ℕ) (kind : Option Kind) → fault_as line kind ≡ None → record_as line kind ≡ kinds_record line kind
+no_fault : (line : List ℕ) (kind : Option Kind) → fault_as line kind ≡ None
+    → record_as line kind ≡ kinds_record line kind
 no_fault line None e = absurd cc
 no_fault line (Some kind) e =
     elim (cases_lt (count_by is_separator line) (field_count kind)) [
@@ -92,7 +97,8 @@ end_at line None place e at = absurd cc
 end_at line (Some kind) place e at = no_fault line (Some kind) e ∙ ap (record_before (record_of line kind)) at
 
 -- what may be answered is what the function gives
-pub given_by_function : (line : List ℕ) (answer : Result Record RecordFault) → IsRecordRead line answer → Gives answer (record_read line)
+pub given_by_function : (line : List ℕ) (answer : Result Record RecordFault) → IsRecordRead line answer
+    → Gives answer (record_read line)
 given_by_function line (Ok r) of =
     no_fault line (kind_of line) (fault_of_record line r of.0)
     ∙ ap (kinds_record line) (kind_is_of line r of.0)
@@ -135,4 +141,5 @@ pub read_is : (line : List ℕ) (r : Record) → record_read line ≡ Ok r → I
 read_is line r e =
     let found = record_exists line (faultless line (kind_of line) r e) in
     let none = endless line (kind_of line) r e in
-    subst (IsRecordOf line) (read_same found.0 r (sym (given_by_function line (Ok found.0) (found.1, none)) ∙ e)) found.1
+    subst (IsRecordOf line) (read_same found.0 r (sym (given_by_function line (Ok found.0) (found.1, none)) ∙ e))
+    found.1

@@ -38,11 +38,15 @@ empty : fault_of [] ≡ Some Kind
 empty = refl
 
 -- the line of a record, whose last field may hold `;`
-a_line : line_of (record { kind = Net; fields = codes "A" ∷ [] ∷ codes "B" ∷ codes "N" ∷ [] ∷ [] ∷ [] ∷ codes "x;y" ∷ [] }) ≡ codes "NET;A;;B;N;;;;x;y"
+a_line : line_of (record {
+  kind = Net;
+  fields = codes "A" ∷ [] ∷ codes "B" ∷ codes "N" ∷ [] ∷ [] ∷ [] ∷ codes "x;y" ∷ [];
+}) ≡ codes "NET;A;;B;N;;;;x;y"
 a_line = refl
 
 -- CR LF and LF end lines, and the lines after the first end do not count
-before : lines_before_end (codes "A\nB\r\n\r\nC\rD\nENDSOURCETABLE\r\nE\nENDSOURCETABLE\n") ≡ codes "A" ∷ codes "B" ∷ [] ∷ codes "C\rD" ∷ []
+before : lines_before_end (codes "A\nB\r\n\r\nC\rD\nENDSOURCETABLE\r\nE\nENDSOURCETABLE\n") ≡ codes "A" ∷ codes "B" ∷ []
+    ∷ codes "C\rD" ∷ []
 before = refl
 
 -- the end needs no line end, and is a whole line

@@ -30,7 +30,8 @@ calls_told answer me before [] = refl
 calls_told answer me before (e ∷ more) =
     let on = before ++ e ∷ [] in
     let rest = calls_told answer me on more in
-    elim (eqb e.0 me) as (λ t. calls_in (cond t ((e.1, answer before me e.1) ∷ told answer me on more) (told answer me on more))
+    elim (eqb e.0 me) as (λ t. calls_in (cond t ((e.1, answer before me e.1) ∷ told answer me on more)
+    (told answer me on more))
     ≡ cond t (e.1 ∷ own me more) (own me more)) [
       | true ↦ ap (λ calls. e.1 ∷ calls) rest
       | false ↦ rest
@@ -72,7 +73,8 @@ pub heard_none : {C A : Type 0} (alone : Bool) (answer : History C → ℕ → C
 heard_none alone answer h me =
     record { more = []; seen = sym (append-nil h); mine = refl; nothing_else = λ is. refl }
 
-pub heard_both : {C A : Type 0} (alone : Bool) (answer : History C → ℕ → C → A) (a b c : History C) (me : ℕ) (xs ys : List (C × A))
+pub heard_both : {C A : Type 0} (alone : Bool) (answer : History C → ℕ → C → A) (a b c : History C) (me : ℕ)
+    (xs ys : List (C × A))
     → Heard alone answer a b me xs → Heard alone answer b c me ys → Heard alone answer a c me (xs ++ ys)
 heard_both alone answer a b c me xs ys x y = record {
   more = x.more ++ y.more;
@@ -121,7 +123,8 @@ heard_room {alone} {fits} {answer} {filled} {old} {now} {me} {call} {reply} {bef
     })
 
 -- entries of others change nothing of it
-pub heard_on : {C A : Type 0} (alone : Bool) (answer : History C → ℕ → C → A) (a b c : History C) (me : ℕ) (pairs : List (C × A))
+pub heard_on : {C A : Type 0} (alone : Bool) (answer : History C → ℕ → C → A) (a b c : History C) (me : ℕ)
+    (pairs : List (C × A))
     → Heard alone answer a b me pairs → GoesOn me b c → (IsTrue alone → c ≡ b) → Heard alone answer a c me pairs
 heard_on alone answer a b c me pairs x goes same = record {
   more = x.more ++ goes.0;
@@ -137,7 +140,8 @@ heard_on alone answer a b c me pairs x goes same = record {
 }
 
 -- what holds at a place that is alone holds where less is claimed
-pub heard_less : {C A : Type 0} (alone less : Bool) (answer : History C → ℕ → C → A) (old now : History C) (me : ℕ) (pairs : List (C × A))
+pub heard_less : {C A : Type 0} (alone less : Bool) (answer : History C → ℕ → C → A) (old now : History C) (me : ℕ)
+    (pairs : List (C × A))
     → (IsTrue less → IsTrue alone) → Heard alone answer old now me pairs → Heard less answer old now me pairs
 heard_less alone less answer old now me pairs from x =
     record { more = x.more; seen = x.seen; mine = x.mine; nothing_else = λ is. x.nothing_else (from is) }
@@ -158,13 +162,15 @@ pub heard_alone : {C A : Type 0} {answer : History C → ℕ → C → A} {old n
 heard_alone {old} x = x.seen ∙ ap (λ h. old ++ h) (x.nothing_else refl)
 
 -- what one caller does there is nothing of any other
-pub heard_others : {C A : Type 0} (answer : History C → ℕ → C → A) (me by : ℕ) (old now : History C) (pairs : List (C × A))
+pub heard_others : {C A : Type 0} (answer : History C → ℕ → C → A) (me by : ℕ) (old now : History C)
+    (pairs : List (C × A))
     → by ≢ me → Heard true answer old now by pairs → GoesOn me old now
 heard_others answer me by old now pairs other x =
     (x.more, x.seen, ap (own me) (x.nothing_else refl) ∙ own_else me by (calls_in pairs) other)
 
 -- the first answer there is that of the first history
-pub heard_first : {C A : Type 0} (answer : History C → ℕ → C → A) (old now : History C) (me : ℕ) (call : C) (reply : A) (pairs : List (C × A))
+pub heard_first : {C A : Type 0} (answer : History C → ℕ → C → A) (old now : History C) (me : ℕ) (call : C) (reply : A)
+    (pairs : List (C × A))
     → Heard true answer old now me ((call, reply) ∷ pairs)
     → (reply ≡ answer old me call) × Heard true answer (old ++ (me, call) ∷ []) now me pairs
 heard_first {C} {A} answer old now me call reply pairs x =
@@ -197,9 +203,11 @@ heard_call alone answer h me call = record {
 }
 
 -- the last answer there is that of the history that the calls before it left
-pub heard_last : {C A : Type 0} (answer : History C → ℕ → C → A) (old now : History C) (me : ℕ) (pairs : List (C × A)) (call : C) (reply : A)
+pub heard_last : {C A : Type 0} (answer : History C → ℕ → C → A) (old now : History C) (me : ℕ) (pairs : List (C × A))
+    (call : C) (reply : A)
     → Heard true answer old now me (pairs ++ (call, reply) ∷ [])
-    → (mid : History C) × Heard true answer old mid me pairs × (now ≡ mid ++ (me, call) ∷ []) × (reply ≡ answer mid me call)
+    → (mid : History C) × Heard true answer old mid me pairs × (now ≡ mid ++ (me, call) ∷ [])
+    × (reply ≡ answer mid me call)
 heard_last answer old now me [] call reply x =
     let one = heard_first answer old now me call reply [] x in
     (old, heard_none true answer old me, heard_alone one.1 ∙ append-nil (old ++ (me, call) ∷ []), one.0)
@@ -213,23 +221,27 @@ heard_last {C} {A} answer old now me (p ∷ pairs) call reply x =
 
 -- the first of some calls
 
-pub first_none : {C A : Type 0} (alone : Bool) (answer : History C → ℕ → C → A) (h : History C) (me : ℕ) (calls : List C)
+pub first_none : {C A : Type 0} (alone : Bool) (answer : History C → ℕ → C → A) (h : History C) (me : ℕ)
+    (calls : List C)
     → HeardFirst alone answer h h me calls
 first_none alone answer h me calls =
     record { pairs = []; unmade = calls; split = refl; heard = heard_none alone answer h me }
 
-pub first_some : {C A : Type 0} {alone : Bool} {answer : History C → ℕ → C → A} {old now : History C} {me : ℕ} {pairs : List (C × A)} (unmade : List C)
+pub first_some : {C A : Type 0} {alone : Bool} {answer : History C → ℕ → C
+    → A} {old now : History C} {me : ℕ} {pairs : List (C × A)} (unmade : List C)
     → Heard alone answer old now me pairs → HeardFirst alone answer old now me (calls_in pairs ++ unmade)
 first_some {pairs} unmade x = record { pairs = pairs; unmade = unmade; split = refl; heard = x }
 
 -- calls that were made, and then a refusal
-pub first_refused : {C A : Type 0} {alone : Bool} {answer : History C → ℕ → C → A} {old mid now : History C} {me : ℕ} {pairs : List (C × A)} (unmade : List C)
+pub first_refused : {C A : Type 0} {alone : Bool} {answer : History C → ℕ → C
+    → A} {old mid now : History C} {me : ℕ} {pairs : List (C × A)} (unmade : List C)
     → Heard alone answer old mid me pairs → now ≡ mid → HeardFirst alone answer old now me (calls_in pairs ++ unmade)
 first_refused {C} {A} {alone} {answer} {old} {mid} {now} {me} {pairs} unmade x same =
     subst (λ h. HeardFirst alone answer old h me (calls_in pairs ++ unmade)) (sym same) (first_some unmade x)
 
 -- calls that were made, and then the first of some more
-pub first_after : {C A : Type 0} (alone : Bool) (answer : History C → ℕ → C → A) (a b c : History C) (me : ℕ) (pairs : List (C × A)) (calls : List C)
+pub first_after : {C A : Type 0} (alone : Bool) (answer : History C → ℕ → C → A) (a b c : History C) (me : ℕ)
+    (pairs : List (C × A)) (calls : List C)
     → Heard alone answer a b me pairs → HeardFirst alone answer b c me calls
     → HeardFirst alone answer a c me (calls_in pairs ++ calls)
 first_after alone answer a b c me pairs calls x y = record {

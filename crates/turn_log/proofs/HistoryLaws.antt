@@ -116,7 +116,8 @@ rest_fits fits h e more legal before by call after same =
 module _ {C : Type 0} {fits : History C → ℕ → C → Bool} where
   -- a fact that each fitting entry of another caller keeps is kept by all of them
   pub kept_after : (me : ℕ) (holds : History C → Type 0)
-      → ((h : History C) (by : ℕ) (other : C) → holds h → by ≢ me → IsTrue (fits h by other) → holds (h ++ (by, other) ∷ []))
+      → ((h : History C) (by : ℕ) (other : C) → holds h → by ≢ me → IsTrue (fits h by other)
+      → holds (h ++ (by, other) ∷ []))
       → (h more : History C) → holds h → IsLegalAfter fits h more → own me more ≡ [] → holds (h ++ more)
   kept_after me holds keeps h [] held legal none = subst holds (sym (append-nil h)) held
   kept_after me holds keeps h (e ∷ more) held legal none =
@@ -127,19 +128,25 @@ module _ {C : Type 0} {fits : History C → ℕ → C → Bool} where
 
   -- the same in a legal history
   pub kept_on : (me : ℕ) (holds : History C → Type 0)
-      → ((h : History C) (by : ℕ) (other : C) → holds h → by ≢ me → IsTrue (fits h by other) → holds (h ++ (by, other) ∷ []))
+      → ((h : History C) (by : ℕ) (other : C) → holds h → by ≢ me → IsTrue (fits h by other)
+      → holds (h ++ (by, other) ∷ []))
       → (h rest : History C) → holds h → IsLegal fits (h ++ rest) → own me rest ≡ [] → holds (h ++ rest)
   kept_on me holds keeps h rest held legal none =
       kept_after me holds keeps h rest held (legal_after fits h rest legal) none
 
   -- what fits also fits after fitting entries of others
-  pub fits_after : ((h : History C) (me by : ℕ) (call other : C) → IsTrue (fits h me call) → by ≢ me → IsTrue (fits h by other) → IsTrue (fits (h ++ (by, other) ∷ []) me call))
-      → (h more : History C) (me : ℕ) (call : C) → IsTrue (fits h me call) → IsLegalAfter fits h more → own me more ≡ [] → IsTrue (fits (h ++ more) me call)
+  pub fits_after : ((h : History C) (me by : ℕ) (call other : C) → IsTrue (fits h me call) → by ≢ me
+      → IsTrue (fits h by other) → IsTrue (fits (h ++ (by, other) ∷ []) me call))
+      → (h more : History C) (me : ℕ) (call : C) → IsTrue (fits h me call) → IsLegalAfter fits h more → own me more ≡ []
+      → IsTrue (fits (h ++ more) me call)
   fits_after still h more me call fitting legal none =
-      kept_after me (λ l. IsTrue (fits l me call)) (λ l by other now apart fit. still l me by call other now apart fit) h more fitting legal none
+      kept_after me (λ l. IsTrue (fits l me call)) (λ l by other now apart fit. still l me by call other now apart fit)
+      h more fitting legal none
 
   -- the same in a legal history
-  pub fits_on : ((h : History C) (me by : ℕ) (call other : C) → IsTrue (fits h me call) → by ≢ me → IsTrue (fits h by other) → IsTrue (fits (h ++ (by, other) ∷ []) me call))
-      → (h rest : History C) (me : ℕ) (call : C) → IsTrue (fits h me call) → IsLegal fits (h ++ rest) → own me rest ≡ [] → IsTrue (fits (h ++ rest) me call)
+  pub fits_on : ((h : History C) (me by : ℕ) (call other : C) → IsTrue (fits h me call) → by ≢ me
+      → IsTrue (fits h by other) → IsTrue (fits (h ++ (by, other) ∷ []) me call))
+      → (h rest : History C) (me : ℕ) (call : C) → IsTrue (fits h me call) → IsLegal fits (h ++ rest) → own me rest ≡ []
+      → IsTrue (fits (h ++ rest) me call)
   fits_on still h rest me call fitting legal none =
       fits_after still h rest me call fitting (legal_after fits h rest legal) none

@@ -20,7 +20,8 @@ at_or [] i a d e = absurd (some-ne-none a (sym e))
 at_or (x ∷ xs) zero a d e = some-injective x a e
 at_or (x ∷ xs) (suc i) a d e = at_or xs i a d e
 
-pub at_same : {A : Type 0} (l : List A) (i j : ℕ) (a b : A) → i ≡ j → get_elem? l i ≡ some a → get_elem? l j ≡ some b → a ≡ b
+pub at_same : {A : Type 0} (l : List A) (i j : ℕ) (a b : A) → i ≡ j → get_elem? l i ≡ some a → get_elem? l j ≡ some b
+    → a ≡ b
 at_same l i j a b is e f = some-injective a b (sym e ∙ ap (get_elem? l) is ∙ f)
 
 -- a fact of each element, after one was set

@@ -13,7 +13,8 @@ use Rattle.turn_log.proofs.HistoryLaws.{goes_both}
 use Rattle.turn_log.proofs.LockLists.{at_length, at_cut, one_more, times-append, times_one}
 
 -- the passes after the first ys of xs were taken in by a seat that knew so much and knows so much now
-pub record Gathered {P V C : Type 0} (number : P → ℕ) (seen : P → History C) (old now : Known C V) (xs ys : List P) : Type 0 where
+pub record Gathered {P V C : Type 0} (number : P → ℕ) (seen : P → History C) (old now : Known C V) (xs ys : List P) :
+    Type 0 where
   pub rest : List P
   pub split : xs ≡ ys ++ rest
   pub size : length now.numbers + length ys ≡ length old.numbers + length xs
@@ -51,7 +52,8 @@ gathered_one {P} {V} {C} number seen shape fits old now other slot next xs ys le
       omega (arith, times_now (number pass), times_one (number pass)),
       subst (λ (h : History C). GoesOn (number pass) h next.0.seen) saw
           (subst (λ (h : History C). GoesOn (number pass) other.seen h) (sym sees)
-          (settled.5 (number pass) (let e = ap (times (number pass)) numbered in omega (arith, e, times_one (number pass))))),
+          (settled.5 (number pass) (let e = ap (times (number pass)) numbered in
+          omega (arith, e, times_one (number pass))))),
     ) in
     record {
       rest = pass ∷ g.rest;
@@ -65,16 +67,24 @@ gathered_one {P} {V} {C} number seen shape fits old now other slot next xs ys le
       taken = λ i other_pass at le.
           ⊎_elim
           (λ later.
-          let was = g.taken i other_pass at (let b = ap length cut in omega (arith, b, later, length-append left (pass ∷ []))) in (
+          let was = g.taken i other_pass at (let b = ap length cut in omega (
+            arith,
+            b,
+            later,
+            length-append left
+                (pass ∷ []),
+          )) in (
             omega (arith, was.0, times_now (number other_pass)),
             goes_both (number other_pass) (seen other_pass) now.seen next.0.seen was.1 (on (number other_pass) was.0),
           ))
-          (λ is. subst (λ (p : P). (0 < times (number p) next.0.numbers) × GoesOn (number p) (seen p) next.0.seen) is mine)
+          (λ is. subst (λ (p : P). (0 < times (number p) next.0.numbers) × GoesOn (number p) (seen p) next.0.seen) is
+          mine)
           (at_cut left pass other_pass g.rest i (ap (λ (l : List P). get_elem? l i) (sym split) ∙ at) le);
     }
 
 -- the pass that is taken in next is one of those
-pub gathered_at : {P V C : Type 0} (number : P → ℕ) (seen : P → History C) (old now : Known C V) (xs ys left : List P) (pass : P)
+pub gathered_at : {P V C : Type 0} (number : P → ℕ) (seen : P → History C) (old now : Known C V) (xs ys left : List P)
+    (pass : P)
     → Gathered number seen old now xs ys → ys ≡ left ++ pass ∷ [] → get_elem? xs (length left) ≡ some pass
 gathered_at {P} number seen old now xs ys left pass g cut =
     ap (λ (l : List P). get_elem? l (length left)) (g.split ∙ ap (λ (l : List P). l ++ g.rest) cut)

@@ -23,7 +23,8 @@ use Rattle.turn_log.proofs.LockHistories.{begins_self, between}
 use Rattle.turn_log.proofs.LockSteps.{no_ticket, not_served, holder_set, lies_set, apart_set}
 
 -- what a seat knows is true where it is idle, as far as its numbers and histories go
-pub record Fair {C V Z : Type 0} (shape : V → Z) (z : Z) (passes ticket : ℕ) (whole : History C) (view : Known C V) : Type 0 where
+pub record Fair {C V Z : Type 0} (shape : V → Z) (z : Z) (passes ticket : ℕ) (whole : History C) (view : Known C V) :
+    Type 0 where
   pub about : (v : V) → view.about ≡ Some v → shape v ≡ z
   pub worn : view.worn ≤ ticket
   pub sees : Begins view.seen whole
@@ -92,7 +93,8 @@ module _ {V C Z : Type 0} (passes : ℕ) (stands : V → History C → Type 0) (
               let f : Known C V → ℕ = λ view. times n (voices view) in
               omega (arith, parts.each n, k.counts.once n, sum_by_push f views right, sum_set f s.views id v left here);
         };
-        each = λ j u at. ⊎_elim (first_each j u) (λ is. subst Ok is (idle_ok k.serving k.ticket k.whole right idle_right both.1))
+        each = λ j u at. ⊎_elim (first_each j u) (λ is. subst Ok is (idle_ok k.serving k.ticket k.whole right idle_right
+            both.1))
             (at_snoc views right u j at);
         drawn = λ n from below.
             let holder = holder_set s.views id n v left here
@@ -101,9 +103,11 @@ module _ {V C Z : Type 0} (passes : ℕ) (stands : V → History C → Type 0) (
         apart = λ i j u w n at_i at_j has_i has_j. ⊎_elim
             (λ one. ⊎_elim
             (λ two. first_apart i j u w n one two has_i has_j)
-            (λ two. absurd (no_ticket right.stage idle_right n (subst (λ (view : Known C V). HasTicket view.stage n) (sym two) has_j)))
+            (λ two. absurd (no_ticket right.stage idle_right n (subst (λ (view : Known C V). HasTicket view.stage n)
+            (sym two) has_j)))
             (at_snoc views right w j at_j))
-            (λ one. absurd (no_ticket right.stage idle_right n (subst (λ (view : Known C V). HasTicket view.stage n) (sym one) has_i)))
+            (λ one. absurd (no_ticket right.stage idle_right n (subst (λ (view : Known C V). HasTicket view.stage n)
+            (sym one) has_i)))
             (at_snoc views right u i at_i);
         lies = ⊎_elim
             (λ home. inl (
@@ -116,7 +120,16 @@ module _ {V C Z : Type 0} (passes : ℕ) (stands : V → History C → Type 0) (
                   (λ one. not_served right.stage idle_right t (ap (λ (view : Known C V). view.stage) one ∙ is))
                   (at_snoc views right u j at)),
             ))
-            (λ out. inr (out.0, (out.1.0, out.1.1, out.1.2, at_longer views (right ∷ []) out.1.0 out.1.1 out.1.3, out.1.4)))
+            (λ out. inr (
+              out.0,
+              (
+                out.1.0,
+                out.1.1,
+                out.1.2,
+                at_longer views (right ∷ []) out.1.0 out.1.1 out.1.3,
+                out.1.4,
+              ),
+            ))
             (lies_set stands shape z k.whole s.homes s.views id v left here
             (not_served v.stage idle) (not_served left.stage idle_left) k.lies);
       }
@@ -126,7 +139,8 @@ module _ {V C Z : Type 0} (passes : ℕ) (stands : V → History C → Type 0) (
     pub size : length (voices both) + length (voices rest) ≤ length (voices v) + length (voices w)
     pub each : (k : ℕ) → times k (voices both) + times k (voices rest) ≤ times k (voices v) + times k (voices w)
 
-  pub joins_by : (id other : ℕ) (v w both rest : Known C V) → v.stage ≡ Idle → w.stage ≡ Idle → both.stage ≡ Idle → rest.stage ≡ Idle
+  pub joins_by : (id other : ℕ) (v w both rest : Known C V) → v.stage ≡ Idle → w.stage ≡ Idle → both.stage ≡ Idle
+      → rest.stage ≡ Idle
       → Sums v w both rest
       → ((serving ticket : ℕ) (whole : History C) → ViewOk shape z passes serving ticket whole v
       → ViewOk shape z passes serving ticket whole w
@@ -261,12 +275,25 @@ module _ {V C Z : Type 0} (passes : ℕ) (stands : V → History C → Type 0) (
       ))
 
   -- a note or a pass is taken in
-  pub meets : (id other : ℕ) (v w : Known C V) → v.stage ≡ Idle → w.stage ≡ Idle → Joins Rule id v other w (met v w) spent
+  pub meets : (id other : ℕ) (v w : Known C V) → v.stage ≡ Idle → w.stage ≡ Idle
+      → Joins Rule id v other w (met v w) spent
   meets id other v w idle idle_w =
       joins_by id other v w (met v w) spent idle idle_w idle refl
       (record {
-        size = omega (arith, length-append v.numbers w.numbers, length-append v.numbers v.brought, length-append w.numbers w.brought);
-        each = λ n. omega (arith, times-append n v.numbers w.numbers, times-append n v.numbers v.brought, times-append n w.numbers w.brought);
+        size = omega (
+          arith,
+          length-append v.numbers w.numbers,
+          length-append v.numbers v.brought,
+          length-append
+              w.numbers w.brought,
+        );
+        each = λ n. omega (
+          arith,
+          times-append n v.numbers w.numbers,
+          times-append n v.numbers v.brought,
+          times-append n
+              w.numbers w.brought,
+        );
       })
       (λ serving ticket whole was other_was. (
         record {
@@ -276,7 +303,13 @@ module _ {V C Z : Type 0} (passes : ℕ) (stands : V → History C → Type 0) (
           hears = other_was.sees;
           below = λ n speaks. dite (dec_le 1 (times n v.numbers))
               (λ one. was.below n (omega (arith, one, times-append n v.numbers v.brought)))
-              (λ none_one. other_was.below n (omega (arith, none_one, speaks, times-append n v.numbers w.numbers, times-append n w.numbers w.brought)));
+              (λ none_one. other_was.below n (omega (
+                arith,
+                none_one,
+                speaks,
+                times-append n v.numbers w.numbers,
+                times-append n w.numbers w.brought,
+              )));
           own_seen = was.own_seen;
           own_told = other_was.own_seen;
         },
@@ -293,11 +326,13 @@ module _ {V C Z : Type 0} (passes : ℕ) (stands : V → History C → Type 0) (
 
   -- the lock is opened
 
-  opened : (value : V) → (id : ℕ) (view : Known C V) → get_elem? (maker {C = C} value passes ∷ []) id ≡ some view → maker value passes ≡ view
+  opened : (value : V) → (id : ℕ) (view : Known C V) → get_elem? (maker {C = C} value passes ∷ []) id ≡ some view
+      → maker value passes ≡ view
   opened value zero view e = some-injective (maker value passes) view e
   opened value (suc id) view e = absurd (some-ne-none view (sym e))
 
-  opened_at : (value : V) → (id : ℕ) (view : Known C V) → get_elem? (maker {C = C} value passes ∷ []) id ≡ some view → id ≡ 0
+  opened_at : (value : V) → (id : ℕ) (view : Known C V) → get_elem? (maker {C = C} value passes ∷ []) id ≡ some view
+      → id ≡ 0
   opened_at value zero view e = refl
   opened_at value (suc id) view e = absurd (some-ne-none view (sym e))
 
@@ -305,7 +340,8 @@ module _ {V C Z : Type 0} (passes : ℕ) (stands : V → History C → Type 0) (
       → Rule (opening (0 ∷ 0 ∷ []) (held ∷ []) (maker held.value passes))
   opens held stand shaped few =
       let first : Known C V = maker held.value passes in
-      let all : (n : ℕ) → times n (voices first) ≡ times n (from 0 passes) = λ n. ap (times n) (append-nil (from 0 passes)) in
+      let all : (n : ℕ) → times n (voices first) ≡ times n (from 0 passes) =
+      λ n. ap (times n) (append-nil (from 0 passes)) in
       record {
         serving = 0;
         ticket = 0;
@@ -323,7 +359,8 @@ module _ {V C Z : Type 0} (passes : ℕ) (stands : V → History C → Type 0) (
         };
         each = λ id view e. subst (ViewOk shape z passes 0 0 []) (opened held.value id view e)
             (record {
-              about = λ v is. let same : held.value ≡ v = ap (λ (o : Option V). unwrap_or o held.value) is in ap shape (sym same) ∙ shaped;
+              about = λ v is. let same : held.value ≡ v = ap (λ (o : Option V). unwrap_or o held.value) is in
+                  ap shape (sym same) ∙ shaped;
               worn = omega arith;
               sees = begins_self [];
               hears = begins_self [];

@@ -93,7 +93,8 @@ all_one : {A : Type 0} (P : A → Type 0) (x : A) → P x → All P (x ∷ [])
 all_one P x holds zero d le = holds
 all_one P x holds (suc i) d le = absurd (omega (arith, le))
 
-at_stage : {C : Type 0} (stage : Stage) (numbers brought : List ℕ) (seen : History C) (serving ticket : ℕ) (whole : History C)
+at_stage : {C : Type 0} (stage : Stage) (numbers brought : List ℕ) (seen : History C) (serving ticket : ℕ)
+    (whole : History C)
     → StageOk serving ticket whole seen numbers stage → is_cleared stage ≤ length (numbers ++ brought)
 at_stage Idle numbers brought seen serving ticket whole ok = omega arith
 at_stage Cleared numbers brought seen serving ticket whole ok = omega (arith, ok, length-append numbers brought)
@@ -103,7 +104,8 @@ at_stage (AtTurn t) numbers brought seen serving ticket whole ok = omega arith
 -- who may draw speaks for some caller
 cleared_speaks : {C V : Type 0} (serving ticket : ℕ) (whole : History C) (view : Known C V)
     → StageOk serving ticket whole view.seen view.numbers view.stage → is_cleared view.stage ≤ length (voices view)
-cleared_speaks serving ticket whole view ok = at_stage view.stage view.numbers view.brought view.seen serving ticket whole ok
+cleared_speaks serving ticket whole view ok = at_stage view.stage view.numbers view.brought view.seen serving ticket
+    whole ok
 
 pub lies_set : {C V Z : Type 0} (stands : V → History C → Type 0) (shape : V → Z) (z : Z) (whole : History C)
     (homes : List (maybe.Option (Held V C))) (views : List (Known C V)) (id : ℕ) (v w : Known C V)
@@ -187,7 +189,8 @@ module _ {V C Z : Type 0} (passes : ℕ) (stands : V → History C → Type 0) (
       let voiced_length : length (voices w) ≡ length (voices v) = ap length voiced in
       let most : sum_by (λ (view : Known C V). is_cleared view.stage) (set s.views id w)
       ≤ sum_by (λ (view : Known C V). length (voices view)) (set s.views id w) =
-      sum_le (λ (view : Known C V). is_cleared view.stage) (λ (view : Known C V). length (voices view)) (set s.views id w)
+      sum_le (λ (view : Known C V). is_cleared view.stage) (λ (view : Known C V). length (voices view))
+      (set s.views id w)
       (λ i u at. each_set (λ (view : Known C V). is_cleared view.stage ≤ length (voices view)) s.views id w
       (λ j x else found. cleared_speaks k.serving k.ticket k.whole x (k.each j x found).stage)
       (let e : is_cleared w.stage ≡ 1 = ap is_cleared cleared in
@@ -212,9 +215,14 @@ module _ {V C Z : Type 0} (passes : ℕ) (stands : V → History C → Type 0) (
           → ViewOk shape z passes k.serving k.ticket k.whole me.0
       ok s k here = k.each id me.0 here
 
-      clear_worn : (s : State (Held V C) (Known C V)) (k : Rule s) → get_elem? s.views id ≡ some me.0 → 2 ^ 62 ≤ k.ticket
+      clear_worn : (s : State (Held V C) (Known C V)) (k : Rule s) → get_elem? s.views id ≡ some me.0
+          → 2 ^ 62 ≤ k.ticket
           → (w : Known C V) × (a : Act (Held V C)) × Valid s.homes me.1 a
-          × Rule (record { words = k.serving ∷ k.ticket ∷ []; homes = homes_after s.homes me.1 a; views = slice_set s.views id w })
+          × Rule (record {
+            words = k.serving ∷ k.ticket ∷ [];
+            homes = homes_after s.homes me.1 a;
+            views = slice_set s.views id w;
+          })
           × clears me k.ticket (w, carried_after me.1 a)
       clear_worn s k here worn =
           let w : Known C V = record me.0 { worn = k.ticket } in
@@ -222,7 +230,8 @@ module _ {V C Z : Type 0} (passes : ℕ) (stands : V → History C → Type 0) (
             w,
             keeps,
             tt,
-            quiet_step s k id me.0 w here (not_served me.0.stage idle) (not_served me.0.stage idle) (λ n has. has) (λ n has. has)
+            quiet_step s k id me.0 w here (not_served me.0.stage idle) (not_served me.0.stage idle) (λ n has. has)
+                (λ n has. has)
                 (counts_set passes k.ticket k.ticket s.views id me.0 w here k.counts
                 (let sums = sum_set (λ (view : Known C V). is_cleared view.stage) s.views id me.0 w here in
                 omega (arith, sums, k.counts.room)) (omega arith) (λ n. omega arith))
@@ -239,9 +248,14 @@ module _ {V C Z : Type 0} (passes : ℕ) (stands : V → History C → Type 0) (
             ((λ few. absurd (omega (arith, few, worn))), (λ _. refl), refl, was.worn),
           )
 
-      clear_fresh : (s : State (Held V C) (Known C V)) (k : Rule s) → get_elem? s.views id ≡ some me.0 → k.ticket < 2 ^ 62
+      clear_fresh : (s : State (Held V C) (Known C V)) (k : Rule s) → get_elem? s.views id ≡ some me.0
+          → k.ticket < 2 ^ 62
           → (w : Known C V) × (a : Act (Held V C)) × Valid s.homes me.1 a
-          × Rule (record { words = k.serving ∷ k.ticket ∷ []; homes = homes_after s.homes me.1 a; views = slice_set s.views id w })
+          × Rule (record {
+            words = k.serving ∷ k.ticket ∷ [];
+            homes = homes_after s.homes me.1 a;
+            views = slice_set s.views id w;
+          })
           × clears me k.ticket (w, carried_after me.1 a)
       clear_fresh s k here few =
           let w : Known C V = record me.0 { stage = Cleared } in
@@ -292,12 +306,17 @@ module _ {V C Z : Type 0} (passes : ℕ) (stands : V → History C → Type 0) (
       → StageOk serving ticket whole seen numbers stage → HasTicket stage n → (serving ≤ n) × (n < ticket)
   drawn_stage serving ticket whole seen numbers Idle n ok has = absurd has
   drawn_stage serving ticket whole seen numbers Cleared n ok has = absurd has
-  drawn_stage serving ticket whole seen numbers (Waiting t) n ok has = (omega (arith, ok.0, has), omega (arith, ok.1, has))
-  drawn_stage serving ticket whole seen numbers (AtTurn t) n ok has = (omega (arith, ok.0, has), omega (arith, ok.1, has))
+  drawn_stage serving ticket whole seen numbers (Waiting t) n ok has =
+      (omega (arith, ok.0, has), omega (arith, ok.1, has))
+  drawn_stage serving ticket whole seen numbers (AtTurn t) n ok has = (
+    omega (arith, ok.0, has),
+    omega (arith, ok.1, has),
+  )
 
   was_drawn : (s : State (Held V C) (Known C V)) (k : Rule s) (j n : ℕ) (u : Known C V)
       → get_elem? s.views j ≡ some u → HasTicket u.stage n → (k.serving ≤ n) × (n < k.ticket)
-  was_drawn s k j n u at has = drawn_stage k.serving k.ticket k.whole u.seen u.numbers u.stage n (k.each j u at).stage has
+  was_drawn s k j n u at has = drawn_stage k.serving k.ticket k.whole u.seen u.numbers u.stage n (k.each j u at).stage
+      has
 
   pub draws_allowed : (slots id : ℕ) (me : Seated C V) → me.0.stage ≡ Cleared
       → Allows Rule slots id me 1 (λ n. (n + 1) % 2 ^ 64) (draws me)
@@ -305,7 +324,11 @@ module _ {V C Z : Type 0} (passes : ℕ) (stands : V → History C → Type 0) (
     where
       step : (s : State (Held V C) (Known C V)) (k : Rule s) → get_elem? s.views id ≡ some me.0
           → (w : Known C V) × (a : Act (Held V C)) × Valid s.homes me.1 a
-          × Rule (record { words = k.serving ∷ (k.ticket + 1) % 2 ^ 64 ∷ []; homes = homes_after s.homes me.1 a; views = slice_set s.views id w })
+          × Rule (record {
+            words = k.serving ∷ (k.ticket + 1) % 2 ^ 64 ∷ [];
+            homes = homes_after s.homes me.1 a;
+            views = slice_set s.views id w;
+          })
           × draws me k.ticket (w, carried_after me.1 a)
       step s k here =
           let w : Known C V = record me.0 { stage = Waiting k.ticket } in
@@ -315,7 +338,8 @@ module _ {V C Z : Type 0} (passes : ℕ) (stands : V → History C → Type 0) (
           let sums = sum_set (λ (view : Known C V). is_cleared view.stage) s.views id me.0 w here in
           let small : k.ticket + 1 < 2 ^ 64 = omega (arith, k.counts.room, k.few, one, may) in
           let speaks : 0 < length me.0.numbers =
-          subst (λ (stage : Stage). StageOk k.serving k.ticket k.whole me.0.seen me.0.numbers stage) cleared was.stage in (
+          subst (λ (stage : Stage). StageOk k.serving k.ticket k.whole me.0.seen me.0.numbers stage) cleared was.stage
+          in (
             w,
             keeps,
             tt,
@@ -371,7 +395,11 @@ module _ {V C Z : Type 0} (passes : ℕ) (stands : V → History C → Type 0) (
 
       missed : (s : State (Held V C) (Known C V)) (k : Rule s) → get_elem? s.views id ≡ some me.0 → k.serving ≢ t
           → (w : Known C V) × (a : Act (Held V C)) × Valid s.homes me.1 a
-          × Rule (record { words = k.serving ∷ k.ticket ∷ []; homes = homes_after s.homes me.1 a; views = slice_set s.views id w })
+          × Rule (record {
+            words = k.serving ∷ k.ticket ∷ [];
+            homes = homes_after s.homes me.1 a;
+            views = slice_set s.views id w;
+          })
           × looks stands shape fits me k.serving (w, carried_after me.1 a)
       missed s k here ne =
           let not_served : (x : ℕ) → me.0.stage ≡ AtTurn x → ⊥ = λ x is.
@@ -406,20 +434,26 @@ module _ {V C Z : Type 0} (passes : ℕ) (stands : V → History C → Type 0) (
                   (subst (λ (h : History C). IsLegal (fits z) h) was.sees.1 k.legal),
             )),
             omega (arith, long, k.long, k.behind, k.counts.room, k.few),
-            (λ n speaks. none_more n me.0.seen more k.whole ([], was.sees.1 ∙ sym (append-nil (me.0.seen ++ more))) (was.own_seen n speaks)),
+            (λ n speaks. none_more n me.0.seen more k.whole ([], was.sees.1 ∙ sym (append-nil (me.0.seen ++ more)))
+                (was.own_seen n speaks)),
           )
 
       serve : (s : State (Held V C) (Known C V)) (k : Rule s) → get_elem? s.views id ≡ some me.0 → k.serving ≡ t
           → (held : Held V C) → s.homes ≡ some held ∷ [] → stands held.value k.whole → shape held.value ≡ z
           → (w : Known C V) × (a : Act (Held V C)) × Valid s.homes me.1 a
-          × Rule (record { words = k.serving ∷ k.ticket ∷ []; homes = homes_after s.homes me.1 a; views = slice_set s.views id w })
+          × Rule (record {
+            words = k.serving ∷ k.ticket ∷ [];
+            homes = homes_after s.homes me.1 a;
+            views = slice_set s.views id w;
+          })
           × looks stands shape fits me k.serving (w, carried_after me.1 a)
       serve s k here is held home stand shaped =
           let was = k.each id me.0 here in
           let more : History C = was.sees.0 in
           let w : Known C V = record me.0 { stage = AtTurn t; seen = me.0.seen ++ more } in
           let waits : (k.serving ≤ t) × (t < k.ticket) × (0 < length me.0.numbers) =
-          subst (λ (stage : Stage). StageOk k.serving k.ticket k.whole me.0.seen me.0.numbers stage) waiting was.stage in
+          subst (λ (stage : Stage). StageOk k.serving k.ticket k.whole me.0.seen me.0.numbers stage) waiting
+          was.stage in
           let zero_before : is_cleared me.0.stage ≡ 0 = ap is_cleared waiting in (
             w,
             takes 0 held,
@@ -468,7 +502,11 @@ module _ {V C Z : Type 0} (passes : ℕ) (stands : V → History C → Type 0) (
 
       served : (s : State (Held V C) (Known C V)) (k : Rule s) → get_elem? s.views id ≡ some me.0 → k.serving ≡ t
           → (w : Known C V) × (a : Act (Held V C)) × Valid s.homes me.1 a
-          × Rule (record { words = k.serving ∷ k.ticket ∷ []; homes = homes_after s.homes me.1 a; views = slice_set s.views id w })
+          × Rule (record {
+            words = k.serving ∷ k.ticket ∷ [];
+            homes = homes_after s.homes me.1 a;
+            views = slice_set s.views id w;
+          })
           × looks stands shape fits me k.serving (w, carried_after me.1 a)
       served s k here is =
           ⊎_elim
@@ -509,11 +547,14 @@ module _ {V C Z : Type 0} (passes : ℕ) (stands : V → History C → Type 0) (
     sees = begins_next view.seen whole (by, call) was.sees;
     hears = begins_next view.told whole (by, call) was.hears;
     below = was.below;
-    own_seen = λ n speaks. own_next n by call whole (other n (omega (arith, speaks, times-append n view.numbers view.brought)))
+    own_seen = λ n speaks. own_next n by call whole (other n
+        (omega (arith, speaks, times-append n view.numbers view.brought)))
         ∙ was.own_seen n speaks;
-    own_told = λ n speaks. own_next n by call whole (other n (omega (arith, speaks, times-append n view.numbers view.brought)))
+    own_told = λ n speaks. own_next n by call whole (other n
+        (omega (arith, speaks, times-append n view.numbers view.brought)))
         ∙ was.own_told n speaks;
-    stage = passed_stage serving ticket whole (whole ++ (by, call) ∷ []) view.seen view.numbers view.stage was.stage apart;
+    stage = passed_stage serving ticket whole (whole ++ (by, call) ∷ []) view.seen view.numbers view.stage was.stage
+        apart;
   }
     where
       other : (n : ℕ) → 0 < times n (voices view) → by ≢ n
@@ -540,11 +581,13 @@ module _ {V C Z : Type 0} (passes : ℕ) (stands : V → History C → Type 0) (
 
   pub advances_allowed : (slots id t by : ℕ) (call : C) (held : Held V C) (me : Seated C V) → Ready me t by call held
       → Allows Rule slots id me 0 (λ n. (n + 1) % 2 ^ 64) (λ _. advances me)
-  advances_allowed slots id t by call held me ready = by_words slots id 0 me (λ n. (n + 1) % 2 ^ 64) (λ _. advances me) step
+  advances_allowed slots id t by call held me ready = by_words slots id 0 me (λ n. (n + 1) % 2 ^ 64) (λ _. advances me)
+      step
     where
       tells : advances me (ended me by call, rest me.1)
       tells lent k c is said =
-          let held_is : held ≡ lent = ap (λ (l : List (ℕ × Held V C)). (get_or l 0 (0, held)).1) (sym ready.lent ∙ is) in
+          let held_is : held ≡ lent = ap (λ (l : List (ℕ × Held V C)). (get_or l 0 (0, held)).1)
+          (sym ready.lent ∙ is) in
           let entry : ◌≡◌ {A = ℕ × C} (by, call) (k, c) = ap (λ (o : Option (ℕ × C)). unwrap_or o (by, call))
           (sym ready.last ∙ ap (λ (h : Held V C). h.last) held_is ∙ said) in
           ap₂ (λ (v : Known C V) (l : List (ℕ × Held V C)). (v, l))
@@ -553,14 +596,19 @@ module _ {V C Z : Type 0} (passes : ℕ) (stands : V → History C → Type 0) (
 
       step : (s : State (Held V C) (Known C V)) (k : Rule s) → get_elem? s.views id ≡ some me.0
           → (w : Known C V) × (a : Act (Held V C)) × Valid s.homes me.1 a
-          × Rule (record { words = (k.serving + 1) % 2 ^ 64 ∷ k.ticket ∷ []; homes = homes_after s.homes me.1 a; views = slice_set s.views id w })
+          × Rule (record {
+            words = (k.serving + 1) % 2 ^ 64 ∷ k.ticket ∷ [];
+            homes = homes_after s.homes me.1 a;
+            views = slice_set s.views id w;
+          })
           × advances me (w, carried_after me.1 a)
       step s k here =
           let e : History C = (by, call) ∷ [] in
           let w : Known C V = ended me by call in
           let was = k.each id me.0 here in
           let turn : (t ≡ k.serving) × (t < k.ticket) × (0 < length me.0.numbers) × (me.0.seen ≡ k.whole) =
-          subst (λ (stage : Stage). StageOk k.serving k.ticket k.whole me.0.seen me.0.numbers stage) ready.turn was.stage in
+          subst (λ (stage : Stage). StageOk k.serving k.ticket k.whole me.0.seen me.0.numbers stage) ready.turn
+          was.stage in
           let grown : me.0.seen ++ e ≡ k.whole ++ e = ap (λ (h : History C). h ++ e) turn.3 in
           let mine : HasTicket me.0.stage k.serving =
           subst (λ (stage : Stage). HasTicket stage k.serving) (sym ready.turn) turn.0 in
@@ -591,7 +639,8 @@ module _ {V C Z : Type 0} (passes : ℕ) (stands : V → History C → Type 0) (
               each = each_set (ViewOk shape z passes (k.serving + 1) k.ticket (k.whole ++ e)) s.views id w
                   (λ j u else at. passed k.serving k.ticket by k.whole call u (k.each j u at)
                   (λ has. else (k.apart j id u me.0 k.serving at here has mine))
-                  (let two = two_in_sum (λ (view : Known C V). times by (voices view)) s.views j id u me.0 else at here in
+                  (let two = two_in_sum (λ (view : Known C V). times by (voices view)) s.views j id u me.0 else at
+                  here in
                   omega (arith, two, k.counts.once by, voiced, ready.speaks)))
                   (record {
                     about = was.about;
@@ -613,12 +662,14 @@ module _ {V C Z : Type 0} (passes : ℕ) (stands : V → History C → Type 0) (
                   (λ home. absurd (home.4 id me.0 t here ready.turn))
                   (λ out. inl (
                     held,
-                    ap (λ (hs : List (maybe.Option (Held V C))). put_back hs me.1) out.0 ∙ ap (put_back (none ∷ [])) ready.lent,
+                    ap (λ (hs : List (maybe.Option (Held V C))). put_back hs me.1) out.0
+                        ∙ ap (put_back (none ∷ [])) ready.lent,
                     subst (stands held.value) grown ready.stands_now,
                     ready.shaped ∙ shape_is,
                     quiet_set s.views id w
                         (λ j u x else at is.
-                        let theirs = subst (λ (stage : Stage). StageOk k.serving k.ticket k.whole u.seen u.numbers stage) is
+                        let theirs = subst (λ (stage : Stage). StageOk k.serving k.ticket k.whole u.seen u.numbers
+                        stage) is
                         (k.each j u at).stage in
                         else (k.apart j id u me.0 k.serving at here
                         (subst (λ (stage : Stage). HasTicket stage k.serving) (sym is) theirs.0) mine))
@@ -637,7 +688,11 @@ module _ {V C Z : Type 0} (passes : ℕ) (stands : V → History C → Type 0) (
     where
       step : (s : State (Held V C) (Known C V)) (k : Rule s) → get_elem? s.views id ≡ some me.0
           → (w : Known C V) × (a : Act (Held V C)) × Valid s.homes me.1 a
-          × Rule (record { words = k.serving ∷ k.ticket ∷ []; homes = homes_after s.homes me.1 a; views = slice_set s.views id w })
+          × Rule (record {
+            words = k.serving ∷ k.ticket ∷ [];
+            homes = homes_after s.homes me.1 a;
+            views = slice_set s.views id w;
+          })
           × settles shape fits me (w, carried_after me.1 a)
       step s k here =
           let was = k.each id me.0 here in
@@ -654,7 +709,8 @@ module _ {V C Z : Type 0} (passes : ℕ) (stands : V → History C → Type 0) (
             w,
             keeps,
             tt,
-            quiet_step s k id me.0 w here (not_served me.0.stage idle) (not_served me.0.stage idle) (λ n has. has) (λ n has. has)
+            quiet_step s k id me.0 w here (not_served me.0.stage idle) (not_served me.0.stage idle) (λ n has. has)
+                (λ n has. has)
                 (counts_set passes k.ticket k.ticket s.views id me.0 w here k.counts
                 (let sums = sum_set (λ (view : Known C V). is_cleared view.stage) s.views id me.0 w here in
                 omega (arith, sums, k.counts.room)) (omega (arith, voiced_length))
@@ -664,12 +720,15 @@ module _ {V C Z : Type 0} (passes : ℕ) (stands : V → History C → Type 0) (
                   worn = was.worn;
                   sees = found.2;
                   hears = (k.whole, refl);
-                  below = λ n speaks. was.below n (let e : times n (voices w) ≡ times n (voices me.0) = ap (times n) voiced in omega (arith, e, speaks));
+                  below = λ n speaks. was.below n (let e : times n (voices w) ≡ times n (voices me.0) =
+                      ap (times n) voiced in omega (arith, e, speaks));
                   own_seen = λ n speaks. dite (dec_le 1 (times n me.0.numbers))
-                      (λ seen. (between n me.0.seen now k.whole (more, refl) found.2 (was.own_seen n (omega (arith, seen)))).1)
+                      (λ seen. (between n me.0.seen now k.whole (more, refl) found.2
+                      (was.own_seen n (omega (arith, seen)))).1)
                       (λ other. (told n (omega (arith, other, speaks, times-append n me.0.numbers me.0.brought))).1);
                   own_told = λ n speaks. absurd (omega (arith, speaks));
-                  stage = subst (λ (stage : Stage). StageOk k.serving k.ticket k.whole now (voices me.0) stage) (sym idle) tt;
+                  stage = subst (λ (stage : Stage). StageOk k.serving k.ticket k.whole now (voices me.0) stage)
+                      (sym idle) tt;
                 }),
             (
               more,

@@ -38,7 +38,8 @@ module _ {V C Z : Type 0} (stands : V → History C → Type 0) (shape : V → Z
       → old.0.about ≡ Some value → 0 < times me old.0.numbers → IsTrue (fits (shape value) old.0.seen me call)
       → IsTrue (fits (shape value) (old.0.seen ++ took.1) me call)
   fits_now still old now t took value me call about speaks fitting =
-      fits_on {fits = fits (shape value)} (still (shape value)) old.0.seen took.1 me call fitting (took.4 value about).1 (took.6 me speaks)
+      fits_on {fits = fits (shape value)} (still (shape value)) old.0.seen took.1 me call fitting (took.4 value about).1
+      (took.6 me speaks)
 
   -- what the play of a lent object leaves
   pub record Played (held played : Held V C) (h : History C) (me : ℕ) (call : C) : Type 0 where
@@ -54,7 +55,8 @@ module _ {V C Z : Type 0} (stands : V → History C → Type 0) (shape : V → Z
       → Played took.0 played (old.seen ++ took.1) me call
       → Ready passes stands shape fits z (now.0, (0, played) ∷ rest now.1) t me call played
   ready passes z old now t took me call played value about speaks none_brought fitting does =
-      let is : now.0 ≡ record old { stage = AtTurn t; seen = old.seen ++ took.1 } = ap (λ (s : Seated C V). s.0) took.2 in
+      let is : now.0 ≡ record old { stage = AtTurn t; seen = old.seen ++ took.1 } =
+      ap (λ (s : Seated C V). s.0) took.2 in
       let seen : now.0.seen ≡ old.seen ++ took.1 = ap (λ (v : Known C V). v.seen) is in
       record {
         turn = ap (λ (v : Known C V). v.stage) is;
@@ -76,10 +78,15 @@ module _ {V C Z : Type 0} (stands : V → History C → Type 0) (shape : V → Z
       → record now.0 { stage = Idle; seen = now.0.seen ++ (me, call) ∷ [] }
       ≡ record old { seen = (old.seen ++ took.1) ++ (me, call) ∷ [] }
   ended_as old now t took me call idle =
-      let is : now.0 ≡ record old { stage = AtTurn t; seen = old.seen ++ took.1 } = ap (λ (s : Seated C V). s.0) took.2 in
+      let is : now.0 ≡ record old { stage = AtTurn t; seen = old.seen ++ took.1 } =
+      ap (λ (s : Seated C V). s.0) took.2 in
       let after : Known C V → Known C V = λ v. record v { stage = Idle; seen = v.seen ++ (me, call) ∷ [] } in
       ap after is
-      ∙ ap (λ (stage : Stage). let v : Known C V = record old { stage = stage; seen = (old.seen ++ took.1) ++ (me, call) ∷ [] } in v) (sym idle)
+      ∙ ap (λ (stage : Stage). let v : Known C V = record old {
+        stage = stage;
+        seen =
+            (old.seen ++ took.1) ++ (me, call) ∷ [];
+      } in v) (sym idle)
 
 -- the law of an object's calls: what fits also fits after a fitting entry of another caller
 abbrev pub StillFits : {C Z : Type 0} → (Z → History C → ℕ → C → Bool) → Type 0
@@ -98,7 +105,8 @@ module _ {V C A R Z : Type 0} (stands : V → History C → Type 0) (shape : V �
     pub about : (value : V) × (old.about ≡ Some value)
     pub fitting : (value : V) → old.about ≡ Some value → IsTrue (fits (shape value) old.seen me call)
 
-  module _ (still : StillFits fits) (old : Known C V) (start now : Seated C V) (t me : ℕ) (call : C) (s : Served old start now t me call) where
+  module _ (still : StillFits fits) (old : Known C V) (start now : Seated C V) (t me : ℕ) (call : C)
+      (s : Served old start now t me call) where
     abbrev at : Took stands shape fits t (record old { stage = Waiting t }, []) now
     at = took_from stands shape fits old start now t s.drawn s.was_served
 
@@ -108,7 +116,8 @@ module _ {V C A R Z : Type 0} (stands : V → History C → Type 0) (shape : V �
 
     fits_before : (value : V) → old.about ≡ Some value → IsTrue (fits (shape value) before me call)
     fits_before value about =
-        fits_now stands shape fits still (record old { stage = Waiting t }, []) now t at value me call about s.speaks (s.fitting value about)
+        fits_now stands shape fits still (record old { stage = Waiting t }, []) now t at value me call about s.speaks
+        (s.fitting value about)
 
     pub to_play : (held : Held V C) → now.1 ≡ (0, held) ∷ rest now.1
         → (h : History C) × stands held.value h × (length h < 2 ^ 63) × IsTrue (fits (shape held.value) h me call)
@@ -162,7 +171,8 @@ module _ {V C A R Z : Type 0} (stands : V → History C → Type 0) (shape : V �
           ap (λ (x : Seated C V). x.0) ends ∙ ended_as stands shape fits old now t at me call s.idle,
           at.6 me s.speaks,
           (λ value about.
-              let shaped : shape held.value ≡ shape value = ap (λ (y : Held V C). shape y.value) (sym is) ∙ (at.4 value about).0 in (
+              let shaped : shape held.value ≡ shape value = ap (λ (y : Held V C). shape y.value) (sym is)
+              ∙ (at.4 value about).0 in (
                 legal_snoc (fits (shape value)) before me call (at.4 value about).1 (fits_before value about),
                 subst (λ (z : Z). reply ≡ answer z before me call) shaped did.1,
                 subst (λ (z : Z). after ≡ filled z before me call room) shaped did.2,

@@ -15,7 +15,8 @@ use Rattle.upstream_relay.specs.Halts.{halt_of_source}
 use Rattle.upstream_relay.specs.Standing.{halt_at, claim_at}
 use Rattle.upstream_relay.specs.Called.{IsHoldingBy, IsHeldAt}
 
-pub held_by : (me : ℕ) (stage : Stage) (h : History RingCall) → IfNone (halt_at stage) (IsHoldingBy me (claim_at stage) h)
+pub held_by : (me : ℕ) (stage : Stage) (h : History RingCall) → IfNone (halt_at stage)
+    (IsHoldingBy me (claim_at stage) h)
     → IsHeldAt me stage h
 held_by me (Head head cutter) h holds = tt
 held_by me (Body session) h holds = by_halt session.halt holds

@@ -95,7 +95,8 @@ by_source (sources.BadChunk place) = refl
 by_source (sources.Worn turns) = refl
 by_source sources.Memory = refl
 
-no_refusal : (halt : Option SourceHalt) (why : Refusal) → option_map halt_of_source halt ≡ Some (halt_of_refusal why) → ⊥
+no_refusal : (halt : Option SourceHalt) (why : Refusal) → option_map halt_of_source halt ≡ Some (halt_of_refusal why)
+    → ⊥
 no_refusal None why is = absurd cc
 no_refusal (Some halt) why is =
     let same : halt_of_source halt ≡ halt_of_refusal why = cc in
@@ -188,12 +189,14 @@ done_ended mount me (Halted halt) bytes steps at chunked x says is =
     let same : halt ≡ Done = cc in
     absurd (subst (IsHaltedBy mount x.answer steps) same x.at_stage)
 
-pub bad_chunk : (mount me : ℕ) (stage : Stage) (bytes : List ℕ) (steps : List Step) (at : ℕ) (chunked : Bool) (place : ℕ)
+pub bad_chunk : (mount me : ℕ) (stage : Stage) (bytes : List ℕ) (steps : List Step) (at : ℕ) (chunked : Bool)
+    (place : ℕ)
     → StandsAt mount me stage bytes steps → IsAnswer bytes (Accepted at chunked) → halt_at stage ≡ Some (BadChunk place)
     → IsBadAt (drop at bytes) place
 bad_chunk mount me (Head head cutter) bytes steps at chunked place x says is = absurd cc
 bad_chunk mount me (Body session) bytes steps at chunked place x says is =
-    bad_at_fault session.halt session.chunks session.cutter.value (drop at bytes) place (source_bad session.halt place is)
+    bad_at_fault session.halt session.chunks session.cutter.value (drop at bytes) place
+    (source_bad session.halt place is)
     (body_said mount me session bytes steps at chunked x says).0
 bad_chunk mount me (Halted halt) bytes steps at chunked place x says is =
     let same : halt ≡ BadChunk place = cc in

@@ -44,9 +44,11 @@ behind_claim : (refused : Bool) (mount claim at : ℕ) (chunked : Bool) (bytes :
     → IsDone refused (owed mount (heads.Accepted at chunked) bytes) (step ∷ steps)
     → Follows refused mount claim (frames_of chunked (drop at bytes)) steps
 behind_claim false mount claim at chunked bytes step steps is made =
-    subst (λ (a : Answer). IsMade (after_claim mount (frames_of chunked (drop at bytes)) a) steps) (ap answer_of is) made.1
+    subst (λ (a : Answer). IsMade (after_claim mount (frames_of chunked (drop at bytes)) a) steps) (ap answer_of is)
+    made.1
 behind_claim true mount claim at chunked bytes step steps is made =
-    subst (λ (a : Answer). IsBegun (after_claim mount (frames_of chunked (drop at bytes)) a) steps) (ap answer_of is) made.1
+    subst (λ (a : Answer). IsBegun (after_claim mount (frames_of chunked (drop at bytes)) a) steps) (ap answer_of is)
+    made.1
 
 -- ---- a claim that was given just now
 
@@ -66,7 +68,8 @@ body_on refused mount claim at chunked bytes more (step ∷ steps) later within 
     with_claim refused mount claim at chunked (bytes ++ more) step (steps ++ later) claimed
     (subst (λ (fs : List (List ℕ)). Follows refused mount claim fs (steps ++ later))
     (sym (frames_on at chunked bytes more within))
-    (given_on refused mount claim (frames_of chunked (drop at bytes)) (completed chunked (drop at bytes) more) steps later
+    (given_on refused mount claim (frames_of chunked (drop at bytes)) (completed chunked (drop at bytes) more) steps
+    later
     (behind_claim false mount claim at chunked bytes step steps claimed made) follows))
 
 -- a relay that was halted within the body makes no more calls; these frames are none where its body is over

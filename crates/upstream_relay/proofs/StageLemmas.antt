@@ -1,8 +1,8 @@
 -- Where a relay stands after more bytes.
-use Rattle.std.proofs.Common.{◌≡◌, ◌≢◌, ◌≤◌, ℕ, Bool, true, false, List, [], ◌∷◌, ◌++◌, take, drop, length, append_assoc, refl, sym, ap, subst, ◌∙◌, inl, inr, arith, Option, None, Some}
+use Rattle.std.proofs.Common.{◌≡◌, ◌≢◌, ◌≤◌, ℕ, Bool, true, false, List, [], ◌∷◌, ◌++◌, drop, length, refl, sym, ap, subst, ◌∙◌, inl, inr, arith, Option, None, Some}
 use Rattle.std.specs.Prelude.{IfSome}
 use Rattle.std.proofs.lemmas.Bool.{cases_Bool}
-use Rattle.std.proofs.lemmas.List.{drop-append-le, append-nil, drop_all, take-append-drop}
+use Rattle.std.proofs.lemmas.List.{drop-append-le, append-nil, drop_all}
 use Rattle.turn_log.specs.History.{History}
 use Rattle.turn_log.specs.Heard.{Heard, HeardFirst}
 use Rattle.turn_log.proofs.HeardLaws.{heard_none, heard_both}
@@ -27,7 +27,6 @@ use Rattle.ntrip_client.specs.declared.Answer.TheVariants.{Open, Accepted, Refus
 use Rattle.ntrip_client.specs.declared.answer.Refusal.{Refusal}
 use Rattle.ntrip_client.specs.declared.answer.Refusal.TheVariants as refusals
 use Rattle.ntrip_client.specs.Answer.{IsAnswer}
-use Rattle.ntrip_client.specs.Steps.{BeginsAt}
 use Rattle.ntrip_client.proofs.OnceLemmas.{answer_stays, one_answer}
 use Rattle.upstream_relay.specs.declared.fault.RelayHalt.{RelayHalt}
 use Rattle.upstream_relay.specs.declared.fault.RelayHalt.TheVariants.{BadHead, LongHead, Coding, Table, Status, Taken, Done, BadChunk, Worn, Memory}
@@ -139,21 +138,6 @@ refused_on mount me why halt front rest bytes is all says =
     (subst (λ (l : List ℕ). StandsAt mount me (Halted (halt_of_refusal why)) l []) all
     (refused_stands mount me why (front ++ rest)
     (answer_stays front rest (Refused why) (refused_said (Refused why) why refl) says)))
-
--- an answer that accepts with the last of these bytes
-pub accepted_at : (head : List ℕ) (answer : Answer) (at : ℕ) (chunked : Bool) → answer ≡ Accepted at chunked
-    → BeginsAt (length head) answer → IsAnswer head answer → IsAnswer head (Accepted (length head) chunked)
-accepted_at head answer at chunked is begins says =
-    let place : at ≡ length head = subst (BeginsAt (length head)) is begins in
-    subst (λ (n : ℕ). IsAnswer head (Accepted n chunked)) place (subst (IsAnswer head) is says)
-
--- bytes up to some place, and those behind it
-pub front_and_rest : (old new bytes : List ℕ) (count : ℕ) → new ≡ old ++ take count bytes
-    → new ++ drop count bytes ≡ old ++ bytes
-front_and_rest old new bytes count is =
-    ap (λ (l : List ℕ). l ++ drop count bytes) is
-    ∙ append_assoc old (take count bytes) (drop count bytes)
-    ∙ ap (λ (l : List ℕ). old ++ l) (take-append-drop count bytes)
 
 -- a head that goes on, of which these bytes came
 pub open_stands : (mount me : ℕ) (head : List ℕ) (cutter : _) (bytes : List ℕ) → head ≡ bytes → IsAnswer head Open
@@ -269,7 +253,8 @@ claim_stands mount me chunked s head says goes caller coded stands =
     record {
       answer = Accepted (length head) chunked;
       says = says;
-      made = subst (λ (o : Option SourceHalt). IsDone (is_cut_short o) (owed mount (Accepted (length head) chunked) head)
+      made = subst (λ (o : Option SourceHalt). IsDone (is_cut_short o)
+          (owed mount (Accepted (length head) chunked) head)
           (at_ring mount Claim (answers.Given s.claim) ∷ [])) (sym goes) made;
       at_stage = record {
         at = length head;
@@ -296,7 +281,8 @@ module _ (alone : Bool) (said : History RingCall → ℕ → RingCall → RingAn
   )
 
   -- one call, and then others
-  pub adds_behind : (old mid now : History RingCall) (call : RingCall) (answer : RingAnswer) (Holds : List Step → Type 0)
+  pub adds_behind : (old mid now : History RingCall) (call : RingCall) (answer : RingAnswer)
+      (Holds : List Step → Type 0)
       → Heard alone said old mid me ((call, answer) ∷ [])
       → Adds alone said mid now me mount (λ steps. Holds (at_ring mount call answer ∷ steps))
       → Adds alone said old now me mount Holds
@@ -383,7 +369,8 @@ module _ (alone : Bool) (said : History RingCall → ℕ → RingCall → RingAn
     stands_now = stands (drop x.at_stage.at before) x.at_stage.stands
 
     -- a turn had been refused before
-    was_halted : (halt : Option SourceHalt) → is_cut_short halt ≡ true → IfSome halt (λ (h : SourceHalt). (t ≡ s) × Same)
+    was_halted : (halt : Option SourceHalt) → is_cut_short halt ≡ true
+        → IfSome halt (λ (h : SourceHalt). (t ≡ s) × Same)
         → (t ≡ s) × Same
     was_halted None short same = absurd cc
     was_halted (Some sources.Done) short same = absurd cc
@@ -411,7 +398,8 @@ module _ (alone : Bool) (said : History RingCall → ℕ → RingCall → RingAn
         (pairs_made mount s.claim (completed (is_chunked s) (drop x.at_stage.at before) more) heard.pairs heard.made))
 
     fed_first : is_cut_short s.halt ≡ false → is_cut_short t.halt ≡ true
-        → HeardFirst alone said old now me (publishes s.claim (completed (is_chunked s) (drop x.at_stage.at before) more))
+        → HeardFirst alone said old now me (publishes s.claim (completed (is_chunked s) (drop x.at_stage.at before)
+        more))
         → Fed
     fed_first goes short heard =
         adds_pairs old now heard.pairs _ heard.heard

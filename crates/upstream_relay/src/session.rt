@@ -20,8 +20,7 @@ use ntrip_client::{AnswerHead, push_request};
 use ntrip_head::Version;
 use rtcm_frame::Cutter;
 use std::alloc::{AllocError, Global};
-use std::fmt;
-use std::mem;
+use std::{fmt, mem};
 use turn_log::{Played, TurnFault, Turns};
 
 /// The version of NTRIP that this protocol is.

@@ -23,6 +23,7 @@ loop-at-preserved g c =
       waits = c.take_ready-frames.ensures.waits;
       room = omega (arith, c.take_ready-frames.ensures.room, grown, c.loop-at.invariant.room);
       gave = λ all before.
-          fed_more all piece place count c.loop-at.frames c.take_ready-frames.result old mid c.take_ready-frames.new.cutter
+          fed_more all piece place count c.loop-at.frames c.take_ready-frames.result old mid
+          c.take_ready-frames.new.cutter
           (c.loop-at.invariant.gave all before) c.feed-count.ensures.stands c.take_ready-frames.ensures.gave;
     }

@@ -11,7 +11,8 @@ returns-then-count-eq0 g c =
     let room : 0 < length c.read.new.buf = omega (arith, c.requires) in
     let so_far = read_nothing _ _ _ c.read.new.buf c.in_ok-count.count _ _ c.loop-count.invariant.read none read.0 in
     let counts = read_all _ _ _ _ so_far c.loop-count.invariant.waits (read.1 none room) in
-    subst (λ (junk : ℕ). IfSome (g.R.Read.remaining c.args.input.now) (λ all. (c.loop-count.frames ≡ length (cut all).frames) × (junk ≡ (cut all).junk)))
+    subst (λ (junk : ℕ). IfSome (g.R.Read.remaining c.args.input.now) (λ all.
+    (c.loop-count.frames ≡ length (cut all).frames) × (junk ≡ (cut all).junk)))
     (sym c.junk.ensures)
     counts
 
@@ -25,5 +26,6 @@ loop-count-preserved g c =
       waits = c.count_piece-frames.ensures.waits;
       room = omega (arith, room, read.1, c.loop-count.invariant.room);
       few = omega (arith, fits, c.loop-count.invariant.few);
-      read = read_more _ _ _ _ _ _ _ _ c.loop-count.invariant.read c.in_ok-count.ensures.bytes.0 c.count_piece-frames.ensures.gave;
+      read = read_more _ _ _ _ _ _ _ _ c.loop-count.invariant.read c.in_ok-count.ensures.bytes.0
+          c.count_piece-frames.ensures.gave;
     }

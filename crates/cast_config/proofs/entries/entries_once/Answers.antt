@@ -8,12 +8,14 @@ pub returns-then-differ : goal.returns-then-differ
 unfolding entries_once
 returns-then-differ c =
     let once : each_once (entry_names c.in_ok-entries.entries.items) ≡ true
-    = ap (λ (es : List FilterEntry). each_once (entry_names es)) (sym c.deref.ensures.value) ∙ sym c.differ.ensures ∙ c.if-differ.true in
+    = ap (λ (es : List FilterEntry). each_once (entry_names es)) (sym c.deref.ensures.value) ∙ sym c.differ.ensures
+    ∙ c.if-differ.true in
     rw (c.in_ok-entries.ensures, once) refl
 
 pub returns-else-differ : goal.returns-else-differ
 unfolding entries_once
 returns-else-differ c =
     let twice : each_once (entry_names c.in_ok-entries.entries.items) ≡ false
-    = ap (λ (es : List FilterEntry). each_once (entry_names es)) (sym c.deref.ensures.value) ∙ sym c.differ.ensures ∙ c.if-differ.false in
+    = ap (λ (es : List FilterEntry). each_once (entry_names es)) (sym c.deref.ensures.value) ∙ sym c.differ.ensures
+    ∙ c.if-differ.false in
     rw (c.in_ok-entries.ensures, twice) refl

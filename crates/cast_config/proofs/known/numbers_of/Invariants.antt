@@ -5,5 +5,6 @@ use Rattle.cast_config.proofs.known.numbers_of.Given as goal
 
 abbrev pub invariant-loop-name : goal.invariant-loop-name
 invariant-loop-name g l =
-    each_of (place_at l.key (map g.T.Named.title l.items)) l.numbers.items (map (λ t. t.now) (drop l.name-index l.names))
+    each_of (place_at l.key (map g.T.Named.title l.items)) l.numbers.items
+    (map (λ t. t.now) (drop l.name-index l.names))
     ≡ each_of (place_at l.key (map g.T.Named.title l.items)) [] (map (λ t. t.now) l.names)

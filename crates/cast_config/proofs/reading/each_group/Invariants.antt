@@ -7,4 +7,5 @@ use Rattle.cast_config.proofs.reading.each_group.Given as goal
 abbrev pub invariant-loop-i : goal.invariant-loop-i
 invariant-loop-i l =
     (length l.list.items ≡ l.i)
-    × (entries (top 7) (group_of l.version l.mounts l.nears) (l.i + 1) l.list.items (items_view (drop l.i l.values)) ≡ entries (top 7) (group_of l.version l.mounts l.nears) 1 [] (items_view l.values))
+    × (entries (top 7) (group_of l.version l.mounts l.nears) (l.i + 1) l.list.items (items_view (drop l.i l.values)) ≡
+    entries (top 7) (group_of l.version l.mounts l.nears) 1 [] (items_view l.values))

@@ -1,10 +1,11 @@
-use Rattle.std.proofs.Common.{◌≡◌, ◌∙◌, ◌<◌, ◌++◌, ◌+◌, ℕ, List, [], ◌∷◌, length, map, take, get_or, sym, ap, subst, arith}
+use Rattle.std.proofs.Common.{◌≡◌, ◌∙◌, ◌++◌, ◌+◌, ℕ, List, [], ◌∷◌, length, map, take, get_or, ap, subst, arith}
 use Rattle.turn_log.specs.Past.{so_far}
 use Rattle.mount_ring.specs.History.{state_of}
 use Rattle.session_core.specs.declared.report.MountTotal.{MountTotal}
 use Rattle.session_core.specs.Reports.{mount_total}
 use Rattle.caster_replay.specs.Caster.{DesksValue}
-use Rattle.caster_replay.proofs.DeskLemmas.{totals_more, total_with}
+use Rattle.caster_replay.proofs.DeskLemmas.{totals_more}
+use Rattle.session_core.proofs.ReportSums.{total_with}
 use Rattle.caster_replay.proofs.totals.mounts.Goals as goal
 
 pub loop-desk-preserved : goal.loop-desk-preserved

@@ -33,7 +33,13 @@ leave_all-requires-clause-room g c κs within =
 pub leave_all-requires-clause-spare : goal.leave_all-requires-clause-spare
 leave_all-requires-clause-spare g c κs within =
     less_room (length c.args.passes.items) _ _
-    (omega (arith, c.in_default.ensures.count, c.serve_hands.ensures.size, c.sit_all.new.hands.ok.0, c.in_ok-hands.ensures.len))
+    (omega (
+      arith,
+      c.in_default.ensures.count,
+      c.serve_hands.ensures.size,
+      c.sit_all.new.hands.ok.0,
+      c.in_ok-hands.ensures.len,
+    ))
     c.requires.room
 
 pub leave_all-requires-clause-places : goal.leave_all-requires-clause-places

@@ -6,4 +6,5 @@ use Rattle.caster_serve.proofs.locks.caps_of.Given as goal
 
 abbrev pub invariant-loop-account : goal.invariant-loop-account
 invariant-loop-account l =
-    l.list.items ≡ anonymous_cap l.config.anonymous ∷ map (λ (account : Account). account.cap) (take l.account-index l.account-items)
+    l.list.items ≡ anonymous_cap l.config.anonymous ∷ map (λ (account : Account). account.cap)
+    (take l.account-index l.account-items)

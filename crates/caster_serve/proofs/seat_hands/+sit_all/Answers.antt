@@ -15,7 +15,8 @@ returns-in_default-clause-seated g t c = (
 pub places-requires-clause-passes : goal.places-requires-clause-passes
 places-requires-clause-passes g t c κs within = (
   length c.pop.new.self.items,
-  are_passes _ _ _ (last_new _ c.pop.new.self.items c.in-Some.pass c.args.shared.now c.in-Some.ensures.items c.requires.passes),
+  are_passes _ _ _ (last_new _ c.pop.new.self.items c.in-Some.pass c.args.shared.now c.in-Some.ensures.items
+      c.requires.passes),
 )
 
 pub sit_all-requires-clause-passes : goal.sit_all-requires-clause-passes
@@ -25,7 +26,8 @@ sit_all-requires-clause-passes g t c κs within =
 pub returns-clause-seated : goal.returns-clause-seated
 returns-clause-seated g t c =
     let so_far = c.in_default-sit_all.ensures.seated in
-    let fresh = last_new _ c.pop.new.self.items c.in-Some.pass c.args.shared.now c.in-Some.ensures.items c.requires.passes in
+    let fresh = last_new _ c.pop.new.self.items c.in-Some.pass c.args.shared.now c.in-Some.ensures.items
+    c.requires.passes in
     let of_number = are_passes _ _ _ fresh in
     let places = c.in_ok-places.ensures in
     seated_more c.args.shared.now _ _ _ _ c.in-Some-pop.end c.args.hands.now.items _ _ so_far.0 _ _
@@ -42,5 +44,6 @@ returns-clause-seated g t c =
       numbered = omega (arith, c.len-number.ensures, c.pop.new.self.ok.0);
       fit = places.fit _ of_number;
       at = places.at _ of_number;
-      fresh = is_uncalled c.args.shared.now.config.now _ _ _ (places.seen ∙ unseen _ _ _ c.requires.ready fresh) (let d = c.default.ensures in is_nothing c.default.result d.0 d.1.0 d.1.1);
+      fresh = is_uncalled c.args.shared.now.config.now _ _ _ (places.seen ∙ unseen _ _ _ c.requires.ready fresh)
+          (let d = c.default.ensures in is_nothing c.default.result d.0 d.1.0 d.1.1);
     })

@@ -39,7 +39,8 @@ pub seat-requires-after_bounds : goal.seat-requires-after_bounds
 seat-requires-after_bounds g t c κs within =
     let ls = last_seat _ _ _ _ c.in-Some.ensures.items c.requires.matched in
     let e = c.index-locks-last.is ∙ ap (λ l. get_or l c.len-last.result c.index-locks-last.result) ls.is
-    ∙ last_at ls.front ls.last c.index-locks-last.result c.len-last.result (omega (arith, ls.long, c.pop.new.self.ok.0)) in
+    ∙ last_at ls.front ls.last c.index-locks-last.result c.len-last.result
+    (omega (arith, ls.long, c.pop.new.self.ok.0)) in
     subst (IsPassOf c.in-Some.pass) (sym e) ls.fits
 
 pub returns-clause-shapes : goal.returns-clause-shapes
@@ -47,7 +48,8 @@ returns-clause-shapes g t c =
     let ls = last_seat _ _ _ _ c.in-Some.ensures.items c.requires.matched in
     let front = seats_before _ _ _ c.len-last.result ls (omega (arith, c.pop.new.self.ok.0)) in
     let e = c.index-locks-last.is ∙ ap (λ l. get_or l c.len-last.result c.index-locks-last.result) ls.is
-    ∙ last_at ls.front ls.last c.index-locks-last.result c.len-last.result (omega (arith, ls.long, c.pop.new.self.ok.0)) in
+    ∙ last_at ls.front ls.last c.index-locks-last.result c.len-last.result
+    (omega (arith, ls.long, c.pop.new.self.ok.0)) in
     mapped_more _ _ _ _ _ _ _ _ _ _ c.sit_down.ensures.shapes front ls.is c.push_reserved.ensures.items
     (c.seat.ensures.shape ∙ ap (λ turn. g.V.Played.shape (turn_value turn)) e)
 
@@ -56,7 +58,8 @@ returns-clause-homes g t c =
     let ls = last_seat _ _ _ _ c.in-Some.ensures.items c.requires.matched in
     let front = seats_before _ _ _ c.len-last.result ls (omega (arith, c.pop.new.self.ok.0)) in
     let e = c.index-locks-last.is ∙ ap (λ l. get_or l c.len-last.result c.index-locks-last.result) ls.is
-    ∙ last_at ls.front ls.last c.index-locks-last.result c.len-last.result (omega (arith, ls.long, c.pop.new.self.ok.0)) in
+    ∙ last_at ls.front ls.last c.index-locks-last.result c.len-last.result
+    (omega (arith, ls.long, c.pop.new.self.ok.0)) in
     mapped_more _ _ _ _ _ _ _ _ _ _ c.sit_down.ensures.homes front ls.is c.push_reserved.ensures.items
     (c.seat.ensures.home ∙ ap turn_home e)
 

@@ -12,7 +12,8 @@ returns-clause-prepared c =
       count = shared.count;
       passes = shared.each;
       room = c.in_ok-piles.ensures.room;
-      empty = piles_empty _ _ _ shared.ready (ap length c.as_slice.ensures ∙ ap (λ config. length config.mount) (sym shared.config))
+      empty = piles_empty _ _ _ shared.ready (ap length c.as_slice.ensures
+          ∙ ap (λ config. length config.mount) (sym shared.config))
           c.in_ok-piles.ensures.empty;
       none = c.in_ok-piles.ensures.none;
       totals = subst (λ config. IsRoomFor config c.in_ok-totals.totals) (sym shared.config) c.in_ok-totals.ensures;

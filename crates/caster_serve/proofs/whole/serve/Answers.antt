@@ -11,7 +11,8 @@ pub returns-in-Err-Failed : goal.returns-in-Err-Failed
 returns-in-Err-Failed g c =
     let asked = c.in-Err-Failed.ensures.asked in record {
       served = refused_network c.args.config.now c.args.addr.now c.args.limit asked.0 _ _ _ _ asked.1
-          (c.in-Err-Failed.ensures.cause (ap Err c.in-Err-Failed.field-0-is)) c.in-Err-Failed.ensures.unused c.give_back.ensures;
+          (c.in-Err-Failed.ensures.cause (ap Err c.in-Err-Failed.field-0-is)) c.in-Err-Failed.ensures.unused
+          c.give_back.ensures;
     }
 
 pub returns-in-Err-Memory : goal.returns-in-Err-Memory

@@ -4,5 +4,6 @@ use Rattle.caster_serve_tests.proofs.ring_tests.read_at.Goals as goal
 
 pub read_own_back-requires-clause-filter : goal.read_own_back-requires-clause-filter
 read_own_back-requires-clause-filter g c =
-    some_filter g.T.Turns.shape c.args.shared.now.config.now c.args.places.rings.items c.pop.new.self.items c.in-Some.place
+    some_filter g.T.Turns.shape c.args.shared.now.config.now c.args.places.rings.items c.pop.new.self.items
+    c.in-Some.place
     c.requires.ready.kept c.requires.fit.shapes_fit c.in-Some.ensures.items

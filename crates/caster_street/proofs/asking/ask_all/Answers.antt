@@ -21,13 +21,18 @@ dial_from-requires-clause-kept g c = (_, subst (All (KeepsRelay _)) (sym c.as_sl
 
 pub returns-clause-asked : goal.returns-clause-asked
 returns-clause-asked g c =
-    let rest = c.dial_from.ensures.asked in
-    (suc rest.0, opened c.args.config.now c.args.addr.now _ _ _ _ c.as_slice.ensures c.in_ok-doors.ensures.wanted rest.1, all_asked c.args.config.now _ _ c.as_slice.ensures rest.2)
+    let rest = c.dial_from.ensures.asked in (
+      suc rest.0,
+      opened c.args.config.now c.args.addr.now _ _ _ _ c.as_slice.ensures c.in_ok-doors.ensures.wanted
+          rest.1,
+      all_asked c.args.config.now _ _ c.as_slice.ensures rest.2,
+    )
 
 pub returns-clause-kinds : goal.returns-clause-kinds
 returns-clause-kinds g c =
     let given = c.dial_from.ensures.given in
-    kinds_more _ _ c.args.config.now c.in_ok-doors.doors.items given.0 c.dial_from.new.ends.items _ c.as_slice.ensures (sym c.in_ok-doors.doors.ok.0 ∙ c.in_ok-doors.ensures.count)
+    kinds_more _ _ c.args.config.now c.in_ok-doors.doors.items given.0 c.dial_from.new.ends.items _ c.as_slice.ensures
+    (sym c.in_ok-doors.doors.ok.0 ∙ c.in_ok-doors.ensures.count)
     (behind _ _ _ _ _ c.requires.empty c.put_doors.ensures.put given.1)
     given.3
 

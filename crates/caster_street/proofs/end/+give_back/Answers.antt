@@ -8,7 +8,8 @@ pub returns-in-Door : goal.returns-in-Door
 returns-in-Door g t c =
     subst (λ l. HasTakenBack l (g.N.Street.told c.args.street.now) (g.N.Street.told c.shut.new.self))
     (sym (told_snoc _ _ _ c.pop.new.self.items c.in-Some.last c.in-Some.ensures.items))
-    (subst (λ e. HasTakenBack (map (end_told g.N.Door.Door.told g.N.Link.Link.told) c.pop.new.self.items ++ end_told g.N.Door.Door.told g.N.Link.Link.told e ∷ [])
+    (subst (λ e. HasTakenBack (map (end_told g.N.Door.Door.told g.N.Link.Link.told) c.pop.new.self.items ++ end_told
+    g.N.Door.Door.told g.N.Link.Link.told e ∷ [])
     (g.N.Street.told c.args.street.now) (g.N.Street.told c.shut.new.self)) (sym c.in-Door.is)
     (back_door _ _ _ _ _ c.give_back.ensures c.shut.ensures.shut))
 
@@ -16,6 +17,7 @@ pub returns-in-Link : goal.returns-in-Link
 returns-in-Link g t c =
     subst (λ l. HasTakenBack l (g.N.Street.told c.args.street.now) (g.N.Street.told c.hang_up.new.self))
     (sym (told_snoc _ _ _ c.pop.new.self.items c.in-Some.last c.in-Some.ensures.items))
-    (subst (λ e. HasTakenBack (map (end_told g.N.Door.Door.told g.N.Link.Link.told) c.pop.new.self.items ++ end_told g.N.Door.Door.told g.N.Link.Link.told e ∷ [])
+    (subst (λ e. HasTakenBack (map (end_told g.N.Door.Door.told g.N.Link.Link.told) c.pop.new.self.items ++ end_told
+    g.N.Door.Door.told g.N.Link.Link.told e ∷ [])
     (g.N.Street.told c.args.street.now) (g.N.Street.told c.hang_up.new.self)) (sym c.in-Link.is)
     (back_link _ _ _ _ _ _ c.give_back.ensures c.hang_up.ensures.left))

@@ -5,4 +5,5 @@ use Rattle.config_keys.proofs.filters.message_numbers.Given as goal
 
 abbrev pub invariant-loop-number : goal.invariant-loop-number
 invariant-loop-number l =
-    each_of (message_number l.key) l.numbers.items (drop l.number-index l.whole) ≡ each_of (message_number l.key) [] l.whole
+    each_of (message_number l.key) l.numbers.items (drop l.number-index l.whole) ≡ each_of (message_number l.key) []
+    l.whole

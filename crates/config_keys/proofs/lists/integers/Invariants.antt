@@ -6,4 +6,5 @@ use Rattle.config_keys.proofs.lists.integers.Given as goal
 
 abbrev pub invariant-loop-value : goal.invariant-loop-value
 invariant-loop-value l =
-    all_of as_integer l.numbers.items (items_view (drop l.value-index l.value-items)) ≡ all_of as_integer [] (items_view l.value-items)
+    all_of as_integer l.numbers.items (items_view (drop l.value-index l.value-items)) ≡ all_of as_integer []
+    (items_view l.value-items)

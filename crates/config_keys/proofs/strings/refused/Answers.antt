@@ -13,4 +13,5 @@ no_byte bytes place is fails = absurd cc
 
 pub unreachable-requires-in-Byte : goal.unreachable-requires-in-Byte
 unreachable-requires-in-Byte c =
-    no_byte c.args.bytes.now c.in-Byte.field-0 (name_of-name c.args.bytes.now c.requires.name) (rw c.in-Byte.is at c.requires.refused)
+    no_byte c.args.bytes.now c.in-Byte.field-0 (name_of-name c.args.bytes.now c.requires.name)
+    (rw c.in-Byte.is at c.requires.refused)

@@ -18,4 +18,5 @@ pub unreachable-requires : goal.unreachable-requires
 unreachable-requires c =
     let same : table_view c.in_ok-table.table ≡ config_tree c.args.config.now = c.in_ok-table.ensures in
     let are = subst (AreShallow 5) (sym same) (config_shallow c.args.config.now) in
-    false≢true (sym (c.table_to_string.ensures.dates.0 (c.in-Err-DateInvalid.is ∙ ap Err c.in-Err-DateInvalid.field-0-is)) ∙ are.dates)
+    false≢true (sym (c.table_to_string.ensures.dates.0 (c.in-Err-DateInvalid.is
+    ∙ ap Err c.in-Err-DateInvalid.field-0-is)) ∙ are.dates)

@@ -15,7 +15,8 @@ one_tree bytes a b first second = let both : Some a ≡ Some b = sym first.parse
 one_read : (bytes : List ℕ) (first second : Read Config) → ReadsAs bytes first → ReadsAs bytes second → first ≡ second
 one_read bytes first second a b = sym a.2 ∙ ap config_of (one_tree bytes a.0 b.0 a.1 b.1) ∙ b.2
 
-one_answer : (bytes : List ℕ) (c : Config) (answer : Result Config ConfigFault) → IsRead bytes (Ok c) → IsRead bytes answer → (answer ≡ Ok c) ⊎ (answer ≡ Err Memory)
+one_answer : (bytes : List ℕ) (c : Config) (answer : Result Config ConfigFault) → IsRead bytes (Ok c)
+    → IsRead bytes answer → (answer ≡ Ok c) ⊎ (answer ≡ Err Memory)
 one_answer bytes c (Ok d) read other = inl (ap Ok (sym (value_is c d (one_read bytes (Ok c) (Ok d) read other))))
 one_answer bytes c (Err Toml) read other = absurd (other read.0 read.1)
 one_answer bytes c (Err (Missing key)) read other = absurd (let e = one_read bytes (Ok c) _ read other in cc)

@@ -5,4 +5,5 @@ use Rattle.config_write.specs.Entries.{account_tree}
 use Rattle.config_write.proofs.lists.account_values.Given as goal
 
 abbrev pub invariant-loop-account : goal.invariant-loop-account
-invariant-loop-account l = map view l.values.items ≡ map (λ a. table (account_tree l.groups a)) (take l.account-index l.accounts)
+invariant-loop-account l = map view l.values.items ≡ map (λ a. table (account_tree l.groups a))
+    (take l.account-index l.accounts)

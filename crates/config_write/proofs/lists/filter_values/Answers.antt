@@ -12,5 +12,6 @@ filter_table-requires c =
     let inside : i < length fs = c.loop-filter-test.true in
     let low : get_or (filtered fs) i 0 < length c.args.mounts.now = c.requires i 0 (omega arith) in
     let same : get_or (filtered fs) i 0 ≡ c.filter-item.result.mount =
-    get_or-map (λ (f : GroupFilter). f.mount) fs i c.filter-item.result 0 inside ∙ sym (ap (λ (f : GroupFilter). f.mount) c.filter-item.is) in
+    get_or-map (λ (f : GroupFilter). f.mount) fs i c.filter-item.result 0 inside
+    ∙ sym (ap (λ (f : GroupFilter). f.mount) c.filter-item.is) in
     omega (arith, low, same)

@@ -5,4 +5,5 @@ use Rattle.config_write.specs.Entries.{relay_tree}
 use Rattle.config_write.proofs.lists.relay_values.Given as goal
 
 abbrev pub invariant-loop-relay : goal.invariant-loop-relay
-invariant-loop-relay l = map view l.values.items ≡ map (λ r. table (relay_tree l.mounts r)) (take l.relay-index l.relays)
+invariant-loop-relay l = map view l.values.items ≡ map (λ r. table (relay_tree l.mounts r))
+    (take l.relay-index l.relays)

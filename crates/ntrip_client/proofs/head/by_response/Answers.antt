@@ -14,8 +14,11 @@ returns-else-upstream-eq200-clause-says c = (
 
 pub returns-in-Err-Bad-clause-says : goal.returns-in-Err-Bad-clause-says
 returns-in-Err-Bad-clause-says c =
-    let reads = rw c.in-Err-Bad.field-0-is at c.in-Err-Bad.ensures in
-    (length c.args.head.now, response_says c.args.head.now (Err Bad) (Err BadHead) c.requires.http c.requires.head reads refl)
+    let reads = rw c.in-Err-Bad.field-0-is at c.in-Err-Bad.ensures in (
+      length c.args.head.now,
+      response_says c.args.head.now (Err Bad) (Err BadHead) c.requires.http c.requires.head reads
+          refl,
+    )
 
 pub returns-in-Err-Coding-clause-says : goal.returns-in-Err-Coding-clause-says
 returns-in-Err-Coding-clause-says c =

@@ -19,7 +19,8 @@ take_chunked-requires-clause-read g c =
     let few = c.requires.few in
     omega (
       arith,
-      read_few few.0 (g.O.Sink.taken c.args.out.now) c.args.most c.in-Some.chunks c.args.body.now.cutter few.1 c.args.count.now
+      read_few few.0 (g.O.Sink.taken c.args.out.now) c.args.most c.in-Some.chunks c.args.body.now.cutter few.1
+          c.args.count.now
           (subst (λ (chunks : Option Reading). IsAtBody few.0 (g.O.Sink.taken c.args.out.now) c.args.most chunks
           c.args.body.now.cutter few.1 c.args.count.now) c.in-Some.is few.2),
       few.3,
@@ -30,7 +31,8 @@ returns-in-None-clause-torn g c =
     on_err_so c.take_plain.result _ _ (λ told start text x.
     subst (λ (chunks : Option Reading). IsTorn start (g.O.Sink.taken c.take_plain.new.out)
     (wanted c.args.most (payload (is_some chunks) (text ++ c.args.bytes.now)))) (sym c.in-None.is)
-    (told start text (subst (λ (chunks : Option Reading). IsAtBody start (g.O.Sink.taken c.args.out.now) c.args.most chunks
+    (told start text (subst (λ (chunks : Option Reading). IsAtBody start (g.O.Sink.taken c.args.out.now) c.args.most
+    chunks
     c.args.body.now.cutter text c.args.count.now) c.in-None.is x))) c.take_plain.ensures.torn
 
 pub returns-in-Some-clause-torn : goal.returns-in-Some-clause-torn
@@ -38,5 +40,6 @@ returns-in-Some-clause-torn g c =
     on_err_so c.take_chunked.result _ _ (λ told start text x.
     subst (λ (chunks : Option Reading). IsTorn start (g.O.Sink.taken c.take_chunked.new.out)
     (wanted c.args.most (payload (is_some chunks) (text ++ c.args.bytes.now)))) (sym c.in-Some.is)
-    (told start text (subst (λ (chunks : Option Reading). IsAtBody start (g.O.Sink.taken c.args.out.now) c.args.most chunks
+    (told start text (subst (λ (chunks : Option Reading). IsAtBody start (g.O.Sink.taken c.args.out.now) c.args.most
+    chunks
     c.args.body.now.cutter text c.args.count.now) c.in-Some.is x))) c.take_chunked.ensures.torn

@@ -13,18 +13,21 @@ returns-in_err-write_ready-in-Byte-clause-torn g c =
     subst (λ l. IsTorn start (g.O.Sink.taken c.write_ready.new.out) (wanted c.args.most l))
     (sym (c.in-Byte.ensures.gives text x.goes_on.0))
     (c.in_err-write_ready-in-Byte.ensures.torn start (plain_of text ++ c.in-Byte.data ∷ [])
-    (writing_fed start _ (plain_of text) (plain_of text ++ c.in-Byte.data ∷ []) c.args.cutter.now c.push-in-Byte.new.self
+    (writing_fed start _ (plain_of text) (plain_of text ++ c.in-Byte.data ∷ []) c.args.cutter.now
+    c.push-in-Byte.new.self
     c.args.count.now (λ given gave. c.push-in-Byte.ensures.stands given (plain_of text) gave) x.writing)))
 
 pub returns-in_ok-write_ready-in-Byte-clause-took : goal.returns-in_ok-write_ready-in-Byte-clause-took
 returns-in_ok-write_ready-in-Byte-clause-took g c = λ start text x.
     let now = g.O.Sink.taken c.write_ready.new.out in
     let wrote = c.in_ok-write_ready-in-Byte.ensures in
-    let writing : IsWriting start now (plain_of (text ++ c.args.byte ∷ [])) c.write_ready.new.cutter c.write_ready.new.count =
+    let writing : IsWriting start now (plain_of (text ++ c.args.byte ∷ [])) c.write_ready.new.cutter
+    c.write_ready.new.count =
     subst (λ l. IsWriting start now l c.write_ready.new.cutter c.write_ready.new.count)
     (sym (c.in-Byte.ensures.gives text x.goes_on.0))
     (wrote.writing start (plain_of text ++ c.in-Byte.data ∷ [])
-    (writing_fed start _ (plain_of text) (plain_of text ++ c.in-Byte.data ∷ []) c.args.cutter.now c.push-in-Byte.new.self
+    (writing_fed start _ (plain_of text) (plain_of text ++ c.in-Byte.data ∷ []) c.args.cutter.now
+    c.push-in-Byte.new.self
     c.args.count.now (λ given gave. c.push-in-Byte.ensures.stands given (plain_of text) gave) x.writing)) in
     now_is start now c.args.most (Some c.push.new.self) c.write_ready.new.cutter (text ++ c.args.byte ∷ [])
     c.write_ready.new.count c.enough_at.result c.enough_at.ensures.enough c.enough_at.ensures.fewer wrote.within

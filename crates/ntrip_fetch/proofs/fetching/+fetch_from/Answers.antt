@@ -44,7 +44,8 @@ returns-then-is_enough-clause-tried g t c = (
 pub fetch_from-requires : goal.fetch_from-requires
 fetch_from-requires g t c =
     let is = c.in-Some.ensures.cases.0 in
-    let all : All CanBeTried c.in-Some.later.now = All-tail CanBeTried _ _ (subst (All CanBeTried) is c.requires.targets) in
+    let all : All CanBeTried c.in-Some.later.now = All-tail CanBeTried _ _
+    (subst (All CanBeTried) is c.requires.targets) in
     let one : length c.args.targets.now ≡ suc (length c.in-Some.later.now) = ap length is in
     let smaller : length c.in-Some.later.now < length c.args.targets.now = omega (arith, one) in
     let fewer : c.in_ok-tried.tried.frames < c.args.frames =

@@ -27,8 +27,10 @@ left bytes at = ap length (take_rest bytes at) ∙ length-drop at bytes
 block : (bytes : List ℕ) (at count : ℕ) → at ≤ length bytes
     → count ≤ length (take (length bytes - at) (drop at bytes))
     → (length (take count (take (length bytes - at) (drop at bytes))) ≡ count) × (at + count ≤ length bytes)
-block bytes at count reached within =
-    (length-take-le count (take (length bytes - at) (drop at bytes)) within, omega (arith, left bytes at, reached, within))
+block bytes at count reached within = (
+  length-take-le count (take (length bytes - at) (drop at bytes)) within,
+  omega (arith, left bytes at, reached, within),
+)
 
 pub returns-in_err-write_ready-clause-torn : goal.returns-in_err-write_ready-clause-torn
 returns-in_err-write_ready-clause-torn g c =
@@ -67,11 +69,13 @@ loop-at-preserved g c =
       waits = c.in_ok-write_ready.ensures.waits;
       writing = λ start body before.
           let block = take fed (take (length bytes - at) (drop at bytes)) in
-          subst (λ l. IsWriting start (g.O.Sink.taken c.write_ready.new.out) l c.write_ready.new.cutter c.write_ready.new.count)
+          subst (λ l. IsWriting start (g.O.Sink.taken c.write_ready.new.out) l c.write_ready.new.cutter
+          c.write_ready.new.count)
           (up_to body bytes at fed)
           (c.in_ok-write_ready.ensures.writing start ((body ++ take at bytes) ++ block)
           (writing_fed start _ (body ++ take at bytes) ((body ++ take at bytes) ++ block) c.loop-at.cutter
-          c.feed-fed.new.self c.loop-at.count (λ given gave. c.feed-fed.ensures.stands given (body ++ take at bytes) gave)
+          c.feed-fed.new.self c.loop-at.count (λ given gave. c.feed-fed.ensures.stands given (body ++ take at bytes)
+          gave)
           (c.loop-at.invariant.writing start body before)));
       unharmed = c.in_ok-write_ready.ensures.unharmed ∙ c.loop-at.invariant.unharmed;
     }

@@ -4,7 +4,8 @@ use Rattle.std.specs.Prelude.{is_some}
 use Rattle.std.proofs.lemmas.List.{take_rest}
 use Rattle.ntrip_client.specs.Answer.{IsAnswer}
 use Rattle.ntrip_fetch.proofs.WritingLemmas.{on_err, appends_none}
-use Rattle.ntrip_fetch.proofs.StageLemmas.{body_begins, accepted_at, front_and_rest, begun_is, begun_torn, refused_left}
+use Rattle.ntrip_client.proofs.SayingLemmas.{accepted_at, front_and_rest}
+use Rattle.ntrip_fetch.proofs.StageLemmas.{body_begins, begun_is, begun_torn, refused_left}
 use Rattle.ntrip_fetch.proofs.stage.decide.Goals as goal
 
 -- the head, and all bytes behind it

@@ -27,7 +27,8 @@ returns-in_err-segment-clause-followed g c =
     let now : List (History RingCall) = map place.seen c.join_at.new.places in
     let plan : Plan = joins c.args.filter (Some c.args.mount) done in
     let p = err_from_is_err_and c.from_residual.result c.from_residual.ensures.1 in
-    err_at (λ (refused : Option SegFault). Followed shapes (all_alone place.alone c.args.places.now) old now c.args.me plan
+    err_at (λ (refused : Option SegFault). Followed shapes (all_alone place.alone c.args.places.now) old now c.args.me
+    plan
     refused (reverse c.args.segments.now.items) (reverse c.reserve.new.self.items)) c.from_residual.result p.0 p.1
     (followed_same shapes (all_alone place.alone c.args.places.now) old now c.args.me plan (Some p.0)
     (reverse c.args.segments.now.items) (reverse c.reserve.new.self.items) tt c.in_err-segment.ensures.err

@@ -16,7 +16,8 @@ returns-clause-open_text c = frames_open
 
 pub returns-clause-chunked : goal.returns-clause-chunked
 returns-clause-chunked c = λ frames all.
-    subst (λ (content : List ℕ). IsPlain (body_of Two frames) content) (sym (body_plain frames)) (frames_plain frames all)
+    subst (λ (content : List ℕ). IsPlain (body_of Two frames) content) (sym (body_plain frames))
+    (frames_plain frames all)
 
 pub returns-clause-joined : goal.returns-clause-joined
 returns-clause-joined c = body-append

@@ -17,7 +17,8 @@ returns-in_err-live-clause-first g c =
     let p = err_from_is_err_and c.from_residual.result c.from_residual.ensures.1 in
     rw p.1 (asked_first (map place.shape c.args.places.now) (all_alone place.alone c.args.places.now)
     (map place.seen c.args.places.now) (map place.seen c.loop-base.places) (map place.seen c.look.new.places) c.args.me
-    c.loop-base.base-index c.args.bases.now c.loop-base.held.items c.loop-base.invariant.asked c.in_err-live.ensures.err)
+    c.loop-base.base-index c.args.bases.now c.loop-base.held.items c.loop-base.invariant.asked
+    c.in_err-live.ensures.err)
 
 pub returns-in_err-live-clause-cause : goal.returns-in_err-live-clause-cause
 returns-in_err-live-clause-cause g c =

@@ -20,7 +20,8 @@ returns-clause-same g c =
 
 pub returns-clause-worn : goal.returns-clause-worn
 returns-clause-worn g c =
-    later_by_one g.T.Turns.worn c.args.places.now c.args.segment.now.mount c.index-places-segment.result c.read.new.place
+    later_by_one g.T.Turns.worn c.args.places.now c.args.segment.now.mount c.index-places-segment.result
+    c.read.new.place
     c.read.ensures.worn
 
 pub returns-clause-went : goal.returns-clause-went

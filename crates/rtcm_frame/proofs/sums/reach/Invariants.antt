@@ -8,7 +8,8 @@ invariant-loop-at l = record {
   within : l.at ≤ max l.fn.summed l.end;
   held : l.crc ≡ get_or l.sums l.at 0;
   fits : AreSums l.sums;
-  chained : (start : ℕ) → start ≤ l.fn.summed → Chained l.buffer l.fn.sums start l.fn.summed → Chained l.buffer l.sums start l.at;
+  chained : (start : ℕ) → start ≤ l.fn.summed → Chained l.buffer l.fn.sums start l.fn.summed
+      → Chained l.buffer l.sums start l.at;
 }
 
 abbrev pub decreases-loop-at : goal.decreases-loop-at

@@ -3,4 +3,5 @@ use Rattle.session_core.specs.Setting.{bases_at}
 use Rattle.session_core.proofs.rovers.bases_of.Given as goal
 
 abbrev pub invariant-loop-number : goal.invariant-loop-number
-invariant-loop-number l = l.bases.items ++ bases_at l.config (drop l.number-index l.numbers) ≡ bases_at l.config l.numbers
+invariant-loop-number l = l.bases.items ++ bases_at l.config (drop l.number-index l.numbers) ≡ bases_at l.config
+    l.numbers

@@ -28,7 +28,8 @@ returns-in_err-publish_ready-clause-halted g c =
     let block = take c.feed-count.result (take (length bytes - at) (drop at bytes)) in
     let p = err_from_is_err_and c.from_residual.result c.from_residual.ensures.1 in
     if_err _ c.from_residual.result _ (p.1 ∙ ap Err p.2) (λ body stands.
-    stands_within _ None c.publish_ready.new.cutter body (take at bytes) block (drop (at + c.feed-count.result) bytes) bytes
+    stands_within _ None c.publish_ready.new.cutter body (take at bytes) block (drop (at + c.feed-count.result) bytes)
+    bytes
     (block_within bytes at c.feed-count.result)
     (stands_refused _ None c.publish_ready.new.cutter ((body ++ take at bytes) ++ block)
     (short_pushed false c.loop-at.cutter c.feed-count.new.self (body ++ take at bytes) block block
@@ -95,12 +96,15 @@ loop-at-preserved g c =
             subst (λ (l : List ℕ). HeardAll (place.alone c.args.place.now) (answer_at (place.shape c.args.place.now))
                 (place.seen c.args.place.now) (place.seen c.publish_ready.new.place) c.args.me
                 (publishes c.args.claim (completed false body l))) next
-                (heard_more (place.alone c.args.place.now) (answer_at (place.shape c.args.place.now)) c.args.me c.args.claim
+                (heard_more (place.alone c.args.place.now) (answer_at (place.shape c.args.place.now)) c.args.me
+                c.args.claim
                 (place.seen c.args.place.now) (place.seen c.loop-at.place) (place.seen c.publish_ready.new.place)
                 false body (take at bytes) block (before.4 body stands).1
                 (all_same before.0.3 (ap answer_at before.0.0)
-                (subst (λ (fs : List (List ℕ)). HeardAll (place.alone c.loop-at.place) (answer_at (place.shape c.loop-at.place))
-                (place.seen c.loop-at.place) (place.seen c.publish_ready.new.place) c.args.me (publishes c.args.claim fs))
+                (subst (λ (fs : List (List ℕ)). HeardAll (place.alone c.loop-at.place)
+                (answer_at (place.shape c.loop-at.place))
+                (place.seen c.loop-at.place) (place.seen c.publish_ready.new.place) c.args.me
+                (publishes c.args.claim fs))
                 (frames_pushed false c.loop-at.cutter c.feed-count.new.self (body ++ take at bytes) block block
                 cut_up c.feed-count.ensures.behind refl)
                 now.heard))),

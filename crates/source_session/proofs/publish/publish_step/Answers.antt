@@ -38,7 +38,8 @@ returns-in_err-publish_ready-in-Byte-clause-until g c =
     let p = err_from_is_err_and c.from_residual.result c.from_residual.ensures.1 in
     if_err _ c.from_residual.result _ (p.1 ∙ ap Err p.2) (λ body stands.
     until_refused _
-    (subst (λ (fs : List (List ℕ)). HeardFirst (place.alone c.args.place.now) (answer_at (place.shape c.args.place.now)) (place.seen c.args.place.now)
+    (subst (λ (fs : List (List ℕ)). HeardFirst (place.alone c.args.place.now) (answer_at (place.shape c.args.place.now))
+    (place.seen c.args.place.now)
     (place.seen c.publish_ready.new.place) c.args.me (publishes c.args.claim fs))
     (frames_pushed true c.args.cutter.now c.push-in-Byte.new.self body (c.args.byte ∷ []) (c.in-Byte.data ∷ []) stands.1
     c.push-in-Byte.ensures.behind (c.in-Byte.ensures.gives body stands.0.0))
@@ -60,7 +61,8 @@ returns-in_ok-publish_ready-in-Byte-clause-stands g c = λ body stands. (
 pub returns-in_ok-publish_ready-in-Byte-clause-heard : goal.returns-in_ok-publish_ready-in-Byte-clause-heard
 returns-in_ok-publish_ready-in-Byte-clause-heard g c = λ body stands.
     let place = g.T.Turns in
-    subst (λ (fs : List (List ℕ)). HeardAll (place.alone c.args.place.now) (answer_at (place.shape c.args.place.now)) (place.seen c.args.place.now)
+    subst (λ (fs : List (List ℕ)). HeardAll (place.alone c.args.place.now) (answer_at (place.shape c.args.place.now))
+    (place.seen c.args.place.now)
     (place.seen c.publish_ready.new.place) c.args.me (publishes c.args.claim fs))
     (frames_pushed true c.args.cutter.now c.push-in-Byte.new.self body (c.args.byte ∷ []) (c.in-Byte.data ∷ []) stands.1
     c.push-in-Byte.ensures.behind (c.in-Byte.ensures.gives body stands.0.0))

@@ -16,12 +16,19 @@ pub returns-clause-ok : goal.returns-clause-ok
 returns-clause-ok c =
     joined c.extend_from_slice.result c.extend_from_slice.new.self.items c.push_records.new.out.items
     c.args.out.now.items
-    (lines_text c.args.table.now.records) (codes "ENDSOURCETABLE" ++ cr_lf) c.extend_from_slice.ensures.items (cc c.in_ok-push_records.ensures.ok)
+    (lines_text c.args.table.now.records) (codes "ENDSOURCETABLE" ++ cr_lf) c.extend_from_slice.ensures.items
+    (cc c.in_ok-push_records.ensures.ok)
 
 pub returns-in_err-push_records-clause-room : goal.returns-in_err-push_records-clause-room
 returns-in_err-push_records-clause-room c room =
     absurd (false≢true (c.in_err-push_records.ensures.room
-    (omega (arith, ap (λ records. length (lines_text records)) c.as_slice.ensures, length-append (lines_text c.args.table.now.records) (codes "ENDSOURCETABLE" ++ cr_lf), room))))
+    (omega (
+      arith,
+      ap (λ records. length (lines_text records)) c.as_slice.ensures,
+      length-append
+          (lines_text c.args.table.now.records) (codes "ENDSOURCETABLE" ++ cr_lf),
+      room,
+    ))))
 
 pub returns-clause-room : goal.returns-clause-room
 returns-clause-room c room =
@@ -30,4 +37,12 @@ returns-clause-room c room =
     (c.in_ok-push_records.ensures.ok
     ∙ ap (λ records. c.args.out.now.items ++ lines_text records) c.as_slice.ensures) in
     c.extend_from_slice.ensures.succeeds
-    (omega (arith, pushed, length-append c.args.out.now.items lines, length-append lines (codes "ENDSOURCETABLE" ++ cr_lf), c.in_ok-push_records.ensures.capacity, room))
+    (omega (
+      arith,
+      pushed,
+      length-append c.args.out.now.items lines,
+      length-append lines
+          (codes "ENDSOURCETABLE" ++ cr_lf),
+      c.in_ok-push_records.ensures.capacity,
+      room,
+    ))

@@ -19,7 +19,12 @@ loop-preserved g c =
     let numbers : List ℕ = before.2.0 in
     let reply : ℕ = c.in_ok-turn.field-0 in
     let worn : place.worn c.args.place.now ≤ place.worn c.turn.new.self = omega (arith, before.1, now.worn) in
-    let many : length (numbers ++ reply ∷ []) ≡ c.loop.counter + 1 = omega (arith, before.2.1, length-append numbers (reply ∷ [])) in
+    let many : length (numbers ++ reply ∷ []) ≡ c.loop.counter + 1 = omega (
+      arith,
+      before.2.1,
+      length-append numbers
+          (reply ∷ []),
+    ) in
     let both = heard_both _ _ _ _ _ _ _ _ before.2.2
     (heard_same before.0.3 (ap number before.0.0) (heard_turn now.ok)) in (
       same_both place.shape place.speaks place.may_lack place.alone place.home _ _ _ before.0 now.same,
@@ -27,7 +32,8 @@ loop-preserved g c =
       (
         numbers ++ reply ∷ [],
         many,
-        subst (Heard (place.alone c.args.place.now) (number (place.shape c.args.place.now)) (place.seen c.args.place.now)
+        subst (Heard (place.alone c.args.place.now) (number (place.shape c.args.place.now))
+            (place.seen c.args.place.now)
             (place.seen c.turn.new.self) c.args.me) (sym (map-append (λ n. (0, n)) numbers (reply ∷ []))) both,
       ),
     )

@@ -3,7 +3,8 @@ use Rattle.std.proofs.lemmas.List.{take_all, take_rest}
 use Rattle.ntrip_client.specs.declared.Answer.{Answer}
 use Rattle.ntrip_client.specs.Answer.{IsAnswer}
 use Rattle.upstream_relay.specs.Standing.{StandsAt}
-use Rattle.upstream_relay.proofs.StageLemmas.{accepted_at, front_and_rest, open_stands, refused_on, adds_none}
+use Rattle.ntrip_client.proofs.SayingLemmas.{accepted_at, front_and_rest}
+use Rattle.upstream_relay.proofs.StageLemmas.{open_stands, refused_on, adds_none}
 use Rattle.upstream_relay.proofs.body.decide.Goals as goal
 
 pub returns-in-Open-clause-adds : goal.returns-in-Open-clause-adds
@@ -19,7 +20,8 @@ pub returns-in-Accepted-clause-adds : goal.returns-in-Accepted-clause-adds
 returns-in-Accepted-clause-adds g c = λ mount.
     let taken = c.feed-taken.ensures in
     let x = c.begin.ensures.adds mount c.feed-taken.new.self
-    (accepted_at c.feed-taken.new.self c.feed-taken.result.answer c.in-Accepted.at c.in-Accepted.chunked c.in-Accepted.is
+    (accepted_at c.feed-taken.new.self c.feed-taken.result.answer c.in-Accepted.at c.in-Accepted.chunked
+    c.in-Accepted.is
     taken.begins taken.says) in (
       x.0,
       x.1,

@@ -18,7 +18,8 @@ loop-byte-preserved c =
     let so_far = c.loop-byte.invariant.1 in
     let byte : ℕ = get_or c.args.answer.now c.loop-byte.byte-index 0 in
     let next = fed.adds so_far.0 so_far.1 so_far.2 so_far.3 in (
-      holds_fed _ relay now (desk_seen c.feed-ended.new.place) (halt_at relay.stage) refl fed.halted fed.holds fed.relay.0,
+      holds_fed _ relay now (desk_seen c.feed-ended.new.place) (halt_at relay.stage) refl fed.halted fed.holds
+          fed.relay.0,
       (
         so_far.0,
         so_far.1 ++ byte ∷ [],

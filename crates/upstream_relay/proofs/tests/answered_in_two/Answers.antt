@@ -8,7 +8,8 @@ pub feed-ended-requires-clause-held : goal.feed-ended-requires-clause-held
 feed-ended-requires-clause-held c =
     let relay = c.in_ok-relay.relay in
     let fed = c.feed-first.ensures in
-    held_fed _ relay c.feed-first.new.self (desk_seen c.feed-first.new.place) (halt_at relay.stage) refl fed.halted fed.holds
+    held_fed _ relay c.feed-first.new.self (desk_seen c.feed-first.new.place) (halt_at relay.stage) refl fed.halted
+    fed.holds
     fed.relay.0
 
 pub feed-ended-requires-clause-few : goal.feed-ended-requires-clause-few

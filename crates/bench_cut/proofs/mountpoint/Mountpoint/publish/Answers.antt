@@ -9,7 +9,8 @@ invariant_of-self c =
     let new = c.turn.new.self in
     let both : IsHeld (desk_seen new) × MayRead (ring_shape new.value) (desk_seen new) old.cursor =
     round_published (ring_shape old.desk.value) (ring_shape new.value) (desk_seen old.desk) (desk_seen new)
-    c.args.frame old.cursor c.turn.result old.out c.turn.new.room c.turn.ensures.shape c.turn.ensures.ok c.turn.ensures.err
+    c.args.frame old.cursor c.turn.result old.out c.turn.new.room c.turn.ensures.shape c.turn.ensures.ok
+    c.turn.ensures.err
     old.held old.joined
     in
     record { held = both.0; joined = both.1 }

@@ -17,7 +17,8 @@ use Rattle.rover_session.proofs.session.RoverSession.feed.Goals as goal
 pub returns-in-Some-clause-told : goal.returns-in-Some-clause-told
 returns-in-Some-clause-told g c = λ first before steps stands.
     told_halted (map g.T.Turns.shape c.args.places.now) (all_alone g.T.Turns.alone c.args.places.now)
-    (map g.T.Turns.seen c.args.places.now) (rover_of c.args.self.now) c.in-Some.fault first before c.args.bytes.now steps
+    (map g.T.Turns.seen c.args.places.now) (rover_of c.args.self.now) c.in-Some.fault first before c.args.bytes.now
+    steps
     c.in-Some.is stands
 
 pub returns-in-Some-clause-resumable : goal.returns-in-Some-clause-resumable
@@ -34,7 +35,8 @@ returns-in-None-clause-told g c = λ first before steps stands.
     let after : List Segment = reverse c.heed_all-fed.new.segments.items in
     let line = stands.line c.in-None.is in
     let told = c.heed_all-fed.ensures.followed before line in
-    told_fed shapes alone old now rover c.heed_all-fed.new.reader after c.err-self.result first before c.args.bytes.now steps
+    told_fed shapes alone old now rover c.heed_all-fed.new.reader after c.err-self.result first before c.args.bytes.now
+    steps
     told.0 c.in-None.is
     (λ none. none_of_err ((b : List ℕ) → lines.StandsFor c.args.self.now.reports b
     → lines.StandsFor c.heed_all-fed.new.reader (b ++ c.args.bytes.now)) c.heed_all-fed.result c.err-self.result

@@ -8,7 +8,11 @@ pub returns : goal.returns
 returns c =
     let items : List Segment = c.args.self.now.segments.items in
     let each : Segment → ℕ = λ segment. segment.sent in
-    let whole : c.loop-segment.segment-index ≡ length items = omega (arith, ap length c.deref-segment-items.ensures.value) in
+    let whole : c.loop-segment.segment-index ≡ length items = omega (
+      arith,
+      ap length
+          c.deref-segment-items.ensures.value,
+    ) in
     c.loop-segment.invariant
     ∙ ap (λ (n : ℕ). min (sum_by each (take n items)) (2 ^ 64 - 1)) whole
     ∙ sum_all each items (2 ^ 64 - 1)

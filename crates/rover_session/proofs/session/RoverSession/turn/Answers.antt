@@ -20,7 +20,8 @@ pub returns-in_default-checked_sub-clause-read : goal.returns-in_default-checked
 returns-in_default-checked_sub-clause-read g c = λ first bytes steps stands.
     let items : List Segment = c.args.self.now.segments.items in
     let none : items ≡ [] =
-    no_items items (λ some. c.in_default-checked_sub.ensures (omega (arith, c.len.ensures, c.args.self.now.segments.ok))) in
+    no_items items (λ some. c.in_default-checked_sub.ensures
+    (omega (arith, c.len.ensures, c.args.self.now.segments.ok))) in
     read_none (map g.T.Turns.shape c.args.places.now) (all_alone g.T.Turns.alone c.args.places.now)
     (map g.T.Turns.seen c.args.places.now) c.args.budget (rover_of c.args.self.now) first bytes steps (ap reverse none)
     stands
@@ -31,7 +32,12 @@ returns-then-is_err-clause-resumable g c = was_resumable _ _ _ _ c.requires.resu
 pub read_at-requires-clause-segment : goal.read_at-requires-clause-segment
 read_at-requires-clause-segment g c =
     segment_told (map g.T.Turns.shape c.args.places.now) c.args.self.now.segments.items c.in-Some-checked_sub.newest _
-    c.index_mut-segment.result.now (omega (arith, c.in-Some-checked_sub.ensures, c.len.ensures, c.args.self.now.segments.ok))
+    c.index_mut-segment.result.now (omega (
+      arith,
+      c.in-Some-checked_sub.ensures,
+      c.len.ensures,
+      c.args.self.now.segments.ok,
+    ))
     c.index_mut-segment.ensures.value c.args.self.now.admitted.me (map g.T.Turns.seen c.args.places.now)
     (was_resumable _ _ _ _ c.requires.resumes)
 
@@ -66,7 +72,12 @@ pub returns-clause-read : goal.returns-clause-read
 returns-clause-read g c = λ first bytes steps stands.
     let place = g.T.Turns in
     turn_read (map place.shape c.args.places.now) c.args.self.now.segments.items c.in-Some-checked_sub.newest _
-    c.index_mut-segment.result.now (omega (arith, c.in-Some-checked_sub.ensures, c.len.ensures, c.args.self.now.segments.ok))
+    c.index_mut-segment.result.now (omega (
+      arith,
+      c.in-Some-checked_sub.ensures,
+      c.len.ensures,
+      c.args.self.now.segments.ok,
+    ))
     c.index_mut-segment.ensures.value (all_alone place.alone c.args.places.now) c.args.self.now.admitted.me
     (map place.seen c.args.places.now) (map place.seen c.read_at.new.places) c.args.budget c.read_at.new.segment
     c.in_ok-taken.ensures.followed c.in_ok-taken.ensures.went (rover_of c.args.self.now) first bytes steps refl refl
@@ -76,7 +87,12 @@ pub returns-clause-resumable : goal.returns-clause-resumable
 returns-clause-resumable g c =
     let place = g.T.Turns in
     turn_resumable (map place.shape c.args.places.now) c.args.self.now.segments.items c.in-Some-checked_sub.newest _
-    c.index_mut-segment.result.now (omega (arith, c.in-Some-checked_sub.ensures, c.len.ensures, c.args.self.now.segments.ok))
+    c.index_mut-segment.result.now (omega (
+      arith,
+      c.in-Some-checked_sub.ensures,
+      c.len.ensures,
+      c.args.self.now.segments.ok,
+    ))
     c.index_mut-segment.ensures.value (all_alone place.alone c.args.places.now) c.args.self.now.admitted.me
     (map place.seen c.args.places.now) (map place.seen c.read_at.new.places) c.args.budget c.read_at.new.segment
     c.in_ok-taken.ensures.followed c.in_ok-taken.ensures.went c.in_ok-taken.ensures.segment
@@ -86,7 +102,12 @@ pub returns-clause-sent : goal.returns-clause-sent
 returns-clause-sent g c =
     let place = g.T.Turns in
     turn_sent (map place.shape c.args.places.now) c.args.self.now.segments.items c.in-Some-checked_sub.newest _
-    c.index_mut-segment.result.now (omega (arith, c.in-Some-checked_sub.ensures, c.len.ensures, c.args.self.now.segments.ok))
+    c.index_mut-segment.result.now (omega (
+      arith,
+      c.in-Some-checked_sub.ensures,
+      c.len.ensures,
+      c.args.self.now.segments.ok,
+    ))
     c.index_mut-segment.ensures.value (all_alone place.alone c.args.places.now) c.args.self.now.admitted.me
     (map place.seen c.args.places.now) (map place.seen c.read_at.new.places) c.args.budget c.read_at.new.segment
     c.in_ok-taken.ensures.followed c.in_ok-taken.ensures.went (was_resumable _ _ _ _ c.requires.resumes)
@@ -98,5 +119,11 @@ returns-clause-valid g c =
     (c.frames.ensures.frames
     ∙ c.in_ok-taken.ensures.taken
     ∙ sym (read_here (map place.shape c.args.places.now) c.args.self.now.segments.items c.in-Some-checked_sub.newest _
-    c.index_mut-segment.result.now (omega (arith, c.in-Some-checked_sub.ensures, c.len.ensures, c.args.self.now.segments.ok))
-    c.index_mut-segment.ensures.value (map place.seen c.read_at.new.places) c.args.budget)) c.append_frames.ensures.valid
+    c.index_mut-segment.result.now (omega (
+      arith,
+      c.in-Some-checked_sub.ensures,
+      c.len.ensures,
+      c.args.self.now.segments.ok,
+    ))
+    c.index_mut-segment.ensures.value (map place.seen c.read_at.new.places) c.args.budget))
+    c.append_frames.ensures.valid

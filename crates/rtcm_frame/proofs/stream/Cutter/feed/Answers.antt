@@ -9,7 +9,8 @@ returns-clause-behind c =
     let place = c.with_room-place.result.start in
     let count = c.put_from-count.result in
     let held = c.self.inside in
-    let bytes = put_behind c.with_room-place.new.buffer c.put_from-count.new.buffer place held.len count c.put_from-count.ensures.front
+    let bytes = put_behind c.with_room-place.new.buffer c.put_from-count.new.buffer place held.len count
+    c.put_from-count.ensures.front
     ∙ ap₂ ◌++◌ c.with_room-place.ensures.bytes c.put_from-count.ensures.bytes
     ∙ ap (λ (p : Pending). p.bytes ++ take count c.args.bytes.now) c.self.view_is
     in
@@ -21,7 +22,8 @@ returns-clause-stands c = λ given all gave.
     let count = c.put_from-count.result in
     let held = c.self.inside in
     let more = take count c.args.bytes.now in
-    let bytes = put_behind c.with_room-place.new.buffer c.put_from-count.new.buffer place held.len count c.put_from-count.ensures.front
+    let bytes = put_behind c.with_room-place.new.buffer c.put_from-count.new.buffer place held.len count
+    c.put_from-count.ensures.front
     ∙ ap₂ ◌++◌ c.with_room-place.ensures.bytes c.put_from-count.ensures.bytes
     ∙ ap (λ (p : Pending). p.bytes ++ more) c.self.view_is
     in

@@ -51,4 +51,5 @@ returns-clause-stands c = λ given all gave.
     ∙ ap (λ (p : Pending). p.bytes ++ byte ∷ []) c.self.view_is
     in
     let junk = ap (λ (p : Pending). p.junk) c.self.view_is in
-    subst (Gave given (all ++ byte ∷ [])) (sym (ap₂ pending_of bytes junk)) (gave_more given all c.args.self.now (byte ∷ []) gave)
+    subst (Gave given (all ++ byte ∷ [])) (sym (ap₂ pending_of bytes junk))
+    (gave_more given all c.args.self.now (byte ∷ []) gave)

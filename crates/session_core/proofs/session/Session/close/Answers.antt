@@ -47,7 +47,8 @@ returns-clause-closed g c = λ config opening heading text steps histories sent 
     closed_at config (alone_at g.T.Turns.alone g.B.Turns.alone old.rings.items old.book)
     (seen_at g.T.Turns.seen g.B.Turns.seen old.rings.items old.book)
     (seen_at g.T.Turns.seen g.B.Turns.seen new.rings.items new.book) c.args.self c.settle_at-settled.new.stage
-    opening heading text steps histories sent c.args.last c.receipt_of.result c.settle_at-settled.result settled.stage is
+    opening heading text steps histories sent c.args.last c.receipt_of.result c.settle_at-settled.result settled.stage
+    is
     stands
     (on_ok_weaker c.settle_at-settled.result (λ told. told config shaped capped) settled.settled) settled.refused
     (told.settled ∙ c.is_ok.ensures.value) told.ending told.segments told.sent told.overrun told.junk told.entered

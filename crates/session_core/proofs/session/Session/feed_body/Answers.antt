@@ -127,7 +127,8 @@ returns-in-Rover-clause-fed g c config alone book opening text steps histories s
     c.requires.goes_on refl refl (c.halted-self.ensures ∙ ap ended_joining (sym fed.halt)) stands others fed.admission
     (λ first before ss is. told_by config (map g.T.Turns.shape c.args.rings.now) alone
     (all_alone g.T.Turns.alone c.args.rings.now) (map g.T.Turns.seen c.args.rings.now)
-    (map g.T.Turns.seen c.feed.new.places) (rover_of c.feed.new.self) first _ ss same from (fed.told first before ss is))
+    (map g.T.Turns.seen c.feed.new.places) (rover_of c.feed.new.self) first _ ss same from
+    (fed.told first before ss is))
     (resumes_as config (map g.T.Turns.shape c.args.rings.now) (rover_of c.in-Rover.session).me
     (map g.T.Turns.seen c.feed.new.places) (rover_of c.feed.new.self).segments same fed.resumable)
     (sent_as config (map g.T.Turns.shape c.args.rings.now) (map g.T.Turns.seen c.args.rings.now)

@@ -57,7 +57,15 @@ object g c got found =
     let one = ap length last.numbered.0 in
     let end = closes key.passes g.V.Played.stands g.V.Played.shape g.V.Played.fits (g.V.Played.shape key.value.value)
     _ _ _ _ c.take_in_all.ensures.same.1
-    (omega (arith, c.take_in_all.ensures.numbers, one, cut, c.requires.all, length-append c.pop.new.self.items (last ∷ [])))
+    (omega (
+      arith,
+      c.take_in_all.ensures.numbers,
+      one,
+      cut,
+      c.requires.all,
+      length-append c.pop.new.self.items
+          (last ∷ []),
+    ))
     c.close_with-closed.ensures.values.2 in
     let is : end.0 ≡ got = some-injective end.0 got (sym end.2 ∙ found) in (
       end.1,

@@ -31,8 +31,13 @@ loop-number-preserved g c =
       room = omega (arith, c.push_reserved.ensures.capacity, was.room);
       each = λ i pass at. ⊎_elim
           (λ before. was.each i pass before)
-          (λ last. subst (λ p. (pass_number p ≡ i) × (pass_seen p ≡ []) × (pass_worn p ≡ 0) × IsPassOf p c.args.self.now) last.1
-          (c.deal.ensures.pass.0 ∙ sym was.long ∙ sym last.0, c.deal.ensures.pass.1, c.deal.ensures.pass.2, c.deal.ensures.pass.3))
+          (λ last. subst (λ p. (pass_number p ≡ i) × (pass_seen p ≡ []) × (pass_worn p ≡ 0)
+          × IsPassOf p c.args.self.now) last.1 (
+            c.deal.ensures.pass.0 ∙ sym was.long ∙ sym last.0,
+            c.deal.ensures.pass.1,
+            c.deal.ensures.pass.2,
+            c.deal.ensures.pass.3,
+          ))
           (at_end c.loop-number.list.items c.deal.result pass i
           (ap (λ l. get_elem? l i) (sym c.push_reserved.ensures.items) ∙ at));
     }

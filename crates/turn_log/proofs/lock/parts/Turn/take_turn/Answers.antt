@@ -16,7 +16,8 @@ slot_mut-requires g c = (
 
 -- the token drew a ticket and was served
 served : (g : Over) (c : After-slot_mut g)
-    → Served g.V.Played.stands g.V.Played.shape g.V.Played.fits g.V.Played.answer g.V.Played.filled c.args.token.now.me.0
+    → Served g.V.Played.stands g.V.Played.shape g.V.Played.fits g.V.Played.answer g.V.Played.filled
+    c.args.token.now.me.0
     c.draw.new.token.me c.wait.new.token.me c.in_ok-ticket.ticket c.args.me c.args.call
 served g c = record {
   drawn = c.in_ok-ticket.ensures.ok;
@@ -31,7 +32,8 @@ served g c = record {
 pub play_held-answer-requires : goal.play_held-answer-requires
 play_held-answer-requires g c =
     let s = served g (goal.at.play_held-answer-requires g c).After-slot_mut in
-    to_play g.V.Played.stands g.V.Played.shape g.V.Played.fits g.V.Played.answer g.V.Played.filled g.met.V.Played.still_fits
+    to_play g.V.Played.stands g.V.Played.shape g.V.Played.fits g.V.Played.answer g.V.Played.filled
+    g.met.V.Played.still_fits
     _ _ _ _ _ _ s _ c.slot_mut.ensures.value
 
 pub fetch_add-requires : goal.fetch_add-requires
@@ -43,15 +45,18 @@ fetch_add-requires g c =
       omega (arith, c.args.self.now.sized.0),
       advances_allowed key.passes g.V.Played.stands g.V.Played.shape g.V.Played.fits (g.V.Played.shape key.value.value)
           _ _ _ _ _ _ _
-          (to_advance g.V.Played.stands g.V.Played.shape g.V.Played.fits g.V.Played.answer g.V.Played.filled g.met.V.Played.still_fits
+          (to_advance g.V.Played.stands g.V.Played.shape g.V.Played.fits g.V.Played.answer g.V.Played.filled
+          g.met.V.Played.still_fits
           _ _ _ _ _ _ s _ _ _ _ _ _ _ c.slot_mut.ensures.value play.shape play.last play.played),
     )
 
 -- the object was all that was lent
 alone : (g : Over) (c : After-slot_mut g) (played : Held g.row.V.Denot g.row.V-Call.Denot)
-    → ◌≡◌ {A = List (ℕ × Held g.row.V.Denot g.row.V-Call.Denot)} ((0, played) ∷ rest c.wait.new.token.me.1) ((0, played) ∷ [])
+    → ◌≡◌ {A = List (ℕ × Held g.row.V.Denot g.row.V-Call.Denot)} ((0, played) ∷ rest c.wait.new.token.me.1)
+    ((0, played) ∷ [])
 alone g c played =
-    lent_alone g.V.Played.stands g.V.Played.shape g.V.Played.fits g.V.Played.answer g.V.Played.filled g.met.V.Played.still_fits
+    lent_alone g.V.Played.stands g.V.Played.shape g.V.Played.fits g.V.Played.answer g.V.Played.filled
+    g.met.V.Played.still_fits
     _ _ _ _ _ _ (served g c) played
 
 pub returns-clause-same : goal.returns-clause-same
@@ -66,7 +71,8 @@ pub returns-clause-ok : goal.returns-clause-ok
 returns-clause-ok g c =
     let d = (goal.at.returns-clause-ok g c).After-slot_mut in
     let play = c.play_held-answer.ensures in
-    turn_taken g.V.Played.stands g.V.Played.shape g.V.Played.fits g.V.Played.answer g.V.Played.filled g.met.V.Played.still_fits
+    turn_taken g.V.Played.stands g.V.Played.shape g.V.Played.fits g.V.Played.answer g.V.Played.filled
+    g.met.V.Played.still_fits
     _ _ _ _ _ _ (served g d) _ c.play_held-answer.new.held _ _ _ _ c.slot_mut.ensures.value play.played
     (c.fetch_add.ensures.2 c.play_held-answer.new.held c.args.me c.args.call
     (alone g d c.play_held-answer.new.held) play.last)
