@@ -1,7 +1,10 @@
 -- What more entries change of a history's state, and of the answers that a caller had.
-use Rattle.std.proofs.Common.{◌≡◌, ℕ, ◌+◌, ◌≤◌, take, leb-true, le-leb, eq-eqb, length-append, Bool, true, false, cond, List, [], ◌∷◌, ◌++◌, length, refl, ap, ◌∙◌, sym, arith, append_assoc, Option, None, Some}
+use Rattle.std.proofs.Common.{◌≡◌, ℕ, ◌+◌, ◌≤◌, take, leb-true, le-leb, eq-eqb, length-append, Bool, true, false, cond, List, [], ◌∷◌, ◌++◌, length, map, refl, ap, ◌∙◌, sym, arith, append_assoc, Option, None, Some}
 use Rattle.std.specs.Prelude.{◌==◌, ◌&&◌, nat_le, nat_lt, fold, IfSome, count_by, slice_get}
-use Rattle.std.proofs.lemmas.List.{append-nil, take-append-le}
+use Rattle.std.proofs.lemmas.List.{append-nil, take-append-le, map-append}
+use Rattle.turn_log.specs.History.{History}
+use Rattle.turn_log.specs.Heard.{told}
+use Rattle.turn_log.proofs.HeardLaws.{told-append}
 use Rattle.std.proofs.Math.Seq.{take-length}
 use Rattle.std.proofs.lemmas.Bool.{and_parts, and_from, eqb-true, true≢false}
 use Rattle.std.proofs.lemmas.List.Sums.{fold-append}
@@ -15,7 +18,7 @@ use Rattle.mount_ring.specs.Places.{gives, claims_given, are_fit}
 use Rattle.mount_ring.specs.declared.cursor.Cursor.{Cursor}
 use Rattle.mount_ring.specs.Reads.{read_report}
 use Rattle.mount_ring.proofs.ReadLemmas.{read_ends}
-use Rattle.mount_ring.specs.History.{Shape, State, start, after, after_call, after_claim, state_of, answer, answers_from, own_answers, with_own, has_none_of, is_holder, fits, is_readable, permits_at, joined, live_claim, claim_answer}
+use Rattle.mount_ring.specs.History.{Shape, State, start, after, after_call, after_claim, state_of, answer, answers_since, own_answers, has_none_of, is_holder, fits, is_readable, permits_at, joined, live_claim, claim_answer}
 
 -- the state after more entries
 pub state_of-append : (history more : List (ℕ × RingCall)) → state_of (history ++ more)
@@ -58,25 +61,12 @@ last_published (first ∷ published) frame = last_published published frame
 
 -- ---- answers
 
-with_own-append : (own : Bool) (a : RingAnswer) (later more : List RingAnswer) → with_own own a (later ++ more)
-    ≡ with_own own a later ++ more
-with_own-append true a later more = refl
-with_own-append false a later more = refl
-
-pub answers_from-append : (shape : Shape) (me : ℕ) (state : State) (before more : List (ℕ × RingCall)) →
-    answers_from shape me state (before ++ more)
-    ≡ answers_from shape me state before ++ answers_from shape me (fold after state before) more
-answers_from-append shape me state [] more = refl
-answers_from-append shape me state (entry ∷ before) more =
-    ap (with_own (entry.0 == me) (answer shape state entry.1))
-    (answers_from-append shape me (after state entry) before more)
-    ∙ with_own-append (entry.0 == me) (answer shape state entry.1) (answers_from shape me (after state entry) before)
-    (answers_from shape me (fold after (after state entry) before) more)
-
-pub own_answers-append : (shape : Shape) (me : ℕ) (history more : List (ℕ × RingCall)) →
-    own_answers shape me (history ++ more)
-    ≡ own_answers shape me history ++ answers_from shape me (state_of history) more
-own_answers-append shape me history more = answers_from-append shape me start history more
+pub own_answers-append : (shape : Shape) (me : ℕ) (history more : History RingCall)
+    → own_answers shape me (history ++ more) ≡ own_answers shape me history ++ answers_since shape me history more
+own_answers-append shape me history more =
+    let answers : History RingCall → ℕ → RingCall → RingAnswer = λ h by call. answer shape (state_of h) call in
+    ap (map (λ (pair : RingCall × RingAnswer). pair.1)) (told-append answers me [] history more)
+    ∙ map-append (λ (pair : RingCall × RingAnswer). pair.1) (told answers me [] history) (told answers me history more)
 
 -- ---- claims and the holder
 

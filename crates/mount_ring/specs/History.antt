@@ -1,8 +1,10 @@
 -- The history of a mountpoint: a list of entries, each a caller's number and the call that it made.
 -- Who holds the mountpoint, how many claims were given and which frames were published follow from
 -- it, and so does the answer of each call at its own point.
-use Rattle.std.specs.Prelude.{ℕ, ◌+◌, ◌==◌, nat_le, nat_lt, Bool, true, false, cond, ◌&&◌, List, [], ◌∷◌, ◌++◌, length, take, Option, None, Some, unwrap_or, slice_get, fold}
+use Rattle.std.specs.Prelude.{ℕ, ◌+◌, ◌==◌, nat_le, nat_lt, Bool, true, false, cond, ◌&&◌, List, [], ◌∷◌, ◌++◌, length, map, take, Option, None, Some, unwrap_or, slice_get, fold}
 use Rattle.std.specs.List.{count_by}
+use Rattle.turn_log.specs.History.{History}
+use Rattle.turn_log.specs.Heard.{told}
 use Rattle.mount_ring.specs.declared.cursor.Cursor.{Cursor}
 use Rattle.mount_ring.specs.declared.call.RingCall.{RingCall}
 use Rattle.mount_ring.specs.declared.call.RingCall.TheVariants.{Claim, Release, Publish, Join, Look, Read}
@@ -120,21 +122,14 @@ filled shape state Look room = room
 filled shape state (Read cursor budget) room =
     read_frames (permits_at shape cursor.filter) shape.capacity state.published cursor budget
 
--- an answer in front of a list, where the test says that it belongs there
-abbrev pub with_own : Bool → RingAnswer → List RingAnswer → List RingAnswer
-with_own true answer later = answer ∷ later
-with_own false answer later = later
-
--- the answers to one caller's calls among these entries, each at its own point, from this state on
-abbrev pub answers_from : Shape → ℕ → State → List (ℕ × RingCall) → List RingAnswer
-answers_from shape me state [] = []
-answers_from shape me state (entry ∷ entries) =
-    with_own (entry.0 == me) (answer shape state entry.1)
-    (answers_from shape me (after state entry) entries)
+-- the answers to one caller's calls among more entries that follow a history, each at its own point
+abbrev pub answers_since : Shape → ℕ → History RingCall → History RingCall → List RingAnswer
+answers_since shape me before more =
+    map (λ pair. pair.1) (told (λ history by call. answer shape (state_of history) call) me before more)
 
 -- the answers to one caller's calls in a history
-abbrev pub own_answers : Shape → ℕ → List (ℕ × RingCall) → List RingAnswer
-own_answers shape me history = answers_from shape me start history
+abbrev pub own_answers : Shape → ℕ → History RingCall → List RingAnswer
+own_answers shape me history = answers_since shape me [] history
 
 -- whether none of these entries is a call of this caller
 abbrev pub has_none_of : ℕ → List (ℕ × RingCall) → Bool

@@ -3,7 +3,7 @@
 ghost use Rattle.std.specs.Prelude.{◌≡◌, ℕ, ◌+◌, ◌-◌, ◌<◌, ◌≤◌, ◌↔◌, min, List, [], ◌∷◌, ◌++◌, length, take, IsTrue, IfSome, slice_get};
 ghost use Rattle.std.specs.List.{filter, count_by};
 ghost use Rattle.mount_ring.specs.Reads.{most_taken, read_report};
-ghost use Rattle.mount_ring.specs.History.{Shape, State, start, after, after_call, state_of, permits_at, is_holder, fits, is_readable, joined, answer, own_answers, answers_from, has_none_of};
+ghost use Rattle.mount_ring.specs.History.{Shape, State, start, after, after_call, state_of, permits_at, is_holder, fits, is_readable, joined, answer, own_answers, answers_since, has_none_of};
 ghost use Rattle.mount_ring.specs.Places.{between, Reading, report_of, taken_by, begin_of, end_of, lap_overrun, published_by, claims_given, are_fit};
 
 use crate::call::{Holder, RingAnswer, RingCall};
@@ -82,7 +82,7 @@ pub fn history_by_entries()
         → state_of (history ++ (me, call) ∷ []) ≡ after_call (state_of history) me call }
     ensures answers { (shape : Shape) (me : ℕ) (history more : List (ℕ × RingCall))
         → own_answers shape me (history ++ more)
-        ≡ own_answers shape me history ++ answers_from shape me (state_of history) more }
+        ≡ own_answers shape me history ++ answers_since shape me history more }
 {}
 
 /// What was published are the frames of all Publish entries, in order: it only grows, and each

@@ -1,5 +1,5 @@
 -- What one more entry makes of the segment that a history tells.
-use Rattle.std.proofs.Common.{◌≡◌, ℕ, ◌+◌, ◌<◌, ◌≤◌, Bool, true, false, IsTrue, List, [], ◌∷◌, ◌++◌, length, refl, ap, ◌∙◌, sym, subst, arith, eq-eqb, Option, None, Some}
+use Rattle.std.proofs.Common.{◌≡◌, ℕ, ◌+◌, ◌<◌, ◌≤◌, Bool, true, false, IsTrue, List, [], ◌∷◌, ◌++◌, length, map, refl, ap, ◌∙◌, sym, subst, arith, eq-eqb, Option, None, Some}
 use Rattle.std.specs.Prelude.{◌==◌, cond, fold, option_to_list}
 use Rattle.mount_ring.specs.declared.Lap.{Lap}
 use Rattle.std.specs.List.{list_all}
@@ -7,11 +7,12 @@ use Rattle.std.proofs.lemmas.Bool.{and_parts}
 use Rattle.std.proofs.lemmas.List.Sums.{fold-append}
 use Rattle.turn_log.specs.History.{History, own, GoesOn}
 use Rattle.turn_log.specs.Turn.{Turned}
-use Rattle.turn_log.specs.Heard.{Heard}
+use Rattle.turn_log.specs.Heard.{told, Heard}
 use Rattle.turn_log.proofs.HeardLaws.{heard_turn}
 use Rattle.mount_ring.specs.declared.Cursor.{Cursor}
 use Rattle.mount_ring.specs.declared.RingCall.{RingCall}
 use Rattle.mount_ring.specs.declared.RingCall.TheVariants.{Claim, Release, Publish, Join, Look, Read}
+use Rattle.mount_ring.specs.declared.RingAnswer.{RingAnswer}
 use Rattle.mount_ring.specs.declared.RingAnswer.TheVariants.{Joined}
 use Rattle.mount_ring.specs.declared.RingAnswer.TheVariants as answers
 use Rattle.mount_ring.specs.declared.ReadReport.{ReadReport}
@@ -20,7 +21,7 @@ use Rattle.mount_ring.specs.declared.RingShape.{RingShape}
 use Rattle.mount_ring.specs.Shapes.{shape_of}
 use Rattle.mount_ring.specs.Reads.{read_report, read_frames}
 use Rattle.mount_ring.specs.Places.{published_by}
-use Rattle.mount_ring.specs.History.{Shape, State, after, state_of, permits_at, joined, answer, claim_answer, own_answers, answers_from, with_own, fits, filled}
+use Rattle.mount_ring.specs.History.{Shape, State, after, state_of, permits_at, joined, answer, claim_answer, own_answers, answers_since, fits, filled}
 use Rattle.mount_ring.proofs.OwnLemmas.{known_filter}
 use Rattle.mount_ring.proofs.HistoryLemmas.{state_of-append, own_answers-append, published-append}
 use Rattle.rover_cursor.specs.declared.segment.Segment.{Segment}
@@ -35,7 +36,8 @@ answers_one : (shape : Shape) (me : ℕ) (h : History RingCall) (call : RingCall
     own_answers shape me (h ++ (me, call) ∷ []) ≡ own_answers shape me h ++ answer shape (state_of h) call ∷ []
 answers_one shape me h call =
     own_answers-append shape me h ((me, call) ∷ [])
-    ∙ ap (λ (b : Bool). own_answers shape me h ++ with_own b (answer shape (state_of h) call) []) (eq-eqb me me refl)
+    ∙ ap (λ (b : Bool). own_answers shape me h ++ map (λ (pair : RingCall × RingAnswer). pair.1)
+    (cond b ((call, answer shape (state_of h) call) ∷ []) [])) (eq-eqb me me refl)
 
 -- the segments told change by that call's answer
 told_one : (shape : Shape) (mount me : ℕ) (h : History RingCall) (call : RingCall) →
@@ -132,22 +134,25 @@ quiet_answer shape mount segments state (Join filter) quiet = absurd cc
 quiet_answer shape mount segments state Look quiet = refl
 quiet_answer shape mount segments state (Read cursor budget) quiet = absurd cc
 
-quiet_answers : (shape : Shape) (mount me : ℕ) (segments : List Segment) (state : State) (more : History RingCall) →
-    list_all is_quiet (own me more) ≡ true → fold (after_answer mount) segments (answers_from shape me state more)
-    ≡ segments
-quiet_answers shape mount me segments state [] quiet = refl
-quiet_answers shape mount me segments state (entry ∷ more) quiet =
-    by_caller (entry.0 == me) quiet (quiet_answers shape mount me segments (after state entry) more) where
-      by_caller : (mine : Bool) → list_all is_quiet (cond mine (entry.1 ∷ own me more) (own me more)) ≡ true →
-          (list_all is_quiet (own me more) ≡ true
-          → fold (after_answer mount) segments (answers_from shape me (after state entry) more) ≡ segments) →
-          fold (after_answer mount) segments
-          (with_own mine (answer shape state entry.1) (answers_from shape me (after state entry) more)) ≡ segments
+quiet_answers : (shape : Shape) (mount me : ℕ) (segments : List Segment) (before more : History RingCall)
+    → list_all is_quiet (own me more) ≡ true
+    → fold (after_answer mount) segments (answers_since shape me before more) ≡ segments
+quiet_answers shape mount me segments before [] quiet = refl
+quiet_answers shape mount me segments before (entry ∷ more) quiet =
+    by_caller (entry.0 == me) quiet (quiet_answers shape mount me segments (before ++ entry ∷ []) more) where
+      later : List (RingCall × RingAnswer)
+      later = told (λ h by call. answer shape (state_of h) call) me (before ++ entry ∷ []) more
+
+      by_caller : (mine : Bool) → list_all is_quiet (cond mine (entry.1 ∷ own me more) (own me more)) ≡ true
+          → (list_all is_quiet (own me more) ≡ true
+          → fold (after_answer mount) segments (map (λ pair. pair.1) later) ≡ segments)
+          → fold (after_answer mount) segments
+          (map (λ pair. pair.1) (cond mine ((entry.1, answer shape (state_of before) entry.1) ∷ later) later)) ≡ segments
       by_caller false quiet rest = rest quiet
       by_caller true quiet rest =
           let parts : (is_quiet entry.1 ≡ true) × (list_all is_quiet (own me more) ≡ true) = and_parts _ _ quiet in
-          ap (λ (s : List Segment). fold (after_answer mount) s (answers_from shape me (after state entry) more))
-          (quiet_answer shape mount segments state entry.1 parts.0)
+          ap (λ (s : List Segment). fold (after_answer mount) s (map (λ pair. pair.1) later))
+          (quiet_answer shape mount segments (state_of before) entry.1 parts.0)
           ∙ rest parts.1
 
 stays_here : (shape : Shape) (me : ℕ) (h more : History RingCall) (segment : Segment) → IsSegment shape me h segment →
@@ -155,8 +160,8 @@ stays_here : (shape : Shape) (me : ℕ) (h more : History RingCall) (segment : S
 stays_here shape me h more segment is quiet = record {
   older = is.older;
   told = ap (newest_segments segment.mount) (own_answers-append shape me h more)
-      ∙ fold-append (after_answer segment.mount) [] (own_answers shape me h) (answers_from shape me (state_of h) more)
-      ∙ quiet_answers shape segment.mount me (segments_told shape segment.mount me h) (state_of h) more quiet
+      ∙ fold-append (after_answer segment.mount) [] (own_answers shape me h) (answers_since shape me h more)
+      ∙ quiet_answers shape segment.mount me (segments_told shape segment.mount me h) h more quiet
       ∙ is.told;
   known = is.known;
   sound = subst (λ frames. IsSound (permits_at shape segment.cursor.filter) shape.capacity frames segment)
