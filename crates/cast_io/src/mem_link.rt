@@ -63,8 +63,8 @@ impl MemLink {
     ghost use Rattle.cast_io.specs.Told.{Grew};
     ghost use Rattle.cast_io.specs.declared.steps.Step.{Step};
 
-    /// A link whose peer takes these steps, of which those of bytes hold at least one. `fails` lists
-    /// which calls fail, by their numbers from 1 over reads and writes alike.
+    /// A link whose peer takes these steps, of which those of bytes hold at least one. `fails`
+    /// lists which calls fail, by their numbers from 1 over reads and writes alike.
     pub fn new(alloc: Global, steps: Vec<LinkStep>, fails: Vec<u64>) -> Self
         requires { IsTrue (list_all has_bytes steps.items) }
         ensures made { IsMadeOf result steps.items fails.items [] }

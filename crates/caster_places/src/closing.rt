@@ -28,7 +28,8 @@ use turn_log::{Pass, Played, Turn};
 /// Closes the lock of a ring, and tells what its mountpoint came to.
 fn close_ring(lock: Turn<Ring>, pile: Vec<Pass<Ring>>) -> MountTotal
     requires all { AreAllOf pile.items lock }
-    ensures { (whole : History RingCall) × (result ≡ mount_total whole) × HasAllOf pile.items whole }
+    ensures { (whole : History RingCall) × (result ≡ mount_total whole)
+        × HasAllOf pile.items whole }
 {
     let ring = lock.close(pile);
     MountTotal {

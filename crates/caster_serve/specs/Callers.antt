@@ -1,4 +1,5 @@
--- The callers of a caster, which are its workers and its relays: what each did from the first call on.
+-- The callers of a caster, which are its workers and its relays: what each did from the first
+-- call on.
 use Rattle.std.specs.Prelude.{◌≡◌, ℕ, ◌+◌, ⊤, nat_eq, Bool, true, List, [], ◌∷◌, map}
 use Rattle.caster_accounts.specs.declared.account.Sum.{Sum}
 use Rattle.caster_accounts.specs.Sums.{nothing}
@@ -14,8 +15,8 @@ pub record Caller : Type 0 where
   pub served : ℕ
   pub end : EndTold
 
--- A worker served the links of its door, as many as it was to, or until its door failed; a relay was
--- served over its one link.
+-- A worker served the links of its door, as many as it was to, or until its door failed; a relay
+-- was served over its one link.
 abbrev pub ServedOver : Config → ℕ → ℕ → EndTold → EndTold → Caller → Caller → Type 0
 ServedOver c limit me (at_door before) (at_door after) old new =
     Worked c me old.seen new.seen before after old.tally new.tally limit new.served
@@ -41,7 +42,8 @@ pub record IsServed (c : Config) (limit me : ℕ) (caller : Caller) : Type 0 whe
 -- so did each of these, numbered from this number on
 abbrev pub AreServed : Config → ℕ → ℕ → List Caller → Type 0
 AreServed c limit n [] = ⊤
-AreServed c limit n (caller ∷ callers) = IsServed c limit n caller × AreServed c limit (n + 1) callers
+AreServed c limit n (caller ∷ callers) =
+    IsServed c limit n caller × AreServed c limit (n + 1) callers
 
 -- a worker that served as many links as it was to; a relay has but one
 abbrev pub is_whole_at : ℕ → ℕ → EndTold → Bool

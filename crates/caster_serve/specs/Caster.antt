@@ -19,9 +19,9 @@ pub record HasGivenBack (ends : List EndTold) (old new : StreetTold) : Type 0 wh
   pub doors : Grew old.doors new.doors (doors_in ends)
   pub links : Grew old.links new.links (links_in ends)
 
--- All callers served: in the order of their numbers, first the workers and then the relays. Then all
--- doors and links were given back. There is one history of each mountpoint and one of the book: each
--- caller has seen a beginning of it with all its own calls, and nobody else called.
+-- All callers served: in the order of their numbers, first the workers and then the relays. Then
+-- all doors and links were given back. There is one history of each mountpoint and one of the
+-- book: each caller has seen a beginning of it with all its own calls, and nobody else called.
 pub record AllServed (c : Config) (limit : ℕ) (old new : StreetTold) (callers : List Caller)
     (histories : Histories) : Type 0 where
   pub kinds_are : map kind_of (ends_of callers) ≡ kinds c
@@ -35,8 +35,8 @@ pub record NoneServed (old new : StreetTold) : Type 0 where
   pub unused : All IsUnused ends
   pub given_back : HasGivenBack ends old new
 
--- All served, each worker as many links as it was to; and the caster came to what its histories say.
--- All accounts together are the sum of the callers' tallies.
+-- All served, each worker as many links as it was to; and the caster came to what its histories
+-- say. All accounts together are the sum of the callers' tallies.
 pub record ClosedWhole (c : Config) (limit : ℕ) (old new : StreetTold) (closed : Closed) : Type 0
   where
     pub callers : List Caller
@@ -72,7 +72,8 @@ pub record Went (c : Config) (addr : List ℕ) (limit : ℕ) (old new : StreetTo
   pub ended : Ended c limit old new result
 
 -- what the answer says of it
-abbrev pub Answered : Config → List ℕ → ℕ → StreetTold → StreetTold → Result Closed ServeFault → Type 0
+abbrev pub Answered : Config → List ℕ → ℕ → StreetTold → StreetTold → Result Closed ServeFault
+    → Type 0
 Answered c addr limit old new (Ok closed) = Went c addr limit old new (Ok closed)
 Answered c addr limit old new (Err faults.Network) =
     Went c addr limit old new (Err faults.Network)

@@ -36,14 +36,15 @@ text_of whats = fold with_bytes [] whats
 
 -- a connection that opened so, on which these bytes came in and that made these calls, had not
 -- ended by itself
-pub record IsGoingOn (c : Config) (opening : Opening) (text : List ℕ) (steps : List Step) : Type 0 where
+pub record IsGoingOn (c : Config) (opening : Opening) (text : List ℕ) (steps : List Step)
+    : Type 0 where
   pub heading : Heading
   pub is_heading : IsHeadingOf (Some opening) text heading
   pub unended : ended_by (judged c opening heading text) (received steps) ≡ None
 
 -- what it made for the event is all that it owes for it, by the heading of all its bytes
-pub record IsOwed (c : Config) (opening : Opening) (text : List ℕ) (steps : List Step) (event : Event)
-    : Type 0 where
+pub record IsOwed (c : Config) (opening : Opening) (text : List ℕ) (steps : List Step)
+    (event : Event) : Type 0 where
   pub heading : Heading
   pub is_heading : IsHeadingOf (Some opening) (with_bytes text event.what) heading
   pub made : IsMade (owed c opening heading text steps event.what) event.made
@@ -63,8 +64,8 @@ IsCourse c opening text steps (event ∷ events) =
     IsGoingOn c opening text steps × IsOwed c opening text steps event
     × IsCourse c opening (with_bytes text event.what) (steps ++ event.made) events
 
--- A connection that was halted, by a place that was worn or by want of memory, may have made but the
--- first of what it owed for its last event. It may be halted before the first event.
+-- A connection that was halted, by a place that was worn or by want of memory, may have made but
+-- the first of what it owed for its last event. It may be halted before the first event.
 abbrev pub IsBroken : Bool → Config → Opening → List ℕ → List Step → List Event → Type 0
 IsBroken false c opening text steps last = last ≡ []
 IsBroken true c opening text steps [] = ⊤
@@ -74,7 +75,8 @@ IsBroken true c opening text steps (event ∷ []) =
 IsBroken true c opening text steps (event ∷ next ∷ events) = ⊥
 
 -- all events of a connection from its first byte on, which was halted by the last of them or not
-pub record Ran (c : Config) (opening : Opening) (is_halted : Bool) (events : List Event) : Type 0 where
+pub record Ran (c : Config) (opening : Opening) (is_halted : Bool) (events : List Event)
+    : Type 0 where
   pub whole : List Event
   pub last : List Event
   pub split : events ≡ whole ++ last

@@ -42,9 +42,9 @@ fn serve_hands<'a, L: Link + Send, D: Door<Link = L> + Send, R: Threads + Wait +
     serve_all(rt, alloc, config, table, hands.as_mut_slice(), limit);
 }
 
-/// Sits down with these passes, which are those of all callers, serves over the end at the same place
-/// of the list, and leaves. Answers whether each served as many links as it was to. After a refusal
-/// nobody served.
+/// Sits down with these passes, which are those of all callers, serves over the end at the same
+/// place of the list, and leaves. Answers whether each served as many links as it was to. After a
+/// refusal nobody served.
 pub(crate) fn serve_ends<L: Link + Send, D: Door<Link = L> + Send, R: Threads + Wait + Sync>(
     rt: &R,
     alloc: Global,

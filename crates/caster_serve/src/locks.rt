@@ -25,7 +25,8 @@ fn open_ring(
     requires kept { (cap : ℕ) × KeepsRules cap config.now }
     requires some_pass { 0 < passes }
     ensures shape { IfOk result (λ opened.
-        ring_shape (turn_value opened.0) ≡ ring_of config.now.group mount (slice_get config.now.mount mount)) }
+        ring_shape (turn_value opened.0)
+        ≡ ring_of config.now.group mount (slice_get config.now.mount mount)) }
     ensures passes { IfOk result (λ opened. turn_passes opened.0 ≡ passes) }
     ensures dealt { IfOk result (λ opened. AreDealt passes opened.1.items opened.0) }
 {

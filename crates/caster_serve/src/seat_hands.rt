@@ -42,8 +42,8 @@ impl<'a, L: Link + Send, D: Door<Link = L> + Send, R: Wait + Sync> Serves for Se
     }
 }
 
-/// Sits down with each of these passes, which are those of all callers, and takes the end at the same
-/// place of the list. After a refusal the list is as it was.
+/// Sits down with each of these passes, which are those of all callers, and takes the end at the
+/// same place of the list. After a refusal the list is as it was.
 pub(crate) fn sit_all<'a, L: Link + Send, D: Door<Link = L> + Send, R: Wait + Sync>(
     rt: &'a R,
     alloc: Global,
@@ -98,7 +98,8 @@ pub(crate) fn are_whole<'a, L: Link + Send, D: Door<Link = L> + Send, R: Wait + 
     limit: u64,
 ) -> bool
     ensures { result
-        ≡ list_all (λ hand. is_whole limit (⟦<SeatHand<'a, D, R> as Serves>⟧.told hand).caller) hands.now }
+        ≡ list_all (λ hand.
+        is_whole limit (⟦<SeatHand<'a, D, R> as Serves>⟧.told hand).caller) hands.now }
 {
     hands.iter().all(|hand| hand.is_whole(limit))
 }

@@ -30,8 +30,8 @@ pub enum ServeFault {
     Memory,
 }
 
-/// What a caster needs before its first worker starts: its locks with the passes of all callers, and
-/// room for what comes back.
+/// What a caster needs before its first worker starts: its locks with the passes of all callers,
+/// and room for what comes back.
 struct Ready<'c> {
     shared: Shared<'c>,
     passes: Vec<Passes>,
@@ -77,8 +77,8 @@ where
     requires unused { All IsUnused (map (end_told N.Door.told N.Link.told) ends.items) }
     ensures asked { (N.told street.new).asked ≡ (N.told street.old).asked }
     ensures later { (N.told street.old).faults ≤ (N.told street.new).faults }
-    ensures ended { Ended ready.entry.shared.config.now limit (N.told street.old) (N.told street.new)
-        result }
+    ensures ended { Ended ready.entry.shared.config.now limit (N.told street.old)
+        (N.told street.new) result }
 {
     let Ready {
         shared,
@@ -105,9 +105,10 @@ where
     }
 }
 
-/// Serves: opens a door for each worker at this address and dials the peer of each relay, once and in
-/// order; then all workers serve side by side, each as many links as `limit` says, and each relay its
-/// one link. Then the doors are shut, the relays' links hung up, and the locks are closed.
+/// Serves: opens a door for each worker at this address and dials the peer of each relay, once
+/// and in order; then all workers serve side by side, each as many links as `limit` says, and
+/// each relay its one link. Then the doors are shut, the relays' links hung up, and the locks are
+/// closed.
 ///
 /// # Errors
 /// `Network` only where the street's count of faults rose: what was asked was refused, and nobody

@@ -61,8 +61,8 @@ fn serve_one<T: Turns<Ring>, B: Turns<Book>, D: Door, R: Wait>(
     door.hang_up(link);
 }
 
-/// Serves the links that the door gives until so many came, or until the door fails. Answers how many
-/// came.
+/// Serves the links that the door gives until so many came, or until the door fails. Answers how
+/// many came.
 pub fn work_places<T: Turns<Ring>, B: Turns<Book>, D: Door, R: Wait>(
     rt: &R,
     alloc: Global,

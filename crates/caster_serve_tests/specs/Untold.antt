@@ -4,7 +4,8 @@ use Rattle.cast_io.specs.Told.{LinkTold, DoorTold, StreetTold}
 
 -- a link that failed so often
 abbrev pub counted_link : ℕ → LinkTold
-counted_link count = record { given = None; left = None; taken = None; bytes = None; faults = count }
+counted_link count =
+    record { given = None; left = None; taken = None; bytes = None; faults = count }
 
 -- a door that never fails
 abbrev pub untold_door : DoorTold

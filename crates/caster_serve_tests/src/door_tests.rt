@@ -14,8 +14,8 @@ use std::sync::Wait;
 use std::test::Fail;
 use std::thread::Threads;
 
-/// What a caster came to that is to serve two links at each of three doors: a source of ALPHA and two
-/// rovers of BRAVO come first. The second door fails at this accept.
+/// What a caster came to that is to serve two links at each of three doors: a source of ALPHA and
+/// two rovers of BRAVO come first. The second door fails at this accept.
 fn two_each<R: Threads + Wait + Sync>(
     rt: &R,
     alloc: Global,
@@ -28,8 +28,8 @@ fn two_each<R: Threads + Wait + Sync>(
     carry_out(rt, alloc, b"", 2, street)
 }
 
-/// So many links came back to this door, each served to its end: the first was sent this and took so
-/// many steps, and the second ended at once.
+/// So many links came back to this door, each served to its end: the first was sent this and took
+/// so many steps, and the second ended at once.
 fn expect_door(rt: &impl Abort, back: &Back, door: usize, links: usize, steps: usize) {
     let ended = links_at(rt, back, door);
     assert_eq!(rt; ended.len(), links);

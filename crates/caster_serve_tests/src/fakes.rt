@@ -72,8 +72,8 @@ pub(crate) fn failing_link(
     }
 }
 
-/// A door at which this link arrives, then nothing, then the other one. The accepts of these numbers
-/// fail.
+/// A door at which this link arrives, then nothing, then the other one. The accepts of these
+/// numbers fail.
 pub(crate) fn door_of(
     alloc: Global,
     first: MemLink,
@@ -128,9 +128,9 @@ pub(crate) fn street_at(alloc: Global, door: MemDoor) -> Result<MemStreet, Alloc
     MemStreet::new(alloc, doors, Vec::new(alloc), Vec::new(alloc))
 }
 
-/// A street of three doors at each of which a link with such a peer arrives and then one that ends
-/// at once, and of links with these peers. The second door fails at the accepts of these numbers, and
-/// the street at its calls of these.
+/// A street of three doors at each of which a link with such a peer arrives and then one that
+/// ends at once, and of links with these peers. The second door fails at the accepts of these
+/// numbers, and the street at its calls of these.
 pub(crate) fn street_of(
     alloc: Global,
     arriving: [&[&[u8]]; 3],

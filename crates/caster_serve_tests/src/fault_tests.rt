@@ -114,8 +114,8 @@ fn the_reply_to_a_rover_is_torn(rt: HostRuntime) -> Result<(), Fail> {
     Ok(())
 }
 
-// The calls of the source are a read, a write of the reply, and reads, of which two give a frame. The
-// next one publishes two.
+// The calls of the source are a read, a write of the reply, and reads, of which two give a frame.
+// The next one publishes two.
 #[test]
 fn each_call_of_a_source_fails_once(rt: HostRuntime) -> Result<(), Fail> {
     for (call, ending, bytes, steps, published, claims) in [
@@ -148,7 +148,8 @@ fn a_rover_whose_head_is_not_whole_enters_no_account(rt: HostRuntime) -> Result<
     Ok(())
 }
 
-/// The head of a source of ALPHA whose body comes in chunks, what it is told, and a chunk of a frame.
+/// The head of a source of ALPHA whose body comes in chunks, what it is told, and a chunk of a
+/// frame.
 const CHUNKED: &[u8] = b"POST /ALPHA HTTP/1.1\r\nHost: caster\r\nNtrip-Version: Ntrip/2.0\r\n\
 Authorization: Basic c3JjOnNlc2FtZQ==\r\nTransfer-Encoding: chunked\r\n\r\n";
 

@@ -67,8 +67,8 @@ fn a_relay_asks_and_publishes(rt: HostRuntime) -> Result<(), Fail> {
     Ok(())
 }
 
-/// What is told of a worker with a door of a rover with a torn reply, nothing, and a rover. The accept
-/// of this number fails.
+/// What is told of a worker with a door of a rover with a torn reply, nothing, and a rover. The
+/// accept of this number fails.
 fn worker<R: Wait + Sync>(
     rt: &R,
     alloc: Global,

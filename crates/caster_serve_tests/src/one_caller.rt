@@ -46,7 +46,8 @@ pub(crate) fn sit_down<'a, R: Wait + Sync>(
     Ok((me, places))
 }
 
-/// What a connection over this link came to that is served so. The configuration has this behind it.
+/// What a connection over this link came to that is served so. The configuration has this behind
+/// it.
 fn serve_as<L: Link, R: Wait + Sync>(
     rt: &R,
     alloc: Global,

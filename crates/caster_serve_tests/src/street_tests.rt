@@ -28,8 +28,8 @@ fn rover() -> [&'static [u8]; 51] {
     pieces
 }
 
-/// What a caster came to with a source, two rovers, and upstream casters that send this. The street's
-/// call of this number fails.
+/// What a caster came to with a source, two rovers, and upstream casters that send this. The
+/// street's call of this number fails.
 fn busy<R: Threads + Wait + Sync>(
     rt: &R,
     alloc: Global,

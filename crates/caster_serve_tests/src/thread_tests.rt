@@ -134,8 +134,9 @@ fn slow_street<'a, R: Clock>(
     Ok(TimedStreet::new(alloc, doors))
 }
 
-/// A rover whose link fails so leaves ALPHA, of which six frames came, with these sums, and its link
-/// was sent so many bytes of what is owed and failed so often. The source waits for this flag.
+/// A rover whose link fails so leaves ALPHA, of which six frames came, with these sums, and its
+/// link was sent so many bytes of what is owed and failed so often. The source waits for this
+/// flag.
 fn expect_late<R: Abort + Clock + Threads + Wait + Sync>(
     rt: &R,
     alloc: Global,
@@ -156,8 +157,8 @@ fn expect_late<R: Abort + Clock + Threads + Wait + Sync>(
     expect_faults(rt, &street, faults)
 }
 
-// The ring keeps four frames. The reads of the rover are of its head, of nothing and of its end. Where
-// the first one fails it is not let in.
+// The ring keeps four frames. The reads of the rover are of its head, of nothing and of its end.
+// Where the first one fails it is not let in.
 #[test]
 fn a_read_fails_of_a_rover_that_is_lapped(rt: HostRuntime) -> Result<(), Fail> {
     for (call, begins, size, left, faults) in [

@@ -1,6 +1,6 @@
-//! Links whose calls set flags and wait for flags of other links, with doors and a street of them.
-//! A link tells how often it failed, and the street how many such links came back, and nothing else.
-//! The doors tell nothing. Neither they nor the street ever fail.
+//! Links whose calls set flags and wait for flags of other links, with doors and a street of
+//! them. A link tells how often it failed, and the street how many such links came back, and
+//! nothing else. The doors tell nothing. Neither they nor the street ever fail.
 
 ghost use Rattle.std.specs.Prelude.{◌≡◌};
 ghost use Rattle.caster_serve_tests.specs.Untold.{counted_link, counted_street, untold_door};

@@ -1,5 +1,5 @@
--- What a caster asks of its street, and what it is given: a door for each worker, and a link for each
--- relay.
+-- What a caster asks of its street, and what it is given: a door for each worker, and a link for
+-- each relay.
 use Rattle.std.specs.Prelude.{ℕ, ◌≡◌, ◌≤◌, ◌+◌, nat_lt, Bool, false, IsTrue, List, [], ◌∷◌, ◌++◌, map, replicate}
 use Rattle.std.specs.List.{list_any}
 use Rattle.cast_io.specs.declared.steps.Asked.{Asked}
@@ -73,8 +73,8 @@ abbrev pub door_failed : EndTold → Bool
 door_failed (at_door door) = nat_lt 0 door.faults
 door_failed (over_link number link) = false
 
--- The street took these back as they are told, each door shut and each link hung up, in order. Where a
--- door among them failed, its count of faults rose.
+-- The street took these back as they are told, each door shut and each link hung up, in order.
+-- Where a door among them failed, its count of faults rose.
 pub record HasTakenBack (given : List EndTold) (old new : StreetTold) : Type 0 where
   pub asked : new.asked ≡ old.asked
   pub doors : Grew old.doors new.doors (doors_in given)

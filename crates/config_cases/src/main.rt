@@ -2,8 +2,8 @@
 //! its fault.
 //!
 //! A line that begins with `== ` stands in front of each document. What else it says is for the
-//! reader: the line that is to be printed. In a document a line `*N TEXT` stands for N copies of the
-//! text, in which `#` is the number of the copy, from 0, and `|` ends a line.
+//! reader: the line that is to be printed. In a document a line `*N TEXT` stands for N copies of
+//! the text, in which `#` is the number of the copy, from 0, and `|` ends a line.
 #![tactic(auto)]
 
 #[cfg(test)]

@@ -1,5 +1,5 @@
-//! Single keys of a configuration: what each may hold, how it is read from a TOML value, and what is
-//! printed where a key breaks its rule.
+//! Single keys of a configuration: what each may hold, how it is read from a TOML value, and what
+//! is printed where a key breaks its rule.
 #![tactic(auto)]
 
 mod fault;

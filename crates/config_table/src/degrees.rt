@@ -17,7 +17,8 @@ fn sign_of(angle: i64) -> &'static [u8]
     }
 }
 
-/// The text of a number of units of 10^-7 degree, in degrees with two decimals: what is less is cut.
+/// The text of a number of units of 10^-7 degree, in degrees with two decimals: what is less is
+/// cut.
 pub(crate) fn degrees(alloc: Global, angle: i64) -> Result<Vec<u8>, AllocError>
     ensures { IfOk result (λ v. v.items ≡ degrees angle) }
 {

@@ -164,7 +164,8 @@ fn push_near(
     near: &Near,
     records: &mut Vec<Record>,
 ) -> Result<(), AllocError>
-    ensures { OnOk result (records.new.items ≡ records.old.items ++ near_record config.now n near.now
+    ensures { OnOk result (records.new.items
+        ≡ records.old.items ++ near_record config.now n near.now
         (mount_at config.now.mount (slice_get near.now.bases 0))) }
 {
     match first_base(config, near) {

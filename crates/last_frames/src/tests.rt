@@ -201,8 +201,8 @@ fn a_hall_has_what_was_read_and_the_greeting(rt: HostRuntime) -> Result<(), Fail
     Ok(())
 }
 
-// Beside its ring a station is two lists, of six frames and of filters; a place is the place within,
-// its hall and a mark. No list of all frames is kept anywhere.
+// Beside its ring a station is two lists, of six frames and of filters; a place is the place
+// within, its hall and a mark. No list of all frames is kept anywhere.
 #[test]
 fn a_station_is_its_ring_and_two_lists(rt: HostRuntime) -> Result<(), Fail> {
     let list = size_of::<Vec<Frame>>();

@@ -125,7 +125,8 @@ filled shape state (Read cursor budget) room =
 -- the answers to one caller's calls among more entries that follow a history, each at its own point
 abbrev pub answers_since : Shape → ℕ → History RingCall → History RingCall → List RingAnswer
 answers_since shape me before more =
-    map (λ pair. pair.1) (told (λ history by call. answer shape (state_of history) call) me before more)
+    map (λ pair. pair.1)
+    (told (λ history by call. answer shape (state_of history) call) me before more)
 
 -- the answers to one caller's calls in a history
 abbrev pub own_answers : Shape → ℕ → History RingCall → List RingAnswer

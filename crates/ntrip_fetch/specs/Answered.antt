@@ -1,5 +1,5 @@
--- What the bytes that a caster answered hold for a rover. Their head is judged as NTRIP 1.0
--- (RTCM 10410.0) and NTRIP 2.0 (RTCM 10410.1) have it; the body behind it is plain, or in the chunked
+-- What the bytes that a caster answered hold for a rover. Their head is judged as NTRIP 1.0 (RTCM
+-- 10410.0) and NTRIP 2.0 (RTCM 10410.1) have it; the body behind it is plain, or in the chunked
 -- transfer coding (RFC 9112, section 7.1), and is cut into frames of RTCM 10403.3.
 use Rattle.std.specs.Prelude.{◌<◌, ℕ, ⊤, true, false, List, [], length, drop}
 use Rattle.chunk_body.specs.Text.{IsOpen, HasEnded, IsBadAt}

@@ -15,4 +15,5 @@ version_of protocol = if protocol == 2 then Two else One
 -- the request for the mountpoint of this target
 abbrev pub target_request : Target → List ℕ
 target_request target =
-    request_text (version_of target.protocol) target.mount target.address target.user target.password
+    request_text (version_of target.protocol) target.mount target.address target.user
+    target.password

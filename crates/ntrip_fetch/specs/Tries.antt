@@ -63,8 +63,8 @@ pub record IsRun (target : Target) (most : ℕ) (old new : StreetTold) (run : Ru
 
 -- ---- all tries
 
--- The targets were tried in order, each once, with so many frames wanted, until these were written or
--- all were tried.
+-- The targets were tried in order, each once, with so many frames wanted, until these were
+-- written or all were tried.
 pub data AreRuns : ℕ → List Target → StreetTold → StreetTold → List Run → Type 0 where
   none_left : (most : ℕ) (told : StreetTold) → AreRuns most [] told told []
   enough : (most : ℕ) (target : Target) (later : List Target) (old new : StreetTold) (run : Run)
@@ -93,8 +93,9 @@ pub record HasTried (most : ℕ) (targets : List Target) (old new : StreetTold)
 
 -- ---- a fault
 
--- The last target was dialled, and there this fault came. For want of memory nothing was asked of its
--- link, if there was one, and no frame written; where the sink failed, these were to be written.
+-- The last target was dialled, and there this fault came. For want of memory nothing was asked of
+-- its link, if there was one, and no frame written; where the sink failed, these were to be
+-- written.
 abbrev pub Broke : Target → ℕ → Option LinkTold → List (List ℕ) → FetchFault → Type 0
 Broke target most None frames faults.Sink = ⊥
 Broke target most None frames faults.Memory = frames ≡ []
@@ -118,8 +119,8 @@ pub data Stopped : ℕ → List Target → StreetTold → StreetTold → List (L
         → Stopped (most - run.tried.frames) later mid new frames fault
         → Stopped most (target ∷ later) old new (run.frames ++ frames) fault
 
--- so much was written of the frames that were to be: all of them, or where the sink failed some first
--- bytes
+-- so much was written of the frames that were to be: all of them, or where the sink failed some
+-- first bytes
 abbrev pub IsWrittenBy : Option (List ℕ) → Option (List ℕ) → List (List ℕ) → FetchFault → Type 0
 IsWrittenBy start now frames faults.Sink = AppendsPrefix start now (concat frames)
 IsWrittenBy start now frames faults.Memory = Appends start now (concat frames)

@@ -55,8 +55,8 @@ fn enough_at(count: u64, most: u64) -> Option<Left>
     }
 }
 
-/// Takes the next byte of a chunked body, and writes the frames that it completes, until `most` were
-/// written in all.
+/// Takes the next byte of a chunked body, and writes the frames that it completes, until `most`
+/// were written in all.
 fn take_byte<O: Sink>(
     chunks: &mut Dechunk,
     cutter: &mut Cutter,
@@ -155,8 +155,8 @@ fn take_plain<O: Sink>(
     Ok(enough_at(*count, most))
 }
 
-/// Takes more of a body, and writes the frames that it completes, until `most` were written in all, or
-/// the body ends or is faulty.
+/// Takes more of a body, and writes the frames that it completes, until `most` were written in
+/// all, or the body ends or is faulty.
 pub(crate) fn take_body<O: Sink>(
     body: &mut Body,
     count: &mut u64,

@@ -60,15 +60,15 @@ fn fetch_from<N: Street, O: Sink, R: Wait>(
     fetch_from(rt, alloc, later, frames - tried.frames, street, out, tries)
 }
 
-/// Dials the targets in order, each once, and writes the frames that their casters send, as they come,
-/// until `frames` of them were written in all or all targets were tried. Each link is hung up at the
-/// street as it is left, and before a fault is answered.
+/// Dials the targets in order, each once, and writes the frames that their casters send, as they
+/// come, until `frames` of them were written in all or all targets were tried. Each link is hung
+/// up at the street as it is left, and before a fault is answered.
 ///
 /// It may wait, and what is said here holds where it returns.
 ///
 /// # Errors
-/// `Sink` only where the sink's count of faults rose: some first bytes of the frames that were wanted
-/// were written. `Memory` at any time; then all frames of the links so far were written.
+/// `Sink` only where the sink's count of faults rose: some first bytes of the frames that were
+/// wanted were written. `Memory` at any time; then all frames of the links so far were written.
 pub fn fetch<N: Street, O: Sink, R: Wait>(
     rt: &R,
     alloc: Global,

@@ -20,8 +20,8 @@ const MOST: u64 = 1 << 62;
 /// How many bytes one read takes at most.
 const PIECE: usize = 4096;
 
-/// Reads the link, to which the request was sent, and writes frames until `most` were written or the
-/// link is left.
+/// Reads the link, to which the request was sent, and writes frames until `most` were written or
+/// the link is left.
 fn receive<L: Link, O: Sink, R: Wait>(
     rt: &R,
     head: AnswerHead,
@@ -79,16 +79,17 @@ fn receive<L: Link, O: Sink, R: Wait>(
     unreachable!()
 }
 
-/// Asks over the link for the target's frames, and writes each frame of the answer's body as soon as
-/// it is cut, until `most` were written or the link is left; the answer says why. The link is read
-/// 4,096 bytes at a time, and rests after a read that found nothing. Once it has given 2^62 bytes it
-/// is read no more.
+/// Asks over the link for the target's frames, and writes each frame of the answer's body as soon
+/// as it is cut, until `most` were written or the link is left; the answer says why. The link is
+/// read 4,096 bytes at a time, and rests after a read that found nothing. Once it has given 2^62
+/// bytes it is read no more.
 ///
 /// It may wait, and what is said here holds where it returns.
 ///
 /// # Errors
-/// `Sink` only where the sink's count of faults rose: some first bytes of the frames that were wanted
-/// were written. `Memory` at any time; then nothing was asked of the link, and nothing written.
+/// `Sink` only where the sink's count of faults rose: some first bytes of the frames that were
+/// wanted were written. `Memory` at any time; then nothing was asked of the link, and nothing
+/// written.
 pub fn fetch_link<L: Link, O: Sink, R: Wait>(
     rt: &R,
     alloc: Global,

@@ -30,8 +30,8 @@ pub(crate) enum Decided {
     Begun(Body, Option<Left>),
 }
 
-/// Takes more bytes of an answer whose head goes on. Where it ends within them and a body follows, the
-/// frames that the rest of them completes are written, until `most` were.
+/// Takes more bytes of an answer whose head goes on. Where it ends within them and a body
+/// follows, the frames that the rest of them completes are written, until `most` were.
 fn decide<O: Sink>(
     head: &mut AnswerHead,
     count: &mut u64,
@@ -65,8 +65,8 @@ fn decide<O: Sink>(
     }
 }
 
-/// Takes more bytes of the link, and writes the frames that they complete, until `most` were written
-/// in all. Answers why the link is to be left, if it is.
+/// Takes more bytes of the link, and writes the frames that they complete, until `most` were
+/// written in all. Answers why the link is to be left, if it is.
 pub(crate) fn take<O: Sink>(
     stage: &mut Stage,
     count: &mut u64,

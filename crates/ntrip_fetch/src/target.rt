@@ -48,9 +48,9 @@ fn version_of(protocol: u32) -> Version
     }
 }
 
-/// Appends the request for the frames of the target's mountpoint, in bytes as they are sent: a `GET`
-/// of NTRIP 1.0 or 2.0, with credentials of the scheme `Basic` (RFC 7617, section 2) where there is a
-/// user.
+/// Appends the request for the frames of the target's mountpoint, in bytes as they are sent: a
+/// `GET` of NTRIP 1.0 or 2.0, with credentials of the scheme `Basic` (RFC 7617, section 2) where
+/// there is a user.
 ///
 /// # Errors
 /// For want of memory. Then `out` is as it was.

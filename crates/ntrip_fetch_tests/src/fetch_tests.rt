@@ -49,8 +49,8 @@ fn expect_tries<R: Wait + Abort>(
     Ok(())
 }
 
-/// A fetch of so many frames writes two of the first caster and one of the second, whose link is left
-/// for this after so many steps.
+/// A fetch of so many frames writes two of the first caster and one of the second, whose link is
+/// left for this after so many steps.
 fn expect_three<R: Wait + Abort>(
     rt: &R,
     alloc: Global,

@@ -75,8 +75,8 @@ fn fetched<R: Wait>(
     }
 }
 
-/// A fetch of so many frames from a caster that sends these pieces comes to this, writes these bytes,
-/// and takes so many steps of the link.
+/// A fetch of so many frames from a caster that sends these pieces comes to this, writes these
+/// bytes, and takes so many steps of the link.
 fn expect<R: Wait + Abort>(
     rt: &R,
     alloc: Global,
@@ -172,8 +172,8 @@ fn a_link_that_fails_is_left(rt: HostRuntime) -> Result<(), Fail> {
     Ok(())
 }
 
-/// Two frames come from these bytes, which come in two reads that part at each place in turn, with nothing
-/// there between them.
+/// Two frames come from these bytes, which come in two reads that part at each place in turn,
+/// with nothing there between them.
 fn expect_parted<R: Wait + Abort>(rt: &R, alloc: Global, whole: &[u8]) -> Result<(), Fail> {
     for place in 1..whole.len() {
         let pieces = [&whole[..place], b"".as_slice(), &whole[place..]];

@@ -10,9 +10,9 @@ use std::process::Abort;
 use std::sync::Wait;
 use std::test::Fail;
 
-/// A fetch of four frames over a link whose body has three, into a sink whose write of this number takes
-/// three bytes and fails: the fault comes at once, with so many steps of the link taken, and the frames
-/// before it are whole.
+/// A fetch of four frames over a link whose body has three, into a sink whose write of this
+/// number takes three bytes and fails: the fault comes at once, with so many steps of the link
+/// taken, and the frames before it are whole.
 fn expect_torn<R: Wait + Abort>(
     rt: &R,
     alloc: Global,

@@ -11,4 +11,5 @@ pub record HasBody (text : List ℕ) (status : ℕ) (body : List ℕ) : Type 0 w
   pub reads : ReadsResponse text head body
   pub status_is : status_code head ≡ status
   pub length_is :
-      value_in (codes "Content-Length") (map name_and_value head.fields) ≡ Some (decimal (length body))
+      value_in (codes "Content-Length") (map name_and_value head.fields)
+      ≡ Some (decimal (length body))

@@ -37,8 +37,8 @@ pub fn more_reports_go_on()
 {}
 
 /// A rover's body reads as exactly the frames that it was sent: under NTRIP 1.0 it is cut into
-/// them, with no junk and no rest; under NTRIP 2.0 it is an open chunked text whose data is that body. A
-/// further turn's frames stand behind those before.
+/// them, with no junk and no rest; under NTRIP 2.0 it is an open chunked text whose data is that
+/// body. A further turn's frames stand behind those before.
 pub fn body_reads_as_its_frames()
     ensures plain { (frames : List (List ℕ)) → All (λ frame. IsTrue (is_frame frame)) frames
         → cut (body_of Version.One frames) ≡ record { frames = frames; junk = 0; rest = [] } }

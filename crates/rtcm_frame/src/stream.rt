@@ -104,9 +104,9 @@ impl Cutter {
         self.len += 1;
     }
 
-    /// Takes the stream's next bytes from the front of these, and answers how many it took: at least
-    /// one of them where `next` has answered none since the last call. Those that are left are given
-    /// to the next call.
+    /// Takes the stream's next bytes from the front of these, and answers how many it took: at
+    /// least one of them where `next` has answered none since the last call. Those that are left
+    /// are given to the next call.
     pub fn feed(&mut self, bytes: &[u8]) -> usize
         ensures within { result ≤ length bytes.now }
         ensures some { IsWaiting self.old.bytes → 0 < length bytes.now → 0 < result }

@@ -28,8 +28,8 @@ answer_at shapes mount history me call =
 
 -- The histories went on, and at each mountpoint these steps are all the calls that the caller made
 -- since, each with the answer at its own point. Where all places are alone, nobody else called.
-pub record Went (shapes : List RingShape) (alone : Bool) (old now : List (History RingCall)) (me : ℕ)
-    (steps : List Step) : Type 0 where
+pub record Went (shapes : List RingShape) (alone : Bool) (old now : List (History RingCall))
+    (me : ℕ) (steps : List Step) : Type 0 where
   pub size : length now ≡ length old
   pub rings : (mount : ℕ) → Heard alone (answer_at shapes mount)
       (history_at old mount) (history_at now mount) me (on_ring mount steps)

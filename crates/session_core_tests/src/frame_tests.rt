@@ -1,5 +1,5 @@
-//! Frames of which a byte was changed on their way. What is expected was counted by the rules of the
-//! transport layer (RTCM 10403.3).
+//! Frames of which a byte was changed on their way. What is expected was counted by the rules of
+//! the transport layer (RTCM 10403.3).
 
 use crate::caster::{FRAME_A, FRAME_B, ICY, ROVER, SOURCE, Wanted, ends, expect_two};
 use crate::{Act, Who};
@@ -26,8 +26,8 @@ fn both(sent: &[u8], frames: u64, junk: u64) -> (Wanted, Wanted) {
     (rover, source)
 }
 
-/// A source sends two frames, and of the byte at this place of the first one these bits are changed.
-/// The changed bytes are junk, or the second frame is taken for a part of the first.
+/// A source sends two frames, and of the byte at this place of the first one these bits are
+/// changed. The changed bytes are junk, or the second frame is taken for a part of the first.
 fn expect_changed(
     rt: &impl Abort,
     alloc: Global,

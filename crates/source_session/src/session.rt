@@ -75,8 +75,8 @@ impl SourceSession {
     ///
     /// Answers a halt where the chunked body ends within these bytes or is bad there, or where a
     /// turn was refused. What stands before that was published, and each later call answers the
-    /// same halt and calls nothing. All calls together take fewer than 2^63 bytes. The claim was not
-    /// given back, and the session's caller made no other call since its last.
+    /// same halt and calls nothing. All calls together take fewer than 2^63 bytes. The claim was
+    /// not given back, and the session's caller made no other call since its last.
     pub fn feed<T: Turns<Ring>>(&mut self, bytes: &[u8], place: &mut T) -> Result<(), SourceHalt>
         requires speaks { IsTrue (T.speaks place.old self.old.me) }
         requires held { IfNone self.old.halt

@@ -82,7 +82,8 @@ impl<'a, V: Played, R: Wait + Sync> Seat<'a, V, R> {
 
 /// A place at a lock, as code knows it that is generic in its places: it gives its pass back.
 pub trait Leaves<V: Played>: Turns<V> {
-    /// Gives the pass back: of the same lock, for the same caller, with all that the place has seen.
+    /// Gives the pass back: of the same lock, for the same caller, with all that the place has
+    /// seen.
     fn give_back(self) -> Pass<V>
         ensures number { (k : ℕ) → Self.speaks self k ≡ (k == pass_number result) }
         ensures seen { pass_seen result ≡ Self.seen self }
