@@ -83,6 +83,7 @@ fn take_byte<O: Sink>(
         → IsAtBody start (O.taken out.old) most (Some chunks.old) cutter.old text count.old
         → IsTorn start (O.taken out.new) (wanted most (payload true (text ++ byte ∷ [])))) }
     ensures unharmed { OnOk result (O.faults out.new ≡ O.faults out.old) }
+    ensures later { O.faults out.old ≤ O.faults out.new }
     ensures cause { OnErr result (Rose (O.faults out.old) (O.faults out.new)) }
 {
     match chunks.push(byte) {
@@ -119,6 +120,7 @@ fn take_chunked<O: Sink>(
         → IsAtBody start (O.taken out.old) most (Some chunks.old) cutter.old text count.old
         → IsTorn start (O.taken out.new) (wanted most (payload true (text ++ bytes.now)))) }
     ensures unharmed { OnOk result (O.faults out.new ≡ O.faults out.old) }
+    ensures later { O.faults out.old ≤ O.faults out.new }
     ensures cause { OnErr result (Rose (O.faults out.old) (O.faults out.new)) }
 {
     for byte in bytes {
@@ -149,6 +151,7 @@ fn take_plain<O: Sink>(
         → IsAtBody start (O.taken out.old) most None cutter.old text count.old
         → IsTorn start (O.taken out.new) (wanted most (text ++ bytes.now))) }
     ensures unharmed { OnOk result (O.faults out.new ≡ O.faults out.old) }
+    ensures later { O.faults out.old ≤ O.faults out.new }
     ensures cause { OnErr result (Rose (O.faults out.old) (O.faults out.new)) }
 {
     write_plain(cutter, count, most, bytes, out)?;
@@ -177,6 +180,7 @@ pub(crate) fn take_body<O: Sink>(
         → IsTorn start (O.taken out.new)
         (wanted most (payload (is_some body.old.chunks) (text ++ bytes.now)))) }
     ensures unharmed { OnOk result (O.faults out.new ≡ O.faults out.old) }
+    ensures later { O.faults out.old ≤ O.faults out.new }
     ensures cause { OnErr result (Rose (O.faults out.old) (O.faults out.new)) }
 {
     match &mut body.chunks {

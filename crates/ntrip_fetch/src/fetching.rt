@@ -46,6 +46,7 @@ fn fetch_from<N: Street, O: Sink, R: Wait>(
         (N.told street.new) (O.taken out.old) (O.taken out.new)) }
     ensures unharmed { OnOk result (O.faults out.new ≡ O.faults out.old) }
     ensures calm { IsErrOf result FetchFault.Memory → O.faults out.new ≡ O.faults out.old }
+    ensures later { O.faults out.old ≤ O.faults out.new }
     ensures cause { IsErrOf result FetchFault.Sink
         → Rose (O.faults out.old) (O.faults out.new) }
 {
@@ -93,6 +94,7 @@ pub fn fetch<N: Street, O: Sink, R: Wait>(
         (N.told street.new) (O.taken out.old) (O.taken out.new)) }
     ensures unharmed { OnOk result (O.faults out.new ≡ O.faults out.old) }
     ensures calm { IsErrOf result FetchFault.Memory → O.faults out.new ≡ O.faults out.old }
+    ensures later { O.faults out.old ≤ O.faults out.new }
     ensures cause { IsErrOf result FetchFault.Sink
         → Rose (O.faults out.old) (O.faults out.new) }
 {

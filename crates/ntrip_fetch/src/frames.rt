@@ -29,6 +29,7 @@ pub(crate) fn write_ready<O: Sink>(
         → IsWriting start (O.taken out.old) bytes cutter.old count.old
         → IsTorn start (O.taken out.new) (wanted most bytes)) }
     ensures unharmed { OnOk result (O.faults out.new ≡ O.faults out.old) }
+    ensures later { O.faults out.old ≤ O.faults out.new }
     ensures cause { OnErr result (Rose (O.faults out.old) (O.faults out.new)) }
 {
     while *count < most {
@@ -65,6 +66,7 @@ pub(crate) fn write_plain<O: Sink>(
         → IsWriting start (O.taken out.old) body cutter.old count.old
         → IsTorn start (O.taken out.new) (wanted most (body ++ bytes.now))) }
     ensures unharmed { OnOk result (O.faults out.new ≡ O.faults out.old) }
+    ensures later { O.faults out.old ≤ O.faults out.new }
     ensures cause { OnErr result (Rose (O.faults out.old) (O.faults out.new)) }
 {
     let mut at = 0;

@@ -38,6 +38,7 @@ fn receive<L: Link, O: Sink, R: Wait>(
         (L.told link.new) (O.taken out.old) (O.taken out.new) }
     ensures only { IsErrOf result FetchFault.Memory → ⊥ }
     ensures unharmed { OnOk result (O.faults out.new ≡ O.faults out.old) }
+    ensures later { O.faults out.old ≤ O.faults out.new }
     ensures cause { IsErrOf result FetchFault.Sink
         → Rose (O.faults out.old) (O.faults out.new) }
 {
@@ -109,6 +110,7 @@ pub fn fetch_link<L: Link, O: Sink, R: Wait>(
         → (L.told link.new ≡ L.told link.old) × (O.taken out.new ≡ O.taken out.old) }
     ensures unharmed { OnOk result (O.faults out.new ≡ O.faults out.old) }
     ensures calm { IsErrOf result FetchFault.Memory → O.faults out.new ≡ O.faults out.old }
+    ensures later { O.faults out.old ≤ O.faults out.new }
     ensures cause { IsErrOf result FetchFault.Sink
         → Rose (O.faults out.old) (O.faults out.new) }
 {

@@ -1,6 +1,6 @@
 //! From the head of an answer to its body.
 
-ghost use Rattle.std.specs.Prelude.{◌≡◌, ◌<◌, ◌+◌, ◌^◌, ℕ, List, [], ◌++◌, length, Option, OnOk, OnErr, IfOk};
+ghost use Rattle.std.specs.Prelude.{◌≡◌, ◌≤◌, ◌<◌, ◌+◌, ◌^◌, ℕ, List, [], ◌++◌, length, Option, OnOk, OnErr, IfOk};
 ghost use Rattle.cast_io.specs.Causes.{Rose};
 ghost use Rattle.ntrip_client.specs.Answer.{IsAnswer};
 ghost use Rattle.ntrip_fetch.specs.Writing.{HasWritten};
@@ -51,6 +51,7 @@ fn decide<O: Sink>(
         → HasWritten start (O.taken out.old) [] count.old
         → StageTorn start (O.taken out.new) most (head.old ++ bytes.now)) }
     ensures unharmed { OnOk result (O.faults out.new ≡ O.faults out.old) }
+    ensures later { O.faults out.old ≤ O.faults out.new }
     ensures cause { OnErr result (Rose (O.faults out.old) (O.faults out.new)) }
 {
     let taken = head.feed(bytes);
@@ -85,6 +86,7 @@ pub(crate) fn take<O: Sink>(
         → IsAtStage start (O.taken out.old) most stage.old before count.old
         → StageTorn start (O.taken out.new) most (before ++ bytes.now)) }
     ensures unharmed { OnOk result (O.faults out.new ≡ O.faults out.old) }
+    ensures later { O.faults out.old ≤ O.faults out.new }
     ensures cause { OnErr result (Rose (O.faults out.old) (O.faults out.new)) }
 {
     match stage {

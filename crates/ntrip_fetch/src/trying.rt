@@ -46,6 +46,7 @@ pub(crate) fn try_one<N: Street, O: Sink, R: Wait>(
     ensures fewer { IfOk result (λ tried. tried.left ≢ Left.Enough → tried.frames < most) }
     ensures unharmed { OnOk result (O.faults out.new ≡ O.faults out.old) }
     ensures calm { IsErrOf result FetchFault.Memory → O.faults out.new ≡ O.faults out.old }
+    ensures later { O.faults out.old ≤ O.faults out.new }
     ensures cause { IsErrOf result FetchFault.Sink
         → Rose (O.faults out.old) (O.faults out.new) }
 {
