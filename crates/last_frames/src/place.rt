@@ -69,6 +69,13 @@ impl<T: Turns<Station>> StationPlace<T> {
         self.inner
     }
 
+    /// The place at the station, which stays in here.
+    pub fn get_ref(&self) -> &T
+        ensures { result.now ≡ self.now.inner }
+    {
+        &self.inner
+    }
+
     /// The frames that the last one was greeted by who joined through this place since it was made
     /// or cleared; `None` exactly where nobody joined since.
     pub fn greeting(&self) -> Option<&[Frame]>
