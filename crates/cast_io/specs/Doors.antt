@@ -1,9 +1,10 @@
 -- What the calls of a door do to what it tells.
-use Rattle.std.specs.Prelude.{◌≡◌, ◌≤◌, List, [], ◌∷◌, Option, None, Some, Bool, true, false, IsTrue, ◌⊎◌}
+use Rattle.std.specs.Prelude.{◌≡◌, ◌≤◌, List, [], ◌∷◌, Option, None, Some, Bool, true, false, IsTrue, ⊤, ◌⊎◌}
 use Rattle.cast_io.specs.declared.door.Arrived.{Arrived}
 use Rattle.cast_io.specs.declared.door.Arrived.TheVariants as arrived
 use Rattle.cast_io.specs.Causes.{Rose}
 use Rattle.cast_io.specs.Told.{LinkTold, DoorTold, StillTold, Grew}
+use Rattle.cast_io.specs.Links.{IsNewLink}
 
 -- the accept failed
 abbrev pub accept_failed : {L : Type 0} → Arrived L → Bool
@@ -18,6 +19,12 @@ abbrev pub TakesArrival : {L X : Type 0} → (L → X) → Arrived L → List (O
 TakesArrival told (arrived.Link link) old new = old ≡ Some (told link) ∷ new
 TakesArrival told arrived.Idle old new = (old ≡ None ∷ new) ⊎ ((old ≡ []) × (new ≡ []))
 TakesArrival told arrived.Failed old new = new ≡ old
+
+-- a link that arrived is new
+abbrev pub ArrivesNew : {L : Type 0} → (L → LinkTold) → Arrived L → Type 0
+ArrivesNew told (arrived.Link link) = IsNewLink (told link)
+ArrivesNew told arrived.Idle = ⊤
+ArrivesNew told arrived.Failed = ⊤
 
 -- so did an accept
 pub record HasAccepted {L : Type 0} (told : L → LinkTold) (old new : DoorTold) (result : Arrived L)

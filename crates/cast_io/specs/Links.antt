@@ -1,5 +1,5 @@
 -- What a read and a write of a link do to what it tells.
-use Rattle.std.specs.Prelude.{ℕ, ◌≡◌, ◌≤◌, min, List, [], ◌∷◌, length, take, drop, Bool, true, false, IsTrue, Some, Result, is_ok, ⊤, ◌⊎◌, OnOk, OnErr}
+use Rattle.std.specs.Prelude.{ℕ, ◌≡◌, ◌≤◌, min, List, [], ◌∷◌, length, take, drop, Bool, true, false, IsTrue, if◌then◌else◌, Some, Result, is_ok, ⊤, ◌⊎◌, OnOk, OnErr}
 use Rattle.cast_io.specs.declared.steps.LinkStep.{LinkStep}
 use Rattle.cast_io.specs.declared.steps.LinkStep.TheVariants as steps
 use Rattle.cast_io.specs.declared.steps.Step.{Step}
@@ -54,6 +54,10 @@ pub record HasRead (old new : LinkTold) (result : Got) (buf : List ℕ) : Type 0
   pub bytes : new.bytes ≡ old.bytes
   pub later : old.faults ≤ new.faults
   pub failed : IsTrue (has_failed result) → Rose old.faults new.faults
+
+-- what a write adds to the steps taken: itself where it failed
+abbrev pub write_steps : Bool → List Step
+write_steps ok = if ok then [] else took.WriteFailed ∷ []
 
 -- so did a write: all of the piece was taken, or after a failure some first bytes of it, none to
 -- all, and a write that was taken whole leaves the count as it was

@@ -13,6 +13,10 @@ abbrev pub IsOpen : List ℕ → Option (List (List ℕ × List ℕ)) → Option
 IsOpen path files left = (list : List (List ℕ × List ℕ)) → files ≡ Some list
     → (content : List ℕ) × (content_of list path ≡ Some content) × (left ≡ Some content)
 
+-- where it is told what is left to read, it is nothing
+abbrev pub NoneLeft : Option (List ℕ) → Type 0
+NoneLeft left = (bytes : List ℕ) → left ≡ Some bytes → bytes ≡ []
+
 -- the store was asked for this path, and told so, also where it refused; `left` is what is left to
 -- read after it
 pub record HasOpened {T E : Type 0} (path : List ℕ) (old new : StoreTold) (left : Option (List ℕ))

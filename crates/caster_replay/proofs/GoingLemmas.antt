@@ -201,6 +201,20 @@ closed_by n k numbers later uncut none rest =
       | inr other ↦ rest (rw other at uncut) (among_apart n k numbers.closed other none)
     ]
 
+closed_now : (n : ℕ) (numbers : Numbers) (script : List Event) → is_cut n script ≡ false
+    → is_among n numbers.closed ≡ false → is_among n (numbers_from numbers script).closed ≡ false
+closed_now n numbers [] uncut none = none
+closed_now n numbers (events.Open k ∷ later) uncut none = closed_now n (opening numbers k) later uncut none
+closed_now n numbers (events.Source k mount ∷ later) uncut none = closed_now n (opening numbers k) later uncut none
+closed_now n numbers (events.Rover k mount ∷ later) uncut none = closed_now n (opening numbers k) later uncut none
+closed_now n numbers (events.Relay k relay ∷ later) uncut none = closed_now n (opening numbers k) later uncut none
+closed_now n numbers (events.In k bytes ∷ later) uncut none = closed_now n numbers later uncut none
+closed_now n numbers (events.Turn k budget ∷ later) uncut none = closed_now n numbers later uncut none
+closed_now n numbers (events.Break k ∷ later) uncut none =
+    closed_by n k numbers later uncut none (closed_now n (closing numbers k) later)
+closed_now n numbers (events.End k ∷ later) uncut none =
+    closed_by n k numbers later uncut none (closed_now n (closing numbers k) later)
+
 -- ---- of a run
 
 module _ (c : Config) (script : List Event) (lives : List Live) (now : Histories) (run : Runs c script lives now)

@@ -3,7 +3,7 @@
 use Rattle.std.proofs.Common.{◌≡◌, ◌∙◌, ◌<◌, ◌++◌, ◌+◌, ◌^◌, ℕ, Bool, true, false, List, [], ◌∷◌, length, get_or, set, refl, sym, ap, subst, inl, inr, arith, Option, None, Some}
 use Rattle.std.specs.Prelude.{insert}
 use Rattle.std.specs.List.{sum_by}
-use Rattle.std.proofs.lemmas.List.{append-nil}
+use Rattle.std.proofs.lemmas.List.{set-get_or, append-nil}
 use Rattle.session_calls.specs.Steps.{Step}
 use Rattle.session_script.specs.declared.Event.{Event}
 use Rattle.session_script.specs.declared.Event.TheVariants as events
@@ -95,6 +95,9 @@ not_halted c mid now next last receipt end o text steps sent stands closes over 
     ap is_halted over ∙ ap is_halt (sym same) ∙ goes
 
 -- ---- what stays
+
+put_same : (lives : List Live) (at : ℕ) (y new : Live) → get_or lives at y ≡ new → lives ≡ set lives at new
+put_same lives at y new same = sym (set-get_or lives at y) ∙ ap (set lives at) same
 
 -- ---- what may happen
 

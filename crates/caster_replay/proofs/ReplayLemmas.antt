@@ -8,12 +8,16 @@ use Rattle.session_script.specs.declared.Event.{Event}
 use Rattle.session_script.specs.declared.Event.TheVariants as events
 use Rattle.session_script.specs.Script.{input_length}
 use Rattle.cast_config.specs.declared.config.Config.{Config}
+use Rattle.session_core.specs.declared.ending.Last.{Last}
 use Rattle.session_core.specs.declared.ending.Last.TheVariants as lasts
 use Rattle.session_core.specs.declared.report.Connection.{Connection}
 use Rattle.session_core.specs.Reports.{closed_of, IsReport}
+use Rattle.session_core.specs.Run.{Histories}
 use Rattle.caster_replay.specs.declared.entry.Entry.{Entry}
+use Rattle.caster_replay.specs.declared.entry.State.{State}
+use Rattle.caster_replay.specs.declared.entry.State.TheVariants.{Open, Closed}
 use Rattle.caster_replay.specs.Caster.{DesksValue, ArePlaces, SamePlaces}
-use Rattle.caster_replay.specs.Entries.{MayBeClosed, IsClosedAt, IsOverAt, AreOver}
+use Rattle.caster_replay.specs.Entries.{MayBeClosed, ClosedAt, IsClosedAt, IsOverAt, AreOver}
 use Rattle.caster_replay.specs.Lives.{Live, live_of, live_in, lives_in, end_of, IsTold, AreTold}
 use Rattle.caster_replay.specs.Runs.{Runs}
 use Rattle.caster_replay.specs.Scripts.{IsShort, Stands}
@@ -62,6 +66,11 @@ may_close_at c script entries desks place d within short stands =
     let entry = get_or entries place d in
     may_close c script (lives_in entries) desks.seen entry.number place (live_in d) entry.bytes.items stands.runs
     (omega (arith, within, length-map entries live_in)) entry.state (live_get entries place d within) short
+
+is_over : (c : Config) (old now : Histories) (last : Last) (before after : State)
+    → ClosedAt c old now last before after → IsOverAt after
+is_over c old now last (Open session) after closed = subst IsOverAt (sym closed.1) tt
+is_over c old now last (Closed receipt) after closed = subst IsOverAt (sym closed.0) tt
 
 module _ (c : Config) (script : List Event) (entries after : List Entry) (desks now : DesksValue) (place : ℕ) (d : Entry)
     (within : place < length entries)

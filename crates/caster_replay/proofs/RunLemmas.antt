@@ -5,22 +5,28 @@ use Rattle.std.specs.List.Sorted.{IsNonDecreasingBy}
 use Rattle.std.proofs.lemmas.List.{take_more, take_all}
 use Rattle.session_script.specs.declared.Event.{Event}
 use Rattle.cast_config.specs.declared.config.Config.{Config}
+use Rattle.session_core.specs.Run.{nothing_called}
 use Rattle.caster_replay.specs.declared.entry.Entry.{Entry}
 use Rattle.caster_replay.specs.declared.run.Run.{Run}
 use Rattle.caster_replay.specs.Entries.{IsFoundAt, IsMissing, is_open_at, is_behind_at}
 use Rattle.caster_replay.specs.Going.{GoesOn, IsBehind, MaySpeak}
 use Rattle.caster_replay.specs.Kept.{StandsFor, MayCome, lives_of}
 use Rattle.caster_replay.specs.Lives.{Live, live_in, lives_in, live_of, place_of}
+use Rattle.caster_replay.specs.Runs.{Runs}
 use Rattle.caster_replay.specs.Scripts.{IsScriptFor, Plays}
 use Rattle.caster_replay.specs.Sends.{sent_in}
-use Rattle.caster_replay.proofs.WorldRunnerLemmas.{IsAbsent, headings_now}
+use Rattle.caster_replay.proofs.WorldRunnerLemmas.{IsAbsent, run_new, headings_now}
 use Rattle.caster_replay.proofs.EntryLemmas.{no_live, within_lives, here_at, absent_at}
 use Rattle.caster_replay.proofs.GoingLemmas.{going_missing, behind_missing, going_found, behind_found, found_speaks}
 use Rattle.caster_replay.proofs.LivesLemmas.{in_order}
+use Rattle.caster_replay.proofs.PlayLemmas.{runs_of}
 use Rattle.caster_replay.proofs.ReplayLemmas.{split_at}
 use Rattle.caster_replay.proofs.SendsLemmas.{sent_here, sent_absent}
 
 -- ---- events
+
+pub runs_new : (c : Config) → Runs c [] [] (nothing_called c)
+runs_new c = runs_of c [] [] (nothing_called c) (run_new c)
 
 pub plays_of : (c : Config) (script : List Event) (event : Event) (run : Run) → StandsFor c script run
     → MayCome c script event → Plays c script event run.entries.items run.desks

@@ -1,21 +1,22 @@
 -- What a runner needs of a script: nothing happens to a number before it opens, and no connection has
 -- more bytes than came in.
-use Rattle.std.proofs.Common.{◌≡◌, ◌≢◌, ◌∙◌, ◌<◌, ◌≤◌, ◌++◌, ◌+◌, ◌^◌, ℕ, Bool, true, false, cond, List, [], ◌∷◌, length, length-append, get_or, refl, sym, ap, subst, inl, arith, None}
+use Rattle.std.proofs.Common.{◌≡◌, ◌≢◌, ◌∙◌, ◌<◌, ◌≤◌, ◌++◌, ◌+◌, ◌^◌, ℕ, Bool, true, false, cond, List, [], ◌∷◌, length, length-append, get_or, refl, sym, ap, subst, inl, arith, Option, None, Some}
 use Rattle.std.specs.Prelude.{◌==◌, ◌&&◌, ◌||◌}
 use Rattle.std.specs.List.{sum_by}
-use Rattle.std.proofs.lemmas.Bool.{and_parts, ne_eqb, false≢true}
+use Rattle.std.proofs.lemmas.Bool.{and_parts, eq-eqb, ne_eqb, false≢true}
 use Rattle.std.proofs.lemmas.List.{append-nil}
+use Rattle.std.proofs.lemmas.List.Sums.{sum_by-cons}
 use Rattle.session_script.specs.declared.Event.{Event}
 use Rattle.session_script.specs.declared.Event.TheVariants as events
 use Rattle.session_script.specs.declared.ScriptKind.{ScriptKind}
 use Rattle.session_script.specs.Line.{is_event}
 use Rattle.session_script.specs.Numbers.{Numbers, no_numbers, is_among, may_speak, opening, closing}
-use Rattle.session_script.specs.Script.{may_follow, is_session_after, IsSession, input_length}
+use Rattle.session_script.specs.Script.{is_relay, may_follow, is_session_after, IsSession, input_length}
 use Rattle.session_script.specs.Script as scripts
 use Rattle.cast_config.specs.declared.config.Config.{Config}
 use Rattle.session_core.specs.declared.session.Session.{Session}
 use Rattle.session_core.specs.Judged.{Opening, sends_head, relays, bare_source, bare_rover}
-use Rattle.session_core.specs.Reports.{opened_as, bytes_to}
+use Rattle.session_core.specs.Reports.{opened_as, bytes_to, opened_if}
 use Rattle.session_core.specs.Run.{Histories}
 use Rattle.session_core.specs.Called.{OthersCalled}
 use Rattle.session_core.specs.Standing.{StandsFor, Follows}
@@ -51,6 +52,20 @@ among_more n k (i ∷ numbers) none apart = among_if (i == n) (is_among n number
     among_if : (a b later : Bool) → (a || b) ≡ false → (b ≡ false → later ≡ false) → (a || later) ≡ false
     among_if true b later none on = absurd cc
     among_if false b later none on = on none
+
+opened_other : (k n : ℕ) (o : Opening) (later : Option Opening) → opened_if (k == n) o later ≡ None
+    → (k ≢ n) × (later ≡ None)
+opened_other k n o later none = (
+  λ e. absurd (some_not (sym (ap (λ (b : Bool). opened_if b o later) (eq-eqb k n e)) ∙ none)),
+  opened_later (k == n) o later none,
+)
+  where
+    some_not : Some o ≡ None → ⊥
+    some_not e = absurd cc
+
+    opened_later : (b : Bool) (o : Opening) (later : Option Opening) → opened_if b o later ≡ None → later ≡ None
+    opened_later true o later none = absurd cc
+    opened_later false o later none = none
 
 module _ (kind : ScriptKind) (later : List Event) (n : ℕ) where
   -- the parts of what is said of an event and of those behind it
@@ -113,6 +128,41 @@ pub session_clean : (kind : ScriptKind) (first later : List Event) (n : ℕ) →
 session_clean kind first later n is none = clean_after kind later n no_numbers first is refl none
 
 -- ---- bytes
+
+in_within : (b : Bool) (bytes rest : List ℕ) (total : ℕ) → length rest ≤ total
+    → length (cond b (bytes ++ rest) rest) ≤ length bytes + total
+in_within true bytes rest total few = omega (arith, few, length-append bytes rest)
+in_within false bytes rest total few = omega (arith, few)
+
+none_within : (b : Bool) (rest : List ℕ) (total : ℕ) → length rest ≤ total → length (cond b [] rest) ≤ total
+none_within true rest total few = omega arith
+none_within false rest total few = few
+
+pub bytes_within : (n : ℕ) (script : List Event) → length (bytes_to n script) ≤ sum_by input_length script
+bytes_within n [] = omega arith
+bytes_within n (events.Source k mount ∷ list) = omega (arith, bytes_within n list, sum_by-cons input_length (events.Source k mount) list)
+bytes_within n (events.Rover k mount ∷ list) = omega (arith, bytes_within n list, sum_by-cons input_length (events.Rover k mount) list)
+bytes_within n (events.Open k ∷ list) = omega (arith, bytes_within n list, sum_by-cons input_length (events.Open k) list)
+bytes_within n (events.Relay k relay ∷ list) = omega (arith, bytes_within n list, sum_by-cons input_length (events.Relay k relay) list)
+bytes_within n (events.In k bytes ∷ list) =
+    omega (
+      arith,
+      in_within (k == n) bytes (bytes_to n list) (sum_by input_length list) (bytes_within n list),
+      sum_by-cons input_length (events.In k bytes) list,
+    )
+bytes_within n (events.Turn k budget ∷ list) = omega (arith, bytes_within n list, sum_by-cons input_length (events.Turn k budget) list)
+bytes_within n (events.Break k ∷ list) =
+    omega (
+      arith,
+      none_within (k == n) (bytes_to n list) (sum_by input_length list) (bytes_within n list),
+      sum_by-cons input_length (events.Break k) list,
+    )
+bytes_within n (events.End k ∷ list) =
+    omega (
+      arith,
+      none_within (k == n) (bytes_to n list) (sum_by input_length list) (bytes_within n list),
+      sum_by-cons input_length (events.End k) list,
+    )
 
 -- ---- a session that goes on
 

@@ -1,5 +1,5 @@
 -- Why a link is left is exact.
-use Rattle.std.proofs.Common.{◌≡◌, ◌<◌, ◌↔◌, ℕ, true, false, List, length, take, refl, ap, subst, ◌∙◌, arith}
+use Rattle.std.proofs.Common.{◌≡◌, ◌<◌, ◌↔◌, ℕ, true, false, List, length, take, refl, ap, sym, subst, ◌∙◌, arith}
 use Rattle.cast_io.specs.declared.steps.Step.{Step}
 use Rattle.cast_io.specs.Told.{LinkTold}
 use Rattle.chunk_body.proofs.ReadingLemmas.{one_fault}
@@ -18,6 +18,7 @@ use Rattle.ntrip_fetch.specs.Answered.{answered, IsDone, IsFaulty, MayFollow}
 use Rattle.ntrip_fetch.specs.Stages.{left_of}
 use Rattle.ntrip_fetch.specs.Steps.{bytes_in}
 use Rattle.ntrip_fetch.specs.Fetched.{Fetched, IsLeft}
+use Rattle.ntrip_fetch.proofs.StageLemmas.{take_none}
 
 -- ---- what excludes what
 
@@ -45,6 +46,23 @@ one_place Open bytes i j x y = absurd x
 one_place (Accepted at false) bytes i j x y = absurd x
 one_place (Accepted at true) bytes i j x y = one_fault _ i j x y
 one_place (Refused why) bytes i j x y = absurd x
+
+refused_not_done : (answer : Answer) (bytes : List ℕ) (why : Refusal) → answer ≡ Refused why → IsDone answer bytes → ⊥
+refused_not_done answer bytes why is done = subst (λ a. IsDone a bytes) is done
+
+refused_not_faulty : (answer : Answer) (bytes : List ℕ) (place : ℕ) (why : Refusal) → answer ≡ Refused why
+    → IsFaulty answer bytes place → ⊥
+refused_not_faulty answer bytes place why is bad = subst (λ a. IsFaulty a bytes place) is bad
+
+refused_not_follows : (answer : Answer) (bytes : List ℕ) (why : Refusal) → answer ≡ Refused why
+    → MayFollow answer bytes → ⊥
+refused_not_follows answer bytes why is follows = subst (λ a. MayFollow a bytes) is follows
+
+-- no frames come with a refusal
+refused_none : (most n : ℕ) (answer : Answer) (bytes : List ℕ) (why : Refusal) → answer ≡ Refused why
+    → n ≡ length (take most (answered answer bytes)) → n ≡ 0
+refused_none most n answer bytes why is count =
+    count ∙ ap (λ a. length (take most (answered a bytes))) is ∙ ap length (sym (take_none most))
 
 module _ (most : ℕ) (before after : LinkTold) (taken : List Step) (answer : Answer) (n : ℕ) where
   pub by_done : (left : Left) → IsLeft most before after taken answer n left → n < most

@@ -10,7 +10,8 @@ use Rattle.std.proofs.lemmas.Bool.{cases_Bool, and_parts, and_from, eqb-false, l
 use Rattle.std.proofs.lemmas.List.{length-take}
 use Rattle.hex.specs.Hex.{IsBytes, decode_of}
 use Rattle.hex.proofs.HexLemmas.{decode_of-ok}
-use Rattle.cast_text.specs.Name.{is_name}
+use Rattle.cast_text.specs.Name.{is_name, name_of}
+use Rattle.cast_text.proofs.NameLemmas.{name_of-ok}
 use Rattle.session_script.specs.declared.Event.{Event}
 use Rattle.session_script.specs.declared.Event.TheVariants.{Source, Rover, Open, Relay, In, Turn, Break, End}
 use Rattle.session_script.specs.declared.ScriptKind.{ScriptKind}
@@ -163,6 +164,11 @@ short_sound kind word k size event number le e =
             })
       ]
     ]
+
+mount_sound : (value mount : List ℕ) → mount_of value ≡ Some mount → is_name mount ≡ true
+mount_sound value mount e =
+    let h = name_of-ok value mount (ok_is_some (name_of value) mount e) in
+    subst (λ (text : List ℕ). is_name text ≡ true) h.0 h.1
 
 -- the lines of three parts
 module _ (kind : ScriptKind) (k size : ℕ) (value : List ℕ) (number : is_connection k ≡ true)

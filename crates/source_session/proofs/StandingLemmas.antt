@@ -1,6 +1,6 @@
 -- Where a session stands, with more of its body.
 use Rattle.std.proofs.Common.{◌≡◌, ℕ, ◌+◌, ◌≤◌, ◌<◌, ◌^◌, Bool, List, [], ◌∷◌, ◌++◌, ◌-◌, length, take, drop, get_or, length-drop, length-take-le, Result, Err, IfErr, ap, ◌∙◌, sym, subst, arith, append_assoc, length-append, Option, None, Some}
-use Rattle.std.proofs.lemmas.List.{append-nil, take_more, take_rest, take-append-drop}
+use Rattle.std.proofs.lemmas.List.{append-nil, map-append, take_more, take_rest, take-append-drop}
 use Rattle.std.specs.Prelude.{is_some, IsTrue}
 use Rattle.rtcm_frame.specs.Cut.{cut, IsWaiting}
 use Rattle.rtcm_frame.proofs.PendingLemmas.{fed_front}
@@ -14,13 +14,14 @@ use Rattle.chunk_body.specs.Machine.{Reading}
 use Rattle.chunk_body.specs.Text.{IsOpen, HasEnded, IsBadAt}
 use Rattle.chunk_body.proofs.TextLemmas.{ended_on, bad_on}
 use Rattle.mount_ring.specs.declared.RingCall.{RingCall}
+use Rattle.mount_ring.specs.declared.RingCall.TheVariants.{Publish}
 use Rattle.source_session.specs.declared.fault.SourceHalt.{SourceHalt}
 use Rattle.source_session.specs.declared.fault.SourceHalt.TheVariants.{Done, BadChunk, Worn, Memory}
 use Rattle.source_session.specs.Body.{payload, completed}
 use Rattle.source_session.specs.Calls.{publishes, HeardAll, HeardUntil}
 use Rattle.source_session.specs.Standing.{cutter_at, GoesOnAt, EndsAt, BreaksAt, IsCutUp, IsCutShort, StandsBy}
 use Rattle.source_session.specs.Refusals.{halt_refused}
-use Rattle.source_session.proofs.BodyLemmas.{plain_ended, plain_bad, payload_short, payload_more, cut_few, rest_waits, completed_by, completed_none, cutter_more, junk_more}
+use Rattle.source_session.proofs.BodyLemmas.{plain_ended, plain_bad, payload_short, payload_more, cut_few, rest_waits, completed_by, completed_none, completed_both, cutter_more, junk_more}
 use Rattle.source_session.proofs.CallLemmas.{all_none, all_both, first_more, until_both}
 
 -- ---- what has ended, is bad or was refused stays so
@@ -68,6 +69,14 @@ halted_on (Worn turns) chunks cutter body more x = short_on (is_some chunks) cut
 halted_on Memory chunks cutter body more x = short_on (is_some chunks) cutter body more x
 
 -- ---- what was called until then
+
+-- frames of a part that comes in two parts
+pub publishes_both : (claim : ℕ) (c : Bool) (a b d : List ℕ)
+    → publishes claim (completed c a (b ++ d)) ≡ publishes claim (completed c a b) ++ publishes claim
+    (completed c (a ++ b) d)
+publishes_both claim c a b d =
+    ap (publishes claim) (completed_both c a b d)
+    ∙ map-append (λ frame. Publish claim frame) (completed c a b) (completed c (a ++ b) d)
 
 module _ {A : Type 0} (alone : Bool) (said : History RingCall → ℕ → RingCall → A) (me claim : ℕ) where
   pub heard_more : (old mid now : History RingCall) (c : Bool) (a b d : List ℕ)
