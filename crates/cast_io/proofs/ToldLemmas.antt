@@ -1,5 +1,5 @@
 -- What links, doors and streets tell after a call.
-use Rattle.std.proofs.Common.{◌≡◌, ◌≤◌, ◌++◌, List, [], ◌∷◌, map, IsTrue, Option, None, Some, option_map, unwrap_or, refl, sym, ap, subst, ◌∙◌, append_assoc, append-nil, arith}
+use Rattle.std.proofs.Common.{◌≡◌, ◌≤◌, ◌++◌, ℕ, List, [], ◌∷◌, map, IsTrue, Option, None, Some, option_map, unwrap_or, refl, sym, ap, subst, ◌∙◌, append_assoc, append-nil, arith}
 use Rattle.std.proofs.lemmas.List.{map-append}
 use Rattle.cast_io.specs.declared.link.Got.{Got}
 use Rattle.cast_io.specs.Causes.{Rose}
