@@ -158,6 +158,56 @@ def sourcetables():
     caster.ends_with(['mount ALPHA 0 0', 'mount BRAVO 0 0', 'account rover1 0 0 0', 'total 0 0 0'])
 
 
+def publish_while(source, running):
+    """The source publishes one frame after the other, numbered from 0, while this is so; how many."""
+    count = 0
+    until = time.monotonic() + PATIENCE
+    while running():
+        if time.monotonic() > until:
+            raise Wrong('no end after %d frames' % count)
+        source.send(frame(1005, count))
+        count += 1
+        time.sleep(0.005)
+    return count
+
+
+def fetches():
+    """`caster fetch` from this caster in both versions: as many frames as were asked for, byte by byte as
+    the source sent them, one after the other. The first of two targets does not answer, and the second
+    gives the frames."""
+    caster = serve(example(4))
+    source = caster.client().send(source_1('ALPHA', 'sesame')).expect(ICY)
+    nobody = '127.0.0.1:%d' % free_port()
+    target = [caster.addr, 'ALPHA', 'rover1', 'secret']
+    running = [Fetch(20, [1] + target), Fetch(30, [2] + target),
+               Fetch(3, [1, nobody, 'ALPHA', '-', '-'], [1, caster.addr, 'ALPHA', '-', '-'])]
+    count = publish_while(source, lambda: any(one.runs() for one in running))
+    for one, wanted in zip(running, (20, 30, 3)):
+        places = places_in(one.ends(0))
+        if places != list(range(places[0], places[0] + wanted)) or places[-1] >= count:
+            raise Wrong('%d frames wanted, and fetched were %s' % (wanted, places))
+    source.close()
+    lines = caster.ends().splitlines()
+    if lines[0] != 'mount ALPHA %d 1' % count or not lines[2].startswith('account rover1 2 '):
+        raise Wrong('totals: %s' % lines)
+
+
+def fetches_that_get_nothing():
+    """`caster fetch` with a wrong password, for a mountpoint that there is not, and where nobody listens:
+    nothing is written, and the status is 9."""
+    caster = serve(example(4))
+    for protocol in (1, 2):
+        if Fetch(1, [protocol, caster.addr, 'ALPHA', 'rover1', 'wrong']).ends(9):
+            raise Wrong('something was fetched with a wrong password')
+    if Fetch(1, [1, caster.addr, 'NONE', 'rover1', 'secret']).ends(9):
+        raise Wrong('something was fetched from no mountpoint')
+    if Fetch(1, [2, '127.0.0.1:%d' % free_port(), 'ALPHA', '-', '-']).ends(9):
+        raise Wrong('something was fetched from nobody')
+    if Fetch(1, [2, caster.addr, 'NONE', '-', '-']).ends(9):
+        raise Wrong('something was fetched from no mountpoint')
+    caster.ends_with(['mount ALPHA 0 0', 'mount BRAVO 0 0', 'account rover1 0 0 0', 'total 0 0 0'])
+
+
 # ---- refusals
 
 def refusals():
@@ -461,6 +511,7 @@ def workers_side_by_side():
 
 
 CASES = [sessions_of_version_1, sessions_of_version_2, near_rover, near_rover_of_version_2, sourcetables,
+         fetches, fetches_that_get_nothing,
          refusals, taken, full_account, lapped_rover, rover_that_reads_late, rover_that_never_reads,
          resets, reset_while_written_to, relays, relay_that_is_refused, other_addresses, network_faults,
          workers_side_by_side]

@@ -292,6 +292,33 @@ class Caster:
             os.unlink(self.path)
 
 
+class Fetch:
+    """The program, fetching so many frames from these targets: each a protocol, an address, a mountpoint,
+    a user and a password."""
+
+    def __init__(self, frames, *targets):
+        words = [str(word) for target in targets for word in target]
+        self.process = subprocess.Popen([PROGRAM, 'fetch', str(frames), *words],
+                                        stdin=subprocess.DEVNULL, stdout=subprocess.PIPE,
+                                        stderr=subprocess.PIPE)
+
+    def runs(self):
+        return self.process.poll() is None
+
+    def ends(self, status):
+        """What it has written where it ends by itself with this status."""
+        try:
+            out, err = self.process.communicate(timeout=PATIENCE)
+        except subprocess.TimeoutExpired:
+            self.process.kill()
+            self.process.communicate()
+            raise Wrong('the fetch does not end') from None
+        if err or self.process.returncode != status:
+            raise Wrong('the fetch ended with %d, wanted %d; %s %s'
+                        % (self.process.returncode, status, show(out), show(err)))
+        return out
+
+
 class Wire:
     """Listens at a free port, and passes what comes there on to another port and back, until it is
     cut. What came back is kept, a list for each connection in the order in which they came."""

@@ -16,7 +16,7 @@ use Rattle.run_texts.proofs.BareLemmas.{bare_text}
 use Rattle.caster_main.specs.declared.answers.Answer.{Answer}
 use Rattle.caster_main.specs.declared.answers.Answer.TheVariants.{Done, Valid, NoConfig, NoSession, Usage, Long, ReadFault, NetworkFault, Memory}
 use Rattle.caster_main.specs.declared.command.Aim.{Aim}
-use Rattle.caster_main.specs.Command.{Form, bare, over, replay, made, serving, AreBare, AreOver, AreReplay, AreMake, AreOf, AreOfNoForm, form_of}
+use Rattle.caster_main.specs.Command.{Form, bare, over, replay, made, serving, fetching, AreBare, AreOver, AreReplay, AreMake, AreFetch, AreOf, AreOfNoForm, form_of}
 use Rattle.caster_main.specs.Outcome.{Exit, Ending, report_of, EndsSo, Came, session_in, ending_of_script, ending_of_config, ending_of_bytes, ending_of_form, ending_of}
 use Rattle.caster_main.specs.Told.{Files, Holds, IsConfigAt, IsConfigIn, IsSessionAt, HasCome, EndsWith, FollowsOutcome, HaveForm, HaveFault, HaveCome}
 use Rattle.caster_main.specs.Answers.{exit_of, IsAnswer, Writes}
@@ -186,7 +186,7 @@ script_run words left files old new status capacity bytes events follows are tol
     (all.0, subst (λ (t : List ℕ). Appends old new t) text all.3)
 
 -- words have one form
-one_form : (words : List (List ℕ)) (a b : Form) → AreOf words a → AreOf words b → Some a ≡ Some b
+pub one_form : (words : List (List ℕ)) (a b : Form) → AreOf words a → AreOf words b → Some a ≡ Some b
 one_form words a b first second = sym (form_of-form words a first) ∙ form_of-form words b second
 
 pub bare_fault : (words : List (List ℕ)) (of_input of_store : Type 0) (capacity : ℕ) → AreBare words capacity
@@ -199,6 +199,7 @@ bare_fault words of_input of_store capacity are read (replay config session, of,
 bare_fault words of_input of_store capacity are read (made seed frames rovers, of, fault) = absurd fault
 bare_fault words of_input of_store capacity are read (serving config addr limit, of, fault) =
     let e = one_form words (bare capacity) (serving config addr limit) are of in absurd cc
+bare_fault words of_input of_store capacity are read (fetching frames targets, of, fault) = absurd fault
 
 pub over_fault : (words : List (List ℕ)) (of_input of_store : Type 0) (aim : Aim) (path : List ℕ)
     → AreOver aim words path → (of_store → ⊥) → HaveFault words of_input of_store → ⊥
@@ -208,6 +209,7 @@ over_fault words of_input of_store aim path are read (over other other_path, of,
 over_fault words of_input of_store aim path are read (replay config session, of, fault) = read fault
 over_fault words of_input of_store aim path are read (made seed frames rovers, of, fault) = absurd fault
 over_fault words of_input of_store aim path are read (serving config addr limit, of, fault) = read fault
+over_fault words of_input of_store aim path are read (fetching frames targets, of, fault) = absurd fault
 
 pub replay_fault : (words : List (List ℕ)) (of_input of_store : Type 0) (config session : List ℕ)
     → AreReplay words config session → (of_store → ⊥) → HaveFault words of_input of_store → ⊥
@@ -217,6 +219,7 @@ replay_fault words of_input of_store config session are read (over aim path, of,
 replay_fault words of_input of_store config session are read (replay other other_session, of, fault) = read fault
 replay_fault words of_input of_store config session are read (made seed frames rovers, of, fault) = absurd fault
 replay_fault words of_input of_store config session are read (serving other addr limit, of, fault) = read fault
+replay_fault words of_input of_store config session are read (fetching frames targets, of, fault) = absurd fault
 
 pub make_fault : (words : List (List ℕ)) (of_input of_store : Type 0) (seed frames rovers : ℕ)
     → AreMake words seed frames rovers → HaveFault words of_input of_store → ⊥
@@ -229,6 +232,7 @@ make_fault words of_input of_store seed frames rovers are (replay config session
 make_fault words of_input of_store seed frames rovers are (made s f r, of, fault) = absurd fault
 make_fault words of_input of_store seed frames rovers are (serving config addr limit, of, fault) =
     let e = one_form words (made seed frames rovers) (serving config addr limit) are of in absurd cc
+make_fault words of_input of_store seed frames rovers are (fetching most targets, of, fault) = absurd fault
 
 -- ---- sessions that are made
 

@@ -1,3 +1,6 @@
+pub mod SliceLemmas
+pub mod TargetLemmas
+pub mod FetchingLemmas
 pub mod WordLemmas
 pub mod ReadingLemmas
 pub mod AnswerLemmas
@@ -5,5 +8,6 @@ pub mod AskedLemmas
 pub mod ScriptLemmas
 pub mod StatusLemmas
 pub mod ClauseLemmas
+pub mod FetchClauseLemmas
 pub mod PieceLemmas
 mod ServingLemmas

@@ -12,7 +12,7 @@ use Rattle.session_script.specs.Line.{event_of_line}
 use Rattle.session_script.specs.Numbers.{Numbers, no_numbers}
 use Rattle.session_script.specs.Script.{is_skipped, may_follow, after_event, onto_events, events_of_lines, script_of}
 use Rattle.cast_config.specs.declared.config.Config.{Config}
-use Rattle.caster_main.specs.Outcome.{Ending, exactly, document_of, report_of, closing_of, ending_of_script}
+use Rattle.caster_main.specs.Outcome.{Ending, exactly, document_of, report_of, closing_of, enough_of, fewer_than, ending_of_script}
 use Rattle.caster_main.specs.Told.{IsNoSession}
 
 -- ---- only the size of a script makes it too long
@@ -81,6 +81,8 @@ status_of (exactly wanted) = wanted.status
 status_of (document_of c) = 0
 status_of (report_of c events) = 0
 status_of (closing_of c) = 0
+status_of (enough_of frames) = 0
+status_of (fewer_than frames) = 9
 
 pub whole_script : (c : Config) (script : Result (List Event) ScriptFault)
     → status_of (ending_of_script c script) ≡ 0 → IsOk script

@@ -17,7 +17,7 @@ use Rattle.caster_serve.specs.declared.whole.ServeFault.{ServeFault}
 use Rattle.caster_serve.specs.declared.whole.ServeFault.TheVariants as faults
 use Rattle.caster_main.specs.declared.answers.Answer.{Answer}
 use Rattle.caster_main.specs.declared.answers.Answer.TheVariants.{Memory}
-use Rattle.caster_main.specs.Command.{Form, bare, over, replay, made, serving, AreServe, ServeNothing, form_of}
+use Rattle.caster_main.specs.Command.{Form, bare, over, replay, made, serving, fetching, AreServe, ServeNothing, form_of}
 use Rattle.caster_main.specs.Outcome.{Exit, exactly, EndsSo, Came, whole_exit, usage_exit, network_exit, ending_of_serving, ending_of_bytes}
 use Rattle.caster_main.specs.Told.{Files, IsConfigAt, IsConfigIn, IsAsked, IsOutcome, HaveCome}
 use Rattle.caster_main.specs.Answers.{exit_of, IsRefused, IsRefusedAt, IsAnswer, Writes}
@@ -353,6 +353,8 @@ serve_or_not words (Some (made seed frames rovers)) h =
     inr (λ config addr limit are. read_other words _ config addr limit h are (λ e. absurd cc))
 serve_or_not words (Some (serving config addr limit)) h =
     inl (config, addr, limit, form-form_of words (serving config addr limit) h)
+serve_or_not words (Some (fetching frames targets)) h =
+    inr (λ config addr limit are. read_other words _ config addr limit h are (λ e. absurd cc))
 
 pub unserved_run : (words : List (List ℕ)) (files : Files) (before after : StreetTold) (fault : Type 0)
     (old new : Option (List ℕ)) (first now status : ℕ) → IsUnserved status
@@ -378,3 +380,4 @@ of_caster words left files (over aim path, came, are, told, is) = absurd is
 of_caster words left files (replay config session, came, are, told, is) = absurd is
 of_caster words left files (made seed frames rovers, came, are, told, is) = absurd is
 of_caster words left files (serving config addr limit, came, are, told, is) = (config, addr, limit, are)
+of_caster words left files (fetching frames targets, came, are, told, is) = absurd is

@@ -11,9 +11,9 @@ use Rattle.cast_config.specs.declared.fault.ConfigFault.TheVariants as configs
 use Rattle.cast_config.specs.Bare as settings
 use Rattle.caster_main.specs.declared.command.Aim.{Aim}
 use Rattle.caster_main.specs.declared.command.Aim.TheVariants.{Check, Table, Migrate}
-use Rattle.caster_main.specs.Command.{Form, bare, over, replay, made, serving}
+use Rattle.caster_main.specs.Command.{Form, bare, over, replay, made, serving, fetching}
 use Rattle.caster_main.specs.Reading.{config_in}
-use Rattle.caster_main.specs.Outcome.{Exit, Ending, exactly, document_of, report_of, closing_of, EndsSo, Came, session_in, ending_of_script, ending_of_config, ending_of_serving, ending_of_read, ending_of_bytes, ending_of_form}
+use Rattle.caster_main.specs.Outcome.{Exit, Ending, exactly, document_of, report_of, closing_of, enough_of, fewer_than, EndsSo, Came, session_in, ending_of_script, ending_of_config, ending_of_serving, ending_of_fetching, ending_of_read, ending_of_bytes, ending_of_form}
 use Rattle.caster_main.specs.Told.{IsConfigIn, IsNoConfig, IsWhole, IsFaultyConfig, IsFaultyScript, IsTooLong}
 use Rattle.caster_main.proofs.AnswerLemmas.{ending_of_bytes-long, ending_of_bytes-short}
 use Rattle.caster_main.proofs.ScriptLemmas.{status_of, whole_script, script_not_usage, script_not_config, script_not_network, faulty_script, long_script}
@@ -23,6 +23,8 @@ status-ends (exactly wanted) end ends = ap (λ (e : Exit). e.status) ends
 status-ends (document_of c) end ends = ends.0
 status-ends (report_of c events) end ends = ends.0
 status-ends (closing_of c) end ends = ends.0
+status-ends (enough_of frames) end ends = ends.0
+status-ends (fewer_than frames) end ends = ends.0
 
 -- ---- configurations
 
@@ -149,6 +151,7 @@ whole_form (replay config session) came h =
 whole_form (made seed frames rovers) came h = tt
 whole_form (serving config addr limit) came h =
     let whole = whole_bytes (ending_of_serving came.failed) came.config h in is_whole came.config whole.0 whole.1
+whole_form (fetching frames targets) came h = tt
 
 -- and with no other status
 not_served : (failed : Bool) (c : Config) (status : ℕ) → status_of (ending_of_serving failed c) ≡ status
@@ -157,6 +160,12 @@ not_served failed c status h whole lost = elim (serving_status failed c) [
   | inl ended ↦ whole (sym h ∙ ended)
   | inr ended ↦ lost (sym h ∙ ended)
 ]
+
+-- a fetch ends with 0 or 9
+not_fetched : (failed : Bool) (frames status : ℕ) → status_of (ending_of_fetching failed frames) ≡ status
+    → (status ≡ 0 → ⊥) → (status ≡ 9 → ⊥) → ⊥
+not_fetched true frames status h whole fewer = fewer (sym h)
+not_fetched false frames status h whole fewer = whole (sym h)
 
 pub no_usage_form : (form : Form) (came : Came) → status_of (ending_of_form form came) ≡ 1 → ⊥
 no_usage_form (bare capacity) came h = script_not_usage (settings.bare capacity) (script_of Bare came.script) h
@@ -170,6 +179,7 @@ no_usage_form (made seed frames rovers) came h = omega (arith, h)
 no_usage_form (serving config addr limit) came h =
     let usage = usage_bytes (ending_of_serving came.failed) came.config h in
     not_served came.failed usage.0 1 usage.1 (omega arith) (omega arith)
+no_usage_form (fetching frames targets) came h = not_fetched came.failed frames 1 h (omega arith) (omega arith)
 
 -- only a caster that serves can end with 6
 abbrev pub IsOfCaster : Form → Came → Type 0
@@ -178,6 +188,7 @@ IsOfCaster (over aim path) came = ⊥
 IsOfCaster (replay config session) came = ⊥
 IsOfCaster (made seed frames rovers) came = ⊥
 IsOfCaster (serving config addr limit) came = ⊤
+IsOfCaster (fetching frames targets) came = ⊥
 
 pub network_form : (form : Form) (came : Came) → status_of (ending_of_form form came) ≡ 6 → IsOfCaster form came
 network_form (bare capacity) came h =
@@ -190,6 +201,7 @@ network_form (replay config session) came h =
     script_not_network lost.0 (session_in lost.0 came.script) lost.1
 network_form (made seed frames rovers) came h = omega (arith, h)
 network_form (serving config addr limit) came h = tt
+network_form (fetching frames targets) came h = not_fetched came.failed frames 6 h (omega arith) (omega arith)
 
 pub faulty_config_form : (form : Form) (came : Came) → status_of (ending_of_form form came) ≡ 2
     → IsFaultyConfig form came
@@ -204,6 +216,8 @@ faulty_config_form (made seed frames rovers) came h = omega (arith, h)
 faulty_config_form (serving config addr limit) came h =
     faulty_bytes (ending_of_serving came.failed) came.config
     (λ c two. not_served came.failed c 2 two (omega arith) (omega arith)) h
+faulty_config_form (fetching frames targets) came h =
+    absurd (not_fetched came.failed frames 2 h (omega arith) (omega arith))
 
 pub faulty_script_form : (form : Form) (came : Came) → status_of (ending_of_form form came) ≡ 3
     → IsFaultyScript form came
@@ -218,6 +232,8 @@ faulty_script_form (made seed frames rovers) came h = omega (arith, h)
 faulty_script_form (serving config addr limit) came h =
     let faulty = session_bytes (ending_of_serving came.failed) came.config h in
     absurd (not_served came.failed faulty.0 3 faulty.2 (omega arith) (omega arith))
+faulty_script_form (fetching frames targets) came h =
+    absurd (not_fetched came.failed frames 3 h (omega arith) (omega arith))
 
 long_after : (came : Came)
     → (8388608 < length came.config)
@@ -250,3 +266,5 @@ too_long_form (replay config session) came h = long_after came (long_bytes (repl
 too_long_form (made seed frames rovers) came h = omega (arith, h)
 too_long_form (serving config addr limit) came h =
     only_long_serving came.failed came (long_bytes (ending_of_serving came.failed) came.config h)
+too_long_form (fetching frames targets) came h =
+    absurd (not_fetched came.failed frames 8 h (omega arith) (omega arith))

@@ -1,11 +1,10 @@
 -- The words of a form are those that are read as it.
-use Rattle.std.proofs.Common.{◌≡◌, ◌==◌, ℕ, suc, zero, ◌-◌, ◌^◌, ◌<◌, ◌≤◌, ◌⊎◌, true, false, not, ◌&&◌, List, [], ◌∷◌, length, get_or, codes, Option, None, Some, IfSome, IfNone, option_map, Result, Ok, Err, inl, inr, refl, ap, sym, subst, ◌∙◌, arith, rules, nat_le}
+use Rattle.std.proofs.Common.{◌≡◌, ◌==◌, ℕ, suc, zero, ◌-◌, ◌^◌, ◌*◌, ◌<◌, ◌≤◌, ◌⊎◌, true, false, not, ◌&&◌, List, [], ◌∷◌, String, string_bytes, length, get_or, take, drop, codes, Option, None, Some, IfSome, IfNone, option_map, Result, Ok, Err, inl, inr, refl, ap, sym, subst, ◌∙◌, arith, rules, nat_le}
 use Rattle.std.proofs.lemmas.Bool.{and_parts, le-leb, cases_Bool}
 use Rattle.std.proofs.lemmas.Bool.Decides.{nat_tests}
 use Rattle.std.proofs.lemmas.Fmt.{decimal_digit, digits_decimal, digits_value-decimal, decimal_nonempty, first_decimal, decimal-digits_value}
 use Rattle.std.proofs.lemmas.Str.Parse.{IsNumeralModel, numerals_by_fold, parse_digits}
 use Rattle.std.proofs.lemmas.Slice.Eq.{bytes_eq-Decides}
-use Rattle.std.specs.List.{list_all}
 use Rattle.std.specs.Fmt.{decimal}
 use Rattle.std.specs.Str.{bytes_eq}
 use Rattle.std.specs.Str.Parse.{ParsesUnsigned}
@@ -13,7 +12,13 @@ use Rattle.session_script.specs.Digits.{is_digit, is_number, number_from, number
 use Rattle.caster_main.specs.declared.command.Aim.{Aim}
 use Rattle.caster_main.specs.declared.command.Aim.TheVariants.{Check, Table, Migrate}
 use Rattle.caster_main.specs.declared.command.Command.{Command}
-use Rattle.caster_main.specs.Command.{Form, bare, over, replay, made, serving, AreBare, AreOver, AreReplay, AreMake, AreServe, AreOf, AreOfNoForm, aim_name, aim_of, is_path, form_of_two, form_of_three, seed_of, made_form, serving_form, form_of_four, form_of, form}
+use Rattle.caster_main.specs.declared.fetch_words.Fetch.{Fetch}
+use Rattle.std.specs.Global.{Global}
+use Rattle.std.specs.List.{All, flat_map, list_all}
+use Rattle.ntrip_fetch.specs.declared.target.Target.{Target}
+use Rattle.caster_main.specs.Command.{Form, bare, over, replay, made, serving, fetching, AreBare, AreOver, AreReplay, AreMake, AreServe, AreFetch, AreOf, AreOfNoForm, FetchNothing, IsTarget, aim_name, aim_of, are_few_targets, are_targets, fetching_form, is_path, form_of_two, form_of_three, seed_of, made_form, serving_form, form_of_four, form_of_more, form_of, fetch_form, form, target_words, targets_of, texts}
+use Rattle.caster_main.proofs.SliceLemmas.{two_words}
+use Rattle.caster_main.proofs.TargetLemmas.{targets_are, targets_read, targets_length, targets_each, targets_said, targets_count}
 
 -- what is read here as digits and as a number is what std reads and writes
 own : IsNumeralModel (λ ds. list_all is_digit ds ≡ true) (number_from 0)
@@ -268,6 +273,42 @@ form_of-serve words config addr limit are =
     ∙ ap (λ v. option_map (λ n. serving config addr n) v)
     (decimal_read 1000000 limit are.limit_is.0 are.limit_is.1 (omega arith))
 
+-- ---- the words of a fetch
+
+fetching_known : (first : List ℕ) (words : List (List ℕ)) (n : ℕ) (targets : List Target)
+    → are_few_targets words ≡ true → at_most 1000000 (number_of first) ≡ Some n → targets_of words ≡ targets
+    → fetching_form first words ≡ Some (fetching n targets)
+fetching_known first words n targets few number read = rw (few, number, read) refl
+
+few_true : (words : List (List ℕ)) → 1 ≤ length words → length words ≤ 40 → are_targets words ≡ true
+    → are_few_targets words ≡ true
+few_true words least most are =
+    let some : nat_le 1 (length words) ≡ true = le-leb 1 (length words) least in
+    let few : nat_le (length words) 40 ≡ true = le-leb (length words) 40 most in
+    rw (some, few, are) refl
+
+read_fetch : (frames : ℕ) (targets : List Target) → 1 ≤ frames → frames ≤ 1000000 → 1 ≤ length targets
+    → length targets ≤ 8 → All IsTarget targets
+    → fetching_form (decimal frames) (flat_map target_words targets) ≡ Some (fetching frames targets)
+read_fetch frames targets least most some few each =
+    let words = flat_map target_words targets in
+    let count : length words ≡ length targets * 5 = targets_length targets in
+    fetching_known (decimal frames) words frames targets
+    (few_true words (omega (arith, count, some)) (omega (arith, count, few)) (targets_are targets each))
+    (decimal_read 1000000 frames least most (omega arith)) (targets_read targets each)
+
+fetch_words : (frames : ℕ) (targets : List Target) → 1 ≤ length targets
+    → form_of (codes "fetch" ∷ decimal frames ∷ flat_map target_words targets)
+    ≡ fetching_form (decimal frames) (flat_map target_words targets)
+fetch_words frames [] some = absurd (omega (arith, some))
+fetch_words frames (target ∷ more) some = refl
+
+form_of-fetch : (words : List (List ℕ)) (frames : ℕ) (targets : List Target) → AreFetch words frames targets
+    → form_of words ≡ Some (fetching frames targets)
+form_of-fetch words frames targets are =
+    ap form_of are.parts ∙ fetch_words frames targets are.count.0
+    ∙ read_fetch frames targets are.frames_are.0 are.frames_are.1 are.count.0 are.count.1 are.each
+
 pub form_of-form : (words : List (List ℕ)) (form : Form) → AreOf words form → form_of words ≡ Some form
 form_of-form words (bare capacity) are = form_of-bare words capacity are
 form_of-form words (over aim config) are =
@@ -275,6 +316,7 @@ form_of-form words (over aim config) are =
 form_of-form words (replay config session) are = form_of-replay words config session are
 form_of-form words (made seed frames rovers) are = form_of-make words seed frames rovers are
 form_of-form words (serving config addr limit) are = form_of-serve words config addr limit are
+form_of-form words (fetching frames targets) are = form_of-fetch words frames targets are
 
 -- ---- back
 
@@ -464,13 +506,52 @@ form_of_four-form name seed frames rovers form h = elim (cases_Bool (bytes_eq na
   | inr other ↦ form_of_serving-form name seed frames rovers form other h
 ]
 
+are_fetch : (name first : List ℕ) (words : List (List ℕ)) (n : ℕ) → bytes_eq name (codes "fetch") ≡ true
+    → are_few_targets words ≡ true → at_most 1000000 (number_of first) ≡ Some n
+    → AreFetch (name ∷ first ∷ words) n (targets_of words)
+are_fetch name first words n same few number =
+    let outer = and_parts (nat_le 1 (length words) && nat_le (length words) 40) (are_targets words) few in
+    let inner = and_parts (nat_le 1 (length words)) (nat_le (length words) 40) outer.0 in
+    let some = inner.0 in
+    let most = inner.1 in
+    let least : 1 ≤ length words = grind (arith, nat_tests, some) in
+    let within : length words ≤ 40 = grind (arith, nat_tests, most) in
+    let count : length (targets_of words) * 5 ≡ length words = targets_count words outer.1 in
+    let read = read_decimal 1000000 first n (omega arith) number in
+    let named : name ≡ codes "fetch" = name_is name (codes "fetch") same in
+    record {
+      frames_are = (read.least, read.most);
+      count = (omega (arith, count, least), omega (arith, count, within));
+      each = targets_each words outer.1;
+      parts = ap (λ w. w ∷ first ∷ words) named ∙ ap (λ w. codes "fetch" ∷ w ∷ words) read.text
+          ∙ ap (λ (ws : List (List ℕ)). codes "fetch" ∷ decimal n ∷ ws) (sym (targets_said words outer.1));
+    }
+
+form_of_more-form : (name first : List ℕ) (words : List (List ℕ)) (form : Form)
+    → form_of_more name first words ≡ Some form → AreOf (name ∷ first ∷ words) form
+form_of_more-form name first words form h = elim (cases_Bool (bytes_eq name (codes "fetch"))) [
+  | inl same ↦ elim (cases_Bool (are_few_targets words)) [
+    | inl few ↦
+        let read = mapped (λ n. fetching n (targets_of words)) (at_most 1000000 (number_of first)) form
+        (sym (rw (same, few) refl) ∙ h) in
+        subst (λ f. AreOf (name ∷ first ∷ words) f) read.2 (are_fetch name first words read.0 same few read.1)
+    | inr many ↦
+        let e : form_of_more name first words ≡ None = rw (same, many) refl in
+        absurd cc
+  ]
+  | inr other ↦
+      let e : form_of_more name first words ≡ None = rw other refl in
+      absurd cc
+]
+
 pub form-form_of : (words : List (List ℕ)) (form : Form) → form_of words ≡ Some form → AreOf words form
 form-form_of [] form h = absurd cc
 form-form_of (name ∷ []) form h = absurd cc
 form-form_of (name ∷ word ∷ []) form h = form_of_two-form name word form h
 form-form_of (name ∷ first ∷ second ∷ []) form h = form_of_three-form name first second form h
 form-form_of (name ∷ first ∷ second ∷ third ∷ []) form h = form_of_four-form name first second third form h
-form-form_of (name ∷ first ∷ second ∷ third ∷ more ∷ others) form h = absurd cc
+form-form_of (name ∷ first ∷ second ∷ third ∷ fourth ∷ more) form h =
+    form_of_more-form name first (second ∷ third ∷ fourth ∷ more) form h
 
 -- words that are read as nothing are of no form
 pub no_form : (words : List (List ℕ)) → form_of words ≡ None → AreOfNoForm words
@@ -487,3 +568,64 @@ pub command-none : (words : List (List ℕ)) (read : Option Command) → option_
     → IfNone read (AreOfNoForm words)
 command-none words None h = no_form words (sym h)
 command-none words (Some command) h = tt
+
+-- ---- words of a fetch and others
+
+-- a fetch has more words than one
+pub short_words : (words : List (List ℕ)) → length words < 2 → FetchNothing words
+short_words words short frames targets are = let size = ap length are.parts in omega (arith, short, size)
+
+-- what is not read as a fetch is none
+pub no_fetch_read : (name first : List ℕ) (words : List (List ℕ)) → form_of_more name first words ≡ None
+    → FetchNothing (name ∷ first ∷ words)
+no_fetch_read name first words none frames targets are =
+    let read = read_fetch frames targets are.frames_are.0 are.frames_are.1 are.count.0 are.count.1 are.each in
+    let parts = are.parts in
+    let named : name ≡ codes "fetch" = cc in
+    let number : first ≡ decimal frames = cc in
+    let others : words ≡ flat_map target_words targets = cc in
+    let same : form_of_more name first words ≡ fetching_form (decimal frames) (flat_map target_words targets) =
+    rw (named, number, others) refl in
+    absurd cc
+
+-- more than four words are those of a fetch, or of no form
+pub many_words : (words : List (List ℕ)) (read : Option Form) → form_of words ≡ read → 5 ≤ length words
+    → FetchNothing words → None ≡ form_of words
+many_words words None h five nothing = sym h
+many_words words (Some (bare capacity)) h five nothing =
+    let size = ap length (form-form_of words (bare capacity) h).parts in absurd (omega (arith, five, size))
+many_words words (Some (over aim config)) h five nothing =
+    let size = ap length (form-form_of words (over aim config) h).parts in absurd (omega (arith, five, size))
+many_words words (Some (replay config session)) h five nothing =
+    let size = ap length (form-form_of words (replay config session) h).parts in absurd (omega (arith, five, size))
+many_words words (Some (made seed frames rovers)) h five nothing =
+    let size = ap length (form-form_of words (made seed frames rovers) h).parts in absurd (omega (arith, five, size))
+many_words words (Some (serving config addr limit)) h five nothing =
+    let size = ap length (form-form_of words (serving config addr limit) h).parts in
+    absurd (omega (arith, five, size))
+many_words words (Some (fetching frames targets)) h five nothing =
+    absurd (nothing frames targets (form-form_of words (fetching frames targets) h))
+
+-- what is read as a fetch is one, and what is not is none
+fetch_read : (name first : List ℕ) (words : List (List ℕ)) (read : Option Fetch)
+    → option_map fetch_form read ≡ form_of_more name first words
+    → IfSome read (λ fetch. AreFetch (name ∷ first ∷ words) fetch.frames (targets_of (texts fetch.targets.now)))
+    × IfNone read (FetchNothing (name ∷ first ∷ words))
+fetch_read name first words None h = (tt, no_fetch_read name first words (sym h))
+fetch_read name first words (Some fetch) h =
+    (form_of_more-form name first words (fetch_form fetch) (sym h), tt)
+
+-- of words whose first two and others are these
+pub fetch_in_words : (words : List (String Global)) (a b : String Global) (name first : List ℕ) (read : Option Fetch)
+    → 2 ≤ length words → a ≡ get_or words 0 a → b ≡ get_or words 1 b → name ≡ string_bytes a → first ≡ string_bytes b
+    → option_map fetch_form read ≡ form_of_more name first (texts (take (length words - 2) (drop 2 words)))
+    → IfSome read (λ fetch. AreFetch (texts words) fetch.frames (targets_of (texts fetch.targets.now)))
+    × IfNone read (FetchNothing (texts words))
+fetch_in_words words a b name first read two is_a is_b named number h =
+    let rest = texts (take (length words - 2) (drop 2 words)) in
+    let parts : texts words ≡ name ∷ first ∷ rest =
+    ap (λ (ws : List (String Global)). texts ws) (two_words words a b two is_a is_b)
+    ∙ ap (λ v. v ∷ string_bytes b ∷ rest) (sym named) ∙ ap (λ v. name ∷ v ∷ rest) (sym number) in
+    subst (λ (ws : List (List ℕ)).
+    IfSome read (λ fetch. AreFetch ws fetch.frames (targets_of (texts fetch.targets.now)))
+    × IfNone read (FetchNothing ws)) (sym parts) (fetch_read name first rest read h)

@@ -1,12 +1,16 @@
 -- The words of the command line. They have no program name.
-use Rattle.std.specs.Prelude.{◌≡◌, ℕ, ◌-◌, ◌^◌, ◌<◌, ◌≤◌, nat_le, ◌&&◌, if◌then◌else◌, Bool, List, [], ◌∷◌, length, map, codes, Option, Some, None, option_map, String, string_bytes}
+use Rattle.std.specs.Prelude.{◌≡◌, ◌≢◌, ℕ, ◌-◌, ◌^◌, ◌<◌, ◌≤◌, ◌==◌, nat_le, not, ◌&&◌, ◌||◌, if◌then◌else◌, Bool, true, false, IsTrue, List, [], ◌∷◌, length, map, codes, Option, Some, None, IfSome, option_map, String, string_bytes}
+use Rattle.std.specs.List.{All, flat_map, list_all}
 use Rattle.std.specs.Global.{Global}
 use Rattle.std.specs.Str.{bytes_eq}
 use Rattle.std.specs.Fmt.{decimal}
 use Rattle.session_script.specs.Digits.{number_of, at_most}
+use Rattle.cast_text.specs.Name.{is_name}
+use Rattle.ntrip_fetch.specs.declared.target.Target.{Target}
 use Rattle.caster_main.specs.declared.command.Aim.{Aim}
 use Rattle.caster_main.specs.declared.command.Aim.TheVariants.{Check, Table, Migrate}
 use Rattle.caster_main.specs.declared.command.Command.{Command}
+use Rattle.caster_main.specs.declared.fetch_words.Fetch.{Fetch}
 use Rattle.caster_main.specs.declared.command.Command.TheVariants as commands
 
 -- the bytes of each word
@@ -26,6 +30,8 @@ pub data Form : Type 0 where
   -- a caster over the configuration in the file of this path, at this address, each of whose workers
   -- serves so many connections
   serving : List ℕ → List ℕ → ℕ → Form
+  -- so many frames are fetched from these targets
+  fetching : ℕ → List Target → Form
 
 -- the word for it
 abbrev pub aim_name : Aim → List ℕ
@@ -69,12 +75,62 @@ pub record AreServe (words : List (List ℕ)) (config addr : List ℕ) (limit : 
   pub limit_is : (1 ≤ limit) × (limit ≤ 1000000)
   pub parts : words ≡ codes "serve" ∷ config ∷ addr ∷ decimal limit ∷ []
 
+-- ---- the targets of a fetch
+
+-- a byte of an address: no CR and no LF
+abbrev pub is_line_byte : ℕ → Bool
+is_line_byte byte = not (byte == 10) && not (byte == 13)
+
+-- a byte of a password: nor `;` (59)
+abbrev pub is_password_byte : ℕ → Bool
+is_password_byte byte = is_line_byte byte && not (byte == 59)
+
+-- 1 to 100 bytes without CR and LF
+abbrev pub is_address : List ℕ → Bool
+is_address word = nat_le 1 (length word) && nat_le (length word) 100 && list_all is_line_byte word
+
+-- at most 100 bytes without CR, LF and `;`
+abbrev pub is_password : List ℕ → Bool
+is_password word = nat_le (length word) 100 && list_all is_password_byte word
+
+-- a user's name, where there is one; `-` stands for none
+abbrev pub IsUser : List ℕ → Type 0
+IsUser user = IsTrue (is_name user) × (user ≢ codes "-")
+
+-- words can name the target: its protocol is a version of NTRIP, 1 or 2
+pub record IsTarget (target : Target) : Type 0 where
+  pub protocol_is : (1 ≤ target.protocol) × (target.protocol ≤ 2)
+  pub address_is : IsTrue (is_address target.address)
+  pub mount_is : IsTrue (is_name target.mount)
+  pub user_is : IfSome target.user IsUser
+  pub password_is : IsTrue (is_password target.password)
+
+-- the word for the user
+abbrev pub user_word : Option (List ℕ) → List ℕ
+user_word None = codes "-"
+user_word (Some user) = user
+
+-- the words `PROTOCOL ADDR MOUNT USER PASSWORD`
+abbrev pub target_words : Target → List (List ℕ)
+target_words target =
+    decimal target.protocol ∷ target.address ∷ target.mount ∷ user_word target.user
+    ∷ target.password ∷ []
+
+-- the words `fetch FRAMES` and behind them the five words of each target: FRAMES is a decimal number
+-- from 1 to 1,000,000 without a sign or leading zeros, and there are 1 to 8 targets
+pub record AreFetch (words : List (List ℕ)) (frames : ℕ) (targets : List Target) : Type 0 where
+  pub frames_are : (1 ≤ frames) × (frames ≤ 1000000)
+  pub count : (1 ≤ length targets) × (length targets ≤ 8)
+  pub each : All IsTarget targets
+  pub parts : words ≡ codes "fetch" ∷ decimal frames ∷ flat_map target_words targets
+
 abbrev pub AreOf : List (List ℕ) → Form → Type 0
 AreOf words (bare capacity) = AreBare words capacity
 AreOf words (over aim config) = AreOver aim words config
 AreOf words (replay config session) = AreReplay words config session
 AreOf words (made seed frames rovers) = AreMake words seed frames rovers
 AreOf words (serving config addr limit) = AreServe words config addr limit
+AreOf words (fetching frames targets) = AreFetch words frames targets
 
 -- the words are of no form that there is
 abbrev pub AreOfNoForm : List (List ℕ) → Type 0
@@ -93,6 +149,19 @@ NameNoFile words =
 -- the words ask for no caster that serves
 abbrev pub ServeNothing : List (List ℕ) → Type 0
 ServeNothing words = (config addr : List ℕ) (limit : ℕ) → AreServe words config addr limit → ⊥
+
+-- the words ask for no fetch
+abbrev pub FetchNothing : List (List ℕ) → Type 0
+FetchNothing words = (frames : ℕ) (targets : List Target) → AreFetch words frames targets → ⊥
+
+-- the words ask nothing of the street: neither a caster that serves nor a fetch
+abbrev pub AskNoStreet : List (List ℕ) → Type 0
+AskNoStreet words = ServeNothing words × FetchNothing words
+
+-- what the words ask for is written once it is decided: it is no fetch, which writes frames as they
+-- come
+abbrev pub WriteAtEnd : List (List ℕ) → Type 0
+WriteAtEnd words = FetchNothing words
 
 -- ---- the same, read from the words
 
@@ -144,13 +213,77 @@ form_of_four name first second third =
     else if bytes_eq name (codes "serve") && (is_path first && is_path second)
     then serving_form first second third else None
 
+-- the word is a version of NTRIP
+abbrev pub is_protocol : List ℕ → Bool
+is_protocol word = bytes_eq word (codes "1") || bytes_eq word (codes "2")
+
+-- five words are a target
+abbrev pub is_target : List ℕ → List ℕ → List ℕ → List ℕ → List ℕ → Bool
+is_target protocol address mount user password =
+    is_protocol protocol && is_address address && is_name mount && is_name user
+    && is_password password
+
+-- groups of five words, each a target
+abbrev pub are_targets : List (List ℕ) → Bool
+are_targets [] = true
+are_targets (a ∷ []) = false
+are_targets (a ∷ b ∷ []) = false
+are_targets (a ∷ b ∷ c ∷ []) = false
+are_targets (a ∷ b ∷ c ∷ d ∷ []) = false
+are_targets (protocol ∷ address ∷ mount ∷ user ∷ password ∷ more) =
+    is_target protocol address mount user password && are_targets more
+
+-- the user that a word names, and the version
+abbrev pub user_of : List ℕ → Option (List ℕ)
+user_of word = if bytes_eq word (codes "-") then None else Some word
+
+abbrev pub protocol_of : List ℕ → ℕ
+protocol_of word = if bytes_eq word (codes "2") then 2 else 1
+
+-- the target that five words name
+abbrev pub target_of : List ℕ → List ℕ → List ℕ → List ℕ → List ℕ → Target
+target_of protocol address mount user password = record {
+  protocol = protocol_of protocol;
+  address = address;
+  mount = mount;
+  user = user_of user;
+  password = password;
+}
+
+-- the targets of groups of five words
+abbrev pub targets_of : List (List ℕ) → List Target
+targets_of [] = []
+targets_of (a ∷ []) = []
+targets_of (a ∷ b ∷ []) = []
+targets_of (a ∷ b ∷ c ∷ []) = []
+targets_of (a ∷ b ∷ c ∷ d ∷ []) = []
+targets_of (protocol ∷ address ∷ mount ∷ user ∷ password ∷ more) =
+    target_of protocol address mount user password ∷ targets_of more
+
+-- 1 to 8 targets
+abbrev pub are_few_targets : List (List ℕ) → Bool
+are_few_targets words =
+    nat_le 1 (length words) && nat_le (length words) 40 && are_targets words
+
+abbrev pub fetching_form : List ℕ → List (List ℕ) → Option Form
+fetching_form frames words =
+    if are_few_targets words
+    then option_map (λ n. fetching n (targets_of words)) (at_most 1000000 (number_of frames))
+    else None
+
+-- a name, one word and more
+abbrev pub form_of_more : List ℕ → List ℕ → List (List ℕ) → Option Form
+form_of_more name first more =
+    if bytes_eq name (codes "fetch") then fetching_form first more else None
+
 abbrev pub form_of : List (List ℕ) → Option Form
 form_of [] = None
 form_of (name ∷ []) = None
 form_of (name ∷ word ∷ []) = form_of_two name word
 form_of (name ∷ first ∷ second ∷ []) = form_of_three name first second
 form_of (name ∷ first ∷ second ∷ third ∷ []) = form_of_four name first second third
-form_of (name ∷ first ∷ second ∷ third ∷ more ∷ others) = None
+form_of (name ∷ first ∷ second ∷ third ∷ fourth ∷ more) =
+    form_of_more name first (second ∷ third ∷ fourth ∷ more)
 
 -- the files that words of a form name, in the order in which they are read
 abbrev pub files_of : Option Form → List (List ℕ)
@@ -160,6 +293,7 @@ files_of (Some (over aim config)) = config ∷ []
 files_of (Some (replay config session)) = config ∷ session ∷ []
 files_of (Some (made seed frames rovers)) = []
 files_of (Some (serving config addr limit)) = config ∷ []
+files_of (Some (fetching frames targets)) = []
 
 -- the command that the code has read
 abbrev pub form : Command → Form
@@ -168,3 +302,7 @@ form (commands.Over aim config) = over aim config.now
 form (commands.Replay config session) = replay config.now session.now
 form (commands.Make seed frames rovers) = made seed frames rovers
 form (commands.Serve config addr limit) = serving config.now addr.now limit
+
+-- and the fetch
+abbrev pub fetch_form : Fetch → Form
+fetch_form fetch = fetching fetch.frames (targets_of (texts fetch.targets.now))

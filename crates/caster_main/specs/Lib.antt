@@ -4,4 +4,5 @@ pub mod Outcome
 pub mod Told
 pub mod Answers
 pub mod Serving
+pub mod Fetching
 pub mod Untold

@@ -1,7 +1,8 @@
 -- What the program ends with, in the order of its tests: the words, the size of a configuration, its
 -- rules, the size of a script, its grammar, the run.
-use Rattle.std.specs.Prelude.{◌≡◌, ℕ, nat_lt, if◌then◌else◌, Bool, true, false, List, [], ◌∷◌, ◌++◌, length, codes, Option, Some, None, Result, Ok, Err}
+use Rattle.std.specs.Prelude.{◌≡◌, ℕ, ◌<◌, nat_lt, if◌then◌else◌, Bool, true, false, List, [], ◌∷◌, ◌++◌, length, codes, Option, Some, None, Result, Ok, Err}
 use Rattle.std.specs.Fmt.{decimal}
+use Rattle.std.specs.List.{concat}
 use Rattle.session_script.specs.declared.Event.{Event}
 use Rattle.session_script.specs.declared.ScriptKind.TheVariants.{Bare, Replay}
 use Rattle.session_script.specs.declared.ScriptFault.{ScriptFault}
@@ -21,7 +22,7 @@ use Rattle.session_core.specs.Text.{closed_text}
 use Rattle.run_texts.specs.Texts.{IsRunText, made_text}
 use Rattle.caster_main.specs.declared.command.Aim.{Aim}
 use Rattle.caster_main.specs.declared.command.Aim.TheVariants.{Check, Table, Migrate}
-use Rattle.caster_main.specs.Command.{Form, bare, over, replay, made, serving, form_of}
+use Rattle.caster_main.specs.Command.{Form, bare, over, replay, made, serving, fetching, form_of}
 use Rattle.caster_main.specs.Reading.{config_in}
 
 -- how the program ends: its status and what it writes
@@ -39,6 +40,10 @@ pub data Ending : Type 0 where
   report_of : Config → List Event → Ending
   -- with status 0 and what a caster over this configuration came to
   closing_of : Config → Ending
+  -- with status 0 and so many frames
+  enough_of : ℕ → Ending
+  -- with status 9 and fewer
+  fewer_than : ℕ → Ending
 
 -- the text is a document of version 2 that is read as this configuration
 abbrev pub IsDocumentOf : Config → List ℕ → Type 0
@@ -50,6 +55,10 @@ EndsSo (exactly wanted) end = end ≡ wanted
 EndsSo (document_of c) end = (end.status ≡ 0) × IsDocumentOf c end.text
 EndsSo (report_of c events) end = (end.status ≡ 0) × IsRunText c events end.text
 EndsSo (closing_of c) end = (end.status ≡ 0) × (closed : Closed) × (end.text ≡ closed_text c closed)
+EndsSo (enough_of most) end = (end.status ≡ 0)
+    × (frames : List (List ℕ)) × (end.text ≡ concat frames) × (length frames ≡ most)
+EndsSo (fewer_than most) end = (end.status ≡ 9)
+    × (frames : List (List ℕ)) × (end.text ≡ concat frames) × (length frames < most)
 
 -- words as one line
 abbrev pub one_line : List ℕ → List ℕ
@@ -114,6 +123,11 @@ abbrev pub ending_of_serving : Bool → Config → Ending
 ending_of_serving true c = exactly network_exit
 ending_of_serving false c = closing_of c
 
+-- a fetch of so many frames, where too few came or not
+abbrev pub ending_of_fetching : Bool → ℕ → Ending
+ending_of_fetching true frames = fewer_than frames
+ending_of_fetching false frames = enough_of frames
+
 -- with a configuration this comes next
 abbrev pub ending_of_read : (Config → Ending) → Result Config ConfigFault → Ending
 ending_of_read next (Ok c) = next c
@@ -128,7 +142,8 @@ ending_of_bytes next bytes =
 -- ---- words
 
 -- what came from outside: the bytes of the script and those of the configuration, as far as the
--- words' form reads them, and whether the network failed a caster that served
+-- words' form reads them, and whether the network failed a caster that served, or too few frames
+-- came for a fetch
 pub record Came : Type 0 where
   pub script : List ℕ
   pub config : List ℕ
@@ -144,6 +159,7 @@ ending_of_form (made seed frames rovers) came =
     exactly (whole_exit (made_text seed frames rovers))
 ending_of_form (serving config addr limit) came =
     ending_of_bytes (ending_of_serving came.failed) came.config
+ending_of_form (fetching frames targets) came = ending_of_fetching came.failed frames
 
 abbrev pub ending_of : Option Form → Came → Ending
 ending_of None came = exactly usage_exit

@@ -14,7 +14,7 @@ use Rattle.cast_config.specs.declared.config.Config.{Config}
 use Rattle.cast_config.specs.declared.fault.ConfigFault.{ConfigFault}
 use Rattle.cast_config.specs.declared.fault.ConfigFault.TheVariants as configs
 use Rattle.cast_config.specs.Document.{IsRead}
-use Rattle.caster_main.specs.Command.{Form, bare, over, replay, made, serving, AreOf, form_of}
+use Rattle.caster_main.specs.Command.{Form, bare, over, replay, made, serving, fetching, AreOf, form_of}
 use Rattle.caster_main.specs.Reading.{config_in}
 use Rattle.caster_main.specs.Outcome.{Exit, Came, EndsSo, read_fault_exit, memory_exit, outcome, session_in}
 
@@ -58,6 +58,7 @@ IsTold (replay config session) left files came =
     × ((c : Config) → IsConfigIn came.config c → Holds files session came.script)
 IsTold (made seed frames rovers) left files came = ⊤
 IsTold (serving config addr limit) left files came = Holds files config came.config
+IsTold (fetching frames targets) left files came = ⊤
 
 abbrev pub HasCome : Option Form → Option (List ℕ) → Files → Came → Type 0
 HasCome None left files came = ⊤
@@ -76,6 +77,7 @@ AreAsked (Some (replay config session)) files paths =
     ⊎ ((paths ≡ config ∷ session ∷ []) × (c : Config) × IsConfigAt files config c)
 AreAsked (Some (made seed frames rovers)) files paths = paths ≡ []
 AreAsked (Some (serving config addr limit)) files paths = paths ≡ config ∷ []
+AreAsked (Some (fetching frames targets)) files paths = paths ≡ []
 
 -- by what it was asked before and now, the store was asked for these, and for no other
 abbrev pub IsAsked : Option Form → Files → Option (List (List ℕ)) → Option (List (List ℕ)) → Type 0
@@ -102,7 +104,7 @@ FollowsOutcome words left files status old new =
 abbrev pub IsStatus : ℕ → Type 0
 IsStatus status =
     (status ≡ 0) ⊎ ((status ≡ 1) ⊎ ((status ≡ 2) ⊎ ((status ≡ 3) ⊎ ((status ≡ 4)
-    ⊎ ((status ≡ 5) ⊎ ((status ≡ 6) ⊎ ((status ≡ 7) ⊎ (status ≡ 8))))))))
+    ⊎ ((status ≡ 5) ⊎ ((status ≡ 6) ⊎ ((status ≡ 7) ⊎ ((status ≡ 8) ⊎ (status ≡ 9)))))))))
 
 -- ---- what a status says
 
@@ -124,6 +126,7 @@ IsWhole (replay config session) came =
     (c : Config) × IsConfigIn came.config c × IsOk (session_in c came.script)
 IsWhole (made seed frames rovers) came = ⊤
 IsWhole (serving config addr limit) came = IsOk (config_in came.config)
+IsWhole (fetching frames targets) came = ⊤
 
 -- the bytes break a rule of configurations, or are no document
 abbrev pub IsNoConfig : Result Config ConfigFault → Type 0
@@ -140,6 +143,7 @@ IsFaultyConfig (replay config session) came =
 IsFaultyConfig (made seed frames rovers) came = ⊥
 IsFaultyConfig (serving config addr limit) came =
     (length came.config ≤ 8388608) × IsNoConfig (config_in came.config)
+IsFaultyConfig (fetching frames targets) came = ⊥
 
 -- the bytes have a faulty line or no `stop`
 abbrev pub IsNoSession : Result (List Event) ScriptFault → Type 0
@@ -157,6 +161,7 @@ IsFaultyScript (replay config session) came =
     (c : Config) × IsConfigIn came.config c × IsNoSession (session_in c came.script)
 IsFaultyScript (made seed frames rovers) came = ⊥
 IsFaultyScript (serving config addr limit) came = ⊥
+IsFaultyScript (fetching frames targets) came = ⊥
 
 -- more bytes than a script or a configuration may have
 abbrev pub IsTooLong : Form → Came → Type 0
@@ -167,15 +172,18 @@ IsTooLong (replay config session) came =
     ⊎ ((c : Config) × IsConfigIn came.config c × (8388608 < length came.script))
 IsTooLong (made seed frames rovers) came = ⊥
 IsTooLong (serving config addr limit) came = 8388608 < length came.config
+IsTooLong (fetching frames targets) came = ⊥
 
 -- the words are of a form, and the fault is of what is read for it: the input's for a bare session,
--- the store's for a command that names a configuration, and none where a session is made
+-- the store's for a command that names a configuration, and none where a session is made or frames
+-- are fetched
 abbrev pub FaultFor : Form → Type 0 → Type 0 → Type 0
 FaultFor (bare capacity) of_input of_store = of_input
 FaultFor (over aim config) of_input of_store = of_store
 FaultFor (replay config session) of_input of_store = of_store
 FaultFor (made seed frames rovers) of_input of_store = ⊥
 FaultFor (serving config addr limit) of_input of_store = of_store
+FaultFor (fetching frames targets) of_input of_store = ⊥
 
 abbrev pub HaveFault : List (List ℕ) → Type 0 → Type 0 → Type 0
 HaveFault words of_input of_store =

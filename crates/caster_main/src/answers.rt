@@ -2,7 +2,7 @@
 ghost use Rattle.std.specs.Prelude.{◌≡◌, ◌≤◌, ◌+◌, ◌*◌, ℕ, List, length};
 ghost use Rattle.cast_io.specs.Causes.{Rose};
 ghost use Rattle.cast_io.specs.Pieces.{Loses};
-ghost use Rattle.caster_main.specs.Command.{AreServe, NameNoFile, ReadNoInput, ServeNothing, files_of, form_of, texts};
+ghost use Rattle.caster_main.specs.Command.{AreServe, FetchNothing, NameNoFile, ReadNoInput, ServeNothing, files_of, form_of, texts};
 ghost use Rattle.caster_main.specs.Outcome.{exactly, whole_exit};
 ghost use Rattle.caster_main.specs.Told.{IsAsked};
 ghost use Rattle.caster_main.specs.Answers.{exit_of, IsAnswer, GivesEnd};
@@ -77,9 +77,9 @@ impl Answer {
     }
 }
 
-/// The answer to these words, this input, these files and this street. The input is read only for a
-/// bare session, the store is asked only for the files that the words name, and the street only by a
-/// caster that serves.
+/// The answer to these words, which ask for no fetch, this input, these files and this street. The
+/// input is read only for a bare session, the store is asked only for the files that the words name,
+/// and the street only by a caster that serves.
 pub fn answer_to<R: Threads + Wait + Sync, S: Store, I: Source, N: Street>(
     rt: &R,
     alloc: Global,
@@ -91,6 +91,7 @@ pub fn answer_to<R: Threads + Wait + Sync, S: Store, I: Source, N: Street>(
 where
     N::Door: Send,
     N::Link: Send,
+    requires { FetchNothing (texts words.now) }
     ensures answer { IsAnswer (texts words.now) (I.left input.old) (S.store store.old).files
         (Rose (I.faults input.old) (I.faults input.new))
         (Rose (S.faults store.old) (S.faults store.new)) result }

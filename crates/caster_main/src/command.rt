@@ -2,7 +2,7 @@
 ghost use Rattle.std.specs.Prelude.{◌≡◌, ◌&&◌, ◌-◌, ◌^◌, ℕ, List, Some, IfSome, IfNone, option_map};
 ghost use Rattle.std.specs.List.{list_all};
 ghost use Rattle.session_script.specs.Digits.{is_digit, is_number, number_of, at_most};
-ghost use Rattle.caster_main.specs.Command.{AreOf, AreOfNoForm, Form, aim_of, form, form_of, form_of_four, form_of_three, form_of_two, is_path, made_form, seed_of, serving_form, texts};
+ghost use Rattle.caster_main.specs.Command.{AreOf, AreOfNoForm, FetchNothing, Form, aim_of, form, form_of, form_of_four, form_of_three, form_of_two, is_path, made_form, seed_of, serving_form, texts};
 
 // The most frames that a ring keeps.
 const LARGEST_RING: u32 = 4096;
@@ -30,7 +30,7 @@ pub enum Aim {
     Migrate,
 }
 
-/// What the words ask for.
+/// What the words ask for that is decided before any of it is written.
 #[derive(Clone, Copy, Debug)]
 pub enum Command<'a> {
     /// A script from the input is run over a ring of so many frames.
@@ -64,8 +64,9 @@ pub enum Command<'a> {
     },
 }
 
-/// The command that the words are, and None where they are of no form.
+/// The command that the words are, which ask for no fetch, and None where they are of no form.
 pub fn command_of(words: &[String]) -> Option<Command<'_>>
+    requires { FetchNothing (texts words.now) }
     ensures command { option_map form result ≡ form_of (texts words.now) }
     ensures form { IfSome result (λ command. AreOf (texts words.now) (form command)) }
     ensures none { IfNone result (AreOfNoForm (texts words.now)) }
@@ -83,6 +84,7 @@ pub fn words_are_read_by_their_form()
 
 // The same, by the reading of its words.
 fn command_in(words: &[String]) -> Option<Command<'_>>
+    requires { FetchNothing (texts words.now) }
     ensures { option_map form result ≡ form_of (texts words.now) }
 {
     match words {
@@ -212,7 +214,7 @@ fn are_paths(first: &str, second: &str) -> bool
 }
 
 // The number that the word is, from 1 to this limit.
-fn number_within(limit: u32, word: &str) -> Option<u32>
+pub fn number_within(limit: u32, word: &str) -> Option<u32>
     ensures { result ≡ at_most limit (number_of word.now) }
 {
     if !is_plain_number(word.as_bytes()) {

@@ -6,6 +6,10 @@ mod adapters;
 mod answers;
 mod command;
 mod config_answers;
+mod fetch_words;
+mod fetching;
+#[cfg(test)]
+mod fetching_tests;
 #[cfg(test)]
 mod memory_tests;
 mod network;

@@ -18,15 +18,21 @@ ghost use Rattle.config_table.specs.Table.{table_records};
 ghost use Rattle.config_write.specs.Written.{HasVersion};
 ghost use Rattle.caster_main.specs.declared.command.Aim.{Aim};
 ghost use Rattle.caster_main.specs.declared.command.Aim.TheVariants.{Check, Table, Migrate};
-ghost use Rattle.caster_main.specs.Command.{AreBare, AreMake, AreOver, AreOfNoForm, AreReplay, AreServe, NameNoFile, ReadNoInput, ServeNothing, files_of, form_of, texts};
+ghost use Rattle.caster_main.specs.Command.{AreBare, AreFetch, AreMake, AreOver, AreOfNoForm, AreReplay, AreServe, AskNoStreet, NameNoFile, ReadNoInput, WriteAtEnd, files_of, form_of, texts};
 ghost use Rattle.caster_main.specs.Outcome.{memory_exit, network_exit, one_line, read_fault_exit, session_in};
 ghost use Rattle.caster_main.specs.Told.{FollowsOutcome, HaveCome, HaveFault, IsAsked, IsConfigAt, IsFaultyConfig, IsFaultyScript, IsSessionAt, IsStatus, IsTooLong, IsWhole, WritesPart};
 ghost use Rattle.caster_main.specs.Answers.{exit_of, Writes};
 ghost use Rattle.caster_main.specs.Serving.{HasServing, IsUnserved};
+ghost use Rattle.caster_main.specs.Fetching.{HasFetched, HasFetching};
+ghost use Rattle.ntrip_fetch.specs.Tries.{HasStopped};
+ghost use Rattle.ntrip_fetch.specs.declared.left.FetchFault.TheVariants as faults;
+ghost use Rattle.ntrip_fetch.specs.declared.target.Target.{Target};
 ghost use Rattle.caster_serve.specs.Caster.{HasServed};
 ghost use Rattle.caster_serve.specs.declared.whole.ServeFault.TheVariants.{Network};
 
 use crate::answers::{Answer, answer_to};
+use crate::fetch_words::fetch_in;
+use crate::fetching::fetch_frames;
 use cast_io::{Failed, Sink, Source, Store, Street};
 use std::alloc::Global;
 use std::sync::Wait;
@@ -50,11 +56,15 @@ const PIECE: usize = 65_536;
 /// | `replay CONFIG SESSION` | plays the session in the file SESSION over the configuration | the report |
 /// | `make SEED FRAMES ROVERS` | makes a session of the number SEED and plays it | its laps and sums |
 /// | `serve CONFIG ADDR LIMIT` | serves at ADDR, each worker LIMIT connections | what it came to |
+/// | `fetch FRAMES TARGET..` | asks the targets in order for frames, until there are FRAMES | the frames |
 ///
 /// C is from 1 to 4,096, CONFIG, SESSION and ADDR have 1 to 255 bytes. SEED is below 2^64, FRAMES from 1
 /// to 10,000, ROVERS from 1 to 64 and LIMIT from 1 to 1,000,000. Numbers are decimal, without signs and leading zeros. A
-/// session that is made is played over one mountpoint `A` with a ring of 64 frames. Where that is
-/// not to be had, one line says why:
+/// session that is made is played over one mountpoint `A` with a ring of 64 frames. A fetch has
+/// FRAMES from 1 to 1,000,000 and 1 to 8 targets of five words each, `PROTOCOL ADDR MOUNT USER
+/// PASSWORD`: the version of NTRIP, 1 or 2, the caster's address of 1 to 100 bytes without CR and LF,
+/// the mountpoint, the user or `-` for none, and at most 100 bytes without CR, LF and `;`. Where what
+/// is asked for is not to be had, one line says why:
 ///
 /// | Status | Line | Comes |
 /// |---|---|---|
@@ -66,10 +76,12 @@ const PIECE: usize = 65_536;
 /// | 6 | `network fault` | where the network failed a caster that serves |
 /// | 7 | `memory` | where there is no memory |
 /// | 8 | `too long` | where the script or the configuration has more than 8 MiB |
+/// | 9 | | where a fetch tried every target, and there were fewer frames |
 ///
 /// The words are tested first, then come the reading of the configuration, its size and its rules,
 /// the reading of the script, its size, its grammar and the run. Nothing is written before the run
-/// has ended, and the text is written in pieces of 65,536 bytes.
+/// has ended, and the text is written in pieces of 65,536 bytes. A fetch writes each frame as it
+/// comes, and nothing else.
 pub fn caster<R: Threads + Wait + Sync, S: Store, I: Source, O: Sink, N: Street>(
     rt: &R,
     alloc: Global,
@@ -164,8 +176,29 @@ where
         → ¬ Rose (O.faults out.old) (O.faults out.new)
         → ¬ Rose (N.told street.old).faults (N.told street.new).faults
         → (result ≡ 7) ⊎ (result ≡ 0) }
+
+    // What a fetch does: the whole of it, what that says with 0 and 9, and what there is to write
+    // where the sink or memory failed.
+    ensures fetching { (frames : ℕ) (targets : List Target)
+        → AreFetch (texts words.now) frames targets
+        → HasFetching frames targets (N.told street.old) (N.told street.new)
+        (O.taken out.old) (O.taken out.new) (O.faults out.old) (O.faults out.new) result }
+    ensures fetched { (result ≡ 0) ⊎ (result ≡ 9) → (frames : ℕ) (targets : List Target)
+        → AreFetch (texts words.now) frames targets
+        → HasFetched frames targets (N.told street.old) (N.told street.new)
+        (O.taken out.old) (O.taken out.new) result }
+    ensures fetch_torn { result ≡ 5 → (frames : ℕ) (targets : List Target)
+        → AreFetch (texts words.now) frames targets
+        → HasStopped frames targets (N.told street.old) (N.told street.new)
+        (O.taken out.old) (O.taken out.new) faults.Sink }
+    ensures fetch_memory { result ≡ 7 → (frames : ℕ) (targets : List Target)
+        → AreFetch (texts words.now) frames targets
+        → HasStopped frames targets (N.told street.old) (N.told street.new)
+        (O.taken out.old) (O.taken out.new) faults.Memory }
+    ensures too_few { result ≡ 9 → (frames : ℕ) × (targets : List Target)
+        × AreFetch (texts words.now) frames targets }
     ensures unserved { IsUnserved result → N.told street.new ≡ N.told street.old }
-    ensures alone { ServeNothing (texts words.now) → street.new ≡ street.old }
+    ensures alone { AskNoStreet (texts words.now) → street.new ≡ street.old }
     ensures street_faults { (N.told street.old).faults ≤ (N.told street.new).faults }
 
     // When each status comes.
@@ -213,14 +246,17 @@ where
         result (O.taken out.old) (O.taken out.new) }
     ensures fault_line { result ≡ 4
         → Appends (O.taken out.old) (O.taken out.new) read_fault_exit.text }
-    ensures memory_line { result ≡ 7
+    ensures memory_line { WriteAtEnd (texts words.now) → result ≡ 7
         → Appends (O.taken out.old) (O.taken out.new) memory_exit.text }
-    ensures torn { result ≡ 5 → WritesPart (texts words.now)
+    ensures torn { WriteAtEnd (texts words.now) → result ≡ 5 → WritesPart (texts words.now)
         (I.left input.old) (S.store store.old).files
         (Rose (I.faults input.old) (I.faults input.new))
         (Rose (S.faults store.old) (S.faults store.new))
         (O.taken out.old) (O.taken out.new) }
 {
+    if let Some(fetch) = fetch_in(words) {
+        return fetch_frames(rt, alloc, fetch.frames, fetch.targets, street, out);
+    }
     let answer = answer_to(rt, alloc, words, store, input, street);
     write_answer(&answer, out)
 }

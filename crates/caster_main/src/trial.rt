@@ -232,3 +232,26 @@ fn push_bytes(alloc: Global, steps: &mut Vec<LinkStep>, part: &[u8]) -> Result<(
     steps.push(LinkStep::Bytes(bytes))?;
     Ok(())
 }
+
+/// A street without doors, and with a link to dial for each of these casters, which sends these bytes
+/// and ends. The calls of the street of these numbers fail.
+pub fn casters(alloc: Global, sent: &[&[&[u8]]], calls: &[u64]) -> Result<MemStreet, Fail> {
+    let mut links = Vec::new(alloc);
+    for parts in sent {
+        links.push(link_of(alloc, parts, 0)?)?;
+    }
+    Ok(MemStreet::new(alloc, Vec::new(alloc), links, calls.to_vec(alloc)?)?)
+}
+
+/// Runs these words at this street, over no files.
+pub fn street_run<R: Threads + Wait + Sync>(
+    rt: &R,
+    alloc: Global,
+    words: &[&str],
+    writes: &[(u64, u64)],
+    street: MemStreet,
+) -> Result<Came, Fail> {
+    let store = MemStore::new(alloc, Vec::new(alloc), Vec::new(alloc));
+    let source = MemSource::new(Vec::new(alloc), Vec::new(alloc));
+    run(rt, alloc, words, store, source, writes, street)
+}
