@@ -1,15 +1,10 @@
 -- What was asked for.
-use Rattle.std.proofs.Common.{◌≡◌, ℕ, ◌≤◌, List, [], ◌∷◌, ◌++◌, Option, Some, refl, ap, sym, subst, ◌∙◌, arith, append_assoc, inl, inr}
-use Rattle.cast_io.specs.Causes.{Rose}
+use Rattle.std.proofs.Common.{◌≡◌, ℕ, List, [], ◌∷◌, ◌++◌, Option, Some, refl, ap, sym, subst, ◌∙◌, arith, append_assoc, inl, inr}
 use Rattle.cast_io.specs.Told.{Grew}
 use Rattle.cast_config.specs.declared.config.Config.{Config}
 use Rattle.caster_main.specs.declared.command.Aim.{Aim}
 use Rattle.caster_main.specs.Command.{Form, over, replay, form_of}
 use Rattle.caster_main.specs.Told.{Files, IsConfigAt, IsAsked}
-
--- a count that rose later rose
-pub rose_later : (a b c : ℕ) → a ≤ b → Rose b c → Rose a c
-rose_later a b c later rose = omega (arith, later, rose)
 
 -- first these, and then those
 pub grew_both : (a b c : Option (List (List ℕ))) (xs ys : List (List ℕ)) → Grew a b xs → Grew b c ys

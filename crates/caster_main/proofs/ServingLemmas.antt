@@ -1,5 +1,5 @@
 -- What a program that is to serve answers, ends with and says by its status.
-use Rattle.std.proofs.Common.{◌≡◌, ℕ, suc, ◌+◌, ◌≤◌, ◌⊎◌, true, false, List, [], ◌∷◌, length, Option, None, Some, Result, Ok, Err, inl, inr, refl, ap, sym, subst, ◌∙◌, arith}
+use Rattle.std.proofs.Common.{◌≡◌, ℕ, ◌≤◌, ◌⊎◌, true, false, List, [], ◌∷◌, length, Option, None, Some, Result, Ok, Err, inl, inr, refl, ap, sym, subst, ◌∙◌, arith}
 use Rattle.std.proofs.lemmas.List.{length-map}
 use Rattle.std.specs.Io.KnownBytes.{Appends}
 use Rattle.cast_io.specs.Causes.{Rose}
@@ -7,11 +7,10 @@ use Rattle.cast_io.specs.Stores.{content_of}
 use Rattle.cast_io.specs.Told.{StreetTold, Grew}
 use Rattle.cast_config.specs.declared.config.Config.{Config}
 use Rattle.cast_config.specs.Document.{IsRead}
+use Rattle.session_core.proofs.ReportSums.{sums_long}
 use Rattle.session_core.specs.declared.report.Closed.{Closed}
-use Rattle.session_core.specs.Run.{Histories}
-use Rattle.session_core.specs.Reports.{mount_total, sums_from, closed_of}
+use Rattle.session_core.specs.Reports.{mount_total, closed_of}
 use Rattle.session_core.specs.Text.{closed_text}
-use Rattle.cast_config.specs.declared.config.Account.{Account}
 use Rattle.caster_serve.specs.Caster.{Answered, HasServed}
 use Rattle.caster_serve.specs.declared.whole.ServeFault.{ServeFault}
 use Rattle.caster_serve.specs.declared.whole.ServeFault.TheVariants as faults
@@ -248,11 +247,6 @@ network_rose c addr limit before after served = answered_rose c addr limit befor
 
 -- ---- what a caster came to
 
-length-sums_from : (n : ℕ) (h : Histories) (accounts : List Account)
-    → length (sums_from n h accounts) ≡ length accounts
-length-sums_from n h [] = refl
-length-sums_from n h (account ∷ more) = ap suc (length-sums_from (n + 1) h more)
-
 -- it has a total for each mountpoint and a sum for each account
 pub closed_sizes : (c : Config) (addr : List ℕ) (limit : ℕ) (before after : StreetTold)
     (came_to : Result Closed ServeFault) (closed : Closed) → came_to ≡ Ok closed
@@ -264,7 +258,7 @@ closed_sizes c addr limit before after (Ok same) closed h served =
     let equal : same ≡ closed = cc in (
       ap (λ (x : Closed). length x.mounts) (sym equal ∙ is)
           ∙ length-map whole.histories.rings mount_total ∙ whole.all.whole.size,
-      ap (λ (x : Closed). length x.accounts) (sym equal ∙ is) ∙ length-sums_from 1 whole.histories c.account,
+      ap (λ (x : Closed). length x.accounts) (sym equal ∙ is) ∙ sums_long 1 whole.histories c.account,
     )
 closed_sizes c addr limit before after (Err fault) closed h served = absurd cc
 

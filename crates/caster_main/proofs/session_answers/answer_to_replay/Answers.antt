@@ -1,13 +1,14 @@
 -- Each answer is the end of a session over the configuration in the file, or says why there is none; and
 -- the session was asked for where there is one.
 use Rattle.caster_main.proofs.AnswerLemmas.{replay_answer, refused_replay}
-use Rattle.caster_main.proofs.AskedLemmas.{rose_later, config_asked, both_asked}
+use Rattle.cast_io.proofs.ToldLemmas.{rose_since}
+use Rattle.caster_main.proofs.AskedLemmas.{config_asked, both_asked}
 use Rattle.caster_main.proofs.session_answers.answer_to_replay.Goals as goal
 
 pub returns-in-Ok-clause-answer : goal.returns-in-Ok-clause-answer
 returns-in-Ok-clause-answer g c =
     replay_answer _ _ _ _ _ _ c.in-Ok.config c.answer_to_session.result c.in-Ok.ensures.config c.in-Ok.ensures.files
-    (λ rose. rose_later _ _ _ c.in-Ok.ensures.later rose) c.answer_to_session.ensures.answer
+    (λ rose. rose_since _ _ _ c.in-Ok.ensures.later rose) c.answer_to_session.ensures.answer
 
 pub returns-in-Ok-clause-asked : goal.returns-in-Ok-clause-asked
 returns-in-Ok-clause-asked g c =
