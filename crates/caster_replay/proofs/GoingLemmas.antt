@@ -94,11 +94,11 @@ session_frames rings c session o text steps h sent s goes =
 
 -- ---- of a connection
 
-going_apart : (c : Config) (headings : ℕ → Heading) (number : ℕ) (d : Connected) → d.number ≢ number
+pub going_apart : (c : Config) (headings : ℕ → Heading) (number : ℕ) (d : Connected) → d.number ≢ number
     → is_concerned c (headings d.number) number d ≡ false
 going_apart c headings number d apart = rw (ne_eqb d.number number apart) refl
 
-kept_going : (c : Config) (headings : ℕ → Heading) (number : ℕ) (now : Histories) (d : Connected) (state : State)
+pub kept_going : (c : Config) (headings : ℕ → Heading) (number : ℕ) (now : Histories) (d : Connected) (state : State)
     (bytes rest : List ℕ) → IsKept c (headings d.number) now d state bytes
     → IsHeadingOf (Some d.opening) (d.text ++ rest) (headings d.number) → d.number ≡ number
     → is_concerned c (headings d.number) number d ≡ is_open_at state

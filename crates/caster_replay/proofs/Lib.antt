@@ -12,10 +12,12 @@ pub mod WorldReportLemmas
 pub mod WorldSessionLemmas
 pub mod PlayLemmas
 pub mod EntryLemmas
+pub mod PlaceLemmas
 pub mod DeskLemmas
 pub mod SumLemmas
 pub mod ReplayLemmas
 pub mod LivesLemmas
 pub mod SendsLemmas
 pub mod GoingLemmas
+pub mod RoverLemmas
 pub mod RunLemmas

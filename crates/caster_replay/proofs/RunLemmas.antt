@@ -1,15 +1,16 @@
 -- A run that is played event by event: what it stands for, and what is asked of it.
-use Rattle.std.proofs.Common.{◌≡◌, ◌∙◌, ◌<◌, ◌≤◌, ◌++◌, ◌+◌, ℕ, suc, Bool, false, List, [], ◌∷◌, length, get_or, take, drop, refl, sym, ap, subst}
+use Rattle.std.proofs.Common.{◌≡◌, ◌∙◌, ◌<◌, ◌≤◌, ◌++◌, ◌+◌, ℕ, suc, Bool, false, List, [], ◌∷◌, length, get_or, take, drop, refl, sym, ap, subst, Option, None}
 use Rattle.std.specs.Prelude.{IsTrue}
 use Rattle.std.specs.List.Sorted.{IsNonDecreasingBy}
 use Rattle.std.proofs.lemmas.List.{take_more, take_all}
 use Rattle.session_script.specs.declared.Event.{Event}
 use Rattle.cast_config.specs.declared.config.Config.{Config}
+use Rattle.session_core.specs.declared.rover_state.RoverState.{RoverState}
 use Rattle.session_core.specs.Run.{nothing_called}
 use Rattle.caster_replay.specs.declared.entry.Entry.{Entry}
 use Rattle.caster_replay.specs.declared.run.Run.{Run}
-use Rattle.caster_replay.specs.Entries.{IsFoundAt, IsMissing, is_open_at, is_behind_at}
-use Rattle.caster_replay.specs.Going.{GoesOn, IsBehind, MaySpeak}
+use Rattle.caster_replay.specs.Entries.{IsFoundAt, IsMissing, is_open_at, is_behind_at, rover_at}
+use Rattle.caster_replay.specs.Going.{GoesOn, IsBehind, IsRover, MaySpeak}
 use Rattle.caster_replay.specs.Kept.{StandsFor, MayCome, lives_of}
 use Rattle.caster_replay.specs.Lives.{Live, live_in, lives_in, live_of, place_of}
 use Rattle.caster_replay.specs.Runs.{Runs}
@@ -21,6 +22,7 @@ use Rattle.caster_replay.proofs.GoingLemmas.{going_missing, behind_missing, goin
 use Rattle.caster_replay.proofs.LivesLemmas.{in_order}
 use Rattle.caster_replay.proofs.PlayLemmas.{runs_of}
 use Rattle.caster_replay.proofs.ReplayLemmas.{split_at}
+use Rattle.caster_replay.proofs.RoverLemmas.{rover_missing, rover_found}
 use Rattle.caster_replay.proofs.SendsLemmas.{sent_here, sent_absent}
 
 -- ---- events
@@ -105,6 +107,20 @@ module _ (c : Config) (script : List Event) (run : Run) (number : ℕ) (stands :
       → answer ≡ is_behind_at run.desks.seen.rings entry.state → IsBehind c script number answer
   found_lags entry f answer told headings are =
       told ∙ sym (behind_found c script (lives_of run) run.desks.seen stands.stands.runs headings are number
+      (place_of number (lives_of run)) (live_in entry) entry.state entry.bytes.items
+      (within_lives run.entries.items (place_of number (lives_of run)) f.there.0)
+      (found_live run.entries.items number entry f))
+
+  pub missing_rover : IsMissing run.entries.items number → (answer : Option RoverState) → answer ≡ None
+      → IsRover c script number answer
+  missing_rover missing answer none more headings are =
+      none ∙ sym (rover_missing c script (lives_of run) run.desks.seen stands.stands.runs more headings are number no_live
+      (missing_absent run.entries.items number missing))
+
+  pub found_rover : (entry : Entry) → IsFoundAt run.entries.items number entry → (answer : Option RoverState)
+      → answer ≡ rover_at entry.state → IsRover c script number answer
+  found_rover entry f answer told more headings are =
+      told ∙ sym (rover_found c script (lives_of run) run.desks.seen stands.stands.runs more headings are number
       (place_of number (lives_of run)) (live_in entry) entry.state entry.bytes.items
       (within_lives run.entries.items (place_of number (lives_of run)) f.there.0)
       (found_live run.entries.items number entry f))

@@ -1,13 +1,12 @@
 -- The receipt of a connection that was closed is what is told of it, with its closing turn among its
 -- steps.
-use Rattle.std.proofs.Common.{◌≡◌, ◌∙◌, ◌++◌, ◌⊎◌, ℕ, Bool, true, false, IsTrue, List, [], ◌∷◌, fold, refl, sym, ap, subst, inl, inr, Option, None, Some}
+use Rattle.std.proofs.Common.{◌≡◌, ◌∙◌, ◌++◌, ◌⊎◌, ℕ, Bool, true, false, IsTrue, List, [], ◌∷◌, refl, sym, ap, inl, inr, Option, None, Some}
 use Rattle.std.specs.Prelude.{reverse, unwrap_or}
-use Rattle.std.proofs.lemmas.List.{append-nil}
 use Rattle.std.proofs.lemmas.List.Sums.{fold-append}
 use Rattle.mount_ring.specs.declared.call.RingCall.TheVariants.{Release}
 use Rattle.caster_accounts.specs.declared.call.BookCall.{BookCall}
 use Rattle.rover_cursor.specs.declared.segment.Segment.{Segment}
-use Rattle.session_calls.specs.Steps.{Ask, to_ring, to_book, Step, ask_of}
+use Rattle.session_calls.specs.Steps.{to_ring, to_book, Step}
 use Rattle.session_calls.specs.Plans.{done, asks, IsMade}
 use Rattle.rover_session.specs.Made.{after_step, segments_after, sent_in, overrun_in}
 use Rattle.cast_config.specs.declared.config.Config.{Config}

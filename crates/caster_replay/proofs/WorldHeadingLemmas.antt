@@ -1,14 +1,13 @@
 -- The events of one connection among those of a script: how it opened, its bytes, and whether it was
 -- closed; and what its heading says while more come.
-use Rattle.std.proofs.Common.{◌≡◌, ◌≢◌, ◌∙◌, ℕ, Bool, true, false, cond, List, [], ◌∷◌, ◌++◌, refl, sym, ap, subst, append_assoc, Option, None, Some}
-use Rattle.std.proofs.lemmas.Bool.{eq-eqb, ne_eqb}
+use Rattle.std.proofs.Common.{◌≡◌, ◌≢◌, ◌∙◌, ℕ, Bool, true, false, cond, List, [], ◌∷◌, ◌++◌, refl, sym, ap, append_assoc, Option, None, Some}
 use Rattle.std.proofs.lemmas.List.{append-nil}
-use Rattle.std.specs.Prelude.{◌==◌, if◌then◌else◌, slice_get}
+use Rattle.std.specs.Prelude.{◌==◌}
 use Rattle.session_script.specs.declared.Event.{Event}
 use Rattle.session_script.specs.declared.Event.TheVariants as events
 use Rattle.session_calls.specs.Steps.{Step}
 use Rattle.cast_config.specs.declared.config.Config.{Config}
-use Rattle.session_core.specs.Headings.{Heading, incomplete}
+use Rattle.session_core.specs.Headings.{Heading}
 use Rattle.session_core.specs.Judged.{Opening, sends_head, relays, bare_source, bare_rover, Judged, waiting, judged}
 use Rattle.session_core.specs.Endings.{goes_on}
 use Rattle.session_core.specs.Reports.{IsHeadingOf, opened_if, opened_as, bytes_to}

@@ -1,6 +1,6 @@
 -- Where nobody else calls, the steps of a plan that was made, and the histories behind them, follow
 -- from the histories before them.
-use Rattle.std.proofs.Common.{◌≡◌, ◌≢◌, ◌∙◌, ◌<◌, ℕ, Bool, true, cond, List, [], ◌∷◌, ◌++◌, length, get_or, set, refl, sym, ap, subst, inl, inr, arith}
+use Rattle.std.proofs.Common.{◌≡◌, ◌≢◌, ◌∙◌, ◌<◌, ℕ, true, cond, List, [], ◌∷◌, ◌++◌, length, set, refl, sym, ap, subst, inl, inr, arith}
 use Rattle.std.proofs.lemmas.Bool.{cases_eq, cases_lt, eq-eqb, ne_eqb}
 use Rattle.std.proofs.lemmas.List.{append-nil, ext_get_or, get_or_past, get_or-set_same, get_or-set_other, length-set}
 use Rattle.std.proofs.lemmas.List.Elements.{filter-append}
@@ -13,11 +13,11 @@ use Rattle.caster_accounts.specs.declared.call.BookCall.{BookCall}
 use Rattle.caster_accounts.specs.declared.call.BookAnswer.{BookAnswer}
 use Rattle.session_calls.specs.Steps.{Ask, to_ring, to_book, Step, at_ring, at_book, ask_of, answer_of, on_ring, on_book}
 use Rattle.session_calls.specs.Plans.{Plan, done, asks, left, IsMade}
-use Rattle.session_calls.specs.Rings.{history_at, answer_at, Went}
+use Rattle.session_calls.specs.Rings.{history_at, answer_at}
 use Rattle.session_calls.proofs.PlanLemmas.{made_rest}
 use Rattle.rover_session.specs.Made.{is_owed, owed_among}
 use Rattle.cast_config.specs.declared.config.Config.{Config}
-use Rattle.session_core.specs.Setting.{shapes, caps}
+use Rattle.session_core.specs.Setting.{shapes}
 use Rattle.session_core.specs.Beginnings.{histories_of}
 use Rattle.session_core.specs.Run.{Histories, with_call, with_calls, step_at, made}
 use Rattle.session_core.specs.Called.{Called, book_answer}

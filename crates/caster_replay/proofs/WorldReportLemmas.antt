@@ -1,10 +1,9 @@
 -- Connections that open in a recorded run, those that are closed at its end, and its report.
-use Rattle.std.proofs.Common.{◌≡◌, ◌≢◌, ◌∙◌, ◌<◌, ◌++◌, ◌+◌, ℕ, zero, suc, Bool, true, false, List, [], ◌∷◌, length, map, fold, get_or, set, take, cond, append_assoc, refl, sym, ap, subst, arith, Option, None, Some}
+use Rattle.std.proofs.Common.{◌≡◌, ◌∙◌, ◌<◌, ◌++◌, ◌+◌, ℕ, zero, suc, Bool, true, false, List, [], ◌∷◌, length, map, fold, get_or, set, take, cond, append_assoc, refl, sym, ap, subst, arith, Option, None, Some}
 use Rattle.std.specs.Prelude.{insert, ◌==◌}
 use Rattle.std.proofs.lemmas.List.Sums.{fold-append}
 use Rattle.std.proofs.lemmas.List.Elements.{All-nil}
 use Rattle.std.proofs.lemmas.List.{append-nil}
-use Rattle.rover_session.specs.Made.{owed_among}
 use Rattle.session_script.specs.declared.Event.{Event}
 use Rattle.session_script.specs.declared.Event.TheVariants as events
 use Rattle.cast_config.specs.declared.config.Config.{Config}
@@ -19,22 +18,21 @@ use Rattle.session_core.specs.Headings.{Heading}
 use Rattle.session_core.specs.Judged.{Opening, sends_head, relays, bare_source, bare_rover}
 use Rattle.session_core.specs.Owed.{Happening, arrives, ends}
 use Rattle.session_core.specs.Reports.{IsHeadingOf, AreHeadings, opened_as, bytes_to, told_of, closed_of, report_of, IsReport}
-use Rattle.session_core.specs.Run.{Histories, Connected, World, fresh, happens, happens_in, is_concerned, opens, is_opened, opened_if, moved, after_event, after_events, closes, world}
-use Rattle.session_core.specs.Standing.{is_halted, StandsFor, Fed}
-use Rattle.session_core.proofs.WellLemmas.{AreSound, IsWell}
+use Rattle.session_core.specs.Run.{Histories, Connected, World, fresh, happens, happens_in, is_concerned, opens, is_opened, after_event, after_events, closes, world}
+use Rattle.session_core.specs.Standing.{is_halted, StandsFor}
 use Rattle.session_core.proofs.KeepLemmas.{AreFrames}
 use Rattle.caster_replay.specs.Lives.{Live, live_of, IsLive, place_of, end_of, AreTold}
 use Rattle.caster_replay.specs.Runs.{is_cut, AreKnown, Pairs}
 use Rattle.caster_replay.specs.Calls.{Opens, Closes}
 use Rattle.caster_replay.specs.declared.entry.State.{State}
 use Rattle.caster_replay.specs.declared.entry.State.TheVariants.{Open, Closed}
-use Rattle.caster_replay.proofs.WorldHeadingLemmas.{or_later, opened-append, opened_stays, unless_cut, bytes-append, bytes_begin}
+use Rattle.caster_replay.proofs.WorldHeadingLemmas.{or_later, opened-append, opened_stays, unless_cut, bytes-append}
 use Rattle.session_core.proofs.FeedHeadLemmas.{others_none}
 use Rattle.caster_replay.proofs.WorldListLemmas.{was_opened, moved_by}
 use Rattle.caster_replay.proofs.WorldEventLemmas.{Becomes, stands_so, feed_goes, feed_ends, opened_fed}
 use Rattle.caster_replay.proofs.WorldRunLemmas.{IsRunAt, run_opened, run_reopened, run_told}
 use Rattle.caster_replay.proofs.WorldKnownLemmas.{Starts, IsClean, bytes_same, none_counts, number_by, known_opened, starts_open, starts_relay, starts_source, starts_rover}
-use Rattle.caster_replay.proofs.WorldRunnerLemmas.{IsRun, headings_of, after_one, headings_now, are_now, no_later, has_one, nobody, there, IsFound, found, IsAbsent, absent_from}
+use Rattle.caster_replay.proofs.WorldRunnerLemmas.{IsRun, headings_of, after_one, headings_now, are_now, no_later, has_one, nobody, there, found, IsAbsent, absent_from}
 
 -- ---- a connection opens
 

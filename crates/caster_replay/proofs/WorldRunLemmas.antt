@@ -1,32 +1,28 @@
 -- All connections of a recorded run, each with what is kept of it, while things happen to one of
 -- them after the other.
-use Rattle.std.proofs.Common.{◌≡◌, ◌≢◌, ◌∙◌, ◌<◌, ◌&&◌, ℕ, zero, suc, Bool, true, false, List, [], ◌∷◌, length, map, get_or, set, All, refl, sym, ap, subst, arith, Option, None, Some}
-use Rattle.std.specs.Prelude.{nat_lt, ◌==◌, insert, is_none}
+use Rattle.std.proofs.Common.{◌≡◌, ◌≢◌, ◌∙◌, ◌<◌, ◌&&◌, ℕ, zero, suc, Bool, true, false, List, [], ◌∷◌, length, map, get_or, set, All, refl, sym, ap, subst, arith}
+use Rattle.std.specs.Prelude.{nat_lt, insert}
 use Rattle.std.specs.List.{prefix_len}
 use Rattle.std.proofs.lemmas.Bool.{eq-eqb, ltb-true, ltb-false}
 use Rattle.std.proofs.lemmas.List.{set-get_or}
 use Rattle.std.proofs.lemmas.List.Elements.{All-head, All-tail}
 use Rattle.cast_config.specs.declared.config.Config.{Config}
-use Rattle.session_core.specs.declared.ending.Ending.{Ending}
-use Rattle.session_core.specs.declared.ending.Last.{Last}
-use Rattle.session_core.specs.declared.session.Session.{Session}
-use Rattle.session_core.specs.declared.report.Receipt.{Receipt}
 use Rattle.session_core.specs.declared.report.Connection.{Connection}
 use Rattle.session_core.specs.Headings.{Heading}
-use Rattle.session_core.specs.Judged.{Opening, Judged}
-use Rattle.session_core.specs.Owed.{received, Happening, arrives, takes_turn, ends}
-use Rattle.session_core.specs.Endings.{ended_by, goes_on}
+use Rattle.session_core.specs.Judged.{Opening}
+use Rattle.session_core.specs.Owed.{Happening, arrives}
+use Rattle.session_core.specs.Endings.{goes_on}
 use Rattle.session_core.specs.Reports.{told_of}
-use Rattle.session_core.specs.Run.{Histories, Connected, World, Moved, judged_of, with_text, closed_if, makes, moved, moved_if, is_concerned, happens_in, happens, placed_if, placed, is_opened, opened_if, opens, fresh, closes}
+use Rattle.session_core.specs.Run.{Histories, Connected, World, Moved, judged_of, moved, moved_if, is_concerned, happens_in, happens, placed_if, placed, is_opened, opened_if, opens, fresh}
 use Rattle.session_core.specs.Called.{Called, OthersCalled}
-use Rattle.session_core.proofs.KeepLemmas.{Later, AllSound}
+use Rattle.session_core.proofs.KeepLemmas.{Later}
 use Rattle.session_core.proofs.WellLemmas.{IsSoundOf, IsWell, happens_stays, opens_stays}
 use Rattle.caster_replay.specs.Lives.{IsKept, Live, IsLive, place_of, connection_of, IsToldBy, AreTold}
 use Rattle.caster_replay.specs.Runs.{AreAbove, IsIncreasing, Pairs}
 use Rattle.caster_replay.specs.declared.entry.State.{State}
 use Rattle.caster_replay.specs.declared.entry.State.TheVariants.{Open, Closed}
 use Rattle.caster_replay.proofs.WorldLaterLemmas.{called_later, called_others}
-use Rattle.caster_replay.proofs.WorldListLemmas.{above_less, above_at, moved_by, happens_nowhere, happens_at, before, placed_insert, pairs_place, pairs_set, pairs_insert, none_later, apart_first}
+use Rattle.caster_replay.proofs.WorldListLemmas.{above_less, moved_by, happens_nowhere, happens_at, before, placed_insert, pairs_place, pairs_set, pairs_insert, none_later, apart_first}
 use Rattle.caster_replay.proofs.WorldStepLemmas.{going_on, over_on, over_told}
 use Rattle.caster_replay.proofs.WorldEventLemmas.{Becomes}
 

@@ -1,14 +1,13 @@
 -- A recorded run of the first events of a script: whatever events follow, what is kept of its
 -- connections stands for the run with the headings of them all.
-use Rattle.std.proofs.Common.{◌≡◌, ◌≢◌, ◌∙◌, ◌<◌, ◌++◌, ◌+◌, ℕ, zero, suc, Bool, true, false, List, [], ◌∷◌, length, map, fold, get_or, set, take, refl, sym, ap, subst, inl, inr, arith, append_assoc, All, Option, None, Some}
-use Rattle.std.specs.Prelude.{is_none, is_some, insert, ◌&&◌}
-use Rattle.std.proofs.lemmas.Bool.{false≢true, cases_eq}
+use Rattle.std.proofs.Common.{◌≡◌, ◌≢◌, ◌∙◌, ◌<◌, ◌++◌, ℕ, true, false, List, [], ◌∷◌, length, get_or, set, refl, sym, ap, subst, inl, inr, arith, append_assoc, All, Option, None, Some}
+use Rattle.std.specs.Prelude.{is_none}
+use Rattle.std.proofs.lemmas.Bool.{cases_eq}
 use Rattle.std.proofs.lemmas.List.{append-nil}
 use Rattle.std.proofs.lemmas.List.Sums.{fold-append}
 use Rattle.std.proofs.lemmas.List.Elements.{All-nil, All-get_or}
 use Rattle.session_script.specs.declared.Event.{Event}
 use Rattle.session_script.specs.declared.Event.TheVariants as events
-use Rattle.session_calls.specs.Plans.{IsMade}
 use Rattle.rover_session.specs.Owed.{reads}
 use Rattle.rover_session.specs.Made.{segments_after, owed_among}
 use Rattle.session_calls.specs.Steps.{Step}
@@ -24,27 +23,27 @@ use Rattle.rover_cursor.specs.declared.segment.Segment.{Segment}
 use Rattle.session_core.specs.Turned.{is_rover}
 use Rattle.session_core.proofs.CloseLemmas.{called_none}
 use Rattle.session_core.specs.Headings.{Heading, incomplete}
-use Rattle.session_core.specs.Judged.{Opening, sends_head, relays, bare_source, bare_rover, Judged, judged}
-use Rattle.session_core.specs.Owed.{Happening, arrives, takes_turn, ends, received}
+use Rattle.session_core.specs.Judged.{Opening, sends_head, Judged, judged}
+use Rattle.session_core.specs.Owed.{Happening, arrives, takes_turn, ends}
 use Rattle.session_core.specs.Endings.{goes_on}
 use Rattle.session_core.specs.Reports.{IsHeadingOf, AreHeadings, opened_as, bytes_to}
-use Rattle.session_core.specs.Run.{Histories, Connected, Moved, World, makes, nothing_called, judged_of, fresh, happens, opens, is_opened, after_event, after_events}
+use Rattle.session_core.specs.Run.{Histories, Connected, Moved, World, makes, nothing_called, judged_of, fresh, happens, is_opened, after_event, after_events}
 use Rattle.session_core.specs.Called.{OthersCalled}
-use Rattle.session_core.specs.Standing.{is_halted, IsAtStage, Stands, StandsFor, Fed, IsClosed}
+use Rattle.session_core.specs.Standing.{is_halted, IsAtStage, Fed}
 use Rattle.session_core.proofs.KeepLemmas.{AreFrames}
-use Rattle.session_core.proofs.WellLemmas.{IsSoundOf, IsWell, events_well}
+use Rattle.session_core.proofs.WellLemmas.{IsSoundOf, events_well}
 use Rattle.caster_replay.specs.Lives.{IsGoing, IsKept, Live, live_of, IsLive, place_of}
 use Rattle.caster_replay.specs.Runs.{IsKnown, AreKnown, HasHeadings}
 use Rattle.caster_replay.specs.Calls.{Feeds, TakesTurn, Closes}
 use Rattle.caster_replay.specs.declared.entry.State.{State}
 use Rattle.caster_replay.specs.declared.entry.State.TheVariants.{Open, Closed}
-use Rattle.caster_replay.proofs.WorldHeadingLemmas.{heading_keeps, over_judged, or_later, opened-append, opened_stays, unless_cut, bytes-append, bytes_begin, bytes_on, bytes_stay}
+use Rattle.caster_replay.proofs.WorldHeadingLemmas.{heading_keeps, over_judged, or_later, opened-append, opened_stays, bytes_begin, bytes_on, bytes_stay}
 use Rattle.session_core.proofs.FeedHeadLemmas.{others_none}
-use Rattle.caster_replay.proofs.WorldListLemmas.{pairs_length, pairs_at, not_opened, was_opened, before}
+use Rattle.caster_replay.proofs.WorldListLemmas.{pairs_length, pairs_at, not_opened, before}
 use Rattle.caster_replay.proofs.WorldStepLemmas.{going_concerned}
-use Rattle.caster_replay.proofs.WorldEventLemmas.{Becomes, stands_so, fed_stands, feed_goes, feed_ends, turn_goes, close_ends}
-use Rattle.caster_replay.proofs.WorldRunLemmas.{IsRunAt, run_changed, run_nowhere, run_over, place_same, run_opened, run_reopened}
-use Rattle.caster_replay.proofs.WorldKnownLemmas.{Tells, Starts, IsClean, IsSilent, bytes_same, known_happens, known_opened, tells_in, tells_turn, tells_break, tells_end, starts_open, starts_relay, starts_source, starts_rover}
+use Rattle.caster_replay.proofs.WorldEventLemmas.{Becomes, stands_so, feed_goes, feed_ends, turn_goes, close_ends}
+use Rattle.caster_replay.proofs.WorldRunLemmas.{IsRunAt, run_changed, run_nowhere, run_over, place_same}
+use Rattle.caster_replay.proofs.WorldKnownLemmas.{Tells, bytes_same, known_happens, tells_in, tells_turn, tells_break, tells_end}
 
 -- ---- the run so far
 

@@ -1,26 +1,24 @@
 -- One connection of a recorded run, where nobody else calls: what a session's calls made of it is
 -- what the run has of it.
-use Rattle.std.proofs.Common.{◌≡◌, ◌∙◌, ◌++◌, ◌⊎◌, ◌&&◌, ℕ, Bool, true, false, IsTrue, List, [], ◌∷◌, refl, sym, ap, subst, inl, inr, Option, None, Some}
+use Rattle.std.proofs.Common.{◌≡◌, ◌∙◌, ◌++◌, ◌&&◌, ℕ, Bool, true, false, List, [], sym, ap, subst, inl, inr, Option, None, Some}
 use Rattle.std.specs.Prelude.{reverse, unwrap_or, is_none}
 use Rattle.rover_cursor.specs.declared.segment.Segment.{Segment}
 use Rattle.session_calls.specs.Steps.{Step}
 use Rattle.session_calls.specs.Plans.{Plan, left, IsMade}
-use Rattle.rover_session.specs.Owed.{reads}
 use Rattle.rover_session.specs.Made.{segments_after, owed_among}
 use Rattle.cast_config.specs.declared.config.Config.{Config}
 use Rattle.session_core.specs.declared.ending.Ending.{Ending}
 use Rattle.session_core.specs.declared.ending.Last.{Last}
 use Rattle.session_core.specs.declared.ending.Last.TheVariants as lasts
 use Rattle.session_core.specs.declared.report.Receipt.{Receipt}
-use Rattle.session_core.specs.declared.report.Connection.{Connection}
 use Rattle.session_core.specs.declared.session.Session.{Session}
 use Rattle.session_core.specs.Headings.{Heading}
-use Rattle.session_core.specs.Judged.{Opening, Judged, judged}
-use Rattle.session_core.specs.Owed.{Received, received, plan_of, arrives, takes_turn, ends, owed, closing}
+use Rattle.session_core.specs.Judged.{Judged, judged}
+use Rattle.session_core.specs.Owed.{Received, received, plan_of, arrives, closing}
 use Rattle.session_core.specs.Endings.{ended_by, goes_on}
 use Rattle.session_core.specs.Replies.{sent_by}
 use Rattle.session_core.specs.Reports.{IsHeadingOf, receipt_of, told_of}
-use Rattle.session_core.specs.Run.{Histories, Connected, Moved, judged_of, with_text, with_last, made, with_calls, makes, closed_if, moved, moved_if, is_concerned}
+use Rattle.session_core.specs.Run.{Histories, Connected, Moved, judged_of, with_text, with_calls, makes, closed_if, moved}
 use Rattle.session_core.specs.Called.{Called, OthersCalled}
 use Rattle.session_core.specs.Standing.{is_halted, is_uncalled, is_halted_uncalled, IsMadeBy, IsSentBy, EndsAs, Stands, IsReceipt}
 use Rattle.session_core.proofs.LawLemmas.{said_same}

@@ -41,6 +41,11 @@ abbrev pub is_open_at : State → Bool
 is_open_at (Open session) = true
 is_open_at (Closed receipt) = false
 
+-- where it stands, of a rover that goes on and has a segment
+abbrev pub rover_at : State → Option RoverState
+rover_at (Open session) = rover_state session
+rover_at (Closed receipt) = None
+
 -- a rover that stands so has frames to read, over what these mountpoints published
 abbrev pub is_behind_by : List (History RingCall) → Option RoverState → Bool
 is_behind_by rings None = false

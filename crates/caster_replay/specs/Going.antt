@@ -1,9 +1,10 @@
 -- Which connections of a run go on, and which of them have frames to read: facts of its events.
-use Rattle.std.specs.Prelude.{◌≡◌, ℕ, nat_lt, ◌&&◌, Bool, true, false, List, [], ◌∷◌, length}
+use Rattle.std.specs.Prelude.{◌≡◌, ℕ, nat_lt, ◌&&◌, if◌then◌else◌, Bool, true, false, List, [], ◌∷◌, ◌++◌, length, Option, None, unwrap_or}
 use Rattle.std.specs.List.{list_any}
 use Rattle.mount_ring.specs.declared.call.RingCall.{RingCall}
 use Rattle.mount_ring.specs.History.{state_of}
 use Rattle.turn_log.specs.History.{History}
+use Rattle.ntrip_head.specs.declared.request.Version.TheVariants.{One}
 use Rattle.rover_cursor.specs.declared.segment.Segment.{Segment}
 use Rattle.rover_session.specs.Made.{segments_after}
 use Rattle.session_calls.specs.Rings.{history_at}
@@ -12,8 +13,11 @@ use Rattle.session_script.specs.Numbers.{Numbers, no_numbers, may_speak}
 use Rattle.session_script.specs.Script as scripts
 use Rattle.cast_config.specs.declared.config.Config.{Config}
 use Rattle.session_core.specs.Headings.{Heading}
+use Rattle.session_core.specs.declared.rover_state.RoverState.{RoverState}
+use Rattle.session_core.specs.Replies.{version_of}
 use Rattle.session_core.specs.Reports.{AreHeadings}
-use Rattle.session_core.specs.Run.{Connected, World, is_concerned, after_events}
+use Rattle.session_core.specs.Run.{Connected, World, judged_of, is_concerned, after_events}
+use Rattle.session_core.specs.States.{state_in}
 
 -- ---- after these events
 
@@ -34,6 +38,18 @@ is_behind c headings w n =
     list_any (λ (d : Connected). is_concerned c (headings d.number) n d
     && has_frames w.histories.rings (segments_after [] d.steps)) w.connections
 
+-- where a connection stands, if it is a rover and has a segment
+abbrev pub rover_of : Config → Heading → Connected → Option RoverState
+rover_of c heading d =
+    state_in (unwrap_or (version_of (judged_of c heading d)) One) (segments_after [] d.steps)
+
+-- where the rover of this number stands among these connections, if it goes on and has a segment
+abbrev pub rover_among : Config → (ℕ → Heading) → ℕ → List Connected → Option RoverState
+rover_among c headings n [] = None
+rover_among c headings n (d ∷ more) =
+    if is_concerned c (headings d.number) n d then rover_of c (headings d.number) d
+    else rover_among c headings n more
+
 -- ---- the answers
 
 -- so it is answered whether the connection of this number goes on
@@ -47,6 +63,12 @@ abbrev pub IsBehind : Config → List Event → ℕ → Bool → Type 0
 IsBehind c script n answer =
     (headings : ℕ → Heading) → AreHeadings script headings
     → answer ≡ is_behind c headings (after_events c headings script) n
+
+-- and where it stands as a rover, whatever events follow
+abbrev pub IsRover : Config → List Event → ℕ → Option RoverState → Type 0
+IsRover c script n answer =
+    (more : List Event) (headings : ℕ → Heading) → AreHeadings (script ++ more) headings
+    → answer ≡ rover_among c headings n (after_events c headings script).connections
 
 -- ---- what may be said of it next
 

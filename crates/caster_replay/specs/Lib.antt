@@ -7,3 +7,4 @@ pub mod Scripts
 pub mod Sends
 pub mod Going
 pub mod Kept
+pub mod Places

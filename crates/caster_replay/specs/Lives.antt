@@ -1,6 +1,6 @@
 -- What a recorded run keeps of its connections: the session of one that goes on, and the receipt of
 -- one that is over, with all bytes that it was sent.
-use Rattle.std.specs.Prelude.{◌≡◌, ℕ, false, nat_lt, List, [], ◌∷◌, map, reverse, Option, None, Some, unwrap_or}
+use Rattle.std.specs.Prelude.{◌≡◌, ℕ, false, nat_lt, List, [], ◌∷◌, map, reverse, None, unwrap_or}
 use Rattle.std.specs.List.{prefix_len}
 use Rattle.rover_session.specs.Made.{segments_after}
 use Rattle.session_script.specs.declared.Event.{Event}

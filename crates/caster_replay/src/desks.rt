@@ -1,6 +1,6 @@
 //! The desks of a run: nobody but its connections calls at them.
 
-ghost use Rattle.std.specs.Prelude.{◌≡◌, ◌<◌, ◌++◌, ℕ, [], ◌∷◌, length, get_or, IfOk, OnOk, IfSome, IsTrue, None};
+ghost use Rattle.std.specs.Prelude.{◌≡◌, ◌<◌, ◌++◌, ℕ, [], ◌∷◌, length, get_or, IfOk, OnOk, IfNone, IfSome, IsTrue, None, Some, if◌then◌else◌};
 ghost use Rattle.cast_config.specs.declared.config.Config.{Config as ConfigValue};
 ghost use Rattle.mount_ring.specs.declared.shape.RingShape.{RingShape};
 ghost use Rattle.mount_ring.specs.History.{state_of};
@@ -14,13 +14,16 @@ ghost use Rattle.session_core.specs.Setting as setting;
 ghost use Rattle.session_core.specs.Standing.{Follows};
 ghost use Rattle.session_core.specs.Turned.{flow_of};
 ghost use Rattle.caster_replay.specs.Calls.{Closes, Feeds, Opens, TakesTurn};
-ghost use Rattle.caster_replay.specs.Caster.{ArePlaces, SamePlaces};
+ghost use Rattle.caster_replay.specs.Caster.{ArePlaces, SamePlaces, greeting_at};
+ghost use Rattle.caster_replay.specs.Places.{AllGreet, cleared_at};
 
-use crate::rings::{caps_of, open_ring};
+use crate::rings::{caps_of, open_place};
+use crate::run_place::{RunPlace, clear_all};
 use cast_config::Config;
 use cast_text::MountName;
 use caster_accounts::Book;
 use mount_ring::Ring;
+use rtcm_frame::Frame;
 use session_core::{Bare, Flow, Last, Places, Receipt, Session};
 use std::alloc::{AllocError, Global};
 use std::marker::Model;
@@ -31,38 +34,48 @@ use turn_log::{Desk, Turns};
 /// Contracts see what no call changes of them, and all calls so far.
 #[derive(Drop)]
 pub(crate) struct Desks {
-    pub(crate) places: Places<Desk<Ring>, Desk<Book>>,
+    pub(crate) places: Places<RunPlace, Desk<Book>>,
 }
 
 impl Model for Desks {
     ghost use Rattle.std.specs.Prelude.{map};
     ghost use Rattle.session_core.specs.Called.{seen_at};
     ghost use Rattle.caster_replay.specs.Caster.{DesksValue};
+    ghost use Rattle.caster_replay.specs.Places.{place_cleared};
 
     ghost Value = { DesksValue };
 
     ghost view = { λ d. record {
-      rings = map (⟦<Desk<Ring> as Turns<Ring>>⟧.shape) d.places.rings.items;
+      rings = map (⟦<RunPlace as Turns<Ring>>⟧.shape) d.places.rings.items;
       book = ⟦<Desk<Book> as Turns<Book>>⟧.shape d.places.book;
-      seen = seen_at (⟦<Desk<Ring> as Turns<Ring>>⟧.seen) (⟦<Desk<Book> as Turns<Book>>⟧.seen)
+      cleared = map place_cleared d.places.rings.items;
+      seen = seen_at (⟦<RunPlace as Turns<Ring>>⟧.seen) (⟦<Desk<Book> as Turns<Book>>⟧.seen)
           d.places.rings.items d.places.book;
     } };
 }
 
 impl Desks {
-    /// One more desk, at the ring of the mountpoint of this number.
-    fn add_ring(&mut self, alloc: Global, config: &Config, number: u32) -> Result<(), AllocError>
+    /// One more desk, at the ring of the mountpoint of this number, or at its station.
+    fn add_ring(
+        &mut self,
+        alloc: Global,
+        config: &Config,
+        number: u32,
+        greets: bool,
+    ) -> Result<(), AllocError>
         requires kept { (cap : ℕ) × KeepsRules cap config.now }
         requires there { number < length config.now.mount }
         ensures ring { (d : RingShape) → OnOk result (self.new.rings
             ≡ self.old.rings ++ get_or (shapes config.now) number d ∷ []) }
         ensures uncalled { OnOk result
             (self.new.seen.rings ≡ self.old.seen.rings ++ [] ∷ []) }
+        ensures cleared { OnOk result (self.new.cleared
+            ≡ self.old.cleared ++ (if greets then Some 0 else None) ∷ []) }
         ensures book { self.new.book ≡ self.old.book }
         ensures book_seen { self.new.seen.book ≡ self.old.seen.book }
     {
-        let desk = open_ring(alloc, config, number)?;
-        self.places.rings.push(desk)?;
+        let place = open_place(alloc, config, number, greets)?;
+        self.places.rings.push(place)?;
         Ok(())
     }
 
@@ -70,6 +83,7 @@ impl Desks {
     fn at_book(alloc: Global, config: &Config) -> Result<Desks, AllocError>
         ensures rings { IfOk result (λ desks. desks.rings ≡ []) }
         ensures book { IfOk result (λ desks. desks.book ≡ caps config.now) }
+        ensures cleared { IfOk result (λ desks. desks.cleared ≡ []) }
         ensures seen { IfOk result (λ desks. desks.seen ≡ record { rings = []; book = [] }) }
     {
         let caps = caps_of(alloc, config)?;
@@ -80,15 +94,17 @@ impl Desks {
         })
     }
 
-    /// The desks of a caster with this configuration, at which nothing was called.
-    pub(crate) fn new(alloc: Global, config: &Config) -> Result<Desks, AllocError>
+    /// The desks of a caster with this configuration, at which nothing was called, with greetings or
+    /// without.
+    pub(crate) fn new(alloc: Global, config: &Config, greets: bool) -> Result<Desks, AllocError>
         requires kept { (cap : ℕ) × KeepsRules cap config.now }
         ensures places { IfOk result (λ desks. ArePlaces config.now desks) }
         ensures uncalled { IfOk result (λ desks. desks.seen ≡ nothing_called config.now) }
+        ensures greet { IsTrue greets → IfOk result (λ desks. AllGreet desks.cleared) }
     {
         let mut desks = Desks::at_book(alloc, config)?;
         for number in 0..config.mount.as_slice().len() {
-            desks.add_ring(alloc, config, number as u32)?;
+            desks.add_ring(alloc, config, number as u32, greets)?;
         }
         Ok(desks)
     }
@@ -98,9 +114,32 @@ impl Desks {
         ensures { result ≡ length (state_of (history_at self.now.seen.rings mount)).published }
     {
         match self.places.rings.as_slice().get(mount as usize) {
-            Some(desk) => desk.value().published(),
+            Some(place) => place.ring().published(),
             None => 0,
         }
+    }
+
+    /// The frames that the last one was greeted by who joined this mountpoint since the desks were
+    /// made or cleared, if somebody did and greetings are kept.
+    pub(crate) fn greeting(&self, mount: u32) -> Option<&[Frame]>
+        ensures none { IfNone result (greeting_at self.now mount ≡ None) }
+        ensures some { IfSome result (λ frames. greeting_at self.now mount ≡ Some frames.now) }
+    {
+        match self.places.rings.as_slice().get(mount as usize) {
+            Some(place) => place.greeting(),
+            None => None,
+        }
+    }
+
+    /// From now on nobody joined anywhere.
+    pub(crate) fn clear(&mut self)
+        ensures rings { self.new.rings ≡ self.old.rings }
+        ensures book { self.new.book ≡ self.old.book }
+        ensures seen { self.new.seen ≡ self.old.seen }
+        ensures cleared { AllGreet self.old.cleared
+            → self.new.cleared ≡ cleared_at self.old.seen.rings }
+    {
+        clear_all(&mut self.places.rings);
     }
 
     /// Bytes come in on a session that goes on; its reply is appended.

@@ -6,11 +6,11 @@ ghost use Rattle.cast_config.specs.Kept.{KeepsRules};
 ghost use Rattle.session_core.specs.Called as called;
 ghost use Rattle.session_core.specs.Setting as setting;
 ghost use Rattle.caster_replay.specs.Caster.{ArePlaces, SamePlaces};
-ghost use Rattle.caster_replay.specs.Entries.{ClosedAt, FedAt, MayBeClosed, MayGoOn, TurnedAt, is_behind_at, is_ended_at, is_open_at};
+ghost use Rattle.caster_replay.specs.Entries.{ClosedAt, FedAt, MayBeClosed, MayGoOn, TurnedAt, is_behind_at, is_ended_at, is_open_at, rover_at};
 
 use crate::desks::Desks;
 use cast_config::Config;
-use session_core::{Ending, Flow, Last, Receipt, Segments, Session};
+use session_core::{Ending, Flow, Last, Receipt, RoverState, Segments, Session};
 use std::alloc::{AllocError, Global};
 use std::mem;
 
@@ -98,6 +98,16 @@ impl Entry {
         match &self.state {
             State::Open(_) => true,
             State::Closed(_) => false,
+        }
+    }
+
+    /// Where it stands, of a rover that goes on and has a segment.
+    pub(crate) fn rover(&self) -> Option<RoverState>
+        ensures { result ≡ rover_at self.now.state }
+    {
+        match &self.state {
+            State::Open(session) => session.rover(),
+            State::Closed(_) => None,
         }
     }
 

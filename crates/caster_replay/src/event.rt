@@ -35,6 +35,7 @@ pub(crate) fn play(
         → OnOk result (Stands config.now (script ++ event.now ∷ []) entries.new.items desks.new) }
     ensures sends { OnOk result
         (Sends event.now (lives_in entries.old.items) (lives_in entries.new.items)) }
+    ensures cleared { desks.new.cleared ≡ desks.old.cleared }
 {
     match event {
         Event::Open(number) => open(alloc, config, entries, desks, *number, Way::Head),

@@ -10,6 +10,7 @@ mod opening;
 mod replaying;
 mod rings;
 mod run;
+mod run_place;
 mod totals;
 
 pub use replaying::replay;

@@ -87,6 +87,7 @@ pub(crate) fn feed(
         entries.new.items desks.new) }
     ensures sends { OnOk result
         (SendsTo number (lives_in entries.old.items) (lives_in entries.new.items)) }
+    ensures cleared { desks.new.cleared ≡ desks.old.cleared }
 {
     let place = place_of(entries, number);
     if !stands_at(entries, place, number) {
@@ -113,6 +114,7 @@ pub(crate) fn turn(
         desks.new) }
     ensures sends { OnOk result
         (SendsTo number (lives_in entries.old.items) (lives_in entries.new.items)) }
+    ensures cleared { desks.new.cleared ≡ desks.old.cleared }
 {
     let place = place_of(entries, number);
     if !stands_at(entries, place, number) {
@@ -138,6 +140,7 @@ pub(crate) fn close(
         → OnOk result (Stands c (script ++ event ∷ []) entries.new.items desks.new) }
     ensures silent { OnOk result
         (IsSilent (lives_in entries.old.items) (lives_in entries.new.items)) }
+    ensures cleared { desks.new.cleared ≡ desks.old.cleared }
 {
     let place = place_of(entries, number);
     if !stands_at(entries, place, number) {
@@ -197,6 +200,7 @@ pub(crate) fn open(
         → OnOk result (Stands config.now (script ++ event ∷ []) entries.new.items desks.new) }
     ensures sends { (event : Event) → Begins event number (opening_of way.entry) → OnOk result
         (Sends event (lives_in entries.old.items) (lives_in entries.new.items)) }
+    ensures cleared { desks.new.cleared ≡ desks.old.cleared }
 {
     let place = place_of(entries, number);
     if stands_at(entries, place, number) {

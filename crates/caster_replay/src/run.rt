@@ -1,14 +1,15 @@
 //! A run that is played event by event.
 
-ghost use Rattle.std.specs.Prelude.{◌≡◌, ℕ, ◌≤◌, ◌+◌, [], ◌∷◌, ◌++◌, List, length, IsTrue, IfOk, OnOk};
+ghost use Rattle.std.specs.Prelude.{◌≡◌, ℕ, ◌≤◌, ◌+◌, [], ◌∷◌, ◌++◌, List, length, IsTrue, IfOk, OnOk, IfNone, IfSome, None, Some};
 ghost use Rattle.cast_config.specs.declared.config.Config.{Config as ConfigValue};
 ghost use Rattle.cast_config.specs.Kept.{KeepsRules};
 ghost use Rattle.session_core.specs.Reports.{IsReport};
 ghost use Rattle.session_core.specs.Setting as setting;
 ghost use Rattle.session_script.specs.declared.Event.{Event as EventValue};
 ghost use Rattle.caster_replay.specs.Entries.{AreOver, IsOverAt};
-ghost use Rattle.caster_replay.specs.Going.{GoesOn, IsBehind, MaySpeak};
-ghost use Rattle.caster_replay.specs.Kept.{MayCome, StandsFor, lives_of, sent_by_run};
+ghost use Rattle.caster_replay.specs.Going.{GoesOn, IsBehind, IsRover, MaySpeak};
+ghost use Rattle.caster_replay.specs.Kept.{Greets, MayCome, StandsFor, cleared_of, greeting_of, lives_of, seen_of, sent_by_run};
+ghost use Rattle.caster_replay.specs.Places.{cleared_at};
 ghost use Rattle.caster_replay.specs.Lives.{AreTold, IsToldBy, lives_in};
 ghost use Rattle.caster_replay.specs.Scripts.{IsShort};
 ghost use Rattle.caster_replay.specs.Sends.{Sends, told_sent};
@@ -20,7 +21,8 @@ use crate::lives::{close_all, find};
 use crate::totals::totals;
 use cast_config::Config;
 use config_table::table_of;
-use session_core::{Connection, Connections, Report, Sent};
+use rtcm_frame::Frame;
+use session_core::{Closed, Connection, Connections, Report, RoverState, Sent};
 use session_script::Event;
 use sourcetable::write_table;
 use std::alloc::{AllocError, Global};
@@ -86,7 +88,23 @@ impl Run {
         ensures unsent { (n : ℕ) → IfOk result (λ run. sent_by_run run n ≡ []) }
     {
         let table = table_text(alloc, config)?;
-        let desks = Desks::new(alloc, config)?;
+        let desks = Desks::new(alloc, config, false)?;
+        let entries = Vec::new(alloc);
+        Ok(Run {
+            table,
+            entries,
+            desks,
+        })
+    }
+
+    /// The same, and each mountpoint keeps the greeting of who joined last.
+    pub fn with_greetings(alloc: Global, config: &Config) -> Result<Run, AllocError>
+        requires kept { (cap : ℕ) × KeepsRules cap config.now }
+        ensures stands { IfOk result (λ run. StandsFor config.now [] run) }
+        ensures greets { IfOk result (λ run. Greets run) }
+    {
+        let table = table_text(alloc, config)?;
+        let desks = Desks::new(alloc, config, true)?;
         let entries = Vec::new(alloc);
         Ok(Run {
             table,
@@ -110,6 +128,7 @@ impl Run {
 
         // Nobody else than the event's own connection is sent more.
         ensures sends { OnOk result (Sends event.now (lives_of self.old) (lives_of self.new)) }
+        ensures cleared { cleared_of self.new ≡ cleared_of self.old }
     {
         play(
             alloc,
@@ -163,6 +182,39 @@ impl Run {
         }
     }
 
+    /// Where the rover of this number stands, if it goes on and has a segment.
+    pub fn rover(&self, number: u32) -> Option<RoverState>
+        requires run { (c : ConfigValue) × (script : List EventValue)
+            × StandsFor c script self.now }
+        ensures { (c : ConfigValue) (script : List EventValue) → StandsFor c script self.now
+            → IsRover c script number result }
+    {
+        match find(&self.entries, number) {
+            Some(entry) => entry.rover(),
+            None => None,
+        }
+    }
+
+    /// The frames that the last one is to be greeted by who joined this mountpoint since the run
+    /// began or was cleared, if somebody did and greetings are kept.
+    pub fn greeting(&self, mount: u32) -> Option<&[Frame]>
+        ensures none { IfNone result (greeting_of self.now mount ≡ None) }
+        ensures some { IfSome result (λ frames. greeting_of self.now mount ≡ Some frames.now) }
+    {
+        self.desks.greeting(mount)
+    }
+
+    /// From now on nobody joined anywhere, and nothing else changes.
+    pub fn clear(&mut self)
+        ensures stands { (c : ConfigValue) (script : List EventValue)
+            → StandsFor c script self.old → StandsFor c script self.new }
+        ensures lives { lives_of self.new ≡ lives_of self.old }
+        ensures seen { seen_of self.new ≡ seen_of self.old }
+        ensures cleared { Greets self.old → cleared_of self.new ≡ cleared_at (seen_of self.old).rings }
+    {
+        self.desks.clear();
+    }
+
     /// Closes the connections that go on, each as its end, in increasing order of number, and
     /// reports what each connection was sent and came to, in that order, and what the mountpoints
     /// and accounts came to.
@@ -181,6 +233,32 @@ impl Run {
         ensures sent { (n : ℕ) → IfOk result (λ report.
             told_sent n report.connections ≡ sent_by_run self n) }
     {
+        let (connections, closed) = self.parts(alloc, config)?;
+        Ok(Report {
+            connections: Connections::new(connections),
+            closed,
+        })
+    }
+
+    /// The same, as the list of its connections and what the mountpoints and accounts came to.
+    ///
+    /// # Errors
+    /// For want of memory, also where the turn that closes a session was halted by it.
+    pub fn parts(
+        self,
+        alloc: Global,
+        config: &Config,
+    ) -> Result<(Vec<Connection>, Closed), AllocError>
+        requires kept { (cap : ℕ) × KeepsRules cap config.now }
+        requires run { (script : List EventValue) × IsShort script
+            × StandsFor config.now script self }
+        ensures report { (script : List EventValue) → IsShort script
+            → StandsFor config.now script self → IfOk result (λ parts.
+            IsReport config.now script
+            (record { connections = parts.0.items; closed = parts.1 })) }
+        ensures sent { (n : ℕ) → IfOk result (λ parts.
+            told_sent n parts.0.items ≡ sent_by_run self n) }
+    {
         let Run {
             table: _,
             mut entries,
@@ -189,9 +267,6 @@ impl Run {
         close_all(&mut entries, &mut desks)?;
         let closed = totals(alloc, config, &desks)?;
         let connections = told_all(alloc, entries)?;
-        Ok(Report {
-            connections: Connections::new(connections),
-            closed,
-        })
+        Ok((connections, closed))
     }
 }

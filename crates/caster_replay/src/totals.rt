@@ -17,8 +17,8 @@ fn mounts(alloc: Global, desks: &Desks) -> Result<Vec<MountTotal>, AllocError>
     ensures { IfOk result (λ totals. totals.items ≡ map mount_total desks.now.seen.rings) }
 {
     let mut totals = Vec::new(alloc);
-    for desk in desks.places.rings.as_slice() {
-        let ring = desk.value();
+    for place in desks.places.rings.as_slice() {
+        let ring = place.ring();
         totals.push(MountTotal {
             published: ring.published(),
             claims: ring.claims(),

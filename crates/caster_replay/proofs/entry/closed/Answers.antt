@@ -1,7 +1,7 @@
 use Rattle.std.proofs.Common.{◌≡◌, ◌∙◌, Bool, true, false, refl, sym, subst}
 use Rattle.std.specs.Prelude.{not}
 use Rattle.caster_replay.specs.declared.entry.State.{State}
-use Rattle.caster_replay.specs.declared.entry.State.TheVariants.{Open, Closed}
+use Rattle.caster_replay.specs.declared.entry.State.TheVariants.{Closed}
 use Rattle.caster_replay.specs.Entries.{ClosedAt}
 use Rattle.caster_replay.proofs.entry.closed.Goals as goal
 

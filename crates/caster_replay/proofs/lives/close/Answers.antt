@@ -9,6 +9,7 @@ use Rattle.caster_replay.proofs.lives.close.Goals as goal
 
 pub returns-then-not-stands_at : goal.returns-then-not-stands_at
 returns-then-not-stands_at c = record {
+  cleared = refl;
   ok = λ config script event over plays.
       stands_absent config script event c.args.entries.now.items c.args.desks.now c.args.number (ends c.args.last)
       (about_of event c.args.number c.args.last over) plays
@@ -34,6 +35,7 @@ close_at-requires-clause-may c =
 
 pub returns : goal.returns
 returns c = record {
+  cleared = c.close_at.ensures.same.cleared;
   ok = λ config script event over plays.
       let entries : List Entry = c.args.entries.now.items in
       let place : ℕ = c.place_of-place.result in

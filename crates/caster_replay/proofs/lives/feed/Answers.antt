@@ -18,6 +18,7 @@ use Rattle.caster_replay.proofs.lives.feed.Goals as goal
 
 pub returns-then-not-stands_at : goal.returns-then-not-stands_at
 returns-then-not-stands_at c = record {
+  cleared = refl;
   ok = λ script plays.
       stands_absent c.args.config.now script (events.In c.args.number c.args.bytes.now) c.args.entries.now.items
       c.args.desks.now c.args.number (arrives c.args.bytes.now) (about_in c.args.number c.args.bytes.now) plays
@@ -61,6 +62,7 @@ close_at-requires-clause-may c =
 
 pub returns-in-Open : goal.returns-in-Open
 returns-in-Open c = record {
+  cleared = c.feed.ensures.same.cleared;
   ok = λ script plays.
       let entry : Entry = c.index_mut.result.now in
       let entries : List Entry = c.args.entries.now.items in
@@ -96,6 +98,7 @@ returns-in-Open c = record {
 
 pub returns-in-Ended : goal.returns-in-Ended
 returns-in-Ended c = record {
+  cleared = c.close_at.ensures.same.cleared ∙ c.feed.ensures.same.cleared;
   ok = λ script plays.
       let entry : Entry = c.index_mut.result.now in
       let new : Entry = c.feed.new.self in

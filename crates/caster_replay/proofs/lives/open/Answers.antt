@@ -1,4 +1,4 @@
-use Rattle.std.proofs.Common.{◌∙◌, ◌++◌, List, [], ◌∷◌, sym, subst}
+use Rattle.std.proofs.Common.{◌∙◌, ◌++◌, List, [], ◌∷◌, refl, sym, subst}
 use Rattle.caster_replay.specs.declared.entry.Entry.{Entry}
 use Rattle.caster_replay.specs.Entries.{IsUnsent, opening_of}
 use Rattle.caster_replay.specs.Lives.{lives_in}
@@ -13,6 +13,7 @@ use Rattle.caster_replay.proofs.lives.open.Goals as goal
 
 pub returns-then-stands_at : goal.returns-then-stands_at
 returns-then-stands_at c = record {
+  cleared = refl;
   ok = λ script event begins plays.
       stands_again c.args.config.now script event c.args.entries.now.items c.args.desks.now c.args.number
       c.place_of-place.result (opening_of c.args.way) begins plays
@@ -41,6 +42,7 @@ settled-requires c =
 
 pub returns : goal.returns
 returns c = record {
+  cleared = c.settled.ensures.same.cleared ∙ c.opened.ensures.same.cleared;
   ok = λ script event begins plays.
       let config = c.args.config.now in
       let entries : List Entry = c.args.entries.now.items in

@@ -1,4 +1,4 @@
-use Rattle.std.proofs.Common.{◌∙◌, ◌++◌, ℕ, List, [], ◌∷◌, set, ap, arith}
+use Rattle.std.proofs.Common.{◌∙◌, ◌++◌, ℕ, List, [], ◌∷◌, set, refl, ap, arith}
 use Rattle.session_script.specs.declared.Event.TheVariants as events
 use Rattle.session_core.specs.Owed.{takes_turn}
 use Rattle.caster_replay.specs.declared.entry.Entry.{Entry}
@@ -13,6 +13,7 @@ use Rattle.caster_replay.proofs.lives.turn.Goals as goal
 
 pub returns-then-not-stands_at : goal.returns-then-not-stands_at
 returns-then-not-stands_at c = record {
+  cleared = refl;
   ok = λ config script plays.
       stands_absent config script (events.Turn c.args.number c.args.budget) c.args.entries.now.items c.args.desks.now
       c.args.number (takes_turn c.args.budget) (about_turn c.args.number c.args.budget) plays
@@ -43,6 +44,7 @@ turn-requires c =
 
 pub returns-in-Open : goal.returns-in-Open
 returns-in-Open c = record {
+  cleared = c.turn.ensures.same.cleared;
   ok = λ config script plays.
       let entry : Entry = c.index_mut.result.now in
       let entries : List Entry = c.args.entries.now.items in

@@ -1,4 +1,4 @@
-use Rattle.std.proofs.Common.{◌∙◌, ◌++◌, ℕ, List, [], sym, ap, subst}
+use Rattle.std.proofs.Common.{◌∙◌, ◌++◌, ℕ, List, sym, ap, subst}
 use Rattle.session_core.specs.Judged.{relays}
 use Rattle.session_core.specs.Replies.{opening_text}
 use Rattle.caster_replay.specs.Calls.{Opens}

@@ -1,5 +1,5 @@
 -- the caps so far
-use Rattle.std.proofs.Common.{◌≡◌, ℕ, List, ◌∷◌, map, take}
+use Rattle.std.proofs.Common.{◌≡◌, ◌∷◌, map, take}
 use Rattle.cast_config.specs.declared.config.Account.{Account}
 use Rattle.session_core.specs.Setting.{anonymous_cap}
 use Rattle.caster_replay.proofs.rings.caps_of.Given as goal

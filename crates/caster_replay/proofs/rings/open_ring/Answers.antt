@@ -1,7 +1,5 @@
-use Rattle.std.proofs.Common.{◌≡◌, ◌∙◌, ◌<◌, ◌+◌, ℕ, List, length, map, get_or, sym, ap, subst, arith}
-use Rattle.mount_ring.specs.declared.shape.RingShape.{RingShape}
+use Rattle.std.proofs.Common.{◌∙◌, List, get_or, sym, ap}
 use Rattle.cast_config.specs.declared.config.Mount.{Mount}
-use Rattle.cast_config.specs.Served.{filters_of}
 use Rattle.type_filter.specs.Permitted.{FilterValue}
 use Rattle.caster_replay.proofs.DeskLemmas.{shape_at, shape_of}
 use Rattle.caster_replay.proofs.rings.open_ring.Goals as goal

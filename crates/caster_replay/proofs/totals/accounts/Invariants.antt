@@ -1,5 +1,5 @@
 -- the sums so far
-use Rattle.std.proofs.Common.{◌≡◌, ℕ, List, take}
+use Rattle.std.proofs.Common.{◌≡◌, take}
 use Rattle.session_core.specs.Reports.{sums_from}
 use Rattle.caster_replay.proofs.totals.accounts.Given as goal
 

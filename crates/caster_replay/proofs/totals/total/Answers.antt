@@ -1,4 +1,4 @@
-use Rattle.std.proofs.Common.{◌≡◌, ◌∙◌, ℕ, suc, List, length, map, refl, sym, ap, subst}
+use Rattle.std.proofs.Common.{◌∙◌, ℕ, suc, List, ap, subst}
 use Rattle.std.proofs.lemmas.List.{length-map}
 use Rattle.turn_log.specs.History.{IsLegal}
 use Rattle.caster_accounts.specs.History.{fits}

@@ -1,8 +1,17 @@
-use Rattle.std.proofs.Common.{true, refl, ap}
+use Rattle.std.proofs.Common.{◌∙◌, true, refl, ap}
 use Rattle.session_core.specs.Beginnings.{bare_opening}
 use Rattle.caster_replay.specs.Caster.{DesksValue}
 use Rattle.caster_replay.proofs.DeskLemmas.{alone_here, opens_here}
+use Rattle.caster_replay.proofs.PlaceLemmas.{cleared_same}
 use Rattle.caster_replay.proofs.desks.Desks.bare.Goals as goal
+
+pub returns-clause-same : goal.returns-clause-same
+returns-clause-same c = record {
+  rings = c.bare.ensures.same_rings.0 ∙ ap (λ (v : DesksValue). v.rings) c.self.view_is;
+  book = c.bare.ensures.same_book.0 ∙ ap (λ (v : DesksValue). v.book) c.self.view_is;
+  cleared = cleared_same c.self.inside.places.rings.items c.bare.new.places.rings.items c.bare.ensures.same_rings.4
+      ∙ ap (λ (v : DesksValue). v.cleared) c.self.view_is;
+}
 
 pub returns-clause-opened : goal.returns-clause-opened
 returns-clause-opened c =

@@ -1,7 +1,16 @@
-use Rattle.std.proofs.Common.{true, refl, ap}
+use Rattle.std.proofs.Common.{◌∙◌, true, refl, ap}
 use Rattle.caster_replay.specs.Caster.{DesksValue}
 use Rattle.caster_replay.proofs.DeskLemmas.{alone_here, feeds_here}
+use Rattle.caster_replay.proofs.PlaceLemmas.{cleared_same}
 use Rattle.caster_replay.proofs.desks.Desks.feed.Goals as goal
+
+pub returns-clause-same : goal.returns-clause-same
+returns-clause-same c = record {
+  rings = c.feed.ensures.same_rings.0 ∙ ap (λ (v : DesksValue). v.rings) c.self.view_is;
+  book = c.feed.ensures.same_book.0 ∙ ap (λ (v : DesksValue). v.book) c.self.view_is;
+  cleared = cleared_same c.self.inside.places.rings.items c.feed.new.places.rings.items c.feed.ensures.same_rings.4
+      ∙ ap (λ (v : DesksValue). v.cleared) c.self.view_is;
+}
 
 pub returns-clause-fed : goal.returns-clause-fed
 returns-clause-fed c =

@@ -1,9 +1,9 @@
-use Rattle.std.proofs.Common.{◌≡◌, ◌∙◌, ◌<◌, ◌≤◌, ◌++◌, ◌+◌, ℕ, List, [], ◌∷◌, length, map, take, get_or, sym, ap, arith}
+use Rattle.std.proofs.Common.{◌∙◌, ◌<◌, ◌++◌, List, [], ◌∷◌, length, get_or, sym, ap, arith}
 use Rattle.std.proofs.lemmas.List.{take_all, take_more}
-use Rattle.cast_config.specs.declared.config.Mount.{Mount}
 use Rattle.mount_ring.specs.declared.shape.RingShape.{RingShape}
 use Rattle.session_core.specs.Setting.{shapes}
 use Rattle.caster_replay.proofs.DeskLemmas.{no_shape, shapes_count, uncalled_next}
+use Rattle.caster_replay.proofs.PlaceLemmas.{greet_more}
 use Rattle.caster_replay.proofs.desks.Desks.new.Goals as goal
 
 pub loop-number-preserved : goal.loop-number-preserved
@@ -22,6 +22,9 @@ loop-number-preserved c =
           ∙ sym (uncalled_next config.mount c.loop-number.number within);
       book = c.in_ok-add_ring.ensures.book ∙ c.loop-number.invariant.book;
       book_uncalled = c.in_ok-add_ring.ensures.book_seen ∙ c.loop-number.invariant.book_uncalled;
+      greet = λ greets.
+          greet_more c.args.greets c.loop-number.desks.cleared c.add_ring.new.self.cleared greets
+          c.in_ok-add_ring.ensures.cleared (c.loop-number.invariant.greet greets);
     }
 
 pub returns-clause-places : goal.returns-clause-places

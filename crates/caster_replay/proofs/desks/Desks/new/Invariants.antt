@@ -1,7 +1,8 @@
 -- the desks at the first rings, at which nothing was called
-use Rattle.std.proofs.Common.{◌≡◌, ℕ, List, [], map, take}
+use Rattle.std.proofs.Common.{◌≡◌, [], IsTrue, map, take}
 use Rattle.cast_config.specs.declared.config.Mount.{Mount}
 use Rattle.session_core.specs.Setting.{caps, shapes}
+use Rattle.caster_replay.specs.Places.{AllGreet}
 use Rattle.caster_replay.proofs.desks.Desks.new.Given as goal
 
 abbrev pub invariant-loop-number : goal.invariant-loop-number
@@ -10,4 +11,5 @@ invariant-loop-number l = record {
   uncalled : l.desks.seen.rings ≡ map (λ (mount : Mount). []) (take l.number l.config.mount);
   book : l.desks.book ≡ caps l.config;
   book_uncalled : l.desks.seen.book ≡ [];
+  greet : IsTrue l.greets → AllGreet l.desks.cleared;
 }

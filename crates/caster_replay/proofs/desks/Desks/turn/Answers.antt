@@ -1,8 +1,18 @@
 use Rattle.std.proofs.Common.{◌∙◌, true, refl, ap}
 use Rattle.turn_log.specs.Past.{so_far}
 use Rattle.caster_replay.specs.Caster.{DesksValue}
+use Rattle.caster_replay.specs.Places.{place_seen}
 use Rattle.caster_replay.proofs.DeskLemmas.{alone_here, turns_here, seen_same}
+use Rattle.caster_replay.proofs.PlaceLemmas.{cleared_same}
 use Rattle.caster_replay.proofs.desks.Desks.turn.Goals as goal
+
+pub returns-clause-same : goal.returns-clause-same
+returns-clause-same c = record {
+  rings = c.turn.ensures.same_rings.0 ∙ ap (λ (v : DesksValue). v.rings) c.self.view_is;
+  book = c.turn.ensures.same_book.0 ∙ ap (λ (v : DesksValue). v.book) c.self.view_is;
+  cleared = cleared_same c.self.inside.places.rings.items c.turn.new.places.rings.items c.turn.ensures.same_rings.4
+      ∙ ap (λ (v : DesksValue). v.cleared) c.self.view_is;
+}
 
 pub returns-clause-turned : goal.returns-clause-turned
 returns-clause-turned c = λ config places.
@@ -16,6 +26,6 @@ returns-clause-turned c = λ config places.
     (λ apart. let same = c.turn.ensures.bystander apart in (
       same.0,
       seen_same c.self.inside.places.rings.items c.turn.new.places.rings.items c.self.inside.places.book
-          c.turn.new.places.book (λ desk. so_far desk.past) (λ desk. so_far desk.past) same.1 same.2,
+          c.turn.new.places.book place_seen (λ desk. so_far desk.past) same.1 same.2,
       same.3,
     ))

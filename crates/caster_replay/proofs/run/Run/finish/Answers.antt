@@ -1,27 +1,13 @@
 use Rattle.std.proofs.Common.{◌∙◌, List, sym, ap, subst}
-use Rattle.session_core.specs.declared.report.Closed as totals
 use Rattle.session_core.specs.declared.report.Connection.{Connection}
 use Rattle.session_core.specs.Reports.{IsReport}
-use Rattle.caster_replay.specs.Lives.{lives_in}
 use Rattle.caster_replay.specs.Sends.{told_sent}
-use Rattle.caster_replay.proofs.ReplayLemmas.{report_is}
-use Rattle.caster_replay.proofs.SendsLemmas.{told_sends}
 use Rattle.caster_replay.proofs.run.Run.finish.Goals as goal
 
 pub returns-clause-report : goal.returns-clause-report
 returns-clause-report c = λ script short stands.
-    let config = c.args.config.now in
-    let closed = c.in_ok-close_all.ensures.ok config script short stands.stands in
-    subst (λ (l : List Connection). IsReport config script (record { connections = l; closed = c.in_ok-closed.closed }))
-    (sym c.new.ensures)
-    (subst (λ (x : totals.Closed). IsReport config script
-    (record { connections = c.in_ok-connections.connections.items; closed = x })) (sym c.in_ok-closed.ensures)
-    (report_is config script c.close_all.new.entries.items c.close_all.new.desks
-    c.in_ok-connections.connections.items closed c.in_ok-connections.ensures))
+    subst (λ (l : List Connection). IsReport c.args.config.now script (record { connections = l; closed = c.in_ok-connections.closed }))
+    (sym c.new.ensures) (c.in_ok-connections.ensures.report script short stands)
 
 pub returns-clause-sent : goal.returns-clause-sent
-returns-clause-sent c = λ n.
-    ap (told_sent n) c.new.ensures
-    ∙ told_sends n (lives_in c.close_all.new.entries.items) c.in_ok-connections.connections.items
-    c.in_ok-connections.ensures
-    ∙ c.in_ok-close_all.ensures.silent n
+returns-clause-sent c = λ n. ap (told_sent n) c.new.ensures ∙ c.in_ok-connections.ensures.sent n

@@ -1,0 +1,125 @@
+-- Where the rovers of a run stand, as what is kept of its connections tells.
+use Rattle.std.proofs.Common.{◌≡◌, ◌≢◌, ◌∙◌, ◌<◌, ◌++◌, ℕ, zero, suc, Bool, false, List, [], ◌∷◌, length, get_or, refl, sym, ap, subst, arith, Option, None, Some}
+use Rattle.std.specs.Prelude.{if◌then◌else◌, unwrap_or}
+use Rattle.ntrip_head.specs.declared.request.Version.{Version}
+use Rattle.ntrip_head.specs.declared.request.Version.TheVariants.{One}
+use Rattle.rover_cursor.specs.declared.segment.Segment.{Segment}
+use Rattle.rover_session.specs.Made.{segments_after}
+use Rattle.rover_session.specs.Standing.{rover_of as session_rover}
+use Rattle.session_calls.specs.Steps.{Step}
+use Rattle.session_script.specs.declared.Event.{Event}
+use Rattle.cast_config.specs.declared.config.Config.{Config}
+use Rattle.session_core.specs.declared.ending.Ending.{Ending}
+use Rattle.session_core.specs.declared.rover_state.RoverState.{RoverState}
+use Rattle.session_core.specs.declared.stage.Stage.{Stage}
+use Rattle.session_core.specs.declared.stage.Stage.TheVariants as stages
+use Rattle.session_core.specs.Headings.{Heading}
+use Rattle.session_core.specs.Judged.{Opening, Judged}
+use Rattle.session_core.specs.Replies.{version_of}
+use Rattle.session_core.specs.Reports.{IsHeadingOf, AreHeadings}
+use Rattle.session_core.specs.Run.{Histories, Connected, World, is_concerned, is_opened, after_events}
+use Rattle.session_core.specs.Standing.{IsAtStage, is_halted}
+use Rattle.session_core.specs.States.{state_in, state_at}
+use Rattle.caster_replay.specs.declared.entry.State.{State}
+use Rattle.caster_replay.specs.declared.entry.State.TheVariants.{Open, Closed}
+use Rattle.caster_replay.specs.Entries.{is_open_at, rover_at}
+use Rattle.caster_replay.specs.Going.{rover_of, rover_among}
+use Rattle.caster_replay.specs.Lives.{IsKept, Live, live_of}
+use Rattle.caster_replay.specs.Runs.{Runs, IsIncreasing}
+use Rattle.caster_replay.proofs.WorldListLemmas.{above_at, none_above, apart_first, none_later}
+use Rattle.caster_replay.proofs.WorldRunLemmas.{IsRunAt}
+use Rattle.caster_replay.proofs.WorldRunnerLemmas.{said_of, nobody, there, IsFound, found, IsAbsent, absent_from}
+use Rattle.caster_replay.proofs.WorldStepLemmas.{judged_so}
+use Rattle.caster_replay.proofs.GoingLemmas.{going_apart, kept_going}
+use Rattle.caster_replay.proofs.PlayLemmas.{run_of}
+
+-- ---- among connections in increasing order of number
+
+module _ (c : Config) (headings : ℕ → Heading) (number : ℕ) where
+  rover_past : (d : Connected) (ds : List Connected) → d.number ≢ number
+      → rover_among c headings number (d ∷ ds) ≡ rover_among c headings number ds
+  rover_past d ds apart =
+      ap (λ (b : Bool). if b then rover_of c (headings d.number) d else rover_among c headings number ds)
+      (going_apart c headings number d apart)
+
+  rover_none : (ds : List Connected) → is_opened number ds ≡ false → rover_among c headings number ds ≡ None
+  rover_none [] none = refl
+  rover_none (d ∷ ds) none =
+      rover_past d ds (apart_first number d ds none) ∙ rover_none ds (none_later number d ds none)
+
+  -- the rover that stands at a connection, if this one goes on
+  abbrev rover_here : Connected → Option RoverState
+  rover_here d =
+      if is_concerned c (headings d.number) number d then rover_of c (headings d.number) d else None
+
+  rover_by : (ds : List Connected) (at : ℕ) (x : Connected) → IsIncreasing ds → at < length ds
+      → (get_or ds at x).number ≡ number → rover_among c headings number ds ≡ rover_here (get_or ds at x)
+  rover_by [] at x order within here = absurd (omega (arith, within))
+  rover_by (d ∷ ds) zero x order within here =
+      ap (λ (r : Option RoverState). if is_concerned c (headings d.number) number d then
+      rover_of c (headings d.number) d else r)
+      (rover_none ds (subst (λ (n : ℕ). is_opened n ds ≡ false) here (none_above d.number ds order.0)))
+  rover_by (d ∷ ds) (suc at) x order within here =
+      let below : d.number < (get_or ds at x).number = above_at d.number ds at x order.0 (omega (arith, within)) in
+      rover_past d ds (λ e. absurd (omega (arith, below, here, e)))
+      ∙ rover_by ds at x order.1 (omega (arith, within)) here
+
+-- ---- of a connection
+
+no_rover : (version : Version) (segments : List Segment) → segments ≡ [] → None ≡ state_in version segments
+no_rover version segments none = sym (ap (state_in version) none)
+
+stage_rover : (c : Config) (me : ℕ) (h : Histories) (o : Opening) (j : Judged) (text : List ℕ) (steps : List Step)
+    (stage : Stage) → IsAtStage c me h o j text steps stage
+    → state_at None stage ≡ state_in (unwrap_or (version_of j) One) (segments_after [] steps)
+stage_rover c me h o j text steps (stages.Head head) s =
+    no_rover (unwrap_or (version_of j) One) (segments_after [] steps) (ap (segments_after []) s.2)
+stage_rover c me h o j text steps stages.Over s =
+    no_rover (unwrap_or (version_of j) One) (segments_after [] steps) s.segments
+stage_rover c me h o j text steps (stages.Source mount session) s =
+    no_rover (unwrap_or (version_of j) One) (segments_after [] steps) s.segments
+stage_rover c me h o j text steps (stages.Relay mount session) s =
+    no_rover (unwrap_or (version_of j) One) (segments_after [] steps) s.segments
+stage_rover c me h o j text steps (stages.Rover account session) s =
+    ap (λ (v : Version). state_in v (session_rover session).segments) s.version
+    ∙ ap (state_in (unwrap_or s.terms.version One)) s.stands.segments
+    ∙ ap (λ (l : List Step). state_in (unwrap_or s.terms.version One) (segments_after [] l)) (sym s.steps_are)
+    ∙ ap (λ (x : Judged). state_in (unwrap_or (version_of x) One) (segments_after [] steps)) (sym s.judged_is)
+
+kept_rover : (c : Config) (heading : Heading) (now : Histories) (d : Connected) (state : State) (bytes rest : List ℕ)
+    → IsKept c heading now d state bytes → IsHeadingOf (Some d.opening) (d.text ++ rest) heading
+    → (if is_open_at state then rover_of c heading d else None) ≡ rover_at state
+kept_rover c heading now d (Open session) bytes rest kept said =
+    let so = judged_so c heading kept.histories d session bytes rest kept.stands
+    (ap is_halted kept.goes) said in
+    ap (λ (j : Judged). state_in (unwrap_or (version_of j) One) (segments_after [] d.steps)) so
+    ∙ sym (stage_rover c session.me kept.histories d.opening _ d.text d.steps session.stage kept.stands.stage)
+    ∙ ap (λ (e : Option Ending). state_at e session.stage) (sym kept.goes)
+kept_rover c heading now d (Closed receipt) bytes rest kept said = refl
+
+-- ---- of a run
+
+module _ (c : Config) (script : List Event) (lives : List Live) (now : Histories) (run : Runs c script lives now)
+    (more : List Event) (headings : ℕ → Heading) (are : AreHeadings (script ++ more) headings) (number : ℕ) where
+  abbrev w : World
+  w = after_events c headings script
+
+  at_now : IsRunAt c headings w lives now
+  at_now = (run_of c script lives now run).stands more headings are
+
+  pub rover_missing : (y : Live) → IsAbsent number lives y → rover_among c headings number w.connections ≡ None
+  rover_missing y absent =
+      rover_none c headings number w.connections (absent_from c headings w lives now number y at_now absent)
+
+  pub rover_found : (at : ℕ) (y : Live) (state : State) (bytes : List ℕ) → at < length lives
+      → get_or lives at y ≡ live_of number state bytes
+      → rover_among c headings number w.connections ≡ rover_at state
+  rover_found at y state bytes within is =
+      let f : IsFound c headings script now at number state bytes =
+      found c headings script lives now at y number state bytes (run.known headings) at_now within is in
+      let d : Connected = there c headings script at in
+      let said = said_of c script more headings d are f.known in
+      rover_by c headings number w.connections at nobody at_now.order f.within f.here
+      ∙ ap (λ (b : Bool). if b then rover_of c (headings d.number) d else None)
+      (kept_going c headings number now d state bytes said.0 f.kept said.1 f.here)
+      ∙ kept_rover c (headings d.number) now d state bytes said.0 f.kept said.1
