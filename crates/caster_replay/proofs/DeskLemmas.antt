@@ -140,13 +140,15 @@ no_shape = shape_of 0 []
 
 -- no calls at one more mountpoint
 uncalled_suc : (mounts : List Mount) (i : ℕ) → i < length mounts
-    → map (λ (mount : Mount). no_call) (take (suc i) mounts) ≡ map (λ (mount : Mount). no_call) (take i mounts) ++ [] ∷ []
+    → map (λ (mount : Mount). no_call) (take (suc i) mounts) ≡ map (λ (mount : Mount). no_call) (take i mounts) ++ [] ∷
+    []
 uncalled_suc [] i within = absurd (omega (arith, within))
 uncalled_suc (mount ∷ mounts) zero within = refl
 uncalled_suc (mount ∷ mounts) (suc i) within = ap (λ l. [] ∷ l) (uncalled_suc mounts i (omega (arith, within)))
 
 pub uncalled_next : (mounts : List Mount) (i : ℕ) → i < length mounts
-    → map (λ (mount : Mount). no_call) (take (i + 1) mounts) ≡ map (λ (mount : Mount). no_call) (take i mounts) ++ [] ∷ []
+    → map (λ (mount : Mount). no_call) (take (i + 1) mounts) ≡ map (λ (mount : Mount). no_call) (take i mounts) ++ [] ∷
+    []
 uncalled_next mounts i within =
     ap (λ (n : ℕ). map (λ (mount : Mount). no_call) (take n mounts)) (sym (one_next i)) ∙ uncalled_suc mounts i within
 

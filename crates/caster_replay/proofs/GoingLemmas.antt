@@ -167,7 +167,8 @@ opened_by : (n k : ℕ) (o first : Opening) (numbers next : Numbers) (later : Li
 opened_by n k o first numbers next later is some rest =
     elim (cases_Bool (k == n)) [
       | inl same ↦
-          opened_from n next later (subst (λ (l : List ℕ). is_among n l ≡ true) (sym is) (among_last n k numbers.opened same))
+          opened_from n next later (subst (λ (l : List ℕ). is_among n l ≡ true) (sym is)
+          (among_last n k numbers.opened same))
       | inr other ↦ rest (ap (λ (b : Bool). opened_if b first (opened_as n later)) (sym other) ∙ some)
     ]
 
@@ -236,7 +237,8 @@ module _ (c : Config) (script : List Event) (lives : List Live) (now : Histories
 
   lags_apart : (number : ℕ) (d : Connected) → d.number ≢ number → lags number d ≡ false
   lags_apart number d apart =
-      ap (λ (b : Bool). b && has_frames w.histories.rings (segments_after [] d.steps)) (going_apart c headings number d apart)
+      ap (λ (b : Bool). b && has_frames w.histories.rings (segments_after [] d.steps))
+      (going_apart c headings number d apart)
 
   pub going_missing : (number : ℕ) (y : Live) → IsAbsent number lives y → is_going c headings w number ≡ false
   going_missing number y absent =
@@ -271,7 +273,8 @@ module _ (c : Config) (script : List Event) (lives : List Live) (now : Histories
         (segments_after [] (there c headings script at).steps)) one
         ∙ ap (λ (h : Histories). is_open_at state && has_frames h.rings
         (segments_after [] (there c headings script at).steps)) at_now.histories
-        ∙ kept_behind c (headings (there c headings script at).number) now (there c headings script at) state bytes f.kept
+        ∙ kept_behind c (headings (there c headings script at).number) now (there c headings script at) state bytes
+        f.kept
 
     goes_so : IsTrue (is_open_at state)
         → goes_on (judged_of c (headings (there c headings script at).number) (there c headings script at))

@@ -103,7 +103,8 @@ looked first second entries number place answer same same_too is test =
     record {
       here = found_at second entries place number answer same_too test;
       place_is = placed;
-      absent = λ none. absent_at entries place number placed (missing_at second entries place number answer same_too test none);
+      absent = λ none. absent_at entries place number placed (missing_at second entries place number answer same_too
+          test none);
     }
 
 -- nobody has the number
@@ -197,7 +198,8 @@ stands_opened c script event entries old mid now number place o entry next begin
       runs = subst (λ (l : List Live). Runs c (script ++ event ∷ []) l now.seen)
           (ap (insert (lives_in entries) (place_of number (lives_in entries))) live_is
           ∙ ap (λ (n : ℕ). insert (lives_in entries) n (live_in next)) (sym is) ∙ sym (lives_insert entries place next))
-          (play_opened c script event (lives_in entries) old.seen mid.seen now.seen number o no_live entry.state next.state
+          (play_opened c script event (lives_in entries) old.seen mid.seen now.seen number o no_live entry.state
+          next.state
           entry.bytes.items (opening_by event number o begins) plays.runs absent
           (is_clean c script event entries old plays number) opened settled);
     }

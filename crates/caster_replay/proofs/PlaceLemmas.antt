@@ -28,7 +28,8 @@ over_suc before after zero (first ∷ xs) (y ∷ ys) x new within inside over is
     let later : ys ≡ xs = cc in
     let same : x ≡ first = cc in
     record {
-      done = ap (λ (q : _). q ∷ map before ys) (made ∙ ap after same) ∙ ap (λ (l : List _). after first ∷ map before l) later;
+      done = ap (λ (q : _). q ∷ map before ys) (made ∙ ap after same) ∙ ap (λ (l : List _). after first ∷ map before l)
+          later;
       rest = later;
     }
 over_suc before after (suc i) (first ∷ xs) (y ∷ ys) x new within inside over is made =
@@ -67,7 +68,8 @@ pub cleared_again : (places : List RunPlace) → AllGreet (map place_cleared pla
 cleared_again [] each = refl
 cleared_again (Plain desk ∷ places) each = absurd (false≢true (each 0 None (omega arith)))
 cleared_again (Greets place ∷ places) each =
-    ap (λ (l : List (Option ℕ)). Some (length (place_seen (Greets place))) ∷ l) (cleared_again places (λ k d within. each (suc k) d (omega (arith, within))))
+    ap (λ (l : List (Option ℕ)). Some (length (place_seen (Greets place))) ∷ l)
+    (cleared_again places (λ k d within. each (suc k) d (omega (arith, within))))
 
 -- which places these are tells when they were cleared
 pub cleared_same : (old now : List RunPlace) → map place_home now ≡ map place_home old

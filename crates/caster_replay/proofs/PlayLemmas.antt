@@ -139,7 +139,8 @@ module _ (c : Config) (script : List Event) (lives : List Live) (old : Histories
       subst (λ (s : State). Runs c (script ++ events.In number text ∷ []) (set lives at (live_of number s sent)) now)
       (sym fed.1)
       (runs_of c (script ++ events.In number text ∷ []) (set lives at (live_of number (Open fed.0) sent)) now
-      (run_fed c script lives old now number at y session fed.0 text before sent (run_of c script lives old run) within is
+      (run_fed c script lives old now number at y session fed.0 text before sent (run_of c script lives old run) within
+      is
       fed.4 fed.2 (flow_on fed.0.ended (sym fed.3 ∙ on))))
   play_fed now flow (Closed receipt) after text sent is fed on =
       subst (λ (l : List Live). Runs c (script ++ events.In number text ∷ []) l now)
@@ -155,7 +156,8 @@ module _ (c : Config) (script : List Event) (lives : List Live) (old : Histories
       → get_or lives at y ≡ live_of number state before → FedAt c old now flow state after text before sent
       → (more : List ℕ) × (sent ≡ before ++ more)
   fed_more now flow (Open session) after text sent is fed =
-      fed_adds c script lives old number at y session before (run_of c script lives old run) within is now fed.0 text sent
+      fed_adds c script lives old number at y session before (run_of c script lives old run) within is now fed.0 text
+      sent
       fed.4
   fed_more now flow (Closed receipt) after text sent is fed = ([], fed.2 ∙ sym (append-nil before))
 
@@ -217,7 +219,8 @@ module _ (c : Config) (script : List Event) (lives : List Live) (old : Histories
       → flow ≡ flows.Open
       → Runs c (script ++ events.Turn number budget ∷ []) (set lives at (live_of number after sent)) now
   play_turned now flow (Open session) after budget sent is turned on =
-      subst (λ (s : State). Runs c (script ++ events.Turn number budget ∷ []) (set lives at (live_of number s sent)) now)
+      subst (λ (s : State). Runs c (script ++ events.Turn number budget ∷ []) (set lives at (live_of number s sent))
+      now)
       (sym turned.1)
       (turned_if (is_rover session.stage) now session turned.0 budget sent refl is turned.4 turned.2
       (flow_on turned.0.ended (sym turned.3 ∙ on)))
@@ -288,7 +291,8 @@ settled_runs None c script event lives old mid now number o y session after byte
     now) (sym settled.0)
     (subst (λ (h : Histories). IsRun c (script ++ event ∷ []) (insert lives (place_of number lives)
     (live_of number (Open session) bytes)) h) (sym settled.1)
-    (run_opens c script event lives old mid number o y session bytes opening (run_of c script lives old run) absent clean
+    (run_opens c script event lives old mid number o y session bytes opening (run_of c script lives old run) absent
+    clean
     opens me none))
 settled_runs (Some end) c script event lives old mid now number o y session after bytes over opening run absent clean me
     opens settled =

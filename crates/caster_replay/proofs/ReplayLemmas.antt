@@ -59,7 +59,8 @@ pub live_get : (entries : List Entry) (place : ℕ) (d : Entry) → place < leng
     → get_or (lives_in entries) place (live_in d) ≡ live_in (get_or entries place d)
 live_get entries place d within = get_or-map live_in entries place d (live_in d) within
 
-pub may_close_at : (c : Config) (script : List Event) (entries : List Entry) (desks : DesksValue) (place : ℕ) (d : Entry)
+pub may_close_at : (c : Config) (script : List Event) (entries : List Entry) (desks : DesksValue) (place : ℕ)
+    (d : Entry)
     → place < length entries → IsShort script → Stands c script entries desks
     → MayBeClosed c desks.seen (get_or entries place d).state
 may_close_at c script entries desks place d within short stands =
@@ -72,7 +73,8 @@ is_over : (c : Config) (old now : Histories) (last : Last) (before after : State
 is_over c old now last (Open session) after closed = subst IsOverAt (sym closed.1) tt
 is_over c old now last (Closed receipt) after closed = subst IsOverAt (sym closed.0) tt
 
-module _ (c : Config) (script : List Event) (entries after : List Entry) (desks now : DesksValue) (place : ℕ) (d : Entry)
+module _ (c : Config) (script : List Event) (entries after : List Entry) (desks now : DesksValue) (place : ℕ)
+    (d : Entry)
     (within : place < length entries)
     (closed : IsClosedAt c desks.seen now.seen lasts.End place (get_or entries place d) entries after) where
   abbrev entry : Entry

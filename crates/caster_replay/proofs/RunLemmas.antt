@@ -84,7 +84,8 @@ module _ (entries : List Entry) (number : ℕ) where
 -- ---- what is answered
 
 module _ (c : Config) (script : List Event) (run : Run) (number : ℕ) (stands : StandsFor c script run) where
-  pub missing_goes : IsMissing run.entries.items number → (answer : Bool) → answer ≡ false → GoesOn c script number answer
+  pub missing_goes : IsMissing run.entries.items number → (answer : Bool) → answer ≡ false
+      → GoesOn c script number answer
   missing_goes missing answer none headings are =
       none ∙ sym (going_missing c script (lives_of run) run.desks.seen stands.stands.runs headings are number no_live
       (missing_absent run.entries.items number missing))
@@ -114,7 +115,8 @@ module _ (c : Config) (script : List Event) (run : Run) (number : ℕ) (stands :
   pub missing_rover : IsMissing run.entries.items number → (answer : Option RoverState) → answer ≡ None
       → IsRover c script number answer
   missing_rover missing answer none more headings are =
-      none ∙ sym (rover_missing c script (lives_of run) run.desks.seen stands.stands.runs more headings are number no_live
+      none ∙ sym (rover_missing c script (lives_of run) run.desks.seen stands.stands.runs more headings are number
+      no_live
       (missing_absent run.entries.items number missing))
 
   pub found_rover : (entry : Entry) → IsFoundAt run.entries.items number entry → (answer : Option RoverState)
@@ -129,7 +131,8 @@ module _ (c : Config) (script : List Event) (run : Run) (number : ℕ) (stands :
       → MaySpeak script number
   found_may_speak entry f told =
       let runs = stands.stands.runs in
-      found_speaks c script (lives_of run) run.desks.seen runs (headings_now script runs.has) (λ n. (runs.has n).1) number
+      found_speaks c script (lives_of run) run.desks.seen runs (headings_now script runs.has) (λ n. (runs.has n).1)
+      number
       (place_of number (lives_of run)) (live_in entry) entry.state entry.bytes.items
       (within_lives run.entries.items (place_of number (lives_of run)) f.there.0)
       (found_live run.entries.items number entry f) told

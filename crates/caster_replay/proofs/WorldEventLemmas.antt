@@ -58,7 +58,8 @@ stands_so c session o text steps h sent (inr lost) goes =
 
 -- bytes came, and the session that took them was not halted
 module _ (c : Config) (heading : Heading) (old mid : Histories) (d : Connected) (text : List ℕ) (session : Session)
-    (before after rest : List ℕ) (fed : Fed c true old mid session d.opening (d.text ++ text) d.steps before before after)
+    (before after rest : List ℕ) (fed : Fed c true old mid session d.opening (d.text ++ text) d.steps before before
+    after)
     (no_read : owed_among fed.more ≡ fed.more) (me : session.me ≡ d.number) (goes : is_halted session.ended ≡ false)
     (said : IsHeadingOf (Some d.opening) ((d.text ++ text) ++ rest) heading) where
   -- the connection with the bytes and steps
@@ -80,7 +81,8 @@ module _ (c : Config) (heading : Heading) (old mid : Histories) (d : Connected) 
   fed_moved = came_moved c heading old mid d text fed.more session after rest fed_stands goes said no_read fed_called
 
   -- it goes on
-  pub feed_goes : d.closed ≡ None → session.ended ≡ None → Becomes c heading old mid d (arrives text) (Open session) after
+  pub feed_goes : d.closed ≡ None → session.ended ≡ None → Becomes c heading old mid d (arrives text) (Open session)
+      after
   feed_goes uncut on = record {
     connection = fed_to.connection;
     is = fed_moved ∙ ap (λ (e : Option Ending). closed_if e c fed_by fed_to) on;
@@ -116,7 +118,8 @@ module _ (c : Config) (heading : Heading) (old mid : Histories) (d : Connected) 
       let same : fed_by ≡ judged c d.opening fed_stands.heading (d.text ++ text) =
       judged_so c heading mid first session after rest fed_stands goes said in
       let closed : IsClosed c true mid now session.me session.ended fed_by first.steps lasts.End receipt =
-      subst (λ (j : Judged). IsClosed c true mid now session.me session.ended j first.steps lasts.End receipt) (sym same)
+      subst (λ (j : Judged). IsClosed c true mid now session.me session.ended j first.steps lasts.End receipt)
+      (sym same)
       (closes fed_stands.heading fed_stands.is_heading) in
       let called : Called c true mid now d.number closed.more =
       subst (λ (n : ℕ). Called c true mid now n closed.more) me closed.called in
@@ -144,7 +147,8 @@ module _ (c : Config) (heading : Heading) (old mid : Histories) (d : Connected) 
 -- a turn was taken, and the session goes on
 pub turn_goes : (c : Config) (heading : Heading) (old now : Histories) (d : Connected) (budget : ℕ) (session : Session)
     (before after rest : List ℕ)
-    → Turned c true old now budget session d.opening d.text d.steps before before after → session.me ≡ d.number → d.closed ≡ None
+    → Turned c true old now budget session d.opening d.text d.steps before before after → session.me ≡ d.number
+    → d.closed ≡ None
     → session.ended ≡ None → IsHeadingOf (Some d.opening) (d.text ++ rest) heading
     → Becomes c heading old now d (takes_turn budget) (Open session) after
 turn_goes c heading old now d budget session before after rest fed me uncut on said =
@@ -169,7 +173,8 @@ turn_goes c heading old now d budget session before after rest fed me uncut on s
 -- ---- an end
 
 -- a connection that goes on is closed
-pub close_ends : (c : Config) (heading : Heading) (old now : Histories) (d : Connected) (last : Last) (session : Session)
+pub close_ends : (c : Config) (heading : Heading) (old now : Histories) (d : Connected) (last : Last)
+    (session : Session)
     (bytes rest : List ℕ) (receipt : Receipt) → IsGoing c heading old d session bytes
     → AllSound c old.rings (segments_after [] d.steps) → IsHeadingOf (Some d.opening) (d.text ++ rest) heading
     → ((h : Heading) → IsHeadingOf (Some d.opening) d.text h

@@ -48,7 +48,8 @@ opened-append n [] second = refl
 opened-append n (events.Open k ∷ first) second =
     ap (opened_if (k == n) sends_head) (opened-append n first second) ∙ if_later (k == n) sends_head _ _
 opened-append n (events.Source k mount ∷ first) second =
-    ap (opened_if (k == n) (bare_source mount)) (opened-append n first second) ∙ if_later (k == n) (bare_source mount) _ _
+    ap (opened_if (k == n) (bare_source mount)) (opened-append n first second)
+    ∙ if_later (k == n) (bare_source mount) _ _
 opened-append n (events.Rover k mount ∷ first) second =
     ap (opened_if (k == n) (bare_rover mount)) (opened-append n first second) ∙ if_later (k == n) (bare_rover mount) _ _
 opened-append n (events.Relay k relay ∷ first) second =
@@ -106,7 +107,8 @@ uncut_on n (events.End k ∷ first) second is = uncut_if (k == n) (is_cut n firs
 
 -- ---- its bytes
 
-bytes_if : (here : Bool) (bytes first : List ℕ) (cut : Bool) (second rest : List ℕ) → rest ≡ first ++ unless_cut cut second
+bytes_if : (here : Bool) (bytes first : List ℕ) (cut : Bool) (second rest : List ℕ)
+    → rest ≡ first ++ unless_cut cut second
     → cond here (bytes ++ rest) rest ≡ cond here (bytes ++ first) first ++ unless_cut cut second
 bytes_if true bytes first cut second rest is =
     ap (λ (l : List ℕ). bytes ++ l) is ∙ sym (append_assoc bytes first (unless_cut cut second))

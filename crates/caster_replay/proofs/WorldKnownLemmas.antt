@@ -112,7 +112,8 @@ pub record Tells (event : Event) (number : ℕ) (what : Happening) : Type 0 wher
   pub others : (n : ℕ) → number ≢ n → IsSilent n event
   pub unopened : (n : ℕ) → opened_as n (event ∷ []) ≡ None
 
-known_moved : (c : Config) (headings : ℕ → Heading) (list : List Event) (event : Event) (what : Happening) (h : Histories)
+known_moved : (c : Config) (headings : ℕ → Heading) (list : List Event) (event : Event) (what : Happening)
+    (h : Histories)
     (d : Connected) → Tells event d.number what → IsKnown c headings list d
     → goes_on (judged_of c (headings d.number) d) d.steps d.closed ≡ true
     → IsKnown c headings (list ++ event ∷ []) (moved c (headings d.number) h d what).connection
@@ -261,7 +262,8 @@ known_new : (c : Config) (headings : ℕ → Heading) (list : List Event) (event
 known_new c headings list event number o h starts clean none =
     known_if c headings (list ++ event ∷ []) _ (judged_of c (headings number) (with_text (fresh number o) []))
     (makes c h (with_text (fresh number o) []) (owed c o (headings number) [] [] (arrives [])))
-    (opened-append number list (event ∷ []) ∙ ap (λ (x : Option Opening). or_later x (opened_as number (event ∷ []))) none
+    (opened-append number list (event ∷ []) ∙ ap (λ (x : Option Opening). or_later x (opened_as number (event ∷ [])))
+    none
     ∙ starts.here)
     (bytes_same number list event (starts.silent number).0 ∙ (clean none).0)
     (uncut_on number list (event ∷ []) (clean none).1 ∙ (starts.silent number).1)

@@ -39,7 +39,8 @@ later_no true b none = absurd cc
 later_no false b none = none
 
 -- the first of several connections has another number than one that was not opened
-pub apart_first : (number : ℕ) (d : Connected) (ds : List Connected) → is_opened number (d ∷ ds) ≡ false → d.number ≢ number
+pub apart_first : (number : ℕ) (d : Connected) (ds : List Connected) → is_opened number (d ∷ ds) ≡ false
+    → d.number ≢ number
 apart_first number d ds none e = first_no (d.number == number) (is_opened number ds) none (eq-eqb d.number number e)
 
 pub none_later : (number : ℕ) (d : Connected) (ds : List Connected) → is_opened number (d ∷ ds) ≡ false
@@ -213,7 +214,8 @@ pairs_set R S number (d ∷ ds) (kept ∷ more) (suc at) x new now each order wi
     )
 
 -- one is placed among them, with what is kept of it
-pub pairs_insert : {L : Type 0} (R S : Connected → L → Type 0) (number : ℕ) (ds : List Connected) (kept : List L) (at : ℕ)
+pub pairs_insert : {L : Type 0} (R S : Connected → L → Type 0) (number : ℕ) (ds : List Connected) (kept : List L)
+    (at : ℕ)
     (new : Connected) (now : L) → ((d : Connected) (l : L) → d.number ≢ number → R d l → S d l)
     → is_opened number ds ≡ false → S new now
     → Pairs R ds kept → Pairs S (insert ds at new) (insert kept at now)

@@ -35,7 +35,8 @@ elsewhere mount at call answer steps apart =
     ap (λ b. cond b ((call, answer) ∷ []) [] ++ on_ring at steps) (ne_eqb mount at apart)
 
 -- what was heard first at the mountpoint of the first step
-heard_here : (c : Config) (old now : Histories) (me mount : ℕ) (call : RingCall) (answer : RingAnswer) (steps : List Step)
+heard_here : (c : Config) (old now : Histories) (me mount : ℕ) (call : RingCall) (answer : RingAnswer)
+    (steps : List Step)
     → Called c true old now me (at_ring mount call answer ∷ steps)
     → Heard true (answer_at (shapes c) mount) (history_at old.rings mount) (history_at now.rings mount) me
     ((call, answer) ∷ on_ring mount steps)
@@ -86,7 +87,8 @@ ring_first c old now me mount call answer steps called =
             | inr apart ↦
                 subst (λ (h : History RingCall). Heard true (answer_at (shapes c) at) h (history_at now.rings at) me
                 (on_ring at steps)) (sym (get_or-set_other old.rings mount at new [] (λ e. apart (sym e))))
-                (subst (λ pairs. Heard true (answer_at (shapes c) at) (history_at old.rings at) (history_at now.rings at)
+                (subst (λ pairs. Heard true (answer_at (shapes c) at) (history_at old.rings at)
+                (history_at now.rings at)
                 me pairs) (elsewhere mount at call answer steps apart) (called.rings.rings at))
           ];
         };

@@ -81,7 +81,8 @@ run_begun c script event lives old now number o y state bytes opening run absent
     let none : opened_as number script ≡ None =
     (run.known first).none number (absent_from c first (after_events c first script) lives old number y
     (run.stands [] first (are_now script run.has)) absent) in
-    let opened : opened_as number (script ++ event ∷ []) ≡ Some o = opened_now script event number o opening.starts none in
+    let opened : opened_as number (script ++ event ∷ []) ≡ Some o = opened_now script event number o opening.starts
+    none in
     let empty : bytes_to number (script ++ event ∷ []) ≡ [] =
     bytes_same number script event (opening.starts.silent number).0 ∙ (clean none).0 in
     record {
@@ -121,7 +122,8 @@ run_opens c script event lives old now number o y session bytes opening run abse
     run_begun c script event lives old now number o y (Open session) bytes opening run absent clean
     (s.heading, s.is_heading)
     (λ headings said.
-    feed_goes c (headings number) old now (fresh number o) [] session [] bytes said.0 fed fed.no_read me (ap is_halted on)
+    feed_goes c (headings number) old now (fresh number o) [] session [] bytes said.0 fed fed.no_read me
+    (ap is_halted on)
     said.1 refl on)
 
 -- one that ended by itself as it opened, and was closed at once
@@ -131,7 +133,8 @@ pub run_opens_over : (c : Config) (script : List Event) (event : Event) (lives :
     → Opens c old mid session o bytes → session.me ≡ number → session.ended ≡ Some end
     → is_halted session.ended ≡ false → Closes c mid now session lasts.End receipt → receipt.settled ≡ true
     → IsRun c (script ++ event ∷ []) (insert lives (place_of number lives) (live_of number (Closed receipt) bytes)) now
-run_opens_over c script event lives old mid now number o y session end receipt bytes opening run absent clean fed me over goes closing settled =
+run_opens_over c script event lives old mid now number o y session end receipt bytes opening run absent clean fed me
+    over goes closing settled =
     let s = stands_so c session o [] fed.more mid fed.added fed.stands goes in
     let first = headings_now script run.has in
     let before_it = run.stands [] first (are_now script run.has) in
@@ -190,7 +193,8 @@ ends_bring_if false bytes none = none
 
 ends_bring_none : (n : ℕ) (lives : List Live) → bytes_to n (map end_of lives) ≡ []
 ends_bring_none n [] = refl
-ends_bring_none n (live ∷ lives) = ends_bring_if (live.number == n) (bytes_to n (map end_of lives)) (ends_bring_none n lives)
+ends_bring_none n (live ∷ lives) = ends_bring_if (live.number == n) (bytes_to n (map end_of lives))
+    (ends_bring_none n lives)
 
 -- the headings are those of the script
 headings_same : (script : List Event) (lives : List Live) (headings : ℕ → Heading)
@@ -266,7 +270,8 @@ pub run_report : (c : Config) (script : List Event) (lives : List Live) (now : H
 run_report c script lives now told run so =
     let all : List Event = script ++ map end_of lives in
     let headings = headings_now all run.has in
-    let at : IsRunAt c headings (after_events c headings all) lives now = run.stands [] headings (are_now all run.has) in
+    let at : IsRunAt c headings (after_events c headings all) lives now =
+    run.stands [] headings (are_now all run.has) in
     let w : World = after_events c headings all in (
       headings,
       headings_same script lives headings (λ n. (run.has n).1),
@@ -288,7 +293,8 @@ taken_by (live ∷ lives) (suc at) new within =
 
 -- the ends of the first connections, with one more
 pub ends_next : (script : List Event) (lives : List Live) (at : ℕ) (new : Live) → at < length lives
-    → (script ++ map end_of (take at lives)) ++ end_of new ∷ [] ≡ script ++ map end_of (take (at + 1) (set lives at new))
+    → (script ++ map end_of (take at lives)) ++ end_of new ∷ [] ≡ script ++ map end_of
+    (take (at + 1) (set lives at new))
 ends_next script lives at new within =
     append_assoc script (map end_of (take at lives)) (end_of new ∷ [])
     ∙ ap (λ (l : List Event). script ++ l)

@@ -104,7 +104,12 @@ increasing_if : (d e : Connected) (ds : List Connected) (test : Bool) → nat_lt
 increasing_if d e ds true is apart order behind =
     (above_placed e.number d ds (ltb-true e.number d.number is) order.0, behind)
 increasing_if d e ds false is apart order behind =
-    let below : d.number < e.number = omega (arith, ltb-false e.number d.number is, λ (q : e.number ≡ d.number). apart q) in
+    let below : d.number < e.number = omega (
+      arith,
+      ltb-false e.number d.number is,
+      λ (q : e.number ≡ d.number). apart
+          q,
+    ) in
     ((below, above_less d.number e.number ds (omega (arith, below)) order.0), order)
 
 pub increasing_placed : (d : Connected) (ds : List Connected) → is_opened d.number ds ≡ false → IsIncreasing ds
@@ -209,7 +214,8 @@ run_opened c headings w lives old now number o state bytes run none b =
     let live : Live = record { number = number; state = state; bytes = bytes } in
     let is : opens c headings w number o ≡ world_of (placed b.connection ds) now =
     ap (λ (t : Bool). opened_if t w (moved c (headings number) w.histories (fresh number o) (arrives []))) none
-    ∙ ap (λ (h : Histories). opened_if false w (moved c (headings number) h (fresh number o) (arrives []))) run.histories
+    ∙ ap (λ (h : Histories). opened_if false w (moved c (headings number) h (fresh number o) (arrives [])))
+    run.histories
     ∙ ap (λ (m : Moved). world_of (placed m.connection ds) m.histories) b.is in
     let at : prefix_len (before b.connection.number) ds ≡ place_of number lives =
     ap (λ (n : ℕ). prefix_len (before n) ds) b.number ∙ sym (place_same c headings w lives old number run) in

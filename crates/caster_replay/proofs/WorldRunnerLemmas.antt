@@ -336,7 +336,8 @@ pub run_fed_over : (c : Config) (script : List Event) (lives : List Live) (old m
     → Feeds c old mid session next text before after → next.me ≡ session.me → next.ended ≡ Some end
     → is_halted next.ended ≡ false → Closes c mid now next lasts.End receipt → receipt.settled ≡ true
     → IsRun c (script ++ events.In number text ∷ []) (set lives at (live_of number (Closed receipt) after)) now
-run_fed_over c script lives old mid now number at y session next end receipt text before after run within is feeds me over goes closes settled =
+run_fed_over c script lives old mid now number at y session next end receipt text before after run within is feeds me
+    over goes closes settled =
     run_about c script (events.In number text) lives old now number (arrives text) at y session (Closed receipt) before
     after (about_in number text) run within is
     (has_fed c script lives old mid number at y session next text before after run within is feeds goes)
@@ -479,7 +480,8 @@ run_skipped c script event lives now number what at y receipt bytes about run wi
           within is in
           subst (λ (w : World). IsRunAt c headings w lives now)
           (sym (after_one c headings script event ∙ about.is c headings (after_events c headings script)))
-          (run_over c headings (after_events c headings script) lives now number what at nobody before_it f.within f.here
+          (run_over c headings (after_events c headings script) lives now number what at nobody before_it f.within
+          f.here
           f.kept.stops);
     }
 

@@ -140,17 +140,42 @@ none_within false rest total few = few
 
 pub bytes_within : (n : ℕ) (script : List Event) → length (bytes_to n script) ≤ sum_by input_length script
 bytes_within n [] = omega arith
-bytes_within n (events.Source k mount ∷ list) = omega (arith, bytes_within n list, sum_by-cons input_length (events.Source k mount) list)
-bytes_within n (events.Rover k mount ∷ list) = omega (arith, bytes_within n list, sum_by-cons input_length (events.Rover k mount) list)
-bytes_within n (events.Open k ∷ list) = omega (arith, bytes_within n list, sum_by-cons input_length (events.Open k) list)
-bytes_within n (events.Relay k relay ∷ list) = omega (arith, bytes_within n list, sum_by-cons input_length (events.Relay k relay) list)
+bytes_within n (events.Source k mount ∷ list) = omega (
+  arith,
+  bytes_within n list,
+  sum_by-cons input_length
+      (events.Source k mount) list,
+)
+bytes_within n (events.Rover k mount ∷ list) = omega (
+  arith,
+  bytes_within n list,
+  sum_by-cons input_length
+      (events.Rover k mount) list,
+)
+bytes_within n (events.Open k ∷ list) = omega (
+  arith,
+  bytes_within n list,
+  sum_by-cons input_length (events.Open k)
+      list,
+)
+bytes_within n (events.Relay k relay ∷ list) = omega (
+  arith,
+  bytes_within n list,
+  sum_by-cons input_length
+      (events.Relay k relay) list,
+)
 bytes_within n (events.In k bytes ∷ list) =
     omega (
       arith,
       in_within (k == n) bytes (bytes_to n list) (sum_by input_length list) (bytes_within n list),
       sum_by-cons input_length (events.In k bytes) list,
     )
-bytes_within n (events.Turn k budget ∷ list) = omega (arith, bytes_within n list, sum_by-cons input_length (events.Turn k budget) list)
+bytes_within n (events.Turn k budget ∷ list) = omega (
+  arith,
+  bytes_within n list,
+  sum_by-cons input_length
+      (events.Turn k budget) list,
+)
 bytes_within n (events.Break k ∷ list) =
     omega (
       arith,

@@ -114,7 +114,8 @@ pub going_concerned : (c : Config) (heading : Heading) (now : Histories) (d : Co
     → IsHeadingOf (Some d.opening) (d.text ++ rest) heading → goes_on (judged_of c heading d) d.steps d.closed ≡ true
 going_concerned c heading now d session bytes rest g said =
     let by : ended_by (judged_of c heading d) (received d.steps) ≡ None =
-    sym (ended_so c heading g.histories d session bytes rest g.stands (none_halted session.ended g.goes) said) ∙ g.goes in
+    sym (ended_so c heading g.histories d session bytes rest g.stands (none_halted session.ended g.goes) said)
+    ∙ g.goes in
     ap (λ (l : Option Last). is_none l && is_none (ended_by (judged_of c heading d) (received d.steps))) g.uncut
     ∙ ap (λ (e : Option Ending). is_none e) by
 

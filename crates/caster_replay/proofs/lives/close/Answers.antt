@@ -14,7 +14,8 @@ returns-then-not-stands_at c = record {
       stands_absent config script event c.args.entries.now.items c.args.desks.now c.args.number (ends c.args.last)
       (about_of event c.args.number c.args.last over) plays
       ((looked c.deref.result.now c.deref-2.result.now c.args.entries.now.items c.args.number c.place_of-place.result
-      c.stands_at.result c.deref.ensures.value c.deref-2.ensures.value c.place_of-place.ensures.place c.stands_at.ensures).absent c.if-not-stands_at.true);
+      c.stands_at.result c.deref.ensures.value c.deref-2.ensures.value c.place_of-place.ensures.place
+      c.stands_at.ensures).absent c.if-not-stands_at.true);
   silent = λ n. refl;
 }
 
@@ -24,8 +25,10 @@ close_at-requires-clause-may c =
     let script = c.requires.run.1 in
     let event = c.requires.run.2 in
     let plays = c.requires.run.4 in
-    let there = (looked c.deref.result.now c.deref-2.result.now c.args.entries.now.items c.args.number c.place_of-place.result
-    c.stands_at.result c.deref.ensures.value c.deref-2.ensures.value c.place_of-place.ensures.place c.stands_at.ensures).here c.if-not-stands_at.false in (
+    let there = (looked c.deref.result.now c.deref-2.result.now c.args.entries.now.items c.args.number
+    c.place_of-place.result
+    c.stands_at.result c.deref.ensures.value c.deref-2.ensures.value c.place_of-place.ensures.place
+    c.stands_at.ensures).here c.if-not-stands_at.false in (
       config,
       plays.places,
       λ d. may_close_at config script c.args.entries.now.items c.args.desks.now c.place_of-place.result d there.0
@@ -39,8 +42,10 @@ returns c = record {
   ok = λ config script event over plays.
       let entries : List Entry = c.args.entries.now.items in
       let place : ℕ = c.place_of-place.result in
-      let there = (looked c.deref.result.now c.deref-2.result.now c.args.entries.now.items c.args.number c.place_of-place.result
-      c.stands_at.result c.deref.ensures.value c.deref-2.ensures.value c.place_of-place.ensures.place c.stands_at.ensures).here c.if-not-stands_at.false in
+      let there = (looked c.deref.result.now c.deref-2.result.now c.args.entries.now.items c.args.number
+      c.place_of-place.result
+      c.stands_at.result c.deref.ensures.value c.deref-2.ensures.value c.place_of-place.ensures.place
+      c.stands_at.ensures).here c.if-not-stands_at.false in
       let d : Entry = entry_at entries place there.0 in
       on_ok_weaker c.close_at.result (λ closed. record {
         places = places_stay config c.args.desks.now c.close_at.new.desks c.close_at.ensures.same plays.places;
@@ -64,6 +69,7 @@ returns c = record {
 
 pub place_of-place-requires : goal.place_of-place-requires
 place_of-place-requires c = record {
-  order = in_order c.requires.run.0 c.requires.run.1 c.args.entries.now.items c.deref.result.now c.args.desks.now.seen c.requires.run.4.runs
+  order = in_order c.requires.run.0 c.requires.run.1 c.args.entries.now.items c.deref.result.now c.args.desks.now.seen
+      c.requires.run.4.runs
       c.deref.ensures.value;
 }

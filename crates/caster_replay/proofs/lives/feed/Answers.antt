@@ -23,7 +23,8 @@ returns-then-not-stands_at c = record {
       stands_absent c.args.config.now script (events.In c.args.number c.args.bytes.now) c.args.entries.now.items
       c.args.desks.now c.args.number (arrives c.args.bytes.now) (about_in c.args.number c.args.bytes.now) plays
       ((looked c.deref.result.now c.deref-2.result.now c.args.entries.now.items c.args.number c.place_of-place.result
-      c.stands_at.result c.deref.ensures.value c.deref-2.ensures.value c.place_of-place.ensures.place c.stands_at.ensures).absent c.if-not-stands_at.true);
+      c.stands_at.result c.deref.ensures.value c.deref-2.ensures.value c.place_of-place.ensures.place
+      c.stands_at.ensures).absent c.if-not-stands_at.true);
   sends = sends_nothing c.args.number (lives_in c.args.entries.now.items);
 }
 
@@ -31,8 +32,10 @@ pub feed-requires-clause-may : goal.feed-requires-clause-may
 feed-requires-clause-may c =
     let plays = c.requires.run.1 in
     let entry : Entry = c.index_mut.result.now in
-    let there = (looked c.deref.result.now c.deref-2.result.now c.args.entries.now.items c.args.number c.place_of-place.result
-    c.stands_at.result c.deref.ensures.value c.deref-2.ensures.value c.place_of-place.ensures.place c.stands_at.ensures).here c.if-not-stands_at.false in
+    let there = (looked c.deref.result.now c.deref-2.result.now c.args.entries.now.items c.args.number
+    c.place_of-place.result
+    c.stands_at.result c.deref.ensures.value c.deref-2.ensures.value c.place_of-place.ensures.place
+    c.stands_at.ensures).here c.if-not-stands_at.false in
     may_go_on c.args.config.now c.requires.run.0 (lives_in c.args.entries.now.items) c.args.desks.now.seen c.args.number
     c.place_of-place.result (live_in entry) entry.bytes.items plays.runs
     (within_lives c.args.entries.now.items c.place_of-place.result there.0) (length c.args.bytes.now) entry.state
@@ -46,8 +49,10 @@ close_at-requires-clause-may c =
     let entry : Entry = c.index_mut.result.now in
     let entries : List Entry = c.args.entries.now.items in
     let place : ℕ = c.place_of-place.result in
-    let there = (looked c.deref.result.now c.deref-2.result.now c.args.entries.now.items c.args.number c.place_of-place.result
-    c.stands_at.result c.deref.ensures.value c.deref-2.ensures.value c.place_of-place.ensures.place c.stands_at.ensures).here c.if-not-stands_at.false in (
+    let there = (looked c.deref.result.now c.deref-2.result.now c.args.entries.now.items c.args.number
+    c.place_of-place.result
+    c.stands_at.result c.deref.ensures.value c.deref-2.ensures.value c.place_of-place.ensures.place
+    c.stands_at.ensures).here c.if-not-stands_at.false in (
       c.args.config.now,
       places_stay c.args.config.now c.args.desks.now c.feed.new.desks c.feed.ensures.same plays.places,
       λ d. subst (λ (e : Entry). MayBeClosed c.args.config.now c.feed.new.desks.seen e.state)
@@ -67,17 +72,21 @@ returns-in-Open c = record {
       let entry : Entry = c.index_mut.result.now in
       let entries : List Entry = c.args.entries.now.items in
       let place : ℕ = c.place_of-place.result in
-      let there = (looked c.deref.result.now c.deref-2.result.now c.args.entries.now.items c.args.number c.place_of-place.result
-      c.stands_at.result c.deref.ensures.value c.deref-2.ensures.value c.place_of-place.ensures.place c.stands_at.ensures).here c.if-not-stands_at.false in
+      let there = (looked c.deref.result.now c.deref-2.result.now c.args.entries.now.items c.args.number
+      c.place_of-place.result
+      c.stands_at.result c.deref.ensures.value c.deref-2.ensures.value c.place_of-place.ensures.place
+      c.stands_at.ensures).here c.if-not-stands_at.false in
       record {
         places = places_stay c.args.config.now c.args.desks.now c.feed.new.desks c.feed.ensures.same plays.places;
         runs = runs_put c.args.config.now (script ++ events.In c.args.number c.args.bytes.now ∷ []) entries place
             c.args.number c.feed.new.self c.feed.new.desks.seen
             (c.feed.ensures.number ∙ ap (λ (e : Entry). e.number) c.index_mut.ensures.value ∙ there.1 entry)
-            (play_fed c.args.config.now script (lives_in entries) c.args.desks.now.seen c.args.number place (live_in entry)
+            (play_fed c.args.config.now script (lives_in entries) c.args.desks.now.seen c.args.number place
+            (live_in entry)
             entry.bytes.items plays.runs (within_lives entries place there.0) c.feed.new.desks.seen c.feed.result
             entry.state c.feed.new.self.state c.args.bytes.now c.feed.new.self.bytes.items
-            (here_at entries place c.args.number entry there c.index_mut.ensures.value) c.feed.ensures.fed c.in-Open.is);
+            (here_at entries place c.args.number entry there c.index_mut.ensures.value) c.feed.ensures.fed
+            c.in-Open.is);
       };
   sends =
       let entry : Entry = c.index_mut.result.now in
@@ -88,7 +97,8 @@ returns-in-Open c = record {
       c.deref.ensures.value c.deref-2.ensures.value c.place_of-place.ensures.place c.stands_at.ensures in
       let there = look.here c.if-not-stands_at.false in
       let here = here_at entries place c.args.number entry there c.index_mut.ensures.value in
-      sends_at entries place c.args.number entry (live_in new) (lives_in (set entries place new)) there look.place_is here
+      sends_at entries place c.args.number entry (live_in new) (lives_in (set entries place new)) there look.place_is
+      here
       (c.feed.ensures.number ∙ ap (λ (e : Entry). e.number) c.index_mut.ensures.value ∙ there.1 entry)
       (fed_more c.args.config.now c.requires.run.0 (lives_in entries) c.args.desks.now.seen c.args.number place
       (live_in entry) entry.bytes.items c.requires.run.1.runs (within_lives entries place there.0) c.feed.new.desks.seen
@@ -104,8 +114,10 @@ returns-in-Ended c = record {
       let new : Entry = c.feed.new.self in
       let entries : List Entry = c.args.entries.now.items in
       let place : ℕ = c.place_of-place.result in
-      let there = (looked c.deref.result.now c.deref-2.result.now c.args.entries.now.items c.args.number c.place_of-place.result
-      c.stands_at.result c.deref.ensures.value c.deref-2.ensures.value c.place_of-place.ensures.place c.stands_at.ensures).here c.if-not-stands_at.false in
+      let there = (looked c.deref.result.now c.deref-2.result.now c.args.entries.now.items c.args.number
+      c.place_of-place.result
+      c.stands_at.result c.deref.ensures.value c.deref-2.ensures.value c.place_of-place.ensures.place
+      c.stands_at.ensures).here c.if-not-stands_at.false in
       let places = places_stay c.args.config.now c.args.desks.now c.feed.new.desks c.feed.ensures.same plays.places in
       on_ok_weaker c.close_at.result (λ closed.
       let by = lives_closed c.args.config.now c.feed.new.desks.seen c.close_at.new.desks.seen entries
@@ -113,7 +125,8 @@ returns-in-Ended c = record {
       (c.feed.ensures.number ∙ ap (λ (e : Entry). e.number) c.index_mut.ensures.value ∙ there.1 entry) closed in
       record {
         places = places_stay c.args.config.now c.feed.new.desks c.close_at.new.desks c.close_at.ensures.same places;
-        runs = subst (λ (l : List Live). Runs c.args.config.now (script ++ events.In c.args.number c.args.bytes.now ∷ []) l
+        runs = subst (λ (l : List Live). Runs c.args.config.now (script ++ events.In c.args.number c.args.bytes.now ∷
+            []) l
             c.close_at.new.desks.seen) (sym by.2)
             (play_fed_over c.args.config.now script (lives_in entries) c.args.desks.now.seen c.args.number place
             (live_in entry) entry.bytes.items plays.runs (within_lives entries place there.0) c.feed.new.desks.seen
@@ -146,6 +159,7 @@ returns-in-Ended c = record {
 
 pub place_of-place-requires : goal.place_of-place-requires
 place_of-place-requires c = record {
-  order = in_order c.args.config.now c.requires.run.0 c.args.entries.now.items c.deref.result.now c.args.desks.now.seen c.requires.run.1.runs
+  order = in_order c.args.config.now c.requires.run.0 c.args.entries.now.items c.deref.result.now c.args.desks.now.seen
+      c.requires.run.1.runs
       c.deref.ensures.value;
 }

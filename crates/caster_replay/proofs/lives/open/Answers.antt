@@ -18,7 +18,8 @@ returns-then-stands_at c = record {
       stands_again c.args.config.now script event c.args.entries.now.items c.args.desks.now c.args.number
       c.place_of-place.result (opening_of c.args.way) begins plays
       ((looked c.deref.result.now c.deref-2.result.now c.args.entries.now.items c.args.number c.place_of-place.result
-      c.stands_at.result c.deref.ensures.value c.deref-2.ensures.value c.place_of-place.ensures.place c.stands_at.ensures).here c.if-stands_at.true);
+      c.stands_at.result c.deref.ensures.value c.deref-2.ensures.value c.place_of-place.ensures.place
+      c.stands_at.ensures).here c.if-stands_at.true);
   sends = λ event begins. sends_none event (lives_in c.args.entries.now.items);
 }
 
@@ -46,8 +47,10 @@ returns c = record {
   ok = λ script event begins plays.
       let config = c.args.config.now in
       let entries : List Entry = c.args.entries.now.items in
-      let look = looked c.deref.result.now c.deref-2.result.now c.args.entries.now.items c.args.number c.place_of-place.result
-      c.stands_at.result c.deref.ensures.value c.deref-2.ensures.value c.place_of-place.ensures.place c.stands_at.ensures in
+      let look = looked c.deref.result.now c.deref-2.result.now c.args.entries.now.items c.args.number
+      c.place_of-place.result
+      c.stands_at.result c.deref.ensures.value c.deref-2.ensures.value c.place_of-place.ensures.place
+      c.stands_at.ensures in
       subst (λ (l : List Entry). Stands config (script ++ event ∷ []) l c.settled.new.desks)
       (sym c.in_ok-insert.ensures.items)
       (stands_opened config script event entries c.args.desks.now c.opened.new.desks c.settled.new.desks c.args.number
@@ -72,6 +75,7 @@ returns c = record {
 
 pub place_of-place-requires : goal.place_of-place-requires
 place_of-place-requires c = record {
-  order = in_order c.args.config.now c.requires.run.0 c.args.entries.now.items c.deref.result.now c.args.desks.now.seen c.requires.run.3.runs
+  order = in_order c.args.config.now c.requires.run.0 c.args.entries.now.items c.deref.result.now c.args.desks.now.seen
+      c.requires.run.3.runs
       c.deref.ensures.value;
 }

@@ -18,7 +18,8 @@ returns-then-not-stands_at c = record {
       stands_absent config script (events.Turn c.args.number c.args.budget) c.args.entries.now.items c.args.desks.now
       c.args.number (takes_turn c.args.budget) (about_turn c.args.number c.args.budget) plays
       ((looked c.deref.result.now c.deref-2.result.now c.args.entries.now.items c.args.number c.place_of-place.result
-      c.stands_at.result c.deref.ensures.value c.deref-2.ensures.value c.place_of-place.ensures.place c.stands_at.ensures).absent c.if-not-stands_at.true);
+      c.stands_at.result c.deref.ensures.value c.deref-2.ensures.value c.place_of-place.ensures.place
+      c.stands_at.ensures).absent c.if-not-stands_at.true);
   sends = sends_nothing c.args.number (lives_in c.args.entries.now.items);
 }
 
@@ -26,8 +27,10 @@ pub turn-requires : goal.turn-requires
 turn-requires c =
     let plays = c.requires.run.2 in
     let entry : Entry = c.index_mut.result.now in
-    let there = (looked c.deref.result.now c.deref-2.result.now c.args.entries.now.items c.args.number c.place_of-place.result
-    c.stands_at.result c.deref.ensures.value c.deref-2.ensures.value c.place_of-place.ensures.place c.stands_at.ensures).here c.if-not-stands_at.false in
+    let there = (looked c.deref.result.now c.deref-2.result.now c.args.entries.now.items c.args.number
+    c.place_of-place.result
+    c.stands_at.result c.deref.ensures.value c.deref-2.ensures.value c.place_of-place.ensures.place
+    c.stands_at.ensures).here c.if-not-stands_at.false in
     let room = room_so_far c.requires.run.0 c.requires.run.1 (events.Turn c.args.number c.args.budget)
     c.args.entries.now.items c.args.desks.now plays in
     record {
@@ -49,8 +52,10 @@ returns-in-Open c = record {
       let entry : Entry = c.index_mut.result.now in
       let entries : List Entry = c.args.entries.now.items in
       let place : ℕ = c.place_of-place.result in
-      let there = (looked c.deref.result.now c.deref-2.result.now c.args.entries.now.items c.args.number c.place_of-place.result
-      c.stands_at.result c.deref.ensures.value c.deref-2.ensures.value c.place_of-place.ensures.place c.stands_at.ensures).here c.if-not-stands_at.false in
+      let there = (looked c.deref.result.now c.deref-2.result.now c.args.entries.now.items c.args.number
+      c.place_of-place.result
+      c.stands_at.result c.deref.ensures.value c.deref-2.ensures.value c.place_of-place.ensures.place
+      c.stands_at.ensures).here c.if-not-stands_at.false in
       record {
         places = places_stay config c.args.desks.now c.turn.new.desks c.turn.ensures.same plays.places;
         runs = runs_put config (script ++ events.Turn c.args.number c.args.budget ∷ []) entries place
@@ -72,7 +77,8 @@ returns-in-Open c = record {
       c.deref.ensures.value c.deref-2.ensures.value c.place_of-place.ensures.place c.stands_at.ensures in
       let there = look.here c.if-not-stands_at.false in
       let here = here_at entries place c.args.number entry there c.index_mut.ensures.value in
-      sends_at entries place c.args.number entry (live_in new) (lives_in (set entries place new)) there look.place_is here
+      sends_at entries place c.args.number entry (live_in new) (lives_in (set entries place new)) there look.place_is
+      here
       (c.turn.ensures.number ∙ ap (λ (e : Entry). e.number) c.index_mut.ensures.value ∙ there.1 entry)
       (turned_more c.requires.run.0 c.requires.run.1 (lives_in entries) c.args.desks.now.seen c.args.number place
       (live_in entry) entry.bytes.items plays.runs (within_lives entries place there.0) c.turn.new.desks.seen
@@ -83,6 +89,7 @@ returns-in-Open c = record {
 
 pub place_of-place-requires : goal.place_of-place-requires
 place_of-place-requires c = record {
-  order = in_order c.requires.run.0 c.requires.run.1 c.args.entries.now.items c.deref.result.now c.args.desks.now.seen c.requires.run.2.runs
+  order = in_order c.requires.run.0 c.requires.run.1 c.args.entries.now.items c.deref.result.now c.args.desks.now.seen
+      c.requires.run.2.runs
       c.deref.ensures.value;
 }

@@ -7,4 +7,5 @@ use Rattle.caster_replay.proofs.rings.caps_of.Given as goal
 abbrev pub invariant-loop-account : goal.invariant-loop-account
 invariant-loop-account l =
     l.list.items
-    ≡ anonymous_cap l.config.anonymous ∷ map (λ (account : Account). account.cap) (take l.account-index l.config.account)
+    ≡ anonymous_cap l.config.anonymous ∷ map (λ (account : Account). account.cap)
+    (take l.account-index l.config.account)

@@ -16,4 +16,5 @@ returns-clause-shape c = λ d.
     ∙ shape_at c.args.config.now.group c.args.number c.args.config.now.mount c.index-as_slice-number.result d
     c.requires.there
     (c.index-as_slice-number.is
-    ∙ ap (λ (l : List Mount). get_or l c.args.number c.index-as_slice-number.result) c.as_slice.ensures)) c.new-3.ensures.inner
+    ∙ ap (λ (l : List Mount). get_or l c.args.number c.index-as_slice-number.result) c.as_slice.ensures))
+    c.new-3.ensures.inner

@@ -12,11 +12,14 @@ pub loop-place-preserved : goal.loop-place-preserved
 loop-place-preserved c =
     let history = place_seen c.place-item.result in
     c.in_ok-push.ensures.items
-    ∙ ap (λ (totals : List MountTotal). totals ++ total_with c.published.result c.claims.result ∷ []) c.loop-place.invariant
-    ∙ ap (λ (total : MountTotal). map mount_total (take c.loop-place.place-index c.args.desks.now.seen.rings) ++ total ∷ [])
+    ∙ ap (λ (totals : List MountTotal). totals ++ total_with c.published.result c.claims.result ∷ [])
+    c.loop-place.invariant
+    ∙ ap (λ (total : MountTotal). map mount_total (take c.loop-place.place-index c.args.desks.now.seen.rings) ++ total ∷
+    [])
     (ap (λ (n : ℕ). total_with n c.claims.result) (c.published.ensures history c.ring-ring.ensures)
     ∙ ap (total_with (length (state_of history).published)) (c.claims.ensures history c.ring-ring.ensures))
-    ∙ subst (λ (v : DesksValue). map mount_total (take c.loop-place.place-index v.seen.rings) ++ mount_total history ∷ []
+    ∙ subst (λ (v : DesksValue). map mount_total (take c.loop-place.place-index v.seen.rings) ++ mount_total history ∷
+    []
     ≡ map mount_total (take (c.loop-place.place-index + 1) v.seen.rings)) c.desks.view_is
     (totals_more c.desks.inside.places.rings.items c.loop-place.place-index c.place-item.result place_seen
     (omega (arith, c.loop-place-test.true, ap length c.as_slice-place-items.ensures.value))

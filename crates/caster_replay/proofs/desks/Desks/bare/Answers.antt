@@ -16,6 +16,7 @@ returns-clause-same c = record {
 pub returns-clause-opened : goal.returns-clause-opened
 returns-clause-opened c =
     opens_here _ c.args.config.now _ c.args.self.now.seen _
-    (alone_here (λ place. true) (λ book. true) c.self.inside.places.rings.items c.self.inside.places.book (λ place. refl) refl)
+    (alone_here (λ place. true) (λ book. true) c.self.inside.places.rings.items c.self.inside.places.book
+    (λ place. refl) refl)
     (ap (λ (v : DesksValue). v.seen) c.self.view_is) (bare_opening c.args.role c.args.mount.now) c.bare.result
     c.bare.ensures.begun

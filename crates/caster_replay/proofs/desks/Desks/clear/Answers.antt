@@ -12,7 +12,8 @@ returns-clause-rings c = c.clear_all.ensures.shape ∙ ap (λ (v : DesksValue). 
 
 pub returns-clause-seen : goal.returns-clause-seen
 returns-clause-seen c =
-    ap (λ (l : List (History RingCall)). record { rings = l; book = so_far c.self.inside.places.book.past }) c.clear_all.ensures.seen
+    ap (λ (l : List (History RingCall)). record { rings = l; book = so_far c.self.inside.places.book.past })
+    c.clear_all.ensures.seen
     ∙ ap (λ (v : DesksValue). v.seen) c.self.view_is
 
 pub returns-clause-cleared : goal.returns-clause-cleared

@@ -15,8 +15,10 @@ returns-clause-same c = record {
 pub returns-clause-closed : goal.returns-clause-closed
 returns-clause-closed c = λ config places.
     closes_here _ config _ c.args.self.now.seen _
-    (alone_here (λ place. true) (λ book. true) c.self.inside.places.rings.items c.self.inside.places.book (λ place. refl) refl)
+    (alone_here (λ place. true) (λ book. true) c.self.inside.places.rings.items c.self.inside.places.book
+    (λ place. refl) refl)
     (ap (λ (v : DesksValue). v.seen) c.self.view_is) c.args.session c.args.last c.close.result
-    (λ opening heading text steps histories sent. c.close.ensures.closed config opening heading text steps histories sent
+    (λ opening heading text steps histories sent. c.close.ensures.closed config opening heading text steps histories
+    sent
     (ap (λ (v : DesksValue). v.rings) c.self.view_is ∙ places.rings)
     (ap (λ (v : DesksValue). v.book) c.self.view_is ∙ places.book))

@@ -15,6 +15,7 @@ returns-clause-same c = record {
 pub returns-clause-fed : goal.returns-clause-fed
 returns-clause-fed c =
     feeds_here _ c.args.config.now _ c.args.self.now.seen _
-    (alone_here (λ place. true) (λ book. true) c.self.inside.places.rings.items c.self.inside.places.book (λ place. refl) refl)
+    (alone_here (λ place. true) (λ book. true) c.self.inside.places.rings.items c.self.inside.places.book
+    (λ place. refl) refl)
     (ap (λ (v : DesksValue). v.seen) c.self.view_is) c.args.session.now c.feed.new.self c.args.bytes.now
     c.args.out.now.items c.feed.new.out.items c.feed.ensures.fed

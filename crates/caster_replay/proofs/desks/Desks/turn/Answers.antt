@@ -17,7 +17,8 @@ returns-clause-same c = record {
 pub returns-clause-turned : goal.returns-clause-turned
 returns-clause-turned c = λ config places.
     turns_here _ config _ c.args.self.now.seen _
-    (alone_here (λ place. true) (λ book. true) c.self.inside.places.rings.items c.self.inside.places.book (λ place. refl) refl)
+    (alone_here (λ place. true) (λ book. true) c.self.inside.places.rings.items c.self.inside.places.book
+    (λ place. refl) refl)
     (ap (λ (v : DesksValue). v.seen) c.self.view_is) c.args.session.now c.turn.new.self c.args.budget
     c.args.out.now.items c.turn.new.out.items
     (λ rover opening so_far steps histories sent. c.turn.ensures.turned rover config opening so_far steps histories sent

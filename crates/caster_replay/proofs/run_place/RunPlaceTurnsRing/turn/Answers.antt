@@ -25,7 +25,8 @@ turn-requires-in-Greets-clause-fits c =
 
 pub returns-in-Plain-clause-ok : goal.returns-in-Plain-clause-ok
 returns-in-Plain-clause-ok c =
-    let none : place_seen c.args.self.now ++ [] ≡ place_seen c.args.self.now = append-nil (place_seen c.args.self.now) in
+    let none : place_seen c.args.self.now ++ [] ≡ place_seen c.args.self.now =
+    append-nil (place_seen c.args.self.now) in
     IfOk-weaker c.turn.result _ _ (λ reply told. record {
       others = [];
       none_of_mine = refl;
@@ -40,7 +41,8 @@ returns-in-Plain-clause-ok c =
           ∙ ap (λ (h : History RingCall). answer (shape_of (place_shape c.args.self.now)) (state_of h) c.args.call)
           (sym none);
       room = told.2
-          ∙ ap (λ (p : RunPlace). filled (shape_of (place_shape p)) (state_of (place_seen p)) c.args.call c.args.room.now)
+          ∙ ap (λ (p : RunPlace). filled (shape_of (place_shape p)) (state_of (place_seen p)) c.args.call
+          c.args.room.now)
           (sym c.in-Plain.is)
           ∙ ap (λ (h : History RingCall). filled (shape_of (place_shape c.args.self.now)) (state_of h) c.args.call
           c.args.room.now) (sym none);
