@@ -6,7 +6,8 @@ use Rattle.std.specs.Global.{Global}
 use Rattle.caster_main.specs.Command.{are_targets, is_target, target_of, targets_of, texts}
 
 -- fewer than five words are no target
-pub too_few_words : (words : List (String Global)) → 1 ≤ length words → length words < 5 → false ≡ are_targets (texts words)
+pub too_few_words : (words : List (String Global)) → 1 ≤ length words → length words < 5
+    → false ≡ are_targets (texts words)
 too_few_words [] some few = absurd (omega (arith, some))
 too_few_words (a ∷ []) some few = refl
 too_few_words (a ∷ b ∷ []) some few = refl
@@ -26,8 +27,8 @@ behind_five : (words : List (String Global)) → 5 ≤ length words → take (le
 behind_five words five =
     take_all (length words - 5) (drop 5 words) (grind (arith, length-drop))
 
-pub first_words : (words : List (String Global)) (a b c d e : String Global) → 5 ≤ length words → AreFirst words a b c d e
-    → words ≡ a ∷ b ∷ c ∷ d ∷ e ∷ take (length words - 5) (drop 5 words)
+pub first_words : (words : List (String Global)) (a b c d e : String Global) → 5 ≤ length words
+    → AreFirst words a b c d e → words ≡ a ∷ b ∷ c ∷ d ∷ e ∷ take (length words - 5) (drop 5 words)
 first_words [] a b c d e five are = absurd (omega (arith, five))
 first_words (x ∷ []) a b c d e five are = absurd (omega (arith, five))
 first_words (x ∷ y ∷ []) a b c d e five are = absurd (omega (arith, five))

@@ -59,12 +59,13 @@ const PIECE: usize = 65_536;
 /// | `fetch FRAMES TARGET..` | asks the targets in order for frames, until there are FRAMES | the frames |
 ///
 /// C is from 1 to 4,096, CONFIG, SESSION and ADDR have 1 to 255 bytes. SEED is below 2^64, FRAMES from 1
-/// to 10,000, ROVERS from 1 to 64 and LIMIT from 1 to 1,000,000. Numbers are decimal, without signs and leading zeros. A
-/// session that is made is played over one mountpoint `A` with a ring of 64 frames. A fetch has
-/// FRAMES from 1 to 1,000,000 and 1 to 8 targets of five words each, `PROTOCOL ADDR MOUNT USER
-/// PASSWORD`: the version of NTRIP, 1 or 2, the caster's address of 1 to 100 bytes without CR and LF,
-/// the mountpoint, the user or `-` for none, and at most 100 bytes without CR, LF and `;`. Where what
-/// is asked for is not to be had, one line says why:
+/// to 10,000, ROVERS from 1 to 64 and LIMIT from 1 to 1,000,000. Numbers are decimal, without signs
+/// and leading zeros. A session that is made is played over one mountpoint `A` with a ring of 64
+/// frames. A fetch has FRAMES from 1 to 1,000,000 and 1 to 8 targets of five words each, `PROTOCOL
+/// ADDR MOUNT USER PASSWORD`: the version of NTRIP, 1 or 2, the caster's address of 1 to 100 bytes
+/// without CR and LF, the mountpoint, the user or `-` for none, and a password of at most 100 bytes
+/// without CR, LF and `;`. Where what is asked for is not to be had, one line says why; a fetch
+/// writes none:
 ///
 /// | Status | Line | Comes |
 /// |---|---|---|

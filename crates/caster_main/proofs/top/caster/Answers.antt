@@ -215,8 +215,8 @@ returns-in-Some-clause-replayed g c zero config session are =
     fetch_alone _ _ _ (replay config session) c.in-Some.ensures.fetch are refl
 
 pub returns-in-Some-clause-complete_replay : goal.returns-in-Some-clause-complete_replay
-returns-in-Some-clause-complete_replay g c config session files bytes script setting events are told content short is found read
-    store write =
+returns-in-Some-clause-complete_replay g c config session files bytes script setting events are told content short is
+    found read store write =
     fetch_alone _ _ _ (replay config session) c.in-Some.ensures.fetch are refl
 
 pub returns-in-Some-clause-made : goal.returns-in-Some-clause-made
@@ -236,7 +236,8 @@ returns-in-Some-clause-served g c zero config addr limit are =
     fetch_alone _ _ _ (serving config addr limit) c.in-Some.ensures.fetch are refl
 
 pub returns-in-Some-clause-complete_serve : goal.returns-in-Some-clause-complete_serve
-returns-in-Some-clause-complete_serve g c config addr limit files bytes setting are told content short is store write lost =
+returns-in-Some-clause-complete_serve g c config addr limit files bytes setting are told content short is store write
+    lost =
     fetch_alone _ _ _ (serving config addr limit) c.in-Some.ensures.fetch are refl
 
 pub returns-in-Some-clause-network_fault : goal.returns-in-Some-clause-network_fault
@@ -279,7 +280,8 @@ returns-in-Some-clause-fetched g c is frames targets are =
 
 pub returns-in-Some-clause-fetch_torn : goal.returns-in-Some-clause-fetch_torn
 returns-in-Some-clause-fetch_torn g c is frames targets are =
-    torn_run frames targets _ _ _ _ _ _ c.fetch_frames.result (returns-in-Some-clause-fetching g c frames targets are) is
+    torn_run frames targets _ _ _ _ _ _ c.fetch_frames.result
+    (returns-in-Some-clause-fetching g c frames targets are) is
 
 pub returns-in-Some-clause-fetch_memory : goal.returns-in-Some-clause-fetch_memory
 returns-in-Some-clause-fetch_memory g c is frames targets are =
