@@ -1,0 +1,18 @@
+use Rattle.std.proofs.Common.{◌∙◌, ◌++◌, sym, ap}
+use Rattle.std.proofs.lemmas.List.{append-nil}
+use Rattle.std.proofs.lemmas.Result.{on_ok_weaker}
+use Rattle.last_frames.specs.Greeted.{Greeting}
+use Rattle.caster_warm.specs.Warm.{greeting_text}
+use Rattle.caster_warm.proofs.greeting.append_kept.Goals as goal
+
+pub returns-in-Some : goal.returns-in-Some
+returns-in-Some c =
+    on_ok_weaker c.append_frames.result (λ appended.
+    appended
+    ∙ ap (λ (g : Greeting). c.args.out.now.items ++ greeting_text c.args.rover.version g) (sym c.in-Some.ensures.some))
+    c.append_frames.ensures
+
+pub returns-in-None : goal.returns-in-None
+returns-in-None c =
+    sym (append-nil c.args.out.now.items)
+    ∙ ap (λ (g : Greeting). c.args.out.now.items ++ greeting_text c.args.rover.version g) (sym c.in-None.ensures.none)

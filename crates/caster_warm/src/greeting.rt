@@ -1,0 +1,72 @@
+//! The greeting of a rover.
+
+ghost use Rattle.std.specs.Prelude.{◌≡◌, ◌++◌, ℕ, List, OnOk};
+ghost use Rattle.cast_config.specs.declared.config.Config.{Config as ConfigValue};
+ghost use Rattle.rover_session.specs.Body.{body_of, frame_sent};
+ghost use Rattle.session_core.specs.Headings.{Heading};
+ghost use Rattle.session_core.specs.Reports.{AreHeadings};
+ghost use Rattle.session_core.specs.Run.{Histories, after_events};
+ghost use Rattle.session_script.specs.declared.Event.{Event as EventValue};
+ghost use Rattle.caster_replay.specs.Going.{rover_among};
+ghost use Rattle.caster_replay.specs.Kept.{StandsFor, cleared_of, greeting_of};
+ghost use Rattle.caster_replay.specs.Places.{cleared_at};
+ghost use Rattle.caster_warm.specs.Warm.{greeting_for, greeting_text};
+
+use caster_replay::Run;
+use chunk_body::chunk;
+use ntrip_head::Version;
+use rtcm_frame::Frame;
+use session_core::RoverState;
+use std::alloc::AllocError;
+
+/// Appends a frame as it is (RTCM 10410.0), or as one chunk (RFC 9112, section 7.1).
+fn append_frame(version: Version, frame: &Frame, out: &mut Vec<u8>) -> Result<(), AllocError>
+    ensures { OnOk result (out.new.items ≡ out.old.items ++ frame_sent version frame.now) }
+{
+    match version {
+        Version::One => {
+            out.extend_from_slice(frame.bytes())?;
+            Ok(())
+        }
+        Version::Two => chunk(frame, out),
+    }
+}
+
+/// Appends the frames as they are, or one chunk each.
+fn append_frames(version: Version, frames: &[Frame], out: &mut Vec<u8>) -> Result<(), AllocError>
+    ensures { OnOk result (out.new.items ≡ out.old.items ++ body_of version frames.now) }
+{
+    for frame in frames {
+        append_frame(version, frame, out)?;
+    }
+    Ok(())
+}
+
+/// Appends the greeting that the run keeps at the mountpoint of a rover that stands so, if it keeps
+/// one.
+fn append_kept(run: &Run, rover: RoverState, out: &mut Vec<u8>) -> Result<(), AllocError>
+    ensures { OnOk result (out.new.items ≡ out.old.items
+        ++ greeting_text rover.version (greeting_of run.now rover.mount)) }
+{
+    match run.greeting(rover.mount) {
+        Some(frames) => append_frames(rover.version, frames, out),
+        None => Ok(()),
+    }
+}
+
+/// Appends the greeting of the connection of this number, if it is a rover and its newest segment
+/// began since the run was cleared.
+pub(crate) fn append_greeting(run: &Run, number: u32, out: &mut Vec<u8>) -> Result<(), AllocError>
+    requires run { (c : ConfigValue) × (script : List EventValue) × StandsFor c script run.now }
+    ensures { (c : ConfigValue) (script later : List EventValue) (headings : ℕ → Heading)
+        (old : Histories) → StandsFor c script run.now → AreHeadings (script ++ later) headings
+        → cleared_of run.now ≡ cleared_at old.rings
+        → OnOk result (out.new.items ≡ out.old.items ++ greeting_for c old
+        (after_events c headings script).histories
+        (rover_among c headings number (after_events c headings script).connections)) }
+{
+    match run.rover(number) {
+        Some(rover) => append_kept(run, rover, out),
+        None => Ok(()),
+    }
+}

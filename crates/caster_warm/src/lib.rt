@@ -1,0 +1,12 @@
+//! A recorded run in which a rover that joins is greeted: before its frames it is sent the last
+//! ones of the messages that it needs for the others.
+#![tactic(auto)]
+
+mod events;
+mod greeting;
+mod parts;
+#[cfg(test)]
+mod tests;
+mod warming;
+
+pub use warming::warm;
