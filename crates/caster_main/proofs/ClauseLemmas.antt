@@ -16,7 +16,7 @@ use Rattle.run_texts.proofs.BareLemmas.{bare_text}
 use Rattle.caster_main.specs.declared.answers.Answer.{Answer}
 use Rattle.caster_main.specs.declared.answers.Answer.TheVariants.{Done, Valid, NoConfig, NoSession, Usage, Long, ReadFault, NetworkFault, Memory}
 use Rattle.caster_main.specs.declared.command.Aim.{Aim}
-use Rattle.caster_main.specs.Command.{Form, bare, over, replay, made, serving, fetching, AreBare, AreOver, AreReplay, AreMake, AreFetch, AreOf, AreOfNoForm, form_of}
+use Rattle.caster_main.specs.Command.{Form, bare, over, replay, made, serving, fetching, AreBare, AreOver, AreReplay, AreMake, AreOf, AreOfNoForm, form_of}
 use Rattle.caster_main.specs.Outcome.{Exit, Ending, report_of, EndsSo, Came, session_in, ending_of_script, ending_of_config, ending_of_bytes, ending_of_form, ending_of}
 use Rattle.caster_main.specs.Told.{Files, Holds, IsConfigAt, IsConfigIn, IsSessionAt, HasCome, EndsWith, FollowsOutcome, HaveForm, HaveFault, HaveCome}
 use Rattle.caster_main.specs.Answers.{exit_of, IsAnswer, Writes}

@@ -1,11 +1,10 @@
 -- What the words of a fetch and its end say of a status and of what was written.
-use Rattle.std.proofs.Common.{◌≡◌, ℕ, ◌<◌, ◌⊎◌, ◌==◌, ◌||◌, Bool, true, false, List, [], ◌∷◌, length, Option, None, Some, inl, inr, refl, ap, sym, subst, ◌∙◌, arith}
+use Rattle.std.proofs.Common.{◌≡◌, ℕ, ◌<◌, ◌⊎◌, ◌==◌, ◌||◌, Bool, true, false, List, [], length, Option, None, Some, inl, inr, refl, ap, sym, subst, ◌∙◌, arith}
 use Rattle.std.specs.List.{concat}
 use Rattle.cast_io.specs.Causes.{Rose}
-use Rattle.cast_io.specs.Told.{StreetTold, Grew}
+use Rattle.cast_io.specs.Told.{StreetTold}
 use Rattle.cast_io.proofs.ToldLemmas.{grew_none}
 use Rattle.ntrip_fetch.specs.declared.left.FetchFault.TheVariants as faults
-use Rattle.ntrip_fetch.specs.declared.left.Try.{Try}
 use Rattle.ntrip_fetch.specs.declared.target.Target.{Target}
 use Rattle.ntrip_fetch.specs.Tries.{HasStopped, frames_of_all}
 use Rattle.caster_main.specs.declared.answers.Answer.{Answer}

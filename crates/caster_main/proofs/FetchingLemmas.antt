@@ -1,14 +1,12 @@
 -- What fetches ask of the street and write.
-use Rattle.std.proofs.Common.{◌≡◌, ℕ, suc, ◌+◌, ◌*◌, ◌<◌, ◌≤◌, ◌⊎◌, nat_le, ◌&&◌, true, List, [], ◌∷◌, ◌++◌, length, map, take, Option, None, Some, inl, inr, refl, ap, sym, subst, ◌∙◌, arith}
-use Rattle.std.specs.Prelude.{sum_by}
+use Rattle.std.proofs.Common.{◌≡◌, ℕ, ◌≤◌, nat_le, ◌&&◌, true, List, [], ◌∷◌, ◌++◌, length, Option, None, Some, inr, refl, ap, sym, subst, ◌∙◌, arith}
 use Rattle.std.proofs.lemmas.Bool.{and_parts}
 use Rattle.std.proofs.lemmas.Bool.Decides.{nat_tests}
-use Rattle.std.proofs.lemmas.List.{append_assoc, length-append, length-map}
+use Rattle.std.proofs.lemmas.List.{append_assoc, length-append}
 use Rattle.std.proofs.lemmas.List.Sums.{sum_by-cons}
 use Rattle.cast_io.specs.Told.{LinkTold, StreetTold}
 use Rattle.cast_io.proofs.ToldLemmas.{grew_none}
 use Rattle.ntrip_fetch.specs.declared.left.FetchFault.{FetchFault}
-use Rattle.ntrip_fetch.specs.declared.left.FetchFault.TheVariants as faults
 use Rattle.ntrip_fetch.specs.declared.left.Try.{Try}
 use Rattle.ntrip_fetch.specs.declared.target.Target.{Target}
 use Rattle.ntrip_fetch.specs.Tries.{AreRuns, HasStopped, HasTried, Run, Stopped, Went, at_first, another, behind, enough, frames_of_all, here, none_left, tries_of}

@@ -15,7 +15,6 @@ use Rattle.caster_serve.specs.Caster.{Answered, HasServed}
 use Rattle.caster_serve.specs.declared.whole.ServeFault.{ServeFault}
 use Rattle.caster_serve.specs.declared.whole.ServeFault.TheVariants as faults
 use Rattle.caster_main.specs.declared.answers.Answer.{Answer}
-use Rattle.caster_main.specs.declared.answers.Answer.TheVariants.{Memory}
 use Rattle.caster_main.specs.Command.{Form, bare, over, replay, made, serving, fetching, AreServe, ServeNothing, form_of}
 use Rattle.caster_main.specs.Outcome.{Exit, exactly, EndsSo, Came, whole_exit, usage_exit, network_exit, ending_of_serving, ending_of_bytes}
 use Rattle.caster_main.specs.Told.{Files, IsConfigAt, IsConfigIn, IsAsked, IsOutcome, HaveCome}

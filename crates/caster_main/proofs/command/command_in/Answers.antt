@@ -1,5 +1,5 @@
 -- More words than four are none but of a fetch.
-use Rattle.std.proofs.Common.{◌≡◌, ◌∙◌, ◌≤◌, List, String, length, refl, sym, subst, ℕ}
+use Rattle.std.proofs.Common.{◌≤◌, refl, sym, subst, ℕ}
 use Rattle.std.proofs.lemmas.List.{length-map}
 use Rattle.caster_main.specs.Command.{texts}
 use Rattle.caster_main.proofs.WordLemmas.{many_words}

@@ -1,13 +1,13 @@
 -- One target is put behind those before, and then the others.
-use Rattle.std.proofs.Common.{◌≡◌, ◌∙◌, ◌++◌, [], ◌∷◌, ap, sym, subst, rules, string_bytes}
-use Rattle.std.proofs.lemmas.List.{append-nil, append_assoc}
+use Rattle.std.proofs.Common.{◌≡◌, ◌∙◌, ◌++◌, ap, sym, subst, rules, string_bytes}
+use Rattle.std.proofs.lemmas.List.{append-nil}
 use Rattle.std.proofs.lemmas.List.Elements.{All-push}
 use Rattle.std.specs.List.{All}
 use Rattle.ntrip_fetch.specs.Tries.{CanBeTried}
 use Rattle.ntrip_fetch.proofs.WritingLemmas.{on_ok_so}
-use Rattle.caster_main.specs.Command.{target_of, targets_of, texts}
+use Rattle.caster_main.specs.Command.{target_of}
 use Rattle.caster_main.proofs.FetchingLemmas.{pushed_more}
-use Rattle.caster_main.proofs.SliceLemmas.{AreFirst, first_target, no_target, one_more_target}
+use Rattle.caster_main.proofs.SliceLemmas.{first_target, no_target, one_more_target}
 use Rattle.caster_main.proofs.fetching.+push_targets.Goals as goal
 
 pub push_targets-requires : goal.push_targets-requires
