@@ -1,4 +1,8 @@
 //! Worked sessions with greetings.
+ghost use Rattle.std.specs.Prelude.{ℕ, ◌<◌, ◌^◌, IfOk, sum_by};
+ghost use Rattle.session_script.specs.declared.ScriptKind.TheVariants.{Replay};
+ghost use Rattle.session_script.specs.Script.{IsSession, input_length};
+
 use crate::warm;
 use cast_config::read_config;
 use caster_replay::replay;
@@ -76,7 +80,10 @@ fn push_line(alloc: Global, script: &mut Vec<u8>, line: &str) -> Result<(), Fail
 }
 
 /// The events of a script of these lines.
-fn events_of(alloc: Global, lines: &str) -> Result<Vec<Event>, Fail> {
+fn events_of(alloc: Global, lines: &str) -> Result<Vec<Event>, Fail>
+    ensures session { IfOk result (λ events. IsSession (Replay 0) events.items) }
+    ensures short { IfOk result (λ events. sum_by input_length events.items < 2 ^ 63) }
+{
     let mut script = Vec::new(alloc);
     for line in lines.lines() {
         push_line(alloc, &mut script, line)?;
