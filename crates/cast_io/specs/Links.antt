@@ -1,5 +1,6 @@
 -- What a read and a write of a link do to what it tells.
 use Rattle.std.specs.Prelude.{ℕ, ◌≡◌, ◌≤◌, min, List, [], ◌∷◌, length, take, drop, Bool, true, false, IsTrue, if◌then◌else◌, Some, Result, is_ok, ⊤, ◌⊎◌, OnOk, OnErr}
+use Rattle.std.specs.List.{flat_map}
 use Rattle.cast_io.specs.declared.steps.LinkStep.{LinkStep}
 use Rattle.cast_io.specs.declared.steps.LinkStep.TheVariants as steps
 use Rattle.cast_io.specs.declared.steps.Step.{Step}
@@ -29,6 +30,26 @@ step_of (got.Bytes n) buf = took.Bytes (take n buf)
 step_of got.Idle buf = took.Idle
 step_of got.End buf = took.End
 step_of got.Failed buf = took.ReadFailed
+
+-- the bytes that a step gave
+abbrev pub bytes_of : Step → List ℕ
+bytes_of (took.Bytes bytes) = bytes
+bytes_of took.Idle = []
+bytes_of took.End = []
+bytes_of took.ReadFailed = []
+bytes_of took.WriteFailed = []
+
+-- all bytes that a link gave in these steps
+abbrev pub bytes_in : List Step → List ℕ
+bytes_in taken = flat_map bytes_of taken
+
+-- a read or a write failed
+abbrev pub is_failure : Step → Bool
+is_failure (took.Bytes bytes) = false
+is_failure took.Idle = false
+is_failure took.End = false
+is_failure took.ReadFailed = true
+is_failure took.WriteFailed = true
 
 -- the steps to come, where these bytes of the first one are left
 abbrev pub ahead : List ℕ → List LinkStep → List LinkStep

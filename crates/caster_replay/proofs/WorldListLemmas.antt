@@ -3,7 +3,7 @@
 use Rattle.std.proofs.Common.{◌≡◌, ◌≢◌, ◌∙◌, ◌<◌, ◌≤◌, ◌+◌, ℕ, zero, suc, Bool, true, false, cond, List, [], ◌∷◌, length, get_or, set, refl, sym, ap, subst, arith}
 use Rattle.std.specs.Prelude.{nat_lt, ◌==◌, ◌||◌, insert}
 use Rattle.std.specs.List.{prefix_len}
-use Rattle.std.proofs.lemmas.Bool.{eq-eqb, ne_eqb, ltb-true, ltb-false}
+use Rattle.std.proofs.lemmas.Bool.{eq-eqb, ne_eqb, ltb-true, ltb-false, or_parts}
 use Rattle.cast_config.specs.declared.config.Config.{Config}
 use Rattle.session_core.specs.Headings.{Heading}
 use Rattle.session_core.specs.Owed.{Happening}
@@ -34,10 +34,6 @@ first_no : (a b : Bool) → (a || b) ≡ false → a ≡ true → ⊥
 first_no true b none is = absurd cc
 first_no false b none is = absurd cc
 
-later_no : (a b : Bool) → (a || b) ≡ false → b ≡ false
-later_no true b none = absurd cc
-later_no false b none = none
-
 -- the first of several connections has another number than one that was not opened
 pub apart_first : (number : ℕ) (d : Connected) (ds : List Connected) → is_opened number (d ∷ ds) ≡ false
     → d.number ≢ number
@@ -45,7 +41,7 @@ apart_first number d ds none e = first_no (d.number == number) (is_opened number
 
 pub none_later : (number : ℕ) (d : Connected) (ds : List Connected) → is_opened number (d ∷ ds) ≡ false
     → is_opened number ds ≡ false
-none_later number d ds none = later_no (d.number == number) (is_opened number ds) none
+none_later number d ds none = (or_parts (d.number == number) (is_opened number ds) none).1
 
 -- ---- what happens to a number
 

@@ -261,7 +261,7 @@ world_is c headings script lives now run =
 
 -- ---- the report
 
-abbrev report_with : List Connection → totals.Closed → Report
+abbrev pub report_with : List Connection → totals.Closed → Report
 report_with connections closed = record { connections = connections; closed = closed }
 
 pub run_report : (c : Config) (script : List Event) (lives : List Live) (now : Histories) (told : List Connection)

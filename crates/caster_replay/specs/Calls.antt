@@ -18,17 +18,22 @@ abbrev pub Opens : Config → Histories → Histories → Session → Opening �
 Opens c old now session o after = Fed c true old now session o [] [] [] [] after
 
 -- what a session that takes bytes ensures: the next stands for them too
-abbrev pub Feeds : Config → Histories → Histories → Session → Session → List ℕ → List ℕ → List ℕ → Type 0
+abbrev pub Feeds : Config → Histories → Histories → Session → Session
+    → List ℕ → List ℕ → List ℕ → Type 0
 Feeds c old now session next text before after =
-    (opening : Opening) (so_far : List ℕ) (steps : List Step) (histories : Histories) (sent : List ℕ)
-    → StandsFor c session opening so_far steps histories sent → OthersCalled histories old session.me
+    (opening : Opening) (so_far : List ℕ) (steps : List Step)
+    (histories : Histories) (sent : List ℕ)
+    → StandsFor c session opening so_far steps histories sent
+    → OthersCalled histories old session.me
     → Fed c true old now next opening (so_far ++ text) steps sent before after
 
 -- one that takes a turn: a rover makes its read, and nothing else changes
-abbrev pub TakesTurn : Config → Histories → Histories → Session → Session → ℕ → List ℕ → List ℕ → Type 0
+abbrev pub TakesTurn : Config → Histories → Histories → Session → Session
+    → ℕ → List ℕ → List ℕ → Type 0
 TakesTurn c old now session next budget before after =
     (is_rover session.stage ≡ true → (opening : Opening) (so_far : List ℕ) (steps : List Step)
-    (histories : Histories) (sent : List ℕ) → StandsFor c session opening so_far steps histories sent
+    (histories : Histories) (sent : List ℕ)
+    → StandsFor c session opening so_far steps histories sent
     → OthersCalled histories old session.me
     → Turned c true old now budget next opening so_far steps sent before after)
     × (is_rover session.stage ≡ false → (next ≡ session) × (now ≡ old) × (after ≡ before))
@@ -36,7 +41,10 @@ TakesTurn c old now session next budget before after =
 -- and one that is closed
 abbrev pub Closes : Config → Histories → Histories → Session → Last → Receipt → Type 0
 Closes c old now session last receipt =
-    (opening : Opening) (heading : Heading) (text : List ℕ) (steps : List Step) (histories : Histories) (sent : List ℕ)
-    → IsHeadingOf (Some opening) text heading → StandsFor c session opening text steps histories sent
+    (opening : Opening) (heading : Heading) (text : List ℕ) (steps : List Step)
+    (histories : Histories) (sent : List ℕ)
+    → IsHeadingOf (Some opening) text heading
+    → StandsFor c session opening text steps histories sent
     → OthersCalled histories old session.me
-    → IsClosed c true old now session.me session.ended (judged c opening heading text) steps last receipt
+    → IsClosed c true old now session.me session.ended
+    (judged c opening heading text) steps last receipt

@@ -1,5 +1,5 @@
--- What contracts see of the desks of a run: one at the ring of each mountpoint, and one at the book of
--- accounts.
+-- What contracts see of the desks of a run: one at the ring of each mountpoint, and one at the
+-- book of accounts.
 use Rattle.std.specs.Prelude.{◌≡◌, ℕ, List, get_or, Option, Some}
 use Rattle.mount_ring.specs.declared.shape.RingShape.{RingShape}
 use Rattle.cast_config.specs.declared.config.Config.{Config}
@@ -13,7 +13,8 @@ use Rattle.caster_replay.specs.Places.{greeting_since}
 pub record DesksValue : Type 0 where
   pub rings : List RingShape
   pub book : List ℕ
-  -- how many calls there were at each mountpoint when its greeting was cleared, if it keeps greetings
+  -- how many calls there were at each mountpoint when its greeting was cleared, if it keeps
+  -- greetings
   pub cleared : List (Option ℕ)
   pub seen : Histories
 

@@ -27,11 +27,12 @@ use Rattle.caster_replay.specs.declared.entry.State.TheVariants.{Open, Closed}
 -- what it was sent, as far as these histories tell
 abbrev pub sent_to : Config → Heading → Histories → Connected → List ℕ
 sent_to c heading now d =
-    sent_by c now.rings d.opening (judged_of c heading d) (received d.steps) (reverse (segments_after [] d.steps))
+    sent_by c now.rings d.opening (judged_of c heading d) (received d.steps)
+    (reverse (segments_after [] d.steps))
 
 -- it goes on: the session stands for it, and the bytes are those that it was sent
-pub record IsGoing (c : Config) (heading : Heading) (now : Histories) (d : Connected) (session : Session)
-    (bytes : List ℕ) : Type 0 where
+pub record IsGoing (c : Config) (heading : Heading) (now : Histories) (d : Connected)
+    (session : Session) (bytes : List ℕ) : Type 0 where
   pub me : session.me ≡ d.number
   pub goes : session.ended ≡ None
   pub uncut : d.closed ≡ None
@@ -41,10 +42,11 @@ pub record IsGoing (c : Config) (heading : Heading) (now : Histories) (d : Conne
   pub bytes_are : bytes ≡ sent_to c heading now d
 
 -- it is over: the receipt and the bytes are what is told of it
-pub record IsOver (c : Config) (heading : Heading) (now : Histories) (d : Connected) (receipt : Receipt)
-    (bytes : List ℕ) : Type 0 where
+pub record IsOver (c : Config) (heading : Heading) (now : Histories) (d : Connected)
+    (receipt : Receipt) (bytes : List ℕ) : Type 0 where
   pub stops : goes_on (judged_of c heading d) d.steps d.closed ≡ false
-  pub receipt_is : receipt ≡ receipt_of (judged_of c heading d) d.steps (unwrap_or d.closed lasts.End)
+  pub receipt_is : receipt
+      ≡ receipt_of (judged_of c heading d) d.steps (unwrap_or d.closed lasts.End)
   pub bytes_are : bytes ≡ sent_to c heading now d
 
 -- so it is, by whether it goes on

@@ -27,7 +27,8 @@ is_cut n (events.End k ∷ later) = if k == n then true else is_cut n later
 
 -- what these events say of a connection of their run: it opened so, and its text is all its bytes
 -- while it goes on
-pub record IsKnown (c : Config) (headings : ℕ → Heading) (list : List Event) (d : Connected) : Type 0 where
+pub record IsKnown (c : Config) (headings : ℕ → Heading) (list : List Event) (d : Connected)
+    : Type 0 where
   pub opened : opened_as d.number list ≡ Some d.opening
   -- the bytes that came when it was over
   pub rest : List ℕ
@@ -37,13 +38,16 @@ pub record IsKnown (c : Config) (headings : ℕ → Heading) (list : List Event)
   pub closed : is_none d.closed ≡ false → is_cut d.number list ≡ true
 
 -- every connection is known, and every number that opened is a connection's
-pub record AreKnown (c : Config) (headings : ℕ → Heading) (list : List Event) (w : World) : Type 0 where
+pub record AreKnown (c : Config) (headings : ℕ → Heading) (list : List Event) (w : World)
+    : Type 0 where
   pub each : All (IsKnown c headings list) w.connections
   pub none : (n : ℕ) → is_opened n w.connections ≡ false → opened_as n list ≡ None
 
 -- there are headings of these events
 abbrev pub HasHeadings : List Event → Type 0
-HasHeadings script = (n : ℕ) → (heading : Heading) × IsHeadingOf (opened_as n script) (bytes_to n script) heading
+HasHeadings script =
+    (n : ℕ) → (heading : Heading)
+    × IsHeadingOf (opened_as n script) (bytes_to n script) heading
 
 -- ---- the connections and what is kept of them
 
@@ -73,7 +77,8 @@ pub record StandsAt (c : Config) (headings : ℕ → Heading) (w : World) (lives
 
 -- ---- the run so far
 
-pub record Runs (c : Config) (script : List Event) (lives : List Live) (now : Histories) : Type 0 where
+pub record Runs (c : Config) (script : List Event) (lives : List Live) (now : Histories)
+    : Type 0 where
   pub known : (headings : ℕ → Heading) → AreKnown c headings script (after_events c headings script)
   pub has : HasHeadings script
   pub stands : (more : List Event) (headings : ℕ → Heading) → AreHeadings (script ++ more) headings

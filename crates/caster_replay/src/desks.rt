@@ -94,8 +94,8 @@ impl Desks {
         })
     }
 
-    /// The desks of a caster with this configuration, at which nothing was called, with greetings or
-    /// without.
+    /// The desks of a caster with this configuration, at which nothing was called, with greetings
+    /// or without.
     pub(crate) fn new(alloc: Global, config: &Config, greets: bool) -> Result<Desks, AllocError>
         requires kept { (cap : ℕ) × KeepsRules cap config.now }
         ensures places { IfOk result (λ desks. ArePlaces config.now desks) }

@@ -1,5 +1,5 @@
-//! A recorded run of many connections: the events of a script, played over one desk a mountpoint and
-//! one of the book of accounts, and the report of it.
+//! A recorded run of many connections: the events of a script, played over one desk a mountpoint
+//! and one of the book of accounts, and the report of it.
 #![tactic(auto)]
 
 mod desks;

@@ -210,7 +210,8 @@ impl Run {
             → StandsFor c script self.old → StandsFor c script self.new }
         ensures lives { lives_of self.new ≡ lives_of self.old }
         ensures seen { seen_of self.new ≡ seen_of self.old }
-        ensures cleared { Greets self.old → cleared_of self.new ≡ cleared_at (seen_of self.old).rings }
+        ensures cleared { Greets self.old
+            → cleared_of self.new ≡ cleared_at (seen_of self.old).rings }
     {
         self.desks.clear();
     }

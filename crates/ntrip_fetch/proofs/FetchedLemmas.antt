@@ -16,7 +16,7 @@ use Rattle.ntrip_fetch.specs.declared.left.Left.TheVariants.{Enough, Dial, End, 
 use Rattle.ntrip_fetch.specs.declared.left.Try.{Try}
 use Rattle.ntrip_fetch.specs.Request.{target_request}
 use Rattle.ntrip_fetch.specs.Answered.{answered, IsWanting}
-use Rattle.ntrip_fetch.specs.Steps.{bytes_in}
+use Rattle.cast_io.specs.Links.{bytes_in}
 use Rattle.ntrip_fetch.specs.Fetched.{Course, LinkFetched, LinkBroken, HasTaken, HasReceived, ReceivingBroken, IsLeft}
 use Rattle.ntrip_fetch.proofs.StageLemmas.{no_frames, take_none}
 

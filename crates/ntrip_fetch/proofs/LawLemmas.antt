@@ -16,7 +16,7 @@ use Rattle.ntrip_fetch.specs.declared.left.Left.TheVariants.{Enough, Dial, End, 
 use Rattle.ntrip_fetch.specs.declared.left.Try.{Try}
 use Rattle.ntrip_fetch.specs.Answered.{answered, IsDone, IsFaulty, MayFollow}
 use Rattle.ntrip_fetch.specs.Stages.{left_of}
-use Rattle.ntrip_fetch.specs.Steps.{bytes_in}
+use Rattle.cast_io.specs.Links.{bytes_in}
 use Rattle.ntrip_fetch.specs.Fetched.{Fetched, IsLeft}
 use Rattle.ntrip_fetch.proofs.StageLemmas.{take_none}
 

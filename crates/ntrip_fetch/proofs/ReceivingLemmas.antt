@@ -10,7 +10,7 @@ use Rattle.cast_io.specs.declared.steps.Step.TheVariants as took
 use Rattle.cast_io.specs.declared.link.Got.{Got}
 use Rattle.cast_io.specs.declared.link.Got.TheVariants as got
 use Rattle.cast_io.specs.Told.{LinkTold, Grew}
-use Rattle.cast_io.specs.Links.{HasRead, step_of}
+use Rattle.cast_io.specs.Links.{HasRead, step_of, bytes_of, bytes_in}
 use Rattle.cast_io.proofs.ToldLemmas.{grew_none, grew_both}
 use Rattle.ntrip_client.specs.declared.answer.Answer.{Answer}
 use Rattle.ntrip_client.specs.declared.answer.Answer.TheVariants.{Open}
@@ -21,7 +21,7 @@ use Rattle.ntrip_fetch.specs.declared.left.Try.{Try}
 use Rattle.ntrip_fetch.specs.declared.stage.Stage.{Stage}
 use Rattle.ntrip_fetch.specs.declared.stage.Stage.TheVariants as stages
 use Rattle.ntrip_fetch.specs.Answered.{IsWanting}
-use Rattle.ntrip_fetch.specs.Steps.{bytes_of, bytes_in, goes_on, IsLastIf, AreNeeded}
+use Rattle.ntrip_fetch.specs.Steps.{goes_on, IsLastIf, AreNeeded}
 use Rattle.ntrip_fetch.specs.Stages.{IsAtStage, IsDecided, StageLeft, StageTorn}
 use Rattle.ntrip_fetch.specs.Fetched.{HasTaken, HasReceived, ReceivingBroken, IsLeft}
 use Rattle.ntrip_fetch.proofs.StageLemmas.{StillOpen, open_at, wanting}

@@ -10,7 +10,7 @@ use Rattle.cast_io.specs.declared.steps.Asked.TheVariants as asked
 use Rattle.cast_io.specs.Causes.{Rose}
 use Rattle.cast_io.specs.Pieces.{AppendsPrefix}
 use Rattle.cast_io.specs.Told.{LinkTold, StreetTold, Grew}
-use Rattle.cast_io.specs.Links.{IsNewLink}
+use Rattle.cast_io.specs.Links.{IsNewLink, bytes_in}
 use Rattle.cast_io.specs.Streets as streets
 use Rattle.cast_io.proofs.ToldLemmas.{grew_none, grew_both}
 use Rattle.ntrip_fetch.specs.declared.target.Target.{Target}
@@ -19,7 +19,6 @@ use Rattle.ntrip_fetch.specs.declared.left.FetchFault.TheVariants as faults
 use Rattle.ntrip_fetch.specs.declared.left.Left.TheVariants.{Enough, Dial, LinkFault}
 use Rattle.ntrip_fetch.specs.declared.left.Try.{Try}
 use Rattle.ntrip_fetch.specs.Answered.{answered}
-use Rattle.ntrip_fetch.specs.Steps.{bytes_in}
 use Rattle.ntrip_fetch.specs.Fetched.{Fetched, LinkFetched, LinkBroken, IsLeft}
 use Rattle.ntrip_fetch.specs.Tries.{dial_of, Went, HasDialled, Run, AreRuns, none_left, enough, another, tries_of, frames_of_all, HasTried, Stopped, at_first, here, behind, IsWrittenBy, HasStopped, RunEnded, RunStopped}
 use Rattle.std.proofs.lemmas.Bool.{cases_lt}

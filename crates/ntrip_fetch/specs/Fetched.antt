@@ -16,7 +16,8 @@ use Rattle.ntrip_fetch.specs.declared.left.Left.TheVariants.{Enough, Dial, End, 
 use Rattle.ntrip_fetch.specs.declared.left.Try.{Try}
 use Rattle.ntrip_fetch.specs.Request.{target_request}
 use Rattle.ntrip_fetch.specs.Answered.{answered, IsDone, IsFaulty, MayFollow}
-use Rattle.ntrip_fetch.specs.Steps.{AreNeeded, HasRunOut, FailsLast, IsSent, bytes_in}
+use Rattle.ntrip_fetch.specs.Steps.{AreNeeded, HasRunOut, FailsLast, IsSent}
+use Rattle.cast_io.specs.Links.{bytes_in}
 use Rattle.ntrip_fetch.specs.Writing.{HasWritten}
 use Rattle.ntrip_fetch.specs.Stages.{StageTorn}
 

@@ -1,21 +1,9 @@
 -- The steps of a link from which frames are fetched.
 use Rattle.std.specs.Prelude.{◌≡◌, ◌≤◌, ◌⊎◌, ◌^◌, ℕ, ⊤, Bool, true, false, IsTrue, List, [], ◌∷◌, ◌++◌, length, take}
-use Rattle.std.specs.List.{flat_map}
 use Rattle.cast_io.specs.declared.steps.Step.{Step}
 use Rattle.cast_io.specs.declared.steps.Step.TheVariants as took
+use Rattle.cast_io.specs.Links.{bytes_of, bytes_in, is_failure}
 use Rattle.ntrip_fetch.specs.Answered.{IsWanting}
-
--- the bytes that a step gave
-abbrev pub bytes_of : Step → List ℕ
-bytes_of (took.Bytes bytes) = bytes
-bytes_of took.Idle = []
-bytes_of took.End = []
-bytes_of took.ReadFailed = []
-bytes_of took.WriteFailed = []
-
--- all bytes that a link gave in these steps
-abbrev pub bytes_in : List Step → List ℕ
-bytes_in taken = flat_map bytes_of taken
 
 -- a call may follow: the read gave bytes, or found nothing yet
 abbrev pub goes_on : Step → Bool
@@ -24,14 +12,6 @@ goes_on took.Idle = true
 goes_on took.End = false
 goes_on took.ReadFailed = false
 goes_on took.WriteFailed = false
-
--- a read or a write failed
-abbrev pub is_failure : Step → Bool
-is_failure (took.Bytes bytes) = false
-is_failure took.Idle = false
-is_failure took.End = false
-is_failure took.ReadFailed = true
-is_failure took.WriteFailed = true
 
 -- nothing follows a step at which the link ended or failed
 abbrev pub IsLastIf : Bool → List Step → Type 0

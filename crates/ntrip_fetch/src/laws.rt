@@ -4,7 +4,7 @@ ghost use Rattle.cast_io.specs.Told.{LinkTold};
 ghost use Rattle.ntrip_client.specs.Answer.{IsAnswer};
 ghost use Rattle.ntrip_fetch.specs.Answered.{IsDone, IsFaulty};
 ghost use Rattle.ntrip_fetch.specs.Stages.{left_of};
-ghost use Rattle.ntrip_fetch.specs.Steps.{bytes_in};
+ghost use Rattle.cast_io.specs.Links.{bytes_in};
 ghost use Rattle.ntrip_fetch.specs.Fetched.{Fetched};
 
 use crate::left::{Left, Try};

@@ -5,14 +5,15 @@ ghost use Rattle.std.specs.Vec.{vec_capacity};
 ghost use Rattle.rover_session.specs.Body.{frame_sent, body_of};
 
 use chunk_body::chunk;
+use mount_ring::MOST_TAKEN;
 use ntrip_head::Version;
 use rtcm_frame::Frame;
 
 /// The most bytes that one frame takes: 1,029 of its own, and 7 of a chunk's size and line ends.
 const MOST_OF_FRAME: usize = 1_036;
 
-/// The most bytes of one turn: those of 16 frames.
-pub(crate) const MOST_OF_TURN: usize = 16 * MOST_OF_FRAME;
+/// The most bytes of one turn: those of as many frames as one read takes.
+pub(crate) const MOST_OF_TURN: usize = MOST_TAKEN * MOST_OF_FRAME;
 
 /// Appends a frame as it is, or as one chunk. There is room for it.
 fn append_frame(version: Version, frame: &Frame, out: &mut Vec<u8>)

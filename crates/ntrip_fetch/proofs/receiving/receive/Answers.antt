@@ -2,7 +2,7 @@
 use Rattle.std.proofs.Common.{◌≡◌, ◌∙◌, ◌+◌, ◌++◌, take, length, refl, sym, subst, arith, length-take}
 use Rattle.std.proofs.lemmas.List.{append-nil}
 use Rattle.cast_io.specs.declared.link.Got.TheVariants as got
-use Rattle.ntrip_fetch.specs.Steps.{bytes_in}
+use Rattle.cast_io.specs.Links.{bytes_in}
 use Rattle.ntrip_fetch.specs.Stages.{IsAtStage, StageIs}
 use Rattle.ntrip_fetch.proofs.WritingLemmas.{appends_none}
 use Rattle.ntrip_fetch.proofs.ReceivingLemmas.{begins, runs_out, has_ended, has_failed, is_left, is_broken, goes_more, same_told}
