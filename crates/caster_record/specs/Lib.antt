@@ -1,0 +1,10 @@
+pub mod Hearing
+pub mod Moves
+pub mod Rounds
+pub mod Peers
+pub mod Giving
+pub mod Recording
+pub mod Steps
+pub mod Keeping
+pub mod Arriving
+pub mod Recorded

@@ -1,0 +1,234 @@
+//! A caster that records its session.
+
+ghost use Rattle.std.specs.Prelude.{◌≡◌, ℕ, ◌≤◌, [], length, map, false, IsTrue, IfOk, OnErr, OnOk};
+ghost use Rattle.std.specs.Result.{IsErrOf};
+ghost use Rattle.cast_config.specs.Kept.{KeepsRules};
+ghost use Rattle.cast_io.specs.Causes.{Rose};
+ghost use Rattle.caster_replay.specs.Going.{GoesOn};
+ghost use Rattle.caster_record.specs.Arriving.{HasTakenBack, HaveCome, HaveLeft};
+ghost use Rattle.caster_record.specs.Keeping.{IsWithin, RestsAfter};
+ghost use Rattle.caster_record.specs.Recorded.{IsAtEnd, IsRecorded};
+ghost use Rattle.caster_record.specs.Recording.{Records, events_in};
+
+use crate::fault::RecorderFault;
+use crate::recorder::Recorder;
+use crate::rounds::MOST;
+use cast_config::Config;
+use cast_io::{Arrived, Door};
+use session_core::Report;
+use session_script::Event;
+use std::alloc::Global;
+use std::sync::Wait;
+
+/// A session that was recorded.
+#[derive(Drop)]
+pub struct Recorded<L> {
+    /// What happened, one event after the other.
+    pub events: Vec<Event>,
+    /// The report of these events.
+    pub report: Report,
+    /// The links that came, in the order of the connections' numbers, from 1.
+    pub links: Vec<L>,
+}
+
+/// The events and the report.
+#[derive(Drop)]
+struct Told {
+    events: Vec<Event>,
+    report: Report,
+}
+
+impl Recorder {
+    /// Whether none of the connections from 1 to this number goes on.
+    fn none_goes_on(&self, config: &Config, count: u32) -> bool
+        requires records { Records config.now self.now }
+        ensures { IsTrue result → (k : ℕ) → 1 ≤ k → k ≤ count
+            → GoesOn config.now (events_in self.now) k false }
+    {
+        for before in 0..count {
+            if self.run.goes_on(before + 1) {
+                return false;
+            }
+        }
+        true
+    }
+
+    /// Whether the recording is at its end, where so many links came.
+    fn is_at_end(&self, config: &Config, limit: u32, count: usize) -> bool
+        requires records { Records config.now self.now }
+        requires few { count ≤ 256 }
+        ensures { IsTrue result → IsAtEnd config.now limit (events_in self.now) count }
+    {
+        self.tape.size > MOST || count as u32 == limit && self.none_goes_on(config, limit)
+    }
+
+    /// Asks the door for a link, where fewer came than may. Answers whether one came.
+    fn accept<D: Door>(
+        &mut self,
+        alloc: Global,
+        config: &Config,
+        limit: u32,
+        door: &mut D,
+        links: &mut Vec<D::Link>,
+        torn: &mut Vec<bool>,
+    ) -> Result<bool, RecorderFault>
+        requires kept { (cap : ℕ) × KeepsRules cap config.now }
+        requires limit { limit ≤ 256 }
+        requires rests { RestsAfter D.Link.told config.now limit self.old links.old.items
+            torn.old.items }
+        ensures begins { IfOk result (λ came. IsWithin D.Link.told config.now limit 0 self.new
+            links.new.items torn.new.items) }
+        ensures come { HaveCome (D.told door.old) (D.told door.new)
+            (map D.Link.told links.old.items) (map D.Link.told links.new.items) }
+        ensures network { IsErrOf result RecorderFault.Network
+            → Rose (D.told door.old).faults (D.told door.new).faults }
+    {
+        if links.len() as u32 >= limit || self.tape.size > MOST {
+            return Ok(false);
+        }
+        links.reserve(1)?;
+        torn.reserve(1)?;
+        match door.accept() {
+            Arrived::Link(link) => {
+                links.push_reserved(link);
+                torn.push_reserved(false);
+                self.play(alloc, config, Event::Open(links.len() as u32))?;
+                Ok(true)
+            }
+            Arrived::Idle => Ok(false),
+            Arrived::Failed => Err(RecorderFault::Network),
+        }
+    }
+}
+
+/// Rounds, until the recording is at its end.
+fn run<D: Door, R: Wait>(
+    rt: &R,
+    alloc: Global,
+    config: &Config,
+    limit: u32,
+    door: &mut D,
+    recorder: &mut Recorder,
+    links: &mut Vec<D::Link>,
+    torn: &mut Vec<bool>,
+) -> Result<(), RecorderFault>
+    requires kept { (cap : ℕ) × KeepsRules cap config.now }
+    requires limit { limit ≤ 256 }
+    requires rests { RestsAfter D.Link.told config.now limit recorder.old links.old.items
+        torn.old.items }
+    ensures rests { OnOk result
+        (RestsAfter D.Link.told config.now limit recorder.new links.new.items torn.new.items) }
+    ensures ended { OnOk result
+        (IsAtEnd config.now limit (events_in recorder.new) (length links.new.items)) }
+    ensures come { HaveCome (D.told door.old) (D.told door.new)
+        (map D.Link.told links.old.items) (map D.Link.told links.new.items) }
+    ensures network { IsErrOf result RecorderFault.Network
+        → Rose (D.told door.old).faults (D.told door.new).faults }
+{
+    for _ in rt.forever() {
+        if recorder.is_at_end(config, limit, links.len()) {
+            return Ok(());
+        }
+        let came = recorder.accept(alloc, config, limit, door, links, torn)?;
+        let busy = recorder.serve_all(alloc, config, limit, links, torn)?;
+        if !came && !busy {
+            door.rest();
+        }
+    }
+    unreachable!()
+}
+
+/// Records a session, whose links stand in `links` then.
+fn session<D: Door, R: Wait>(
+    rt: &R,
+    alloc: Global,
+    config: &Config,
+    limit: u32,
+    door: &mut D,
+    links: &mut Vec<D::Link>,
+) -> Result<Told, RecorderFault>
+    requires kept { (cap : ℕ) × KeepsRules cap config.now }
+    requires limit { limit ≤ 256 }
+    requires empty { links.old.items ≡ [] }
+    ensures recorded { IfOk result (λ told. IsRecorded config.now limit told.events.items
+        told.report (map D.Link.told links.new.items)) }
+    ensures come { HaveCome (D.told door.old) (D.told door.new) []
+        (map D.Link.told links.new.items) }
+    ensures network { IsErrOf result RecorderFault.Network
+        → Rose (D.told door.old).faults (D.told door.new).faults }
+{
+    let mut recorder = Recorder::new(alloc, config)?;
+    let mut torn = Vec::new(alloc);
+    run(
+        rt,
+        alloc,
+        config,
+        limit,
+        door,
+        &mut recorder,
+        links,
+        &mut torn,
+    )?;
+    let Recorder { run, tape } = recorder;
+    let report = run.finish(alloc, config)?;
+    Ok(Told {
+        events: tape.events,
+        report,
+    })
+}
+
+/// Hangs all of these links up at the door that gave them, in order.
+pub fn hang_up_all<D: Door>(door: &mut D, mut links: Vec<D::Link>)
+    ensures { HasTakenBack (map D.Link.told links.items) (D.told door.old) (D.told door.new) }
+{
+    let Some(last) = links.pop() else {
+        links.destroy_empty();
+        return;
+    };
+    hang_up_all(door, links);
+    door.hang_up(last);
+}
+
+/// Serves the links that come to the door, at most `limit` of them, 1 to 256, and records what
+/// happens.
+///
+/// It goes in rounds: one accept while fewer links came than may; then, for each connection that
+/// goes on, in increasing order of number, a read of at most 4,096 bytes, a turn of 16 frames where
+/// it has frames to read, and a write of what it was then sent. A connection whose write fails
+/// while it goes on breaks. After a round in which nothing happened the door rests. It ends where
+/// `limit` links came and none goes on, or where the lines of the events have more than 8,370,000
+/// bytes.
+///
+/// # Errors
+/// `Network` where the door failed, and `Memory` for want of memory, also where a session was
+/// halted by it. Then the links that came were hung up at the door.
+pub fn record<D: Door, R: Wait>(
+    rt: &R,
+    alloc: Global,
+    config: &Config,
+    limit: u32,
+    door: &mut D,
+) -> Result<Recorded<D::Link>, RecorderFault>
+    requires kept { (cap : ℕ) × KeepsRules cap config.now }
+    requires limit { (1 ≤ limit) × (limit ≤ 256) }
+    ensures recorded { IfOk result (λ r. IsRecorded config.now limit r.events.items r.report
+        (map D.Link.told r.links.items)) }
+    ensures come { IfOk result
+        (λ r. HaveCome (D.told door.old) (D.told door.new) [] (map D.Link.told r.links.items)) }
+    ensures network { IsErrOf result RecorderFault.Network
+        → Rose (D.told door.old).faults (D.told door.new).faults }
+    ensures left { OnErr result (HaveLeft (D.told door.old) (D.told door.new)) }
+{
+    let mut links = Vec::new(alloc);
+    match session(rt, alloc, config, limit, door, &mut links) {
+        Ok(Told { events, report }) => Ok(Recorded {
+            events,
+            report,
+            links,
+        }),
+        Err(fault) => {
+            hang_up_all(door, links);
+            Err(fault)
+        }
+    }
+}

@@ -1,0 +1,89 @@
+//! The links of a recorder, served one after the other.
+
+ghost use Rattle.std.specs.Prelude.{◌≡◌, ℕ, ◌≤◌, ◌<◌, ◌+◌, length, map, true, false};
+ghost use Rattle.std.specs.Prelude.{IfOk, IsTrue, List};
+ghost use Rattle.cast_config.specs.Kept.{KeepsRules};
+ghost use Rattle.caster_replay.specs.Going.{GoesOn, MaySpeak};
+ghost use Rattle.caster_record.specs.Arriving.{given_in};
+ghost use Rattle.caster_record.specs.Keeping.{IsWithin, RestsAfter};
+ghost use Rattle.caster_record.specs.Moves.{Move, has_torn};
+ghost use Rattle.caster_record.specs.Recording.{Records, events_in};
+ghost use Rattle.caster_record.specs.Rounds.{IsPassed};
+
+use crate::recorder::Recorder;
+use cast_config::Config;
+use cast_io::Link;
+use std::alloc::{AllocError, Global};
+
+/// So many bytes the lines of the events have at most before one more link or one more step.
+pub(crate) const MOST: u64 = 8_370_000;
+
+impl Recorder {
+    /// Whether the connection of this number is due for a step: it goes on, no write to its link
+    /// was torn, and the record has not come to its limit.
+    fn is_due(&self, config: &Config, number: u32, torn: bool) -> bool
+        requires records { Records config.now self.now }
+        ensures whole { IsTrue result → torn ≡ false }
+        ensures goes_on { IsTrue result → GoesOn config.now (events_in self.now) number true }
+        ensures speaks { IsTrue result → MaySpeak (events_in self.now) number }
+        ensures room { IsTrue result → self.now.tape.size ≤ 8370000 }
+        ensures passed { result ≡ false → (earlier : List Move) → torn ≡ has_torn number earlier
+            → IsPassed config.now earlier number (events_in self.now) }
+    {
+        !torn && self.tape.size <= MOST && self.run.goes_on(number)
+    }
+
+    /// Serves the link at this place, where it is due. Answers whether anything was read or
+    /// written.
+    fn serve_at<L: Link>(
+        &mut self,
+        alloc: Global,
+        config: &Config,
+        limit: u32,
+        links: &mut Vec<L>,
+        torn: &mut Vec<bool>,
+        at: usize,
+    ) -> Result<bool, AllocError>
+        requires kept { (cap : ℕ) × KeepsRules cap config.now }
+        requires place { IsWithin L.told config.now limit at self.old links.old.items
+            torn.old.items }
+        requires within { at < length links.old.items }
+        ensures place { IfOk result (λ busy. IsWithin L.told config.now limit (at + 1) self.new
+            links.new.items torn.new.items) }
+        ensures given { given_in (map L.told links.new.items)
+            ≡ given_in (map L.told links.old.items) }
+        ensures count { length links.new.items ≡ length links.old.items }
+    {
+        let number = at as u32 + 1;
+        if !self.is_due(config, number, torn[at]) {
+            return Ok(false);
+        }
+        let outcome = self.serve(alloc, config, number, &mut links[at])?;
+        torn[at] = outcome.torn;
+        Ok(outcome.busy)
+    }
+
+    /// Serves each link that is due, in order. Answers whether anything was read or written.
+    pub(crate) fn serve_all<L: Link>(
+        &mut self,
+        alloc: Global,
+        config: &Config,
+        limit: u32,
+        links: &mut Vec<L>,
+        torn: &mut Vec<bool>,
+    ) -> Result<bool, AllocError>
+        requires kept { (cap : ℕ) × KeepsRules cap config.now }
+        requires begins { IsWithin L.told config.now limit 0 self.old links.old.items
+            torn.old.items }
+        ensures rests { IfOk result (λ busy. RestsAfter L.told config.now limit self.new
+            links.new.items torn.new.items) }
+        ensures given { given_in (map L.told links.new.items)
+            ≡ given_in (map L.told links.old.items) }
+    {
+        let mut busy = false;
+        for at in 0..links.len() {
+            busy = self.serve_at(alloc, config, limit, links, torn, at)? || busy;
+        }
+        Ok(busy)
+    }
+}

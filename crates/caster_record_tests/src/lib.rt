@@ -1,0 +1,16 @@
+//! Sessions that are recorded over doors and links in memory, by the public calls of
+//! `caster_record`.
+//!
+//! They stand in a crate of their own, so that the crate that they try is proved once.
+#![tactic(auto)]
+
+#[cfg(test)]
+mod door_tests;
+#[cfg(test)]
+mod fakes;
+#[cfg(test)]
+mod limit_tests;
+#[cfg(test)]
+mod link_tests;
+#[cfg(test)]
+mod replay_tests;
