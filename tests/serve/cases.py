@@ -1,12 +1,17 @@
-"""Cases of `caster serve` with real sockets. Each is a function whose text says what it tries; it is
-wrong where it raises something.
+"""Cases of `caster serve`, `fetch` and `record` with real sockets. Each is a function whose text says what
+it tries; it is wrong where it raises something.
 
-Each worker serves one connection at a time, and so many as LIMIT says. With LIMIT 1 and a worker for
-each connection of the case all connections are served at the same time, and the program ends when the
-last of them has. One worker with a larger LIMIT serves them one after the other.
+A caster that serves: each worker serves one connection at a time, and so many as LIMIT says. With LIMIT 1
+and a worker for each connection of the case all connections are served at the same time, and the program
+ends when the last of them has. One worker with a larger LIMIT serves them one after the other.
+
+A caster that records serves as many connections as LIMIT says, all at the same time, and gives them numbers
+in the order in which they come. It ends when all of them have ended, and only then closes their sockets.
 """
 import os
+import select
 import socket
+import subprocess
 import sys
 import threading
 import time
@@ -194,8 +199,10 @@ def fetches():
 
 def fetches_that_get_nothing():
     """`caster fetch` with a wrong password, for a mountpoint that there is not, and where nobody listens:
-    nothing is written, and the status is 9."""
-    caster = serve(example(4))
+    nothing is written, and the status is 9. A source is there from the start: so the caster listens before
+    the first fetch asks, which would else find nobody and end with 9 as well."""
+    caster = serve(example(5))
+    source = caster.client().send(source_1('ALPHA', 'sesame')).expect(ICY)
     for protocol in (1, 2):
         if Fetch(1, [protocol, caster.addr, 'ALPHA', 'rover1', 'wrong']).ends(9):
             raise Wrong('something was fetched with a wrong password')
@@ -205,7 +212,8 @@ def fetches_that_get_nothing():
         raise Wrong('something was fetched from nobody')
     if Fetch(1, [2, caster.addr, 'NONE', '-', '-']).ends(9):
         raise Wrong('something was fetched from no mountpoint')
-    caster.ends_with(['mount ALPHA 0 0', 'mount BRAVO 0 0', 'account rover1 0 0 0', 'total 0 0 0'])
+    source.close()
+    caster.ends_with(['mount ALPHA 0 1', 'mount BRAVO 0 0', 'account rover1 0 0 0', 'total 0 0 0'])
 
 
 # ---- refusals
@@ -448,6 +456,303 @@ def relay_that_is_refused():
         caster.ends_with(['mount ALPHA 0 0', 'mount BRAVO 0 0', 'account rover1 0 0 0', 'total 0 0 0'])
 
 
+# ---- recorded sessions
+
+def record(config, limit, addr=None, output=subprocess.PIPE):
+    caster = Recorder(config, limit, addr, output)
+    casters.append(caster)
+    return caster
+
+
+def recorded(caster, clients, gone=()):
+    """The caster has recorded the session of these clients, in the order in which they came, and ended by
+    itself. By its script each sent what it did send, and by the replay each was sent exactly the bytes that
+    came, or of those that were reset a beginning came. What the session came to: the script's events, the
+    report's lines of each connection without its bytes, and the report's last lines."""
+    script = caster.ends()
+    events = events_of(script)
+    numbers = range(1, len(clients) + 1)
+    wants('opened', [words[1:] for words in events if words[0] == 'open'], [[str(n)] for n in numbers])
+    connections, last = parts_of(replay(caster.path, script))
+    wants('connections', list(connections), list(numbers))
+    for number, client in zip(numbers, clients):
+        told = sent_by(connections[number])
+        came = bytes(client.got) if client in gone else client.drain()
+        if told[:len(came)] != came or len(told) > len(came) and client not in gone:
+            raise Wrong('connection %d was sent %s, and %s came' % (number, show(told), show(came)))
+        if brought(events, number) != client.sent:
+            raise Wrong('connection %d brought in %s, and sent was %s'
+                        % (number, show(brought(events, number)), show(client.sent)))
+    return events, {number: connections[number][:-1] for number in numbers}, last
+
+
+def closings(events):
+    """The events that close a connection."""
+    return sorted(' '.join(words) for words in events if words[0] in ('end', 'break'))
+
+
+def recorded_session():
+    """A source and two rovers, one of each version, over a configuration with a relay, which is not dialled.
+    The frames come in pieces, with bytes between them that are none."""
+    caster = record(EXAMPLE, 3)
+    source = caster.client().send(source_1('ALPHA', 'sesame')).expect(ICY)
+    first = caster.client().send(rover_1('ALPHA', ROVER1)).expect(ICY)
+    second = caster.client().send(rover_2('ALPHA', ROVER1)).expect(ROVER_2_OK)
+    stream = A + b'no frame' + Z + B
+    for at in range(0, len(stream), 5):
+        source.send(stream[at:at + 5])
+    first.expect(A + Z + B)
+    second.expect(chunk(A) + chunk(Z) + chunk(B))
+    if select.select([caster.process.stdout], [], [], 0)[0]:
+        raise Wrong('something was written before the session had ended')
+    for one in (source, first, second):
+        one.finish()
+    events, lines, last = recorded(caster, [source, first, second])
+    wants('closed', closings(events), ['end 1', 'end 2', 'end 3'])
+    wants('source', lines[1], ['connection 1 source-end 1', 'junk 8'])
+    wants('first', lines[2], ['connection 2 rover-end', 'junk 0', 'segment ALPHA 0 3 3 0'])
+    wants('second', lines[3], ['connection 3 rover-end', 'junk 0', 'segment ALPHA 0 3 3 0'])
+    wants('last', last, ['mount ALPHA 3 1', 'mount BRAVO 0 0', 'account rover1 2 6 0', 'total 2 6 0'])
+    wants('first', bytes(first.got), ICY + A + Z + B)
+    wants('second', bytes(second.got), ROVER_2_OK + chunk(A) + chunk(Z) + chunk(B))
+
+
+def recorded_rovers_that_are_lapped():
+    """A source sends bursts over a ring of four frames. Both rovers are given frames in order, each once, the
+    last one too; by the replay so many were sent as came, and all others were overrun, and lie in laps."""
+    caster = record(example(1, ring=4), 3)
+    source = caster.client().send(source_1('ALPHA', 'sesame')).expect(ICY)
+    first = caster.client().send(rover_1('ALPHA', ROVER1)).expect(ICY)
+    second = caster.client().send(rover_2('ALPHA', ROVER1)).expect(ROVER_2_OK)
+    count = 0
+    for burst in range(10):
+        sent = frames(1005, count, 300)
+        count += len(sent)
+        source.send(b''.join(sent))
+        time.sleep(0.03)
+    bodies = [first.receive_until(sent[-1]), out_of_chunks(second.receive_until(chunk(sent[-1])))]
+    for one in (first, second, source):
+        one.finish()
+    _, lines, last = recorded(caster, [source, first, second])
+    total = 0
+    for number, body in zip((2, 3), bodies):
+        places = places_in(body)
+        if places != sorted(set(places)):
+            raise Wrong('not in order, or twice: %s' % places)
+        overrun = count - len(places)
+        if not overrun:
+            raise Wrong('nothing was overrun')
+        total += len(places)
+        wants('rover', lines[number][:3], ['connection %d rover-end' % number, 'junk 0',
+                                           'segment ALPHA 0 %d %d %d' % (count, len(places), overrun)])
+        laps = [line.split(' ') for line in lines[number][3:]]
+        wants('laps', {lap[0] for lap in laps}, {'lap'})
+        wants('overrun in laps', sum(int(lap[4]) for lap in laps), overrun)
+        for lap in laps:
+            if any(int(lap[1]) <= place < int(lap[2]) for place in places):
+                raise Wrong('sent from a lap: %s, %s' % (lap, places))
+    sums = '2 %d %d' % (total, 2 * count - total)
+    wants('last', last, ['mount ALPHA %d 1' % count, 'mount BRAVO 0 0',
+                         'account rover1 ' + sums, 'total ' + sums])
+
+
+def recorded_rovers_that_go_away():
+    """While frames are sent to them, a rover resets its connection, and another one closes it. Nothing else
+    ends: a third one is given all frames, the session ends with the others, and it is replayed."""
+    caster = record(example(1), 4)
+    source = caster.client().send(source_1('ALPHA', 'sesame')).expect(ICY)
+    resets = caster.client().send(rover_1('ALPHA', ROVER1)).expect(ICY)
+    closes = caster.client().send(rover_1('ALPHA')).expect(ICY)
+    stays = caster.client().send(rover_2('ALPHA', ROVER1)).expect(ROVER_2_OK)
+    some = frames(1005, 0, 400, 100)
+    for at in range(0, 400, 50):
+        source.send(b''.join(some[at:at + 50]))
+        stays.expect(b''.join(chunk(one) for one in some[at:at + 50]))
+        if at == 100:
+            resets.expect(some[0]).reset()
+        if at == 200:
+            closes.expect(some[0]).close()
+    source.finish()
+    stays.finish()
+    events, lines, last = recorded(caster, [source, resets, closes, stays], [resets, closes])
+    # One that closes with bytes that it has not read resets its connection too.
+    third = {'break 3': 'read-fault', 'end 3': 'rover-end'}
+    if closings(events) not in [sorted(['break 2', 'end 1', 'end 4', one]) for one in third]:
+        raise Wrong('closed: %s' % closings(events))
+    ending = [third[one] for one in closings(events) if one in third]
+    sent = [int(lines[number][2].split(' ')[4]) for number in (2, 3)]
+    if not all(0 < one < 400 for one in sent):
+        raise Wrong('%s frames were sent to those that went away' % sent)
+    wants('source', lines[1], ['connection 1 source-end 1', 'junk 0'])
+    wants('resets', lines[2], ['connection 2 read-fault', 'junk 0',
+                               'segment ALPHA 0 %d %d 0' % (sent[0], sent[0])])
+    wants('closes', lines[3], ['connection 3 ' + ending[0], 'junk 0',
+                               'segment ALPHA 0 %d %d 0' % (sent[1], sent[1])])
+    wants('stays', lines[4], ['connection 4 rover-end', 'junk 0', 'segment ALPHA 0 400 400 0'])
+    wants('last', last, ['mount ALPHA 400 1', 'mount BRAVO 0 0', 'account rover1 2 %d 0' % (400 + sent[0]),
+                         'total 3 %d 0' % (400 + sum(sent))])
+
+
+def recorded_near_rover():
+    """A source whose body comes in chunks and ends by itself, one of version 1, and a rover of NEAR that
+    reports a position at the second one's base, of which its group may hear message 1005 alone."""
+    caster = record(example(1), 3)
+    bravo = caster.client().send(source_1('BRAVO', 'open')).expect(ICY)
+    rover = caster.client().send(rover_2('NEAR', ROVER1, 'Ntrip-GGA: ' + AT_BRAVO)).expect(ROVER_2_OK)
+    bravo.send(B + A + B + A)
+    rover.expect(chunk(A) + chunk(A))
+    alpha = caster.client().send(source_2('ALPHA', 'sesame', 'Transfer-Encoding: chunked')).expect(SOURCE_2_OK)
+    alpha.send(b'3;name=value\r\n' + A[:3] + b'\r\n05\r\n' + A[3:] + b'\r\n0\r\nTrailer: x\r\n\r\n')
+    rover.finish()
+    bravo.finish()
+    events, lines, last = recorded(caster, [bravo, rover, alpha])
+    wants('closed', closings(events), ['end 1', 'end 2'])
+    wants('bravo', lines[1], ['connection 1 source-end 1', 'junk 0'])
+    wants('rover', lines[2], ['connection 2 rover-end', 'junk 0', 'segment BRAVO 0 4 2 0'])
+    wants('alpha', lines[3], ['connection 3 source-end 1', 'junk 0'])
+    wants('last', last, ['mount ALPHA 1 1', 'mount BRAVO 4 1', 'account rover1 1 2 0', 'total 1 2 0'])
+
+
+def recorded_near_rover_that_moves():
+    """A rover of NEAR reports that it is at ALPHA, and then that it is at BRAVO; it has a segment at each."""
+    caster = record(example(1), 3)
+    alpha = caster.client().send(source_1('ALPHA', 'sesame')).expect(ICY)
+    bravo = caster.client().send(source_1('BRAVO', 'open')).expect(ICY)
+    rover = caster.client().send(rover_1('NEAR', ROVER1) + AT_ALPHA.encode() + b'\r\n').expect(ICY)
+    alpha.send(A + B)
+    rover.expect(A + B)
+    rover.send(AT_BRAVO.encode() + b'\r\n')
+    # Nothing says when the report has come. From then on each second one of these is sent to the rover.
+    published = []
+    while not select.select([rover.socket], [], [], 0.05)[0]:
+        published += [frame(1005, len(published)), frame(1077, len(published) + 1)]
+        bravo.send(b''.join(published[-2:]))
+        if len(published) > 2 * PATIENCE / 0.05:
+            raise Wrong('nothing comes from BRAVO')
+    places = places_in(rover.receive_until(published[-2]))
+    if places != list(range(places[0], len(published), 2)):
+        raise Wrong('the rover was given the frames %s of %d' % (places, len(published)))
+    for one in (rover, alpha, bravo):
+        one.finish()
+    events, lines, last = recorded(caster, [alpha, bravo, rover])
+    wants('closed', closings(events), ['end 1', 'end 2', 'end 3'])
+    wants('rover', lines[3][:3], ['connection 3 rover-end', 'junk 0', 'segment ALPHA 0 2 2 0'])
+    segment, name, joined, to, *counts = lines[3][3].split(' ')
+    wants('lines', len(lines[3]), 4)
+    wants('second segment', [segment, name, *counts], ['segment', 'BRAVO', str(len(places)), '0'])
+    if not int(joined) <= places[0] <= places[-1] < int(to):
+        raise Wrong('it was given %s in %s' % (places, lines[3][3]))
+    sums = '1 %d 0' % (2 + len(places))
+    wants('last', last, ['mount ALPHA 2 1', 'mount BRAVO %d 1' % len(published),
+                         'account rover1 ' + sums, 'total ' + sums])
+
+
+def recorded_sessions_that_end_by_themselves():
+    """Connections that end by their heads, and one that closes before it has sent one. No client but that
+    one closes its connection before the session has ended."""
+    cases = [
+        (rover_1(''), table_1(TABLE), 'table-sent'),
+        (rover_2(''), table_2(TABLE), 'table-sent'),
+        (b'NONSENSE\r\n\r\n', BAD_HEAD, 'bad-head'),
+        (b'a' * 8192, BAD_HEAD, 'long-head'),
+        (source_1('ALPHA', 'open'), BAD_PASSWORD_1, 'source-password'),
+        (rover_2('ALPHA', basic('rover1', 'wrong')), UNAUTHORIZED_2, 'password 1'),
+        (rover_2('NONE', ROVER1), NO_MOUNT_2, 'no-mount'),
+        (rover_1('BRAVO'), DENIED_1, 'denied 1'),
+    ]
+    caster = record(example(1), len(cases) + 1)
+    clients = [caster.client().send(head).expect(reply) for head, reply, _ in cases]
+    clients.append(caster.client())
+    clients[-1].finish()
+    events, lines, last = recorded(caster, clients)
+    endings = [ending for _, _, ending in cases] + ['no-head']
+    wants('closed', closings(events), ['end %d' % len(clients)])
+    for number, ending in enumerate(endings, 1):
+        wants('ending', lines[number], ['connection %d %s' % (number, ending), 'junk 0'])
+    wants('last', last, ['mount ALPHA 0 0', 'mount BRAVO 0 0', 'account rover1 0 0 0', 'total 0 0 0'])
+
+
+def recorded_session_of_256_connections():
+    """As many connections as a session may have: a source, a rover, and others that ask for the table."""
+    caster = record(example(1), 256)
+    source = caster.client().send(source_1('ALPHA', 'sesame')).expect(ICY)
+    rover = caster.client().send(rover_2('ALPHA', ROVER1)).expect(ROVER_2_OK)
+    others = [caster.client().send(rover_2('')) for _ in range(254)]
+    for one in others:
+        one.expect(table_2(TABLE))
+    source.send(A + Z + B)
+    rover.expect(chunk(A) + chunk(Z) + chunk(B))
+    source.finish()
+    rover.finish()
+    events, lines, last = recorded(caster, [source, rover, *others])
+    wants('closed', closings(events), ['end 1', 'end 2'])
+    wants('rover', lines[2], ['connection 2 rover-end', 'junk 0', 'segment ALPHA 0 3 3 0'])
+    for number in range(3, 257):
+        wants('other', lines[number], ['connection %d table-sent' % number, 'junk 0'])
+    wants('last', last, ['mount ALPHA 3 1', 'mount BRAVO 0 0', 'account rover1 1 3 0', 'total 1 3 0'])
+
+
+def recorded_session_that_comes_to_its_limit():
+    """A source sends more than a script has room for, so the session ends while it and a rover are there. By
+    then the rover was given all frames, but for some of the last piece that came."""
+    caster = record(example(1), 2)
+    head = source_1('ALPHA', 'sesame')
+    source = caster.client().send(head).expect(ICY)
+    rover = caster.client().send(rover_1('ALPHA', ROVER1)).expect(ICY)
+    stream = b''.join(frames(1005, 0, 5000, 1000))
+
+    def send():
+        try:
+            source.send(stream)
+        except OSError:
+            pass
+
+    beside = [threading.Thread(target=one, daemon=True) for one in (send, rover.drain)]
+    for thread in beside:
+        thread.start()
+    script = caster.ends()
+    for thread in beside:
+        thread.join(PATIENCE)
+    size = len(script) - len('stop\n')
+    if not 8370000 < size <= 8370000 + 8380:
+        raise Wrong('the lines of the events have %d bytes' % size)
+    events = events_of(script)
+    wants('closed', closings(events), [])
+    came = brought(events, 1)
+    if not (head + stream).startswith(came):
+        raise Wrong('brought in: %s' % show(came))
+    connections, last = parts_of(replay(caster.path, script))
+    told = sent_by(connections[2])
+    if rover.got != told:
+        raise Wrong('the rover was sent %s, and %s came' % (show(told), show(rover.got)))
+    published = (len(came) - len(head)) // len(frame(1005, 0, 1000))
+    places = places_in(told[len(ICY):], 1000)
+    count = len(places)
+    if places != list(range(count)) or not published - 5 <= count <= published:
+        raise Wrong('of %d frames the rover was given %s' % (published, places))
+    wants('source', connections[1][:-1], ['connection 1 source-end 1', 'junk 0'])
+    wants('rover', connections[2][:-1], ['connection 2 rover-end', 'junk 0',
+                                         'segment ALPHA 0 %d %d 0' % (count, count)])
+    wants('last', last, ['mount ALPHA %d 1' % published, 'mount BRAVO 0 0', 'account rover1 1 %d 0' % count,
+                         'total 1 %d 0' % count])
+
+
+def recorded_session_that_is_not_written():
+    """A session of one connection, whose script goes to a device that is full: status 5."""
+    with open('/dev/full', 'wb') as full:
+        caster = record(example(1), 1, output=full)
+    caster.client().send(rover_1('')).expect(table_1(TABLE))
+    caster.ends_with([], 5)
+
+
+def network_faults_of_a_recorder():
+    """An address that is taken, one that is none, and one that is not this machine's."""
+    with socket.create_server(('127.0.0.1', 0)) as other:
+        place = '127.0.0.1:%d' % other.getsockname()[1]
+        for addr in (place, 'nonsense', '127.0.0.1', '192.0.2.1:2101', '127.0.0.1:65536'):
+            record(example(1), 1, addr).ends_with(['network fault'], 6)
+
+
 # ---- addresses and faults
 
 def other_addresses():
@@ -513,8 +818,12 @@ def workers_side_by_side():
 CASES = [sessions_of_version_1, sessions_of_version_2, near_rover, near_rover_of_version_2, sourcetables,
          fetches, fetches_that_get_nothing,
          refusals, taken, full_account, lapped_rover, rover_that_reads_late, rover_that_never_reads,
-         resets, reset_while_written_to, relays, relay_that_is_refused, other_addresses, network_faults,
-         workers_side_by_side]
+         resets, reset_while_written_to, relays, relay_that_is_refused,
+         recorded_session, recorded_rovers_that_are_lapped, recorded_rovers_that_go_away,
+         recorded_near_rover, recorded_near_rover_that_moves, recorded_sessions_that_end_by_themselves,
+         recorded_session_of_256_connections, recorded_session_that_comes_to_its_limit,
+         recorded_session_that_is_not_written,
+         network_faults_of_a_recorder, other_addresses, network_faults, workers_side_by_side]
 
 
 def run(case, failed):

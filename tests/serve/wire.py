@@ -2,6 +2,7 @@
 between two programs that can be cut. All texts are written by hand from docs/FORMATS.md."""
 import base64
 import os
+import re
 import socket
 import struct
 import subprocess
@@ -65,6 +66,19 @@ def frames(message, first, count, size=6):
 def chunk(data):
     """One chunk as the caster writes it."""
     return b'%x\r\n' % len(data) + data + b'\r\n'
+
+
+def out_of_chunks(body, size=6):
+    """What chunks hold of which each is a frame of this size."""
+    front = len(b'%x\r\n' % (size + 6))
+    whole = front + size + 6 + 2
+    held = bytearray()
+    for at in range(0, len(body), whole):
+        one = body[at:at + whole]
+        if one != chunk(one[front:-2]):
+            raise Wrong('no chunk of %d bytes at %d: %s' % (size + 6, at, show(one)))
+        held += one[front:-2]
+    return bytes(held)
 
 
 def places_in(body, size=6):
@@ -234,6 +248,36 @@ class Client:
         self.socket.close()
 
 
+class Kept(Client):
+    """A client that keeps all bytes that it sent, and all that came."""
+
+    def __init__(self, port, room=None, host='127.0.0.1'):
+        super().__init__(port, room, host)
+        self.sent = bytearray()
+        self.got = bytearray()
+
+    def send(self, data):
+        super().send(data)
+        self.sent += data
+        return self
+
+    def receive(self):
+        some = super().receive()
+        self.got += some
+        return some
+
+    def finish(self):
+        """It sends nothing more, and can still be read from."""
+        self.socket.shutdown(socket.SHUT_WR)
+
+    def drain(self):
+        """All bytes that came, up to the end of the connection."""
+        while self.receive():
+            pass
+        self.socket.close()
+        return bytes(self.got)
+
+
 def most_kept():
     """How many bytes the system keeps at most for a connection whose other side does not read."""
     with open('/proc/sys/net/ipv4/tcp_wmem') as file:
@@ -248,17 +292,19 @@ def show(data):
 # ---- the program
 
 class Caster:
-    """The program, serving over this configuration at a free port, or at this address."""
+    """The program, serving over this configuration at a free port, or at this address. What it writes goes
+    to this output, or is kept."""
 
-    def __init__(self, config, limit, addr=None):
+    command = 'serve'
+
+    def __init__(self, config, limit, addr=None, output=subprocess.PIPE):
         self.port = free_port()
         self.addr = addr or '127.0.0.1:%d' % self.port
         with tempfile.NamedTemporaryFile('w', suffix='.toml', delete=False) as file:
             file.write(config)
         self.path = file.name
-        self.process = subprocess.Popen([PROGRAM, 'serve', self.path, self.addr, str(limit)],
-                                        stdin=subprocess.DEVNULL, stdout=subprocess.PIPE,
-                                        stderr=subprocess.PIPE)
+        self.process = subprocess.Popen([PROGRAM, self.command, self.path, self.addr, str(limit)],
+                                        stdin=subprocess.DEVNULL, stdout=output, stderr=subprocess.PIPE)
 
     def client(self, room=None):
         return Client(self.port, room)
@@ -281,7 +327,7 @@ class Caster:
             raise Wrong('wrote to standard error: %s' % show(err))
         if self.process.returncode != status:
             raise Wrong('status %d, wanted %d; %s' % (self.process.returncode, status, show(out)))
-        return out.decode()
+        return (out or b'').decode()
 
     def stop(self):
         """Ends the program where it has not ended, and takes its configuration away."""
@@ -290,6 +336,70 @@ class Caster:
             self.process.communicate()
         if os.path.exists(self.path):
             os.unlink(self.path)
+
+
+class Recorder(Caster):
+    """The program, recording a session of so many connections over this configuration. It serves all of
+    them at the same time, and keeps each connection until the session has ended."""
+
+    command = 'record'
+
+    def client(self, room=None):
+        return Kept(self.port, room)
+
+
+def replay(config, script):
+    """The report of this script over the configuration in the file of this path."""
+    with tempfile.NamedTemporaryFile('w', suffix='.session') as file:
+        file.write(script)
+        file.flush()
+        done = subprocess.run([PROGRAM, 'replay', config, file.name], stdin=subprocess.DEVNULL,
+                              capture_output=True, timeout=PATIENCE)
+    if done.stderr or done.returncode:
+        raise Wrong('replay ended with %d; %s %s' % (done.returncode, show(done.stdout), show(done.stderr)))
+    return done.stdout.decode()
+
+
+# An event's line in a recorded script.
+EVENT = re.compile(r'(open|end|break) [1-9][0-9]*|turn [1-9][0-9]* 16|in [1-9][0-9]* ([0-9a-f]{2}){1,4096}')
+
+
+def events_of(script):
+    """The words of each event of a recorded script, which is written as `record` writes it: one event a
+    line, then `stop`, and nothing else."""
+    lines = script.split('\n')
+    if lines[-2:] != ['stop', '']:
+        raise Wrong('the script ends with %r' % script[-100:])
+    for line in lines[:-2]:
+        if not EVENT.fullmatch(line):
+            raise Wrong('no event of a recorded session: %r' % line[:100])
+    return [line.split(' ') for line in lines[:-2]]
+
+
+def brought(events, number):
+    """All bytes that came in on the connection of this number."""
+    return b''.join(bytes.fromhex(words[2]) for words in events if words[:2] == ['in', str(number)])
+
+
+def parts_of(report):
+    """The lines of a report: those of each connection, by its number, and the last ones."""
+    connections, last = {}, []
+    for line in report.splitlines():
+        words = line.split(' ')
+        if words[0] == 'connection':
+            lines = connections[int(words[1])] = []
+        elif words[0] == 'mount':
+            lines = last
+        lines.append(line)
+    return connections, last
+
+
+def sent_by(lines):
+    """The bytes that the lines of a connection say it was sent."""
+    word, digits = lines[-1].split(' ')
+    if word != 'bytes':
+        raise Wrong('no bytes: %s' % lines[-1][:100])
+    return b'' if digits == '-' else bytes.fromhex(digits)
 
 
 class Fetch:

@@ -21,7 +21,9 @@ use Rattle.run_texts.specs.Texts.{made_text}
 use Rattle.caster_main.specs.declared.answers.Answer.{Answer}
 use Rattle.caster_main.specs.declared.answers.Answer.TheVariants.{Done, Valid, NoConfig, NoSession, Usage, Long, ReadFault, NetworkFault, Memory}
 use Rattle.caster_main.specs.declared.command.Aim.{Aim}
-use Rattle.caster_main.specs.Command.{Form, bare, over, replay, made, AreBare, AreOver, AreReplay, AreMake, form_of}
+use Rattle.caster_main.specs.declared.command.Start.{Start}
+use Rattle.caster_main.specs.declared.command.Start.TheVariants.{Cold}
+use Rattle.caster_main.specs.Command.{Form, bare, over, replay, made, AreBare, AreOver, ArePlayed, AreMake, form_of}
 use Rattle.caster_main.specs.Reading.{config_in}
 use Rattle.caster_main.specs.Outcome.{Exit, Ending, exactly, EndsSo, Came, usage_exit, long_exit, read_fault_exit, memory_exit, whole_exit, session_in, exit_of_config_fault, ending_of_script, ending_of_config, ending_of_read, ending_of_bytes, ending_of, outcome}
 use Rattle.caster_main.specs.Told.{Files, Tells, Holds, IsConfigAt, HasCome, IsOutcome}
@@ -103,10 +105,10 @@ unfolding script_of
 script_of-long kind bytes long =
     let e : nat_lt 8388608 (length bytes) ≡ true = grind (arith, nat_tests, long) in rw e refl
 
-long_ends : (c : Config) (kind : ScriptKind) (bytes : List ℕ) → 8388608 < length bytes
-    → EndsSo (ending_of_script c (script_of kind bytes)) long_exit
-long_ends c kind bytes long =
-    subst (λ (s : Result (List Event) ScriptFault). EndsSo (ending_of_script c s) long_exit)
+long_ends : (start : Start) (c : Config) (kind : ScriptKind) (bytes : List ℕ) → 8388608 < length bytes
+    → EndsSo (ending_of_script start c (script_of kind bytes)) long_exit
+long_ends start c kind bytes long =
+    subst (λ (s : Result (List Event) ScriptFault). EndsSo (ending_of_script start c s) long_exit)
     (sym (script_of-long kind bytes long)) refl
 
 longer : (told came rest : List ℕ) → told ≡ came ++ rest → 8388608 < length came → 8388608 < length told
@@ -115,11 +117,11 @@ longer told came rest e long = omega (arith, long, ap (λ l. length l) e, length
 pub long_input : (left new : Option (List ℕ)) (capacity : ℕ) (fault : Type 0)
     → Loses (λ came. 8388608 < length came) left new → IsInputAnswer capacity left fault Long
 long_input None new capacity fault lost =
-    (lost.0, tt, long_ends (settings.bare capacity) Bare lost.0 lost.1)
+    (lost.0, tt, long_ends Cold (settings.bare capacity) Bare lost.0 lost.1)
 long_input (Some told) None capacity fault lost = absurd lost.2
 long_input (Some told) (Some rest) capacity fault lost =
     let long : 8388608 < length told = longer told lost.0 rest lost.2 lost.1 in
-    (told, refl, long_ends (settings.bare capacity) Bare told long)
+    (told, refl, long_ends Cold (settings.bare capacity) Bare told long)
 
 -- what was read to the end is what the input told
 pub read_is_told : (left new : Option (List ℕ)) (bytes : List ℕ) → Consumes left new bytes → IsAtEnd new
@@ -132,10 +134,11 @@ read_is_told (Some told) (Some rest) bytes consumed ended =
 -- the answer to a script is that to the input
 pub script_answer : (left new : Option (List ℕ)) (capacity : ℕ) (bytes : List ℕ) (fault : Type 0) (answer : Answer)
     → Consumes left new bytes → IsAtEnd new
-    → GivesEnd (ending_of_script (settings.bare capacity) (script_of Bare bytes)) answer
+    → GivesEnd (ending_of_script Cold (settings.bare capacity) (script_of Bare bytes)) answer
     → IsInputAnswer capacity left fault answer
 script_answer left new capacity bytes fault answer consumed ended given =
-    given_such (EndsSo (ending_of_script (settings.bare capacity) (script_of Bare bytes))) (IsInputEnd capacity left)
+    given_such (EndsSo (ending_of_script Cold (settings.bare capacity) (script_of Bare bytes)))
+    (IsInputEnd capacity left)
     (λ memory. memory) (λ none. absurd none)
     (λ end ends. (bytes, read_is_told left new bytes consumed ended, ends)) answer given
 
@@ -269,48 +272,51 @@ fault_answer bytes (configs.Unknown key) answer short is given =
 -- ---- sessions over a configuration
 
 -- a session is too long
-pub long_session : (c : Config) (path : List ℕ) (files : Files) (fault : Type 0)
+pub long_session : (start : Start) (c : Config) (path : List ℕ) (files : Files) (fault : Type 0)
     → (bytes : List ℕ) × Holds files path bytes × (8388608 < length bytes)
-    → IsSessionAnswer c path files fault Long
-long_session c path files fault is = (is.0, is.1, long_ends c (Replay (length c.relay)) is.0 is.2)
+    → IsSessionAnswer start c path files fault Long
+long_session start c path files fault is = (is.0, is.1, long_ends start c (Replay (length c.relay)) is.0 is.2)
 
 abbrev pub both_came : List ℕ → List ℕ → Came
 both_came config script = record { script = script; config = config; failed = false }
 
 -- the answer to a session is that to both files
-pub replay_answer : (config session : List ℕ) (files mid : Files) (mid_fault fault : Type 0) (c : Config)
+pub replay_answer : (start : Start) (config session : List ℕ) (files mid : Files) (mid_fault fault : Type 0)
+    (c : Config)
     (answer : Answer) → IsConfigAt files config c → mid ≡ files → (mid_fault → fault)
-    → IsSessionAnswer c session mid mid_fault answer → IsReplayAnswer config session files fault answer
-replay_answer config session files mid mid_fault fault c answer is same counts given =
-    given_such (IsSessionEnd c session mid) (IsReplayEnd config session files) (λ memory. memory) counts
+    → IsSessionAnswer start c session mid mid_fault answer → IsReplayAnswer start config session files fault answer
+replay_answer start config session files mid mid_fault fault c answer is same counts given =
+    given_such (IsSessionEnd start c session mid) (IsReplayEnd start config session files) (λ memory. memory) counts
     (λ end ends. (
       both_came is.0 ends.0,
       is.1,
       (λ d there. subst (λ (f : Files). Holds f session ends.0) same ends.1),
-      at_end (λ d. ending_of_script d (session_in d ends.0)) files config c end is ends.2,
+      at_end (λ d. ending_of_script start d (session_in d ends.0)) files config c end is ends.2,
     )) answer given
 
 -- and so is the answer where there is no configuration
-pub refused_replay : (config session : List ℕ) (files : Files) (fault : Type 0) (answer : Answer)
-    → IsRefusal config files fault answer → IsReplayAnswer config session files fault answer
-refused_replay config session files fault answer is =
-    given_such (IsRefusedAt config files) (IsReplayEnd config session files) (λ memory. memory) (λ counted. counted)
+pub refused_replay : (start : Start) (config session : List ℕ) (files : Files) (fault : Type 0) (answer : Answer)
+    → IsRefusal config files fault answer → IsReplayAnswer start config session files fault answer
+refused_replay start config session files fault answer is =
+    given_such (IsRefusedAt config files) (IsReplayEnd start config session files) (λ memory. memory)
+    (λ counted. counted)
     (λ end refused. (
       config_came refused.0,
       refused.1,
       (λ c there. absurd (refused.2.none c there)),
-      refused.2.ends (λ c. ending_of_script c (session_in c [])),
+      refused.2.ends (λ c. ending_of_script start c (session_in c [])),
     )) answer is
 
 -- the answer to the files is that to the words
 pub files_answer : (words : List (List ℕ)) (left : Option (List ℕ)) (files : Files) (of_input of_store : Type 0)
-    (config session : List ℕ) (answer : Answer) → form_of words ≡ Some (replay config session)
-    → AreReplay words config session → IsReplayAnswer config session files of_store answer
+    (start : Start) (config session : List ℕ) (answer : Answer) → form_of words ≡ Some (replay start config session)
+    → ArePlayed start words config session → IsReplayAnswer start config session files of_store answer
     → IsAnswer words left files of_input of_store answer
-files_answer words left files of_input of_store config session answer h are is =
-    given_such (IsReplayEnd config session files) (IsOutcome words left files)
-    (λ memory. (replay config session, are)) (λ fault. (replay config session, are, fault))
-    (λ end ends. outcome_of_read words left files (Some (replay config session)) ends.0 end h (ends.1, ends.2) ends.3)
+files_answer words left files of_input of_store start config session answer h are is =
+    given_such (IsReplayEnd start config session files) (IsOutcome words left files)
+    (λ memory. (replay start config session, are)) (λ fault. (replay start config session, are, fault))
+    (λ end ends. outcome_of_read words left files (Some (replay start config session)) ends.0 end h (ends.1, ends.2)
+    ends.3)
     answer is
 
 -- ---- sessions that are made

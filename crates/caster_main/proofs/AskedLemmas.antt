@@ -3,6 +3,7 @@ use Rattle.std.proofs.Common.{◌≡◌, ℕ, List, [], ◌∷◌, ◌++◌, Opt
 use Rattle.cast_io.specs.Told.{Grew}
 use Rattle.cast_config.specs.declared.config.Config.{Config}
 use Rattle.caster_main.specs.declared.command.Aim.{Aim}
+use Rattle.caster_main.specs.declared.command.Start.{Start}
 use Rattle.caster_main.specs.Command.{Form, over, replay, form_of}
 use Rattle.caster_main.specs.Told.{Files, IsConfigAt, IsAsked}
 
@@ -21,14 +22,15 @@ asked_so words read files old new h asked =
     subst (λ (form : Option Form). IsAsked form files old new) (sym h) asked
 
 -- the configuration alone, and both
-pub config_asked : (config session : List ℕ) (files : Files) (old new : Option (List (List ℕ)))
-    → Grew old new (config ∷ []) → IsAsked (Some (replay config session)) files old new
-config_asked config session files old new grew = (config ∷ [], inl refl, grew)
+pub config_asked : (start : Start) (config session : List ℕ) (files : Files) (old new : Option (List (List ℕ)))
+    → Grew old new (config ∷ []) → IsAsked (Some (replay start config session)) files old new
+config_asked start config session files old new grew = (config ∷ [], inl refl, grew)
 
-pub both_asked : (config session : List ℕ) (files : Files) (old mid new : Option (List (List ℕ))) (c : Config)
+pub both_asked : (start : Start) (config session : List ℕ) (files : Files) (old mid new : Option (List (List ℕ)))
+    (c : Config)
     → Grew old mid (config ∷ []) → Grew mid new (session ∷ []) → IsConfigAt files config c
-    → IsAsked (Some (replay config session)) files old new
-both_asked config session files old mid new c first second is =
+    → IsAsked (Some (replay start config session)) files old new
+both_asked start config session files old mid new c first second is =
     (config ∷ session ∷ [], inr (refl, c, is), grew_both old mid new (config ∷ []) (session ∷ []) first second)
 
 -- one file for words that name it

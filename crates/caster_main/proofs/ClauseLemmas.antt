@@ -11,19 +11,21 @@ use Rattle.cast_io.specs.Stores.{content_of}
 use Rattle.cast_config.specs.declared.config.Config.{Config}
 use Rattle.cast_config.specs.Bare as settings
 use Rattle.cast_config.specs.Document.{IsRead}
-use Rattle.run_texts.specs.Texts.{IsRunText, report, made_text}
+use Rattle.run_texts.specs.Texts.{report, made_text}
 use Rattle.run_texts.proofs.BareLemmas.{bare_text}
 use Rattle.caster_main.specs.declared.answers.Answer.{Answer}
 use Rattle.caster_main.specs.declared.answers.Answer.TheVariants.{Done, Valid, NoConfig, NoSession, Usage, Long, ReadFault, NetworkFault, Memory}
 use Rattle.caster_main.specs.declared.command.Aim.{Aim}
-use Rattle.caster_main.specs.Command.{Form, bare, over, replay, made, serving, fetching, AreBare, AreOver, AreReplay, AreMake, AreOf, AreOfNoForm, form_of}
-use Rattle.caster_main.specs.Outcome.{Exit, Ending, report_of, EndsSo, Came, session_in, ending_of_script, ending_of_config, ending_of_bytes, ending_of_form, ending_of}
+use Rattle.caster_main.specs.declared.command.Start.{Start}
+use Rattle.caster_main.specs.declared.command.Start.TheVariants.{Cold}
+use Rattle.caster_main.specs.Command.{Form, bare, over, replay, made, casting, fetching, AreBare, AreOver, ArePlayed, AreMake, AreOf, AreOfNoForm, form_of}
+use Rattle.caster_main.specs.Outcome.{Exit, Ending, IsReportText, report_of, EndsSo, Came, session_in, ending_of_script, ending_of_config, ending_of_bytes, ending_of_form, ending_of}
 use Rattle.caster_main.specs.Told.{Files, Holds, IsConfigAt, IsConfigIn, IsSessionAt, HasCome, EndsWith, FollowsOutcome, HaveForm, HaveFault, HaveCome}
 use Rattle.caster_main.specs.Answers.{exit_of, IsAnswer, Writes}
 use Rattle.caster_main.proofs.WordLemmas.{form_of-form, form-form_of, no_form}
 use Rattle.caster_main.proofs.ReadingLemmas.{config_in-ok, read-config_in}
 use Rattle.caster_main.proofs.AnswerLemmas.{outcome-form, told_bytes, ending_of_bytes-read}
-use Rattle.caster_main.proofs.StatusLemmas.{status-ends, no_usage_form, whole_bytes, ok_status}
+use Rattle.caster_main.proofs.StatusLemmas.{replayed, status-ends, no_usage_form, whole_bytes, ok_status}
 use Rattle.caster_main.proofs.ScriptLemmas.{status_of, whole_script}
 
 -- ---- how a run ended
@@ -157,16 +159,16 @@ no_form_run words left files of_input of_store old new before now status answer 
 -- ---- bare scripts
 
 -- what ends as a run of these events ends with status 0
-report_end : (c : Config) (events : List Event) (status : ℕ) (old new : Option (List ℕ)) (end : Exit)
-    → EndsSo (report_of c events) end → EndsWith status old new end
-    → (status ≡ 0) × (text : List ℕ) × IsRunText c events text × Appends old new text
-report_end c events status old new end ends written =
+report_end : (start : Start) (c : Config) (events : List Event) (status : ℕ) (old new : Option (List ℕ)) (end : Exit)
+    → EndsSo (report_of start c events) end → EndsWith status old new end
+    → (status ≡ 0) × (text : List ℕ) × IsReportText start c events text × Appends old new text
+report_end start c events status old new end ends written =
     (written.0 ∙ ends.0, end.text, ends.1, written.1)
 
-script_end : (c : Config) (read : Result (List Event) ScriptFault) (events : List Event) (end : Exit)
-    → read ≡ Ok events → EndsSo (ending_of_script c read) end → EndsSo (report_of c events) end
-script_end c read events end h ends =
-    subst (λ (r : Result (List Event) ScriptFault). EndsSo (ending_of_script c r) end) h ends
+script_end : (start : Start) (c : Config) (read : Result (List Event) ScriptFault) (events : List Event) (end : Exit)
+    → read ≡ Ok events → EndsSo (ending_of_script start c read) end → EndsSo (report_of start c events) end
+script_end start c read events end h ends =
+    subst (λ (r : Result (List Event) ScriptFault). EndsSo (ending_of_script start c r) end) h ends
 
 -- the outcome of a bare script is the report of its run
 pub script_run : (words : List (List ℕ)) (left : Option (List ℕ)) (files : Files) (old new : Option (List ℕ))
@@ -179,8 +181,8 @@ script_run words left files old new status capacity bytes events follows are tol
     (form_of-form words (bare capacity) are) in
     let same = told_bytes left run.0.script bytes run.2 told in
     let read : script_of Bare run.0.script ≡ Ok events = ap (λ b. script_of Bare b) (sym same) ∙ script in
-    let all = report_end c events status old new run.1
-    (script_end c (script_of Bare run.0.script) events run.1 read run.3) run.4 in
+    let all = report_end Cold c events status old new run.1
+    (script_end Cold c (script_of Bare run.0.script) events run.1 read run.3) run.4 in
     let session = (script_read Bare bytes events script).session in
     let text = bare_text c events all.1 session all.2 in
     (all.0, subst (λ (t : List ℕ). Appends old new t) text all.3)
@@ -194,11 +196,11 @@ pub bare_fault : (words : List (List ℕ)) (of_input of_store : Type 0) (capacit
 bare_fault words of_input of_store capacity are read (bare other, of, fault) = read fault
 bare_fault words of_input of_store capacity are read (over aim path, of, fault) =
     let e = one_form words (bare capacity) (over aim path) are of in absurd cc
-bare_fault words of_input of_store capacity are read (replay config session, of, fault) =
-    let e = one_form words (bare capacity) (replay config session) are of in absurd cc
+bare_fault words of_input of_store capacity are read (replay start config session, of, fault) =
+    let e = one_form words (bare capacity) (replay start config session) are of in absurd cc
 bare_fault words of_input of_store capacity are read (made seed frames rovers, of, fault) = absurd fault
-bare_fault words of_input of_store capacity are read (serving config addr limit, of, fault) =
-    let e = one_form words (bare capacity) (serving config addr limit) are of in absurd cc
+bare_fault words of_input of_store capacity are read (casting task config addr limit, of, fault) =
+    let e = one_form words (bare capacity) (casting task config addr limit) are of in absurd cc
 bare_fault words of_input of_store capacity are read (fetching frames targets, of, fault) = absurd fault
 
 pub over_fault : (words : List (List ℕ)) (of_input of_store : Type 0) (aim : Aim) (path : List ℕ)
@@ -206,20 +208,22 @@ pub over_fault : (words : List (List ℕ)) (of_input of_store : Type 0) (aim : A
 over_fault words of_input of_store aim path are read (bare capacity, of, fault) =
     let e = one_form words (over aim path) (bare capacity) are of in absurd cc
 over_fault words of_input of_store aim path are read (over other other_path, of, fault) = read fault
-over_fault words of_input of_store aim path are read (replay config session, of, fault) = read fault
+over_fault words of_input of_store aim path are read (replay start config session, of, fault) = read fault
 over_fault words of_input of_store aim path are read (made seed frames rovers, of, fault) = absurd fault
-over_fault words of_input of_store aim path are read (serving config addr limit, of, fault) = read fault
+over_fault words of_input of_store aim path are read (casting task config addr limit, of, fault) = read fault
 over_fault words of_input of_store aim path are read (fetching frames targets, of, fault) = absurd fault
 
-pub replay_fault : (words : List (List ℕ)) (of_input of_store : Type 0) (config session : List ℕ)
-    → AreReplay words config session → (of_store → ⊥) → HaveFault words of_input of_store → ⊥
-replay_fault words of_input of_store config session are read (bare capacity, of, fault) =
-    let e = one_form words (replay config session) (bare capacity) are of in absurd cc
-replay_fault words of_input of_store config session are read (over aim path, of, fault) = read fault
-replay_fault words of_input of_store config session are read (replay other other_session, of, fault) = read fault
-replay_fault words of_input of_store config session are read (made seed frames rovers, of, fault) = absurd fault
-replay_fault words of_input of_store config session are read (serving other addr limit, of, fault) = read fault
-replay_fault words of_input of_store config session are read (fetching frames targets, of, fault) = absurd fault
+pub replay_fault : (words : List (List ℕ)) (of_input of_store : Type 0) (start : Start) (config session : List ℕ)
+    → ArePlayed start words config session → (of_store → ⊥) → HaveFault words of_input of_store → ⊥
+replay_fault words of_input of_store start config session are read (bare capacity, of, fault) =
+    let e = one_form words (replay start config session) (bare capacity) are of in absurd cc
+replay_fault words of_input of_store start config session are read (over aim path, of, fault) = read fault
+replay_fault words of_input of_store start config session are read (replay again other other_session, of, fault) =
+    read fault
+replay_fault words of_input of_store start config session are read (made seed frames rovers, of, fault) = absurd fault
+replay_fault words of_input of_store start config session are read (casting task other addr limit, of, fault) =
+    read fault
+replay_fault words of_input of_store start config session are read (fetching frames targets, of, fault) = absurd fault
 
 pub make_fault : (words : List (List ℕ)) (of_input of_store : Type 0) (seed frames rovers : ℕ)
     → AreMake words seed frames rovers → HaveFault words of_input of_store → ⊥
@@ -227,11 +231,11 @@ make_fault words of_input of_store seed frames rovers are (bare capacity, of, fa
     let e = one_form words (made seed frames rovers) (bare capacity) are of in absurd cc
 make_fault words of_input of_store seed frames rovers are (over aim path, of, fault) =
     let e = one_form words (made seed frames rovers) (over aim path) are of in absurd cc
-make_fault words of_input of_store seed frames rovers are (replay config session, of, fault) =
-    let e = one_form words (made seed frames rovers) (replay config session) are of in absurd cc
+make_fault words of_input of_store seed frames rovers are (replay start config session, of, fault) =
+    let e = one_form words (made seed frames rovers) (replay start config session) are of in absurd cc
 make_fault words of_input of_store seed frames rovers are (made s f r, of, fault) = absurd fault
-make_fault words of_input of_store seed frames rovers are (serving config addr limit, of, fault) =
-    let e = one_form words (made seed frames rovers) (serving config addr limit) are of in absurd cc
+make_fault words of_input of_store seed frames rovers are (casting task config addr limit, of, fault) =
+    let e = one_form words (made seed frames rovers) (casting task config addr limit) are of in absurd cc
 make_fault words of_input of_store seed frames rovers are (fetching most targets, of, fault) = absurd fault
 
 -- ---- sessions that are made
@@ -296,50 +300,51 @@ config_run words left files old new status aim path list bytes c follows are tol
 
 -- ---- sessions over a configuration
 
-abbrev replayed : List ℕ → Config → Ending
-replayed script c = ending_of_script c (session_in c script)
-
-ok_events : (c : Config) (read : Result (List Event) ScriptFault) (end : Exit)
-    → EndsSo (ending_of_script c read) end → end.status ≡ 0
-    → (events : List Event) × (read ≡ Ok events) × EndsSo (report_of c events) end
-ok_events c (Ok events) end ends zero = (events, refl, ends)
-ok_events c (Err fault) end ends zero =
-    let e = whole_script c (Err fault) (sym (status-ends (ending_of_script c (Err fault)) end ends) ∙ zero) in absurd cc
+ok_events : (start : Start) (c : Config) (read : Result (List Event) ScriptFault) (end : Exit)
+    → EndsSo (ending_of_script start c read) end → end.status ≡ 0
+    → (events : List Event) × (read ≡ Ok events) × EndsSo (report_of start c events) end
+ok_events start c (Ok events) end ends zero = (events, refl, ends)
+ok_events start c (Err fault) end ends zero =
+    let same = status-ends (ending_of_script start c (Err fault)) end ends in
+    let e = whole_script start c (Err fault) (sym same ∙ zero) in absurd cc
 
 -- with status 0 the files are a configuration and a session, and the report of its run was written
 pub replay_run : (words : List (List ℕ)) (left : Option (List ℕ)) (files : Files) (old new : Option (List ℕ))
-    (status : ℕ) (config session : List ℕ) → status ≡ 0 → FollowsOutcome words left files status old new
-    → AreReplay words config session
+    (status : ℕ) (start : Start) (config session : List ℕ) → status ≡ 0 → FollowsOutcome words left files status old new
+    → ArePlayed start words config session
     → (c : Config) × (events : List Event) × (text : List ℕ) × IsConfigAt files config c
-    × IsSessionAt files session c events × IsRunText c events text × Appends old new text
-replay_run words left files old new status config session is follows are =
-    let run = read_run words left files old new status (Some (replay config session)) follows
-    (form_of-form words (replay config session) are) in
+    × IsSessionAt files session c events × IsReportText start c events text × Appends old new text
+replay_run words left files old new status start config session is follows are =
+    let run = read_run words left files old new status (Some (replay start config session)) follows
+    (form_of-form words (replay start config session) are) in
     let script = run.0.script in
     let zero = sym run.4.0 ∙ is in
-    let all = config_decided files config (replayed script) run.0.config run.1 run.2.0 run.3 zero in
+    let all = config_decided files config (replayed start script) run.0.config run.1 run.2.0 run.3 zero in
     let c = all.0 in
-    let ended = ok_events c (session_in c script) run.1 all.3 zero in
-    let text = report_end c ended.0 status old new run.1 ended.2 run.4 in
+    let ended = ok_events start c (session_in c script) run.1 all.3 zero in
+    let text = report_end start c ended.0 status old new run.1 ended.2 run.4 in
     (c, ended.0, text.1, all.2, (script, run.2.1 c all.1, ended.1), text.2, text.3)
 
 -- a session over a configuration has a report
 pub session_run : (words : List (List ℕ)) (left : Option (List ℕ)) (files : Files) (old new : Option (List ℕ))
-    (status : ℕ) (config session : List ℕ) (list : List (List ℕ × List ℕ)) (bytes script : List ℕ) (c : Config)
-    (events : List Event) → FollowsOutcome words left files status old new → AreReplay words config session
+    (status : ℕ) (start : Start) (config session : List ℕ) (list : List (List ℕ × List ℕ)) (bytes script : List ℕ)
+    (c : Config)
+    (events : List Event) → FollowsOutcome words left files status old new → ArePlayed start words config session
     → files ≡ Some list → content_of list config ≡ Some bytes → length bytes ≤ 8388608 → IsRead bytes (Ok c)
     → content_of list session ≡ Some script → session_in c script ≡ Ok events
-    → (status ≡ 0) × (text : List ℕ) × IsRunText c events text × Appends old new text
-session_run words left files old new status config session list bytes script c events follows are told content short is
+    → (status ≡ 0) × (text : List ℕ) × IsReportText start c events text × Appends old new text
+session_run words left files old new status start config session list bytes script c events follows are told content
+    short is
     found read =
-    let run = read_run words left files old new status (Some (replay config session)) follows
-    (form_of-form words (replay config session) are) in
+    let run = read_run words left files old new status (Some (replay start config session)) follows
+    (form_of-form words (replay start config session) are) in
     let came = run.0 in
     let same = held_bytes files list config bytes came.config run.2.0 told content in
     let inside : IsConfigIn came.config c = subst (λ (b : List ℕ). IsConfigIn b c) (sym same)
     (short, config_in-ok bytes c is) in
     let same_script = held_bytes files list session script came.script (run.2.1 c inside) told found in
-    let next = ending_of_bytes-read (replayed came.script) came.config (Ok c) inside.0 inside.1 in
+    let next = ending_of_bytes-read (replayed start came.script) came.config (Ok c) inside.0 inside.1 in
     let ends = subst (λ (e : Ending). EndsSo e run.1) next run.3 in
     let all : session_in c came.script ≡ Ok events = ap (session_in c) same_script ∙ read in
-    report_end c events status old new run.1 (script_end c (session_in c came.script) events run.1 all ends) run.4
+    report_end start c events status old new run.1 (script_end start c (session_in c came.script) events run.1 all
+    ends) run.4

@@ -9,12 +9,12 @@ use Rattle.ntrip_fetch.specs.declared.target.Target.{Target}
 use Rattle.ntrip_fetch.specs.Tries.{HasStopped, frames_of_all}
 use Rattle.caster_main.specs.declared.answers.Answer.{Answer}
 use Rattle.caster_main.specs.declared.answers.Answer.TheVariants.{Done, Valid, NoConfig, NoSession, Usage, Long, ReadFault, NetworkFault, Memory}
-use Rattle.caster_main.specs.Command.{Form, bare, over, replay, made, serving, fetching, AreFetch, AreOf, form_of}
+use Rattle.caster_main.specs.Command.{Form, bare, over, replay, made, casting, fetching, AreFetch, AreOf, form_of}
 use Rattle.caster_main.specs.Outcome.{Exit, Came}
 use Rattle.caster_main.specs.Told.{Files, IsAsked, IsWhole, FollowsOutcome, HaveCome, IsStatus}
 use Rattle.caster_main.specs.Answers.{exit_of, Writes}
 use Rattle.caster_main.specs.Fetching.{HasFetched, HasFetching, TriedEnd, frames_in}
-use Rattle.caster_main.specs.Serving.{IsUnserved}
+use Rattle.caster_main.specs.Casting.{IsUnserved}
 use Rattle.caster_main.proofs.WordLemmas.{form_of-form}
 use Rattle.caster_main.proofs.AnswerLemmas.{outcome_of_read}
 use Rattle.caster_main.proofs.AskedLemmas.{asked_so}
@@ -26,9 +26,9 @@ use Rattle.caster_main.proofs.FetchingLemmas.{runs_counted}
 abbrev pub is_fetch : Form → Bool
 is_fetch (bare capacity) = false
 is_fetch (over aim config) = false
-is_fetch (replay config session) = false
+is_fetch (replay start config session) = false
 is_fetch (made seed frames rovers) = false
-is_fetch (serving config addr limit) = false
+is_fetch (casting task config addr limit) = false
 is_fetch (fetching frames targets) = true
 
 abbrev is_read_fetch : Option Form → Bool

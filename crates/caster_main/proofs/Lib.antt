@@ -10,4 +10,4 @@ pub mod StatusLemmas
 pub mod ClauseLemmas
 pub mod FetchClauseLemmas
 pub mod PieceLemmas
-mod ServingLemmas
+mod CastingLemmas

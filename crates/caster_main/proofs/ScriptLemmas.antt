@@ -12,7 +12,8 @@ use Rattle.session_script.specs.Line.{event_of_line}
 use Rattle.session_script.specs.Numbers.{Numbers, no_numbers}
 use Rattle.session_script.specs.Script.{is_skipped, may_follow, after_event, onto_events, events_of_lines, script_of}
 use Rattle.cast_config.specs.declared.config.Config.{Config}
-use Rattle.caster_main.specs.Outcome.{Ending, exactly, document_of, report_of, closing_of, enough_of, fewer_than, ending_of_script}
+use Rattle.caster_main.specs.declared.command.Start.{Start}
+use Rattle.caster_main.specs.Outcome.{Ending, exactly, document_of, report_of, closing_of, script_over, enough_of, fewer_than, ending_of_script}
 use Rattle.caster_main.specs.Told.{IsNoSession}
 
 -- ---- only the size of a script makes it too long
@@ -79,65 +80,66 @@ script_long kind bytes h = elim (cases_Bool (nat_lt 8388608 (length bytes))) [
 abbrev pub status_of : Ending → ℕ
 status_of (exactly wanted) = wanted.status
 status_of (document_of c) = 0
-status_of (report_of c events) = 0
+status_of (report_of start c events) = 0
 status_of (closing_of c) = 0
+status_of (script_over c) = 0
 status_of (enough_of frames) = 0
 status_of (fewer_than frames) = 9
 
-pub whole_script : (c : Config) (script : Result (List Event) ScriptFault)
-    → status_of (ending_of_script c script) ≡ 0 → IsOk script
-whole_script c (Ok events) h = refl
-whole_script c (Err (Line n)) h = absurd (omega arith)
-whole_script c (Err (State n)) h = absurd (omega arith)
-whole_script c (Err NoStop) h = absurd (omega arith)
-whole_script c (Err Long) h = absurd (omega arith)
-whole_script c (Err Memory) h = absurd (omega arith)
+pub whole_script : (start : Start) (c : Config) (script : Result (List Event) ScriptFault)
+    → status_of (ending_of_script start c script) ≡ 0 → IsOk script
+whole_script start c (Ok events) h = refl
+whole_script start c (Err (Line n)) h = absurd (omega arith)
+whole_script start c (Err (State n)) h = absurd (omega arith)
+whole_script start c (Err NoStop) h = absurd (omega arith)
+whole_script start c (Err Long) h = absurd (omega arith)
+whole_script start c (Err Memory) h = absurd (omega arith)
 
-pub script_not_usage : (c : Config) (script : Result (List Event) ScriptFault)
-    → status_of (ending_of_script c script) ≡ 1 → ⊥
-script_not_usage c (Ok events) h = omega arith
-script_not_usage c (Err (Line n)) h = omega arith
-script_not_usage c (Err (State n)) h = omega arith
-script_not_usage c (Err NoStop) h = omega arith
-script_not_usage c (Err Long) h = omega arith
-script_not_usage c (Err Memory) h = omega arith
+pub script_not_usage : (start : Start) (c : Config) (script : Result (List Event) ScriptFault)
+    → status_of (ending_of_script start c script) ≡ 1 → ⊥
+script_not_usage start c (Ok events) h = omega arith
+script_not_usage start c (Err (Line n)) h = omega arith
+script_not_usage start c (Err (State n)) h = omega arith
+script_not_usage start c (Err NoStop) h = omega arith
+script_not_usage start c (Err Long) h = omega arith
+script_not_usage start c (Err Memory) h = omega arith
 
-pub script_not_config : (c : Config) (script : Result (List Event) ScriptFault)
-    → status_of (ending_of_script c script) ≡ 2 → ⊥
-script_not_config c (Ok events) h = omega arith
-script_not_config c (Err (Line n)) h = omega arith
-script_not_config c (Err (State n)) h = omega arith
-script_not_config c (Err NoStop) h = omega arith
-script_not_config c (Err Long) h = omega arith
-script_not_config c (Err Memory) h = omega arith
+pub script_not_config : (start : Start) (c : Config) (script : Result (List Event) ScriptFault)
+    → status_of (ending_of_script start c script) ≡ 2 → ⊥
+script_not_config start c (Ok events) h = omega arith
+script_not_config start c (Err (Line n)) h = omega arith
+script_not_config start c (Err (State n)) h = omega arith
+script_not_config start c (Err NoStop) h = omega arith
+script_not_config start c (Err Long) h = omega arith
+script_not_config start c (Err Memory) h = omega arith
 
-pub script_not_network : (c : Config) (script : Result (List Event) ScriptFault)
-    → status_of (ending_of_script c script) ≡ 6 → ⊥
-script_not_network c (Ok events) h = omega arith
-script_not_network c (Err (Line n)) h = omega arith
-script_not_network c (Err (State n)) h = omega arith
-script_not_network c (Err NoStop) h = omega arith
-script_not_network c (Err Long) h = omega arith
-script_not_network c (Err Memory) h = omega arith
+pub script_not_network : (start : Start) (c : Config) (script : Result (List Event) ScriptFault)
+    → status_of (ending_of_script start c script) ≡ 6 → ⊥
+script_not_network start c (Ok events) h = omega arith
+script_not_network start c (Err (Line n)) h = omega arith
+script_not_network start c (Err (State n)) h = omega arith
+script_not_network start c (Err NoStop) h = omega arith
+script_not_network start c (Err Long) h = omega arith
+script_not_network start c (Err Memory) h = omega arith
 
-pub faulty_script : (c : Config) (script : Result (List Event) ScriptFault)
-    → status_of (ending_of_script c script) ≡ 3 → IsNoSession script
-faulty_script c (Ok events) h = absurd (omega arith)
-faulty_script c (Err (Line n)) h = tt
-faulty_script c (Err (State n)) h = tt
-faulty_script c (Err NoStop) h = tt
-faulty_script c (Err Long) h = absurd (omega arith)
-faulty_script c (Err Memory) h = absurd (omega arith)
+pub faulty_script : (start : Start) (c : Config) (script : Result (List Event) ScriptFault)
+    → status_of (ending_of_script start c script) ≡ 3 → IsNoSession script
+faulty_script start c (Ok events) h = absurd (omega arith)
+faulty_script start c (Err (Line n)) h = tt
+faulty_script start c (Err (State n)) h = tt
+faulty_script start c (Err NoStop) h = tt
+faulty_script start c (Err Long) h = absurd (omega arith)
+faulty_script start c (Err Memory) h = absurd (omega arith)
 
-is_long : (c : Config) (script : Result (List Event) ScriptFault)
-    → status_of (ending_of_script c script) ≡ 8 → script ≡ Err Long
-is_long c (Ok events) h = absurd (omega arith)
-is_long c (Err (Line n)) h = absurd (omega arith)
-is_long c (Err (State n)) h = absurd (omega arith)
-is_long c (Err NoStop) h = absurd (omega arith)
-is_long c (Err Long) h = refl
-is_long c (Err Memory) h = absurd (omega arith)
+is_long : (start : Start) (c : Config) (script : Result (List Event) ScriptFault)
+    → status_of (ending_of_script start c script) ≡ 8 → script ≡ Err Long
+is_long start c (Ok events) h = absurd (omega arith)
+is_long start c (Err (Line n)) h = absurd (omega arith)
+is_long start c (Err (State n)) h = absurd (omega arith)
+is_long start c (Err NoStop) h = absurd (omega arith)
+is_long start c (Err Long) h = refl
+is_long start c (Err Memory) h = absurd (omega arith)
 
-pub long_script : (c : Config) (kind : ScriptKind) (bytes : List ℕ)
-    → status_of (ending_of_script c (script_of kind bytes)) ≡ 8 → 8388608 < length bytes
-long_script c kind bytes h = script_long kind bytes (is_long c (script_of kind bytes) h)
+pub long_script : (start : Start) (c : Config) (kind : ScriptKind) (bytes : List ℕ)
+    → status_of (ending_of_script start c (script_of kind bytes)) ≡ 8 → 8388608 < length bytes
+long_script start c kind bytes h = script_long kind bytes (is_long start c (script_of kind bytes) h)

@@ -11,9 +11,13 @@ use Rattle.cast_config.specs.declared.fault.ConfigFault.TheVariants as configs
 use Rattle.cast_config.specs.Bare as settings
 use Rattle.caster_main.specs.declared.command.Aim.{Aim}
 use Rattle.caster_main.specs.declared.command.Aim.TheVariants.{Check, Table, Migrate}
-use Rattle.caster_main.specs.Command.{Form, bare, over, replay, made, serving, fetching}
+use Rattle.caster_main.specs.declared.command.Start.{Start}
+use Rattle.caster_main.specs.declared.command.Start.TheVariants.{Cold}
+use Rattle.caster_main.specs.declared.command.Task.{Task}
+use Rattle.caster_main.specs.declared.command.Task.TheVariants.{Serve, Record}
+use Rattle.caster_main.specs.Command.{Form, bare, over, replay, made, casting, fetching}
 use Rattle.caster_main.specs.Reading.{config_in}
-use Rattle.caster_main.specs.Outcome.{Exit, Ending, exactly, document_of, report_of, closing_of, enough_of, fewer_than, EndsSo, Came, session_in, ending_of_script, ending_of_config, ending_of_serving, ending_of_fetching, ending_of_read, ending_of_bytes, ending_of_form}
+use Rattle.caster_main.specs.Outcome.{Exit, Ending, exactly, document_of, report_of, closing_of, script_over, enough_of, fewer_than, EndsSo, Came, session_in, ending_of_script, ending_of_config, ending_of_casting, ending_of_fetching, ending_of_read, ending_of_bytes, ending_of_form}
 use Rattle.caster_main.specs.Told.{IsConfigIn, IsNoConfig, IsWhole, IsFaultyConfig, IsFaultyScript, IsTooLong}
 use Rattle.caster_main.proofs.AnswerLemmas.{ending_of_bytes-long, ending_of_bytes-short}
 use Rattle.caster_main.proofs.ScriptLemmas.{status_of, whole_script, script_not_usage, script_not_config, script_not_network, faulty_script, long_script}
@@ -21,8 +25,9 @@ use Rattle.caster_main.proofs.ScriptLemmas.{status_of, whole_script, script_not_
 pub status-ends : (ending : Ending) (end : Exit) → EndsSo ending end → end.status ≡ status_of ending
 status-ends (exactly wanted) end ends = ap (λ (e : Exit). e.status) ends
 status-ends (document_of c) end ends = ends.0
-status-ends (report_of c events) end ends = ends.0
+status-ends (report_of start c events) end ends = ends.0
 status-ends (closing_of c) end ends = ends.0
+status-ends (script_over c) end ends = ends.0
 status-ends (enough_of frames) end ends = ends.0
 status-ends (fewer_than frames) end ends = ends.0
 
@@ -33,11 +38,12 @@ ok_status Check c = refl
 ok_status Table c = refl
 ok_status Migrate c = refl
 
--- a caster that serves ends with 0, or where the network failed with 6
-serving_status : (failed : Bool) (c : Config)
-    → (status_of (ending_of_serving failed c) ≡ 0) ⊎ (status_of (ending_of_serving failed c) ≡ 6)
-serving_status true c = inr refl
-serving_status false c = inl refl
+-- a caster ends with 0, or where the network failed with 6
+casting_status : (task : Task) (failed : Bool) (c : Config)
+    → (status_of (ending_of_casting task failed c) ≡ 0) ⊎ (status_of (ending_of_casting task failed c) ≡ 6)
+casting_status task true c = inr refl
+casting_status Serve false c = inl refl
+casting_status Record false c = inl refl
 
 read_cases : (next : Config → Ending) (read : Result Config ConfigFault)
     → ((c : Config) × (read ≡ Ok c) × (ending_of_read next read ≡ next c))
@@ -135,28 +141,28 @@ network_bytes next bytes h = elim (bytes_cases next bytes) [
 
 -- ---- forms
 
-abbrev replayed : List ℕ → Config → Ending
-replayed script c = ending_of_script c (session_in c script)
+abbrev pub replayed : Start → List ℕ → Config → Ending
+replayed start script c = ending_of_script start c (session_in c script)
 
 is_whole : (bytes : List ℕ) (c : Config) → IsConfigIn bytes c → IsOk (config_in bytes)
 is_whole bytes c is = subst (λ (r : Result Config ConfigFault). IsOk r) (sym is.1) refl
 
 pub whole_form : (form : Form) (came : Came) → status_of (ending_of_form form came) ≡ 0 → IsWhole form came
-whole_form (bare capacity) came h = whole_script (settings.bare capacity) (script_of Bare came.script) h
+whole_form (bare capacity) came h = whole_script Cold (settings.bare capacity) (script_of Bare came.script) h
 whole_form (over aim path) came h =
     let whole = whole_bytes (ending_of_config aim) came.config h in is_whole came.config whole.0 whole.1
-whole_form (replay config session) came h =
-    let whole = whole_bytes (replayed came.script) came.config h in
-    (whole.0, whole.1, whole_script whole.0 (session_in whole.0 came.script) whole.2)
+whole_form (replay start config session) came h =
+    let whole = whole_bytes (replayed start came.script) came.config h in
+    (whole.0, whole.1, whole_script start whole.0 (session_in whole.0 came.script) whole.2)
 whole_form (made seed frames rovers) came h = tt
-whole_form (serving config addr limit) came h =
-    let whole = whole_bytes (ending_of_serving came.failed) came.config h in is_whole came.config whole.0 whole.1
+whole_form (casting task config addr limit) came h =
+    let whole = whole_bytes (ending_of_casting task came.failed) came.config h in is_whole came.config whole.0 whole.1
 whole_form (fetching frames targets) came h = tt
 
 -- and with no other status
-not_served : (failed : Bool) (c : Config) (status : ℕ) → status_of (ending_of_serving failed c) ≡ status
-    → (status ≡ 0 → ⊥) → (status ≡ 6 → ⊥) → ⊥
-not_served failed c status h whole lost = elim (serving_status failed c) [
+not_cast : (task : Task) (failed : Bool) (c : Config) (status : ℕ)
+    → status_of (ending_of_casting task failed c) ≡ status → (status ≡ 0 → ⊥) → (status ≡ 6 → ⊥) → ⊥
+not_cast task failed c status h whole lost = elim (casting_status task failed c) [
   | inl ended ↦ whole (sym h ∙ ended)
   | inr ended ↦ lost (sym h ∙ ended)
 ]
@@ -168,81 +174,81 @@ not_fetched true frames status h whole fewer = fewer (sym h)
 not_fetched false frames status h whole fewer = whole (sym h)
 
 pub no_usage_form : (form : Form) (came : Came) → status_of (ending_of_form form came) ≡ 1 → ⊥
-no_usage_form (bare capacity) came h = script_not_usage (settings.bare capacity) (script_of Bare came.script) h
+no_usage_form (bare capacity) came h = script_not_usage Cold (settings.bare capacity) (script_of Bare came.script) h
 no_usage_form (over aim path) came h =
     let usage = usage_bytes (ending_of_config aim) came.config h in
     omega (arith, ok_status aim usage.0, usage.1)
-no_usage_form (replay config session) came h =
-    let usage = usage_bytes (replayed came.script) came.config h in
-    script_not_usage usage.0 (session_in usage.0 came.script) usage.1
+no_usage_form (replay start config session) came h =
+    let usage = usage_bytes (replayed start came.script) came.config h in
+    script_not_usage start usage.0 (session_in usage.0 came.script) usage.1
 no_usage_form (made seed frames rovers) came h = omega (arith, h)
-no_usage_form (serving config addr limit) came h =
-    let usage = usage_bytes (ending_of_serving came.failed) came.config h in
-    not_served came.failed usage.0 1 usage.1 (omega arith) (omega arith)
+no_usage_form (casting task config addr limit) came h =
+    let usage = usage_bytes (ending_of_casting task came.failed) came.config h in
+    not_cast task came.failed usage.0 1 usage.1 (omega arith) (omega arith)
 no_usage_form (fetching frames targets) came h = not_fetched came.failed frames 1 h (omega arith) (omega arith)
 
--- only a caster that serves can end with 6
+-- only a caster can end with 6
 abbrev pub IsOfCaster : Form → Came → Type 0
 IsOfCaster (bare capacity) came = ⊥
 IsOfCaster (over aim path) came = ⊥
-IsOfCaster (replay config session) came = ⊥
+IsOfCaster (replay start config session) came = ⊥
 IsOfCaster (made seed frames rovers) came = ⊥
-IsOfCaster (serving config addr limit) came = ⊤
+IsOfCaster (casting task config addr limit) came = ⊤
 IsOfCaster (fetching frames targets) came = ⊥
 
 pub network_form : (form : Form) (came : Came) → status_of (ending_of_form form came) ≡ 6 → IsOfCaster form came
 network_form (bare capacity) came h =
-    script_not_network (settings.bare capacity) (script_of Bare came.script) h
+    script_not_network Cold (settings.bare capacity) (script_of Bare came.script) h
 network_form (over aim path) came h =
     let lost = network_bytes (ending_of_config aim) came.config h in
     omega (arith, ok_status aim lost.0, lost.1)
-network_form (replay config session) came h =
-    let lost = network_bytes (replayed came.script) came.config h in
-    script_not_network lost.0 (session_in lost.0 came.script) lost.1
+network_form (replay start config session) came h =
+    let lost = network_bytes (replayed start came.script) came.config h in
+    script_not_network start lost.0 (session_in lost.0 came.script) lost.1
 network_form (made seed frames rovers) came h = omega (arith, h)
-network_form (serving config addr limit) came h = tt
+network_form (casting task config addr limit) came h = tt
 network_form (fetching frames targets) came h = not_fetched came.failed frames 6 h (omega arith) (omega arith)
 
 pub faulty_config_form : (form : Form) (came : Came) → status_of (ending_of_form form came) ≡ 2
     → IsFaultyConfig form came
 faulty_config_form (bare capacity) came h =
-    absurd (script_not_config (settings.bare capacity) (script_of Bare came.script) h)
+    absurd (script_not_config Cold (settings.bare capacity) (script_of Bare came.script) h)
 faulty_config_form (over aim path) came h =
     faulty_bytes (ending_of_config aim) came.config (λ c two. omega (arith, two, ok_status aim c)) h
-faulty_config_form (replay config session) came h =
-    faulty_bytes (replayed came.script) came.config
-    (λ c two. script_not_config c (session_in c came.script) two) h
+faulty_config_form (replay start config session) came h =
+    faulty_bytes (replayed start came.script) came.config
+    (λ c two. script_not_config start c (session_in c came.script) two) h
 faulty_config_form (made seed frames rovers) came h = omega (arith, h)
-faulty_config_form (serving config addr limit) came h =
-    faulty_bytes (ending_of_serving came.failed) came.config
-    (λ c two. not_served came.failed c 2 two (omega arith) (omega arith)) h
+faulty_config_form (casting task config addr limit) came h =
+    faulty_bytes (ending_of_casting task came.failed) came.config
+    (λ c two. not_cast task came.failed c 2 two (omega arith) (omega arith)) h
 faulty_config_form (fetching frames targets) came h =
     absurd (not_fetched came.failed frames 2 h (omega arith) (omega arith))
 
 pub faulty_script_form : (form : Form) (came : Came) → status_of (ending_of_form form came) ≡ 3
     → IsFaultyScript form came
-faulty_script_form (bare capacity) came h = faulty_script (settings.bare capacity) (script_of Bare came.script) h
+faulty_script_form (bare capacity) came h = faulty_script Cold (settings.bare capacity) (script_of Bare came.script) h
 faulty_script_form (over aim path) came h =
     let faulty = session_bytes (ending_of_config aim) came.config h in
     omega (arith, ok_status aim faulty.0, faulty.2)
-faulty_script_form (replay config session) came h =
-    let faulty = session_bytes (replayed came.script) came.config h in
-    (faulty.0, faulty.1, faulty_script faulty.0 (session_in faulty.0 came.script) faulty.2)
+faulty_script_form (replay start config session) came h =
+    let faulty = session_bytes (replayed start came.script) came.config h in
+    (faulty.0, faulty.1, faulty_script start faulty.0 (session_in faulty.0 came.script) faulty.2)
 faulty_script_form (made seed frames rovers) came h = omega (arith, h)
-faulty_script_form (serving config addr limit) came h =
-    let faulty = session_bytes (ending_of_serving came.failed) came.config h in
-    absurd (not_served came.failed faulty.0 3 faulty.2 (omega arith) (omega arith))
+faulty_script_form (casting task config addr limit) came h =
+    let faulty = session_bytes (ending_of_casting task came.failed) came.config h in
+    absurd (not_cast task came.failed faulty.0 3 faulty.2 (omega arith) (omega arith))
 faulty_script_form (fetching frames targets) came h =
     absurd (not_fetched came.failed frames 3 h (omega arith) (omega arith))
 
-long_after : (came : Came)
+long_after : (start : Start) (came : Came)
     → (8388608 < length came.config)
-    ⊎ ((c : Config) × IsConfigIn came.config c × (status_of (replayed came.script c) ≡ 8))
+    ⊎ ((c : Config) × IsConfigIn came.config c × (status_of (replayed start came.script c) ≡ 8))
     → (8388608 < length came.config)
     ⊎ ((c : Config) × IsConfigIn came.config c × (8388608 < length came.script))
-long_after came (inl long) = inl long
-long_after came (inr (c, is, status)) =
-    inr (c, is, long_script c (Replay (length c.relay)) came.script status)
+long_after start came (inl long) = inl long
+long_after start came (inr (c, is, status)) =
+    inr (c, is, long_script start c (Replay (length c.relay)) came.script status)
 
 only_long : (aim : Aim) (came : Came)
     → (8388608 < length came.config)
@@ -251,20 +257,21 @@ only_long : (aim : Aim) (came : Came)
 only_long aim came (inl long) = long
 only_long aim came (inr (c, is, status)) = absurd (omega (arith, status, ok_status aim c))
 
-only_long_serving : (failed : Bool) (came : Came)
+only_long_casting : (task : Task) (failed : Bool) (came : Came)
     → (8388608 < length came.config)
-    ⊎ ((c : Config) × IsConfigIn came.config c × (status_of (ending_of_serving failed c) ≡ 8))
+    ⊎ ((c : Config) × IsConfigIn came.config c × (status_of (ending_of_casting task failed c) ≡ 8))
     → 8388608 < length came.config
-only_long_serving failed came (inl long) = long
-only_long_serving failed came (inr (c, is, status)) =
-    absurd (not_served failed c 8 status (omega arith) (omega arith))
+only_long_casting task failed came (inl long) = long
+only_long_casting task failed came (inr (c, is, status)) =
+    absurd (not_cast task failed c 8 status (omega arith) (omega arith))
 
 pub too_long_form : (form : Form) (came : Came) → status_of (ending_of_form form came) ≡ 8 → IsTooLong form came
-too_long_form (bare capacity) came h = long_script (settings.bare capacity) Bare came.script h
+too_long_form (bare capacity) came h = long_script Cold (settings.bare capacity) Bare came.script h
 too_long_form (over aim path) came h = only_long aim came (long_bytes (ending_of_config aim) came.config h)
-too_long_form (replay config session) came h = long_after came (long_bytes (replayed came.script) came.config h)
+too_long_form (replay start config session) came h = long_after start came
+    (long_bytes (replayed start came.script) came.config h)
 too_long_form (made seed frames rovers) came h = omega (arith, h)
-too_long_form (serving config addr limit) came h =
-    only_long_serving came.failed came (long_bytes (ending_of_serving came.failed) came.config h)
+too_long_form (casting task config addr limit) came h =
+    only_long_casting task came.failed came (long_bytes (ending_of_casting task came.failed) came.config h)
 too_long_form (fetching frames targets) came h =
     absurd (not_fetched came.failed frames 8 h (omega arith) (omega arith))

@@ -11,12 +11,16 @@ use Rattle.std.specs.Str.Parse.{ParsesUnsigned}
 use Rattle.session_script.specs.Digits.{is_digit, is_number, number_from, number_of, at_most}
 use Rattle.caster_main.specs.declared.command.Aim.{Aim}
 use Rattle.caster_main.specs.declared.command.Aim.TheVariants.{Check, Table, Migrate}
+use Rattle.caster_main.specs.declared.command.Start.{Start}
+use Rattle.caster_main.specs.declared.command.Start.TheVariants.{Cold, Warm}
+use Rattle.caster_main.specs.declared.command.Task.{Task}
+use Rattle.caster_main.specs.declared.command.Task.TheVariants.{Serve, Record}
 use Rattle.caster_main.specs.declared.command.Command.{Command}
 use Rattle.caster_main.specs.declared.fetch_words.Fetch.{Fetch}
 use Rattle.std.specs.Global.{Global}
 use Rattle.std.specs.List.{All, flat_map, list_all}
 use Rattle.ntrip_fetch.specs.declared.target.Target.{Target}
-use Rattle.caster_main.specs.Command.{Form, bare, over, replay, made, serving, fetching, AreBare, AreOver, AreReplay, AreMake, AreServe, AreFetch, AreOf, AreOfNoForm, FetchNothing, IsTarget, aim_name, aim_of, are_few_targets, are_targets, fetching_form, is_path, form_of_two, form_of_three, seed_of, made_form, serving_form, form_of_four, form_of_more, form_of, fetch_form, form, target_words, targets_of, texts}
+use Rattle.caster_main.specs.Command.{Form, bare, over, replay, made, casting, fetching, AreBare, AreOver, ArePlayed, AreMake, AreCasting, AreFetch, AreOf, AreOfNoForm, FetchNothing, IsTarget, aim_name, aim_of, are_few_targets, are_targets, fetching_form, is_path, form_of_two, form_of_three, seed_of, start_name, start_of, made_form, casting_form, task_name, task_of, most_of, form_of_four, form_of_more, form_of, fetch_form, form, target_words, targets_of, texts}
 use Rattle.caster_main.proofs.SliceLemmas.{two_words}
 use Rattle.caster_main.proofs.TargetLemmas.{targets_are, targets_read, targets_length, targets_each, targets_said, targets_count}
 
@@ -214,13 +218,17 @@ form_of_two-over Migrate config h = rw h refl
 
 -- ---- two paths, and three numbers
 
-form_of-replay : (words : List (List ℕ)) (config session : List ℕ) → AreReplay words config session
-    → form_of words ≡ Some (replay config session)
-form_of-replay words config session are =
+form_of_three-replay : (start : Start) (config session : List ℕ) → is_path config ≡ true → is_path session ≡ true
+    → form_of_three (start_name start) config session ≡ Some (replay start config session)
+form_of_three-replay Cold config session first second = rw (first, second) refl
+form_of_three-replay Warm config session first second = rw (first, second) refl
+
+form_of-replay : (words : List (List ℕ)) (start : Start) (config session : List ℕ)
+    → ArePlayed start words config session → form_of words ≡ Some (replay start config session)
+form_of-replay words start config session are =
     let first : is_path config ≡ true = is_path-true config are.config_is.0 are.config_is.1 in
     let second : is_path session ≡ true = is_path-true session are.session_is.0 are.session_is.1 in
-    let read : form_of_three (codes "replay") config session ≡ Some (replay config session) = rw (first, second) refl in
-    ap form_of are.parts ∙ read
+    ap form_of are.parts ∙ form_of_three-replay start config session first second
 
 -- the text of a seed that is not 0 is not that of 0
 not_nought : (n : ℕ) → 1 ≤ n → n < 2 ^ 64 → bytes_eq (decimal n) (codes "0") ≡ false
@@ -262,16 +270,23 @@ form_of-make words seed frames rovers are =
     (decimal_read 10000 frames are.frames_are.0 are.frames_are.1 (omega arith))
     (decimal_read 64 rovers are.rovers_are.0 are.rovers_are.1 (omega arith))
 
-form_of-serve : (words : List (List ℕ)) (config addr : List ℕ) (limit : ℕ) → AreServe words config addr limit
-    → form_of words ≡ Some (serving config addr limit)
-form_of-serve words config addr limit are =
-    let first : is_path config ≡ true = is_path-true config are.config_is.0 are.config_is.1 in
-    let second : is_path addr ≡ true = is_path-true addr are.addr_is.0 are.addr_is.1 in
-    let read : form_of_four (codes "serve") config addr (decimal limit) ≡ serving_form config addr (decimal limit)
-    = rw (first, second) refl in
-    ap form_of are.parts ∙ read
-    ∙ ap (λ v. option_map (λ n. serving config addr n) v)
-    (decimal_read 1000000 limit are.limit_is.0 are.limit_is.1 (omega arith))
+form_of_four-cast : (task : Task) (config addr limit : List ℕ) → is_path config ≡ true → is_path addr ≡ true
+    → form_of_four (task_name task) config addr limit ≡ casting_form (Some task) config addr limit
+form_of_four-cast Serve config addr limit first second = rw (first, second) refl
+form_of_four-cast Record config addr limit first second = rw (first, second) refl
+
+most_small : (task : Task) → most_of task < 2 ^ 64
+most_small Serve = omega arith
+most_small Record = omega arith
+
+form_of-cast : (words : List (List ℕ)) (task : Task) (config addr : List ℕ) (limit : ℕ)
+    → AreCasting task words config addr limit → form_of words ≡ Some (casting task config addr limit)
+form_of-cast words task config addr limit are =
+    ap form_of are.parts
+    ∙ form_of_four-cast task config addr (decimal limit) (is_path-true config are.config_is.0 are.config_is.1)
+    (is_path-true addr are.addr_is.0 are.addr_is.1)
+    ∙ ap (λ v. option_map (λ n. casting task config addr n) v)
+    (decimal_read (most_of task) limit are.limit_is.0 are.limit_is.1 (most_small task))
 
 -- ---- the words of a fetch
 
@@ -313,9 +328,9 @@ pub form_of-form : (words : List (List ℕ)) (form : Form) → AreOf words form 
 form_of-form words (bare capacity) are = form_of-bare words capacity are
 form_of-form words (over aim config) are =
     ap form_of are.parts ∙ form_of_two-over aim config (is_path-true config are.least are.most)
-form_of-form words (replay config session) are = form_of-replay words config session are
+form_of-form words (replay start config session) are = form_of-replay words start config session are
 form_of-form words (made seed frames rovers) are = form_of-make words seed frames rovers are
-form_of-form words (serving config addr limit) are = form_of-serve words config addr limit are
+form_of-form words (casting task config addr limit) are = form_of-cast words task config addr limit are
 form_of-form words (fetching frames targets) are = form_of-fetch words frames targets are
 
 -- ---- back
@@ -344,6 +359,40 @@ aim_of-name name aim h = elim (cases_Bool (bytes_eq name (codes "check"))) [
           let e : aim_of name ≡ None = rw (other, third, none) refl in
           absurd cc
     ]
+  ]
+]
+
+start_is : (a b : Start) → Some a ≡ Some b → a ≡ b
+start_is a b h = cc
+
+start_of-name : (name : List ℕ) (start : Start) → start_of name ≡ Some start → name ≡ start_name start
+start_of-name name start h = elim (cases_Bool (bytes_eq name (codes "replay"))) [
+  | inl replays ↦
+      name_is name (codes "replay") replays ∙ ap start_name (start_is Cold start (sym (rw replays refl) ∙ h))
+  | inr other ↦ elim (cases_Bool (bytes_eq name (codes "warm"))) [
+    | inl warms ↦
+        name_is name (codes "warm") warms
+        ∙ ap start_name (start_is Warm start (sym (rw (other, warms) refl) ∙ h))
+    | inr none ↦
+        let e : start_of name ≡ None = rw (other, none) refl in
+        absurd cc
+  ]
+]
+
+task_is : (a b : Task) → Some a ≡ Some b → a ≡ b
+task_is a b h = cc
+
+task_of-name : (name : List ℕ) (task : Task) → task_of name ≡ Some task → name ≡ task_name task
+task_of-name name task h = elim (cases_Bool (bytes_eq name (codes "serve"))) [
+  | inl serves ↦
+      name_is name (codes "serve") serves ∙ ap task_name (task_is Serve task (sym (rw serves refl) ∙ h))
+  | inr other ↦ elim (cases_Bool (bytes_eq name (codes "record"))) [
+    | inl records ↦
+        name_is name (codes "record") records
+        ∙ ap task_name (task_is Record task (sym (rw (other, records) refl) ∙ h))
+    | inr none ↦
+        let e : task_of name ≡ None = rw (other, none) refl in
+        absurd cc
   ]
 ]
 
@@ -387,28 +436,26 @@ form_of_two-form name word form h = elim (cases_Bool (bytes_eq name (codes "bare
   ]
 ]
 
-are_replay : (name first second : List ℕ) → bytes_eq name (codes "replay") ≡ true → is_path first ≡ true
-    → is_path second ≡ true → AreReplay (name ∷ first ∷ second ∷ []) first second
-are_replay name first second same one two = record {
+are_played : (name first second : List ℕ) (start : Start) → start_of name ≡ Some start → is_path first ≡ true
+    → is_path second ≡ true → ArePlayed start (name ∷ first ∷ second ∷ []) first second
+are_played name first second start same one two = record {
   config_is = is_path-parts first one;
   session_is = is_path-parts second two;
-  parts = ap (λ w. w ∷ first ∷ second ∷ []) (name_is name (codes "replay") same);
+  parts = ap (λ w. w ∷ first ∷ second ∷ []) (start_of-name name start same);
 }
 
 form_of_three-form : (name first second : List ℕ) (form : Form) → form_of_three name first second ≡ Some form
     → AreOf (name ∷ first ∷ second ∷ []) form
-form_of_three-form name first second form h =
-    elim (cases_Bool (bytes_eq name (codes "replay") && (is_path first && is_path second))) [
-      | inl is ↦
-          let outer = and_parts (bytes_eq name (codes "replay")) (is_path first && is_path second) is in
-          let inner = and_parts (is_path first) (is_path second) outer.1 in
-          let same : replay first second ≡ form = form_is (replay first second) form (sym (rw is refl) ∙ h) in
-          subst (λ f. AreOf (name ∷ first ∷ second ∷ []) f) same
-          (are_replay name first second outer.0 inner.0 inner.1)
-      | inr other ↦
-          let e : form_of_three name first second ≡ None = rw other refl in
-          absurd cc
-    ]
+form_of_three-form name first second form h = elim (cases_Bool (is_path first && is_path second)) [
+  | inl is ↦
+      let paths = and_parts (is_path first) (is_path second) is in
+      let read = mapped (λ start. replay start first second) (start_of name) form (sym (rw is refl) ∙ h) in
+      subst (λ f. AreOf (name ∷ first ∷ second ∷ []) f) read.2
+      (are_played name first second read.0 read.1 paths.0 paths.1)
+  | inr other ↦
+      let e : form_of_three name first second ≡ None = rw other refl in
+      absurd cc
+]
 
 -- a word that is read as a seed is its decimal text
 read_seed : (word : List ℕ) (n : ℕ) → seed_of word ≡ Some n → (n < 2 ^ 64) × (word ≡ decimal n)
@@ -464,32 +511,36 @@ are_make name seed frames rovers s f r same first second third =
           ∙ ap (λ w. codes "make" ∷ decimal s ∷ decimal f ∷ w ∷ []) three.text;
     }
 
-are_serve : (name config addr limit : List ℕ) (n : ℕ) → bytes_eq name (codes "serve") ≡ true
-    → (is_path config && is_path addr) ≡ true → at_most 1000000 (number_of limit) ≡ Some n
-    → AreServe (name ∷ config ∷ addr ∷ limit ∷ []) config addr n
-are_serve name config addr limit n same paths h =
+are_cast : (task : Task) (name config addr limit : List ℕ) (n : ℕ) → name ≡ task_name task
+    → (is_path config && is_path addr) ≡ true → at_most (most_of task) (number_of limit) ≡ Some n
+    → AreCasting task (name ∷ config ∷ addr ∷ limit ∷ []) config addr n
+are_cast task name config addr limit n named paths h =
     let both = and_parts (is_path config) (is_path addr) paths in
-    let named : name ≡ codes "serve" = name_is name (codes "serve") same in
-    let read = read_decimal 1000000 limit n (omega arith) h in
+    let read = read_decimal (most_of task) limit n (most_small task) h in
     record {
       config_is = is_path-parts config both.0;
       addr_is = is_path-parts addr both.1;
       limit_is = (read.least, read.most);
       parts = ap (λ w. w ∷ config ∷ addr ∷ limit ∷ []) named
-          ∙ ap (λ w. codes "serve" ∷ config ∷ addr ∷ w ∷ []) read.text;
+          ∙ ap (λ w. task_name task ∷ config ∷ addr ∷ w ∷ []) read.text;
     }
 
-form_of_serving-form : (name first second third : List ℕ) (form : Form)
+-- a caster's words, by the task that their first word names
+cast_form : (name first second third : List ℕ) (task : Option Task) (form : Form) → task_of name ≡ task
+    → (is_path first && is_path second) ≡ true → casting_form task first second third ≡ Some form
+    → AreOf (name ∷ first ∷ second ∷ third ∷ []) form
+cast_form name first second third None form named paths h = absurd cc
+cast_form name first second third (Some task) form named paths h =
+    let read = mapped (λ n. casting task first second n) (at_most (most_of task) (number_of third)) form h in
+    subst (λ f. AreOf (name ∷ first ∷ second ∷ third ∷ []) f) read.2
+    (are_cast task name first second third read.0 (task_of-name name task named) paths read.1)
+
+form_of_casting-form : (name first second third : List ℕ) (form : Form)
     → bytes_eq name (codes "make") ≡ false → form_of_four name first second third ≡ Some form
     → AreOf (name ∷ first ∷ second ∷ third ∷ []) form
-form_of_serving-form name first second third form other h =
-    elim (cases_Bool (bytes_eq name (codes "serve") && (is_path first && is_path second))) [
-      | inl is ↦
-          let outer = and_parts (bytes_eq name (codes "serve")) (is_path first && is_path second) is in
-          let read = mapped (λ n. serving first second n) (at_most 1000000 (number_of third)) form
-          (sym (rw (other, is) refl) ∙ h) in
-          subst (λ f. AreOf (name ∷ first ∷ second ∷ third ∷ []) f) read.2
-          (are_serve name first second third read.0 outer.0 outer.1 read.1)
+form_of_casting-form name first second third form other h =
+    elim (cases_Bool (is_path first && is_path second)) [
+      | inl is ↦ cast_form name first second third (task_of name) form refl is (sym (rw (other, is) refl) ∙ h)
       | inr none ↦
           let e : form_of_four name first second third ≡ None = rw (other, none) refl in
           absurd cc
@@ -503,7 +554,7 @@ form_of_four-form name seed frames rovers form h = elim (cases_Bool (bytes_eq na
       (sym (rw is refl) ∙ h) in
       subst (λ f. AreOf (name ∷ seed ∷ frames ∷ rovers ∷ []) f) all.same
       (are_make name seed frames rovers all.s all.f all.r is all.seed_is all.frames_are all.rovers_are)
-  | inr other ↦ form_of_serving-form name seed frames rovers form other h
+  | inr other ↦ form_of_casting-form name seed frames rovers form other h
 ]
 
 are_fetch : (name first : List ℕ) (words : List (List ℕ)) (n : ℕ) → bytes_eq name (codes "fetch") ≡ true
@@ -571,10 +622,6 @@ command-none words (Some command) h = tt
 
 -- ---- words of a fetch and others
 
--- a fetch has more words than one
-pub short_words : (words : List (List ℕ)) → length words < 2 → FetchNothing words
-short_words words short frames targets are = let size = ap length are.parts in omega (arith, short, size)
-
 -- what is not read as a fetch is none
 pub no_fetch_read : (name first : List ℕ) (words : List (List ℕ)) → form_of_more name first words ≡ None
     → FetchNothing (name ∷ first ∷ words)
@@ -596,12 +643,13 @@ many_words words (Some (bare capacity)) h five nothing =
     let size = ap length (form-form_of words (bare capacity) h).parts in absurd (omega (arith, five, size))
 many_words words (Some (over aim config)) h five nothing =
     let size = ap length (form-form_of words (over aim config) h).parts in absurd (omega (arith, five, size))
-many_words words (Some (replay config session)) h five nothing =
-    let size = ap length (form-form_of words (replay config session) h).parts in absurd (omega (arith, five, size))
+many_words words (Some (replay start config session)) h five nothing =
+    let size = ap length (form-form_of words (replay start config session) h).parts in absurd
+    (omega (arith, five, size))
 many_words words (Some (made seed frames rovers)) h five nothing =
     let size = ap length (form-form_of words (made seed frames rovers) h).parts in absurd (omega (arith, five, size))
-many_words words (Some (serving config addr limit)) h five nothing =
-    let size = ap length (form-form_of words (serving config addr limit) h).parts in
+many_words words (Some (casting task config addr limit)) h five nothing =
+    let size = ap length (form-form_of words (casting task config addr limit) h).parts in
     absurd (omega (arith, five, size))
 many_words words (Some (fetching frames targets)) h five nothing =
     absurd (nothing frames targets (form-form_of words (fetching frames targets) h))

@@ -9,6 +9,8 @@ use Rattle.cast_io.specs.Pieces.{AppendsPrefix}
 use Rattle.caster_main.specs.declared.answers.Answer.{Answer}
 use Rattle.caster_main.specs.declared.answers.Answer.TheVariants.{Done, Valid, NoConfig, NoSession, Usage, Long, ReadFault, NetworkFault, Memory}
 use Rattle.caster_main.specs.declared.command.Aim.{Aim}
+use Rattle.caster_main.specs.declared.command.Start.{Start}
+use Rattle.caster_main.specs.declared.command.Start.TheVariants.{Cold}
 use Rattle.caster_main.specs.Command.{replay}
 use Rattle.caster_main.specs.Outcome.{Exit, Ending, EndsSo, Came, ending_of_bytes, ending_of_config, ending_of_form, ending_of_script, session_in, one_line, whole_exit, usage_exit, long_exit, read_fault_exit, network_exit, memory_exit}
 use Rattle.caster_main.specs.Told.{Files, Tells, Holds, IsConfigIn, IsOutcome, EndsWith, HaveForm, HaveFault}
@@ -38,7 +40,7 @@ GivesEnd ending answer = IsGiven ⊤ ⊥ (EndsSo ending) answer
 -- how a bare session over a ring of this capacity ends, with this input
 abbrev pub IsInputEnd : ℕ → Option (List ℕ) → Exit → Type 0
 IsInputEnd capacity left end = (script : List ℕ) × Tells left script
-    × EndsSo (ending_of_script (settings.bare capacity) (script_of Bare script)) end
+    × EndsSo (ending_of_script Cold (settings.bare capacity) (script_of Bare script)) end
 
 abbrev pub IsInputAnswer : ℕ → Option (List ℕ) → Type 0 → Answer → Type 0
 IsInputAnswer capacity left fault answer = IsGiven ⊤ fault (IsInputEnd capacity left) answer
@@ -63,24 +65,25 @@ IsRefusedAt path files end = (config : List ℕ) × Holds files path config × I
 abbrev pub IsRefusal : List ℕ → Files → Type 0 → Answer → Type 0
 IsRefusal path files fault answer = IsGiven ⊤ fault (IsRefusedAt path files) answer
 
--- how the session in the file of this path ends over a configuration
-abbrev pub IsSessionEnd : Config → List ℕ → Files → Exit → Type 0
-IsSessionEnd c path files end = (script : List ℕ) × Holds files path script
-    × EndsSo (ending_of_script c (session_in c script)) end
+-- how the session in the file of this path ends over a configuration, whose rovers start so
+abbrev pub IsSessionEnd : Start → Config → List ℕ → Files → Exit → Type 0
+IsSessionEnd start c path files end = (script : List ℕ) × Holds files path script
+    × EndsSo (ending_of_script start c (session_in c script)) end
 
-abbrev pub IsSessionAnswer : Config → List ℕ → Files → Type 0 → Answer → Type 0
-IsSessionAnswer c path files fault answer = IsGiven ⊤ fault (IsSessionEnd c path files) answer
+abbrev pub IsSessionAnswer : Start → Config → List ℕ → Files → Type 0 → Answer → Type 0
+IsSessionAnswer start c path files fault answer =
+    IsGiven ⊤ fault (IsSessionEnd start c path files) answer
 
 -- how a session ends over the configuration in another file: the paths of both
-abbrev pub IsReplayEnd : List ℕ → List ℕ → Files → Exit → Type 0
-IsReplayEnd config session files end = (came : Came)
+abbrev pub IsReplayEnd : Start → List ℕ → List ℕ → Files → Exit → Type 0
+IsReplayEnd start config session files end = (came : Came)
     × Holds files config came.config
     × ((c : Config) → IsConfigIn came.config c → Holds files session came.script)
-    × EndsSo (ending_of_form (replay config session) came) end
+    × EndsSo (ending_of_form (replay start config session) came) end
 
-abbrev pub IsReplayAnswer : List ℕ → List ℕ → Files → Type 0 → Answer → Type 0
-IsReplayAnswer config session files fault answer =
-    IsGiven ⊤ fault (IsReplayEnd config session files) answer
+abbrev pub IsReplayAnswer : Start → List ℕ → List ℕ → Files → Type 0 → Answer → Type 0
+IsReplayAnswer start config session files fault answer =
+    IsGiven ⊤ fault (IsReplayEnd start config session files) answer
 
 -- the answer to these words, this input and these files: want of memory, a fault of reading that
 -- was counted, or the outcome

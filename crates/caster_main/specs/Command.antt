@@ -9,6 +9,10 @@ use Rattle.cast_text.specs.Name.{is_name}
 use Rattle.ntrip_fetch.specs.declared.target.Target.{Target}
 use Rattle.caster_main.specs.declared.command.Aim.{Aim}
 use Rattle.caster_main.specs.declared.command.Aim.TheVariants.{Check, Table, Migrate}
+use Rattle.caster_main.specs.declared.command.Start.{Start}
+use Rattle.caster_main.specs.declared.command.Start.TheVariants.{Cold, Warm}
+use Rattle.caster_main.specs.declared.command.Task.{Task}
+use Rattle.caster_main.specs.declared.command.Task.TheVariants.{Serve, Record}
 use Rattle.caster_main.specs.declared.command.Command.{Command}
 use Rattle.caster_main.specs.declared.fetch_words.Fetch.{Fetch}
 use Rattle.caster_main.specs.declared.command.Command.TheVariants as commands
@@ -23,13 +27,14 @@ pub data Form : Type 0 where
   bare : ℕ → Form
   -- something that is done with the configuration in the file of this path
   over : Aim → List ℕ → Form
-  -- a session over a configuration: the files of both, the configuration's first
-  replay : List ℕ → List ℕ → Form
+  -- a session over a configuration: how its rovers start, and the files of both, the
+  -- configuration's first
+  replay : Start → List ℕ → List ℕ → Form
   -- the session that is made of this seed, with so many frames and rovers
   made : ℕ → ℕ → ℕ → Form
-  -- a caster over the configuration in the file of this path, at this address, each of whose workers
-  -- serves so many connections
-  serving : List ℕ → List ℕ → ℕ → Form
+  -- a caster over the configuration in the file of this path, at this address: its task, and how
+  -- many connections each worker serves, or how many are recorded
+  casting : Task → List ℕ → List ℕ → ℕ → Form
   -- so many frames are fetched from these targets
   fetching : ℕ → List Target → Form
 
@@ -38,6 +43,20 @@ abbrev pub aim_name : Aim → List ℕ
 aim_name Check = codes "check"
 aim_name Table = codes "table"
 aim_name Migrate = codes "migrate"
+
+-- and the word for how rovers start: with the frames that come then, or greeted before them
+abbrev pub start_name : Start → List ℕ
+start_name Cold = codes "replay"
+start_name Warm = codes "warm"
+
+-- and the word for the task of a caster, with the most connections that it may have
+abbrev pub task_name : Task → List ℕ
+task_name Serve = codes "serve"
+task_name Record = codes "record"
+
+abbrev pub most_of : Task → ℕ
+most_of Serve = 1000000
+most_of Record = 256
 
 -- ---- which words are of which form
 
@@ -53,11 +72,18 @@ pub record AreOver (aim : Aim) (words : List (List ℕ)) (config : List ℕ) : T
   pub most : length config ≤ 255
   pub parts : words ≡ aim_name aim ∷ config ∷ []
 
--- the words `replay CONFIG SESSION`: each of both has 1 to 255 bytes
-pub record AreReplay (words : List (List ℕ)) (config session : List ℕ) : Type 0 where
+-- the words `replay CONFIG SESSION` or `warm CONFIG SESSION`: each of both has 1 to 255 bytes
+pub record ArePlayed (start : Start) (words : List (List ℕ)) (config session : List ℕ)
+    : Type 0 where
   pub config_is : (1 ≤ length config) × (length config ≤ 255)
   pub session_is : (1 ≤ length session) × (length session ≤ 255)
-  pub parts : words ≡ codes "replay" ∷ config ∷ session ∷ []
+  pub parts : words ≡ start_name start ∷ config ∷ session ∷ []
+
+abbrev pub AreReplay : List (List ℕ) → List ℕ → List ℕ → Type 0
+AreReplay words config session = ArePlayed Cold words config session
+
+abbrev pub AreWarm : List (List ℕ) → List ℕ → List ℕ → Type 0
+AreWarm words config session = ArePlayed Warm words config session
 
 -- the words `make SEED FRAMES ROVERS`: decimal numbers without signs or leading zeros, SEED below
 -- 2^64, FRAMES from 1 to 10,000, ROVERS from 1 to 64
@@ -67,13 +93,21 @@ pub record AreMake (words : List (List ℕ)) (seed frames rovers : ℕ) : Type 0
   pub rovers_are : (1 ≤ rovers) × (rovers ≤ 64)
   pub parts : words ≡ codes "make" ∷ decimal seed ∷ decimal frames ∷ decimal rovers ∷ []
 
--- the words `serve CONFIG ADDR LIMIT`: CONFIG and ADDR have 1 to 255 bytes each, LIMIT is a decimal
--- number from 1 to 1,000,000 without a sign or leading zeros
-pub record AreServe (words : List (List ℕ)) (config addr : List ℕ) (limit : ℕ) : Type 0 where
+-- the words `serve CONFIG ADDR LIMIT` or `record CONFIG ADDR LIMIT`: CONFIG and ADDR have 1 to 255
+-- bytes each, LIMIT is a decimal number from 1 to 1,000,000, or for a record to 256, without a sign
+-- or leading zeros
+pub record AreCasting (task : Task) (words : List (List ℕ)) (config addr : List ℕ) (limit : ℕ)
+    : Type 0 where
   pub config_is : (1 ≤ length config) × (length config ≤ 255)
   pub addr_is : (1 ≤ length addr) × (length addr ≤ 255)
-  pub limit_is : (1 ≤ limit) × (limit ≤ 1000000)
-  pub parts : words ≡ codes "serve" ∷ config ∷ addr ∷ decimal limit ∷ []
+  pub limit_is : (1 ≤ limit) × (limit ≤ most_of task)
+  pub parts : words ≡ task_name task ∷ config ∷ addr ∷ decimal limit ∷ []
+
+abbrev pub AreServe : List (List ℕ) → List ℕ → List ℕ → ℕ → Type 0
+AreServe words config addr limit = AreCasting Serve words config addr limit
+
+abbrev pub AreRecord : List (List ℕ) → List ℕ → List ℕ → ℕ → Type 0
+AreRecord words config addr limit = AreCasting Record words config addr limit
 
 -- ---- the targets of a fetch
 
@@ -116,8 +150,8 @@ target_words target =
     decimal target.protocol ∷ target.address ∷ target.mount ∷ user_word target.user
     ∷ target.password ∷ []
 
--- the words `fetch FRAMES` and behind them the five words of each target: FRAMES is a decimal number
--- from 1 to 1,000,000 without a sign or leading zeros, and there are 1 to 8 targets
+-- the words `fetch FRAMES` and behind them the five words of each target: FRAMES is a decimal
+-- number from 1 to 1,000,000 without a sign or leading zeros, and there are 1 to 8 targets
 pub record AreFetch (words : List (List ℕ)) (frames : ℕ) (targets : List Target) : Type 0 where
   pub frames_are : (1 ≤ frames) × (frames ≤ 1000000)
   pub count : (1 ≤ length targets) × (length targets ≤ 8)
@@ -127,9 +161,9 @@ pub record AreFetch (words : List (List ℕ)) (frames : ℕ) (targets : List Tar
 abbrev pub AreOf : List (List ℕ) → Form → Type 0
 AreOf words (bare capacity) = AreBare words capacity
 AreOf words (over aim config) = AreOver aim words config
-AreOf words (replay config session) = AreReplay words config session
+AreOf words (replay start config session) = ArePlayed start words config session
 AreOf words (made seed frames rovers) = AreMake words seed frames rovers
-AreOf words (serving config addr limit) = AreServe words config addr limit
+AreOf words (casting task config addr limit) = AreCasting task words config addr limit
 AreOf words (fetching frames targets) = AreFetch words frames targets
 
 -- the words are of no form that there is
@@ -143,20 +177,22 @@ ReadNoInput words = (capacity : ℕ) → AreBare words capacity → ⊥
 abbrev pub NameNoFile : List (List ℕ) → Type 0
 NameNoFile words =
     ((aim : Aim) (config : List ℕ) → AreOver aim words config → ⊥)
-    × ((config session : List ℕ) → AreReplay words config session → ⊥)
-    × ((config addr : List ℕ) (limit : ℕ) → AreServe words config addr limit → ⊥)
+    × ((start : Start) (config session : List ℕ) → ArePlayed start words config session → ⊥)
+    × ((task : Task) (config addr : List ℕ) (limit : ℕ)
+    → AreCasting task words config addr limit → ⊥)
 
--- the words ask for no caster that serves
-abbrev pub ServeNothing : List (List ℕ) → Type 0
-ServeNothing words = (config addr : List ℕ) (limit : ℕ) → AreServe words config addr limit → ⊥
+-- the words ask for no caster
+abbrev pub CastNothing : List (List ℕ) → Type 0
+CastNothing words =
+    (task : Task) (config addr : List ℕ) (limit : ℕ) → AreCasting task words config addr limit → ⊥
 
 -- the words ask for no fetch
 abbrev pub FetchNothing : List (List ℕ) → Type 0
 FetchNothing words = (frames : ℕ) (targets : List Target) → AreFetch words frames targets → ⊥
 
--- the words ask nothing of the street: neither a caster that serves nor a fetch
+-- the words ask nothing of the street: neither a caster nor a fetch
 abbrev pub AskNoStreet : List (List ℕ) → Type 0
-AskNoStreet words = ServeNothing words × FetchNothing words
+AskNoStreet words = CastNothing words × FetchNothing words
 
 -- what the words ask for is written once it is decided: it is no fetch, which writes frames as they
 -- come
@@ -173,6 +209,13 @@ aim_of name =
     else if bytes_eq name (codes "migrate") then Some Migrate
     else None
 
+-- how rovers start in a session for a command of this name
+abbrev pub start_of : List ℕ → Option Start
+start_of name =
+    if bytes_eq name (codes "replay") then Some Cold
+    else if bytes_eq name (codes "warm") then Some Warm
+    else None
+
 -- the word can be a path
 abbrev pub is_path : List ℕ → Bool
 is_path word = nat_le 1 (length word) && nat_le (length word) 255
@@ -187,8 +230,8 @@ form_of_two name word =
 -- a name and two words
 abbrev pub form_of_three : List ℕ → List ℕ → List ℕ → Option Form
 form_of_three name first second =
-    if bytes_eq name (codes "replay") && (is_path first && is_path second)
-    then Some (replay first second) else None
+    if is_path first && is_path second
+    then option_map (λ start. replay start first second) (start_of name) else None
 
 -- any number below 2^64
 abbrev pub seed_of : List ℕ → Option ℕ
@@ -201,17 +244,25 @@ made_form (Some seed) None rovers = None
 made_form (Some seed) (Some frames) None = None
 made_form (Some seed) (Some frames) (Some rovers) = Some (made seed frames rovers)
 
-abbrev pub serving_form : List ℕ → List ℕ → List ℕ → Option Form
-serving_form config addr limit =
-    option_map (λ n. serving config addr n) (at_most 1000000 (number_of limit))
+-- the task of a caster for a command of this name
+abbrev pub task_of : List ℕ → Option Task
+task_of name =
+    if bytes_eq name (codes "serve") then Some Serve
+    else if bytes_eq name (codes "record") then Some Record
+    else None
+
+abbrev pub casting_form : Option Task → List ℕ → List ℕ → List ℕ → Option Form
+casting_form None config addr limit = None
+casting_form (Some task) config addr limit =
+    option_map (λ n. casting task config addr n) (at_most (most_of task) (number_of limit))
 
 -- a name and three words
 abbrev pub form_of_four : List ℕ → List ℕ → List ℕ → List ℕ → Option Form
 form_of_four name first second third =
     if bytes_eq name (codes "make")
     then made_form (seed_of first) (at_most 10000 (number_of second)) (at_most 64 (number_of third))
-    else if bytes_eq name (codes "serve") && (is_path first && is_path second)
-    then serving_form first second third else None
+    else if is_path first && is_path second
+    then casting_form (task_of name) first second third else None
 
 -- the word is a version of NTRIP
 abbrev pub is_protocol : List ℕ → Bool
@@ -290,18 +341,18 @@ abbrev pub files_of : Option Form → List (List ℕ)
 files_of None = []
 files_of (Some (bare capacity)) = []
 files_of (Some (over aim config)) = config ∷ []
-files_of (Some (replay config session)) = config ∷ session ∷ []
+files_of (Some (replay start config session)) = config ∷ session ∷ []
 files_of (Some (made seed frames rovers)) = []
-files_of (Some (serving config addr limit)) = config ∷ []
+files_of (Some (casting task config addr limit)) = config ∷ []
 files_of (Some (fetching frames targets)) = []
 
 -- the command that the code has read
 abbrev pub form : Command → Form
 form (commands.Bare capacity) = bare capacity
 form (commands.Over aim config) = over aim config.now
-form (commands.Replay config session) = replay config.now session.now
+form (commands.Replay start config session) = replay start config.now session.now
 form (commands.Make seed frames rovers) = made seed frames rovers
-form (commands.Serve config addr limit) = serving config.now addr.now limit
+form (commands.Cast task config addr limit) = casting task config.now addr.now limit
 
 -- and the fetch
 abbrev pub fetch_form : Fetch → Form

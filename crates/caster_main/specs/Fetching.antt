@@ -11,19 +11,20 @@ use Rattle.ntrip_fetch.specs.Tries.{HasStopped, HasTried, dial_of}
 abbrev pub frames_in : List Try → ℕ
 frames_in tries = sum_by (λ tried. tried.frames) tries
 
--- what these tries come to: status 0 where all frames were written, and 9 where fewer were and every
--- target was tried
+-- what these tries come to: status 0 where all frames were written, and 9 where fewer were and
+-- every target was tried
 abbrev pub TriedEnd : ℕ → List Target → List Try → ℕ → Type 0
 TriedEnd most targets tries status =
     ((status ≡ 0) × (frames_in tries ≡ most))
     ⊎ ((status ≡ 9) × (frames_in tries < most) × (length tries ≡ length targets))
 
--- the street was asked for one dial of each of the first so many targets, in order, and for nothing else
+-- the street was asked for one dial of each of the first so many targets, in order, and for nothing
+-- else
 abbrev pub AreDialled : ℕ → List Target → StreetTold → StreetTold → Type 0
 AreDialled n targets before after = Grew before.asked after.asked (map dial_of (take n targets))
 
--- the targets were tried, each that was dialled once, and all that is written are the frames of these
--- tries
+-- the targets were tried, each that was dialled once, and all that is written are the frames of
+-- these tries
 pub record HasFetched (most : ℕ) (targets : List Target) (before after : StreetTold)
     (old new : Option (List ℕ)) (status : ℕ) : Type 0 where
   pub tries : List Try

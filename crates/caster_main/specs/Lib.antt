@@ -3,6 +3,7 @@ pub mod Reading
 pub mod Outcome
 pub mod Told
 pub mod Answers
-pub mod Serving
+pub mod Casting
+pub mod Recording
 pub mod Fetching
 pub mod Untold

@@ -1,5 +1,5 @@
--- The outcome where input and files may not tell their bytes, and what a status says of words, files
--- and input.
+-- The outcome where input and files may not tell their bytes, and what a status says of words,
+-- files and input.
 use Rattle.std.specs.Prelude.{◌≡◌, ℕ, ◌<◌, ◌≤◌, ◌⊎◌, List, [], ◌∷◌, length, Option, Some, None, Result, Ok, Err, IsOk, ⊤}
 use Rattle.std.specs.Io.KnownBytes.{Appends}
 use Rattle.session_script.specs.declared.Event.{Event}
@@ -14,7 +14,7 @@ use Rattle.cast_config.specs.declared.config.Config.{Config}
 use Rattle.cast_config.specs.declared.fault.ConfigFault.{ConfigFault}
 use Rattle.cast_config.specs.declared.fault.ConfigFault.TheVariants as configs
 use Rattle.cast_config.specs.Document.{IsRead}
-use Rattle.caster_main.specs.Command.{Form, bare, over, replay, made, serving, fetching, AreOf, form_of}
+use Rattle.caster_main.specs.Command.{Form, bare, over, replay, made, casting, fetching, AreOf, form_of}
 use Rattle.caster_main.specs.Reading.{config_in}
 use Rattle.caster_main.specs.Outcome.{Exit, Came, EndsSo, read_fault_exit, memory_exit, outcome, session_in}
 
@@ -53,11 +53,11 @@ IsConfigIn bytes c = (length bytes ≤ 8388608) × (config_in bytes ≡ Ok c)
 abbrev pub IsTold : Form → Option (List ℕ) → Files → Came → Type 0
 IsTold (bare capacity) left files came = Tells left came.script
 IsTold (over aim config) left files came = Holds files config came.config
-IsTold (replay config session) left files came =
+IsTold (replay start config session) left files came =
     Holds files config came.config
     × ((c : Config) → IsConfigIn came.config c → Holds files session came.script)
 IsTold (made seed frames rovers) left files came = ⊤
-IsTold (serving config addr limit) left files came = Holds files config came.config
+IsTold (casting task config addr limit) left files came = Holds files config came.config
 IsTold (fetching frames targets) left files came = ⊤
 
 abbrev pub HasCome : Option Form → Option (List ℕ) → Files → Came → Type 0
@@ -72,16 +72,17 @@ abbrev pub AreAsked : Option Form → Files → List (List ℕ) → Type 0
 AreAsked None files paths = paths ≡ []
 AreAsked (Some (bare capacity)) files paths = paths ≡ []
 AreAsked (Some (over aim config)) files paths = paths ≡ config ∷ []
-AreAsked (Some (replay config session)) files paths =
+AreAsked (Some (replay start config session)) files paths =
     (paths ≡ config ∷ [])
     ⊎ ((paths ≡ config ∷ session ∷ []) × (c : Config) × IsConfigAt files config c)
 AreAsked (Some (made seed frames rovers)) files paths = paths ≡ []
-AreAsked (Some (serving config addr limit)) files paths = paths ≡ config ∷ []
+AreAsked (Some (casting task config addr limit)) files paths = paths ≡ config ∷ []
 AreAsked (Some (fetching frames targets)) files paths = paths ≡ []
 
 -- by what it was asked before and now, the store was asked for these, and for no other
 abbrev pub IsAsked : Option Form → Files → Option (List (List ℕ)) → Option (List (List ℕ)) → Type 0
-IsAsked form files old new = (paths : List (List ℕ)) × AreAsked form files paths × Grew old new paths
+IsAsked form files old new =
+    (paths : List (List ℕ)) × AreAsked form files paths × Grew old new paths
 
 -- ---- how the program ended
 
@@ -122,10 +123,10 @@ HaveCome IsSuch words left files =
 abbrev pub IsWhole : Form → Came → Type 0
 IsWhole (bare capacity) came = IsOk (script_of Bare came.script)
 IsWhole (over aim config) came = IsOk (config_in came.config)
-IsWhole (replay config session) came =
+IsWhole (replay start config session) came =
     (c : Config) × IsConfigIn came.config c × IsOk (session_in c came.script)
 IsWhole (made seed frames rovers) came = ⊤
-IsWhole (serving config addr limit) came = IsOk (config_in came.config)
+IsWhole (casting task config addr limit) came = IsOk (config_in came.config)
 IsWhole (fetching frames targets) came = ⊤
 
 -- the bytes break a rule of configurations, or are no document
@@ -138,10 +139,10 @@ abbrev pub IsFaultyConfig : Form → Came → Type 0
 IsFaultyConfig (bare capacity) came = ⊥
 IsFaultyConfig (over aim config) came =
     (length came.config ≤ 8388608) × IsNoConfig (config_in came.config)
-IsFaultyConfig (replay config session) came =
+IsFaultyConfig (replay start config session) came =
     (length came.config ≤ 8388608) × IsNoConfig (config_in came.config)
 IsFaultyConfig (made seed frames rovers) came = ⊥
-IsFaultyConfig (serving config addr limit) came =
+IsFaultyConfig (casting task config addr limit) came =
     (length came.config ≤ 8388608) × IsNoConfig (config_in came.config)
 IsFaultyConfig (fetching frames targets) came = ⊥
 
@@ -157,21 +158,21 @@ IsNoSession (Err scripts.Memory) = ⊥
 abbrev pub IsFaultyScript : Form → Came → Type 0
 IsFaultyScript (bare capacity) came = IsNoSession (script_of Bare came.script)
 IsFaultyScript (over aim config) came = ⊥
-IsFaultyScript (replay config session) came =
+IsFaultyScript (replay start config session) came =
     (c : Config) × IsConfigIn came.config c × IsNoSession (session_in c came.script)
 IsFaultyScript (made seed frames rovers) came = ⊥
-IsFaultyScript (serving config addr limit) came = ⊥
+IsFaultyScript (casting task config addr limit) came = ⊥
 IsFaultyScript (fetching frames targets) came = ⊥
 
 -- more bytes than a script or a configuration may have
 abbrev pub IsTooLong : Form → Came → Type 0
 IsTooLong (bare capacity) came = 8388608 < length came.script
 IsTooLong (over aim config) came = 8388608 < length came.config
-IsTooLong (replay config session) came =
+IsTooLong (replay start config session) came =
     (8388608 < length came.config)
     ⊎ ((c : Config) × IsConfigIn came.config c × (8388608 < length came.script))
 IsTooLong (made seed frames rovers) came = ⊥
-IsTooLong (serving config addr limit) came = 8388608 < length came.config
+IsTooLong (casting task config addr limit) came = 8388608 < length came.config
 IsTooLong (fetching frames targets) came = ⊥
 
 -- the words are of a form, and the fault is of what is read for it: the input's for a bare session,
@@ -180,9 +181,9 @@ IsTooLong (fetching frames targets) came = ⊥
 abbrev pub FaultFor : Form → Type 0 → Type 0 → Type 0
 FaultFor (bare capacity) of_input of_store = of_input
 FaultFor (over aim config) of_input of_store = of_store
-FaultFor (replay config session) of_input of_store = of_store
+FaultFor (replay start config session) of_input of_store = of_store
 FaultFor (made seed frames rovers) of_input of_store = ⊥
-FaultFor (serving config addr limit) of_input of_store = of_store
+FaultFor (casting task config addr limit) of_input of_store = of_store
 FaultFor (fetching frames targets) of_input of_store = ⊥
 
 abbrev pub HaveFault : List (List ℕ) → Type 0 → Type 0 → Type 0

@@ -81,8 +81,8 @@ impl<W: Write> Sink for WriterSink<W> {
     }
 }
 
-/// A store of the file system's files, which counts its reads and its failures. A path is one of the
-/// system, seen from the folder in which the program runs.
+/// A store of the file system's files, which counts its reads and its failures. A path is one of
+/// the system, seen from the folder in which the program runs.
 #[derive(Drop)]
 pub struct FileStore<'a> {
     rt: &'a HostRuntime,

@@ -2,16 +2,17 @@
 ghost use Rattle.std.specs.Prelude.{◌≡◌, ◌≤◌, ◌+◌, ◌*◌, ℕ, List, length};
 ghost use Rattle.cast_io.specs.Causes.{Rose};
 ghost use Rattle.cast_io.specs.Pieces.{Loses};
-ghost use Rattle.caster_main.specs.Command.{AreServe, FetchNothing, NameNoFile, ReadNoInput, ServeNothing, files_of, form_of, texts};
+ghost use Rattle.caster_main.specs.declared.command.Task.{Task};
+ghost use Rattle.caster_main.specs.Command.{AreCasting, CastNothing, FetchNothing, NameNoFile, ReadNoInput, files_of, form_of, texts};
 ghost use Rattle.caster_main.specs.Outcome.{exactly, whole_exit};
 ghost use Rattle.caster_main.specs.Told.{IsAsked};
 ghost use Rattle.caster_main.specs.Answers.{exit_of, IsAnswer, GivesEnd};
-ghost use Rattle.caster_main.specs.Serving.{IsServingAnswer};
+ghost use Rattle.caster_main.specs.Casting.{IsCastingAnswer};
 ghost use Rattle.run_texts.specs.Texts.{made_text};
 
+use crate::casting_answers::answer_to_cast;
 use crate::command::{Command, command_of};
 use crate::config_answers::answer_over;
-use crate::serving_answers::answer_to_serve;
 use crate::session_answers::{answer_to_input, answer_to_replay};
 use cast_io::{Source, Store, Street};
 use run_texts::made_text;
@@ -78,8 +79,8 @@ impl Answer {
 }
 
 /// The answer to these words, which ask for no fetch, this input, these files and this street. The
-/// input is read only for a bare session, the store is asked only for the files that the words name,
-/// and the street only by a caster that serves.
+/// input is read only for a bare session, the store is asked only for the files that the words
+/// name, and the street only by a caster.
 pub fn answer_to<R: Threads + Wait + Sync, S: Store, I: Source, N: Street>(
     rt: &R,
     alloc: Global,
@@ -106,20 +107,25 @@ where
     ensures files { (S.store store.new).files ≡ (S.store store.old).files }
     ensures few { S.reads store.new
         ≤ S.reads store.old + 8388610 * length (files_of (form_of (texts words.now))) }
-    ensures serving { (config addr : List ℕ) (limit : ℕ) → AreServe (texts words.now) config addr limit
-        → IsServingAnswer (S.store store.old).files config addr limit
+    ensures casting { (task : Task) (config addr : List ℕ) (limit : ℕ)
+        → AreCasting task (texts words.now) config addr limit
+        → IsCastingAnswer task (S.store store.old).files config addr limit
         (N.told street.old) (N.told street.new)
         (Rose (S.faults store.old) (S.faults store.new)) result }
     ensures street_later { (N.told street.old).faults ≤ (N.told street.new).faults }
-    ensures alone { ServeNothing (texts words.now) → street.new ≡ street.old }
+    ensures alone { CastNothing (texts words.now) → street.new ≡ street.old }
 {
     match command_of(words) {
         None => Answer::Usage,
         Some(Command::Bare(capacity)) => answer_to_input(alloc, capacity, input),
         Some(Command::Over(aim, path)) => answer_over(alloc, aim, path, store),
-        Some(Command::Replay { config, session }) => {
-            answer_to_replay(alloc, config, session, store)
-        }
+        Some(
+            Command::Replay {
+                start,
+                config,
+                session,
+            },
+        ) => answer_to_replay(alloc, start, config, session, store),
         Some(
             Command::Make {
                 seed,
@@ -128,12 +134,13 @@ where
             },
         ) => answer_to_make(alloc, seed, frames, rovers),
         Some(
-            Command::Serve {
+            Command::Cast {
+                task,
                 config,
                 addr,
                 limit,
             },
-        ) => answer_to_serve(rt, alloc, config, addr, limit, store, street),
+        ) => answer_to_cast(rt, alloc, task, config, addr, limit, store, street),
     }
 }
 

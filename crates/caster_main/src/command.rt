@@ -2,7 +2,7 @@
 ghost use Rattle.std.specs.Prelude.{◌≡◌, ◌&&◌, ◌-◌, ◌^◌, ℕ, List, Some, IfSome, IfNone, option_map};
 ghost use Rattle.std.specs.List.{list_all};
 ghost use Rattle.session_script.specs.Digits.{is_digit, is_number, number_of, at_most};
-ghost use Rattle.caster_main.specs.Command.{AreOf, AreOfNoForm, FetchNothing, Form, aim_of, form, form_of, form_of_four, form_of_three, form_of_two, is_path, made_form, seed_of, serving_form, texts};
+ghost use Rattle.caster_main.specs.Command.{AreOf, AreOfNoForm, FetchNothing, Form, aim_of, form, form_of, form_of_four, form_of_three, form_of_two, is_path, casting_form, made_form, most_of, seed_of, start_of, task_of, texts};
 
 // The most frames that a ring keeps.
 const LARGEST_RING: u32 = 4096;
@@ -14,7 +14,10 @@ const MOST_FRAMES: u32 = 10_000;
 const MOST_ROVERS: u32 = 64;
 
 // The most connections that a worker serves.
-const MOST_CONNECTIONS: u32 = 1_000_000;
+const MOST_SERVED: u32 = 1_000_000;
+
+// The most connections of a session that is recorded.
+const MOST_RECORDED: u32 = 256;
 
 // The most bytes of a path, and of an address.
 const LONGEST_PATH: usize = 255;
@@ -30,6 +33,37 @@ pub enum Aim {
     Migrate,
 }
 
+/// How rovers start in a session.
+#[derive(Clone, Copy, Debug, PartialEq, Eq)]
+pub enum Start {
+    /// With the frames that come from then on.
+    Cold,
+    /// With a greeting before them: the last frames of the messages that a rover needs for the
+    /// others.
+    Warm,
+}
+
+/// What a caster does with its connections.
+#[derive(Clone, Copy, Debug, PartialEq, Eq)]
+pub enum Task {
+    /// Its workers serve them side by side.
+    Serve,
+    /// One thread serves them, and what happens is recorded.
+    Record,
+}
+
+impl Task {
+    // The most connections that there may be: of each worker, or of the record.
+    fn most(self) -> u32
+        ensures { result ≡ most_of self }
+    {
+        match self {
+            Task::Serve => MOST_SERVED,
+            Task::Record => MOST_RECORDED,
+        }
+    }
+}
+
 /// What the words ask for that is decided before any of it is written.
 #[derive(Clone, Copy, Debug)]
 pub enum Command<'a> {
@@ -39,6 +73,8 @@ pub enum Command<'a> {
     Over(Aim, &'a str),
     /// A session from a file is run over the configuration in another: the paths of both.
     Replay {
+        /// How rovers start in it.
+        start: Start,
         /// The configuration's.
         config: &'a str,
         /// The session's.
@@ -53,13 +89,15 @@ pub enum Command<'a> {
         /// How many rovers it has.
         rovers: u32,
     },
-    /// A caster serves over the configuration in the file of this path.
-    Serve {
+    /// There is a caster over the configuration in the file of this path.
+    Cast {
+        /// What it does with its connections.
+        task: Task,
         /// The configuration's path.
         config: &'a str,
         /// The address that it listens at.
         addr: &'a str,
-        /// How many connections each worker serves.
+        /// How many connections each worker serves, or how many are recorded.
         limit: u32,
     },
 }
@@ -124,13 +162,16 @@ fn command_of_two<'a>(name: &str, word: &'a str) -> Option<Command<'a>>
 fn command_of_three<'a>(name: &str, first: &'a str, second: &'a str) -> Option<Command<'a>>
     ensures { option_map form result ≡ form_of_three name.now first.now second.now }
 {
-    if name == "replay" && are_paths(first, second) {
-        Some(Command::Replay {
+    if !are_paths(first, second) {
+        return None;
+    }
+    match start_of(name) {
+        Some(start) => Some(Command::Replay {
+            start,
             config: first,
             session: second,
-        })
-    } else {
-        None
+        }),
+        None => None,
     }
 }
 
@@ -146,10 +187,13 @@ fn command_of_four<'a>(
     if name == "make" {
         return make_of(first, second, third);
     }
-    if name == "serve" && are_paths(first, second) {
-        return serve_of(first, second, third);
+    if !are_paths(first, second) {
+        return None;
     }
-    None
+    match task_of(name) {
+        Some(task) => caster_of(task, first, second, third),
+        None => None,
+    }
 }
 
 // The making of a session of these numbers.
@@ -173,12 +217,13 @@ fn make_of<'a>(seed: &str, frames: &str, rovers: &str) -> Option<Command<'a>>
     })
 }
 
-// The caster over this configuration at this address, with this limit.
-fn serve_of<'a>(config: &'a str, addr: &'a str, limit: &str) -> Option<Command<'a>>
-    ensures { option_map form result ≡ serving_form config.now addr.now limit.now }
+// The caster of this task over this configuration at this address, with this limit.
+fn caster_of<'a>(task: Task, config: &'a str, addr: &'a str, limit: &str) -> Option<Command<'a>>
+    ensures { option_map form result ≡ casting_form (Some task) config.now addr.now limit.now }
 {
-    match number_within(MOST_CONNECTIONS, limit) {
-        Some(limit) => Some(Command::Serve {
+    match number_within(task.most(), limit) {
+        Some(limit) => Some(Command::Cast {
+            task,
             config,
             addr,
             limit,
@@ -199,6 +244,28 @@ fn aim_of(name: &str) -> Option<Aim>
     }
 }
 
+// How rovers start in a session for a command of this name.
+fn start_of(name: &str) -> Option<Start>
+    ensures { result ≡ start_of name.now }
+{
+    match name {
+        "replay" => Some(Start::Cold),
+        "warm" => Some(Start::Warm),
+        _ => None,
+    }
+}
+
+// The task of a caster for a command of this name.
+fn task_of(name: &str) -> Option<Task>
+    ensures { result ≡ task_of name.now }
+{
+    match name {
+        "serve" => Some(Task::Serve),
+        "record" => Some(Task::Record),
+        _ => None,
+    }
+}
+
 // The word can be a path.
 fn is_path(word: &str) -> bool
     ensures { result ≡ is_path word.now }
@@ -213,7 +280,8 @@ fn are_paths(first: &str, second: &str) -> bool
     is_path(first) && is_path(second)
 }
 
-// The number that the word is, from 1 to this limit.
+/// The number that the word is, from 1 to this limit, in plain decimal digits; None of another
+/// word.
 pub fn number_within(limit: u32, word: &str) -> Option<u32>
     ensures { result ≡ at_most limit (number_of word.now) }
 {

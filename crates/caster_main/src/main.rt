@@ -1,9 +1,10 @@
-//! The caster's program: it reads its words and what they name, runs the command, and writes its text
-//! or one line that says why there is none. Its status says which.
+//! The caster's program: it reads its words and what they name, runs the command, and writes its
+//! text or one line that says why there is none. Its status says which.
 #![tactic(auto)]
 
 mod adapters;
 mod answers;
+mod casting_answers;
 mod command;
 mod config_answers;
 mod fetch_words;
@@ -13,7 +14,9 @@ mod fetching_tests;
 #[cfg(test)]
 mod memory_tests;
 mod network;
-mod serving_answers;
+mod recording;
+#[cfg(test)]
+mod recording_tests;
 mod session_answers;
 #[cfg(test)]
 mod session_tests;
@@ -22,6 +25,8 @@ mod tests;
 mod top;
 #[cfg(test)]
 mod trial;
+#[cfg(test)]
+mod warm_tests;
 #[cfg(test)]
 mod worked_lines;
 

@@ -1,5 +1,5 @@
-//! A caster in memory that says what it came to, for `tests/memory/run`, which refuses its allocations
-//! one after the other and reads what is printed here.
+//! A caster in memory that says what it came to, for `tests/memory/run`, which refuses its
+//! allocations one after the other and reads what is printed here.
 use crate::tests::{RELAY, caster_store, peers};
 use crate::top::caster;
 use crate::trial::texts_of;
@@ -7,8 +7,9 @@ use cast_io::{MemSink, MemSource};
 use std::io::Write;
 use std::test::Fail;
 
-// The first line says that all is made that the caster is called with. The second one has the status,
-// how often the street failed, and how many of its links did; the text that was written follows.
+// The first line says that all is made that the caster is called with. The second one has the
+// status, how often the street failed, and how many of its links did; the text that was written
+// follows.
 #[test]
 fn a_caster_in_memory_says_what_it_came_to(rt: HostRuntime) -> Result<(), Fail> {
     let alloc = rt.alloc();

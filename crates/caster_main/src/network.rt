@@ -1,6 +1,7 @@
-//! The sockets of std as links, doors and a street. `main` puts them into the caster; what they give
-//! and take is outside of every proof. A read and an accept do not wait for a peer; a dial does, and a
-//! write rests while its peer takes nothing. A write to a peer that is gone raises no signal.
+//! The sockets of std as links, doors and a street. `main` puts them into the caster; what they
+//! give and take is outside of every proof. A read and an accept do not wait for a peer; a dial
+//! does, and a write rests while its peer takes nothing. A write to a peer that is gone raises no
+//! signal.
 ghost use Rattle.std.specs.Prelude.{◌≡◌, ◌≤◌, [], vec_len, vec_capacity, IfOk, OnOk};
 ghost use Rattle.std.specs.List.{All};
 ghost use Rattle.cast_io.specs.Causes.{Rose};
@@ -41,7 +42,8 @@ impl Link for Tcp<'_, TcpStream> {
         }
     }
 
-    // A write that would have to wait 500 times in a row, with a rest between two tries, is a fault.
+    // A write that would have to wait 500 times in a row, with a rest between two tries, is a
+    // fault.
     fn write(&mut self, piece: &[u8]) -> Result<(), Failed> {
         let mut at = 0;
         let mut waits = 0u32;

@@ -1,4 +1,5 @@
-//! Worked sessions as whole calls: a configuration and a script in files, and the report that is owed.
+//! Worked sessions as whole calls: a configuration and a script in files, and the report that is
+//! owed.
 use crate::tests::{BACK, FRONT, READ_FAULT, RELAY, TABLE, VERSION_1};
 use crate::trial::{Came, expect_run, file_run, store_of};
 use crate::worked_lines::written;
@@ -339,8 +340,8 @@ account rover2 0 0 0
 total 1 3 0
 ";
 
-// What another caster answers to a relay: the lines of the script behind the relay's, the ending, the
-// junk, and the first mountpoint's frames and claims.
+// What another caster answers to a relay: the lines of the script behind the relay's, the ending,
+// the junk, and the first mountpoint's frames and claims.
 const ANSWERS: [(&str, &str, u32, &str); 6] = [
     (
         "text 1 ICY 200 OK|| +d300023ed0a4e000",
@@ -491,18 +492,19 @@ total 1 1 0
 ",
 ];
 
-// The session over the configuration of these parts has the report.
-fn try_session<R: Threads + Wait + Sync>(
+/// The session over the configuration of these parts has the report for the command of this name.
+pub fn try_session<R: Threads + Wait + Sync>(
     rt: &R,
     host: &impl Abort,
     alloc: Global,
+    command: &str,
     parts: &[&[u8]],
     name: &str,
     script: &str,
     report: &str,
 ) -> Result<(), Fail> {
     let store = store_of(alloc, parts, &written(alloc, script)?, &[])?;
-    let came = file_run(rt, alloc, &["replay", "a", "s"], store, &[])?;
+    let came = file_run(rt, alloc, &[command, "a", "s"], store, &[])?;
     assert_eq!(host; came.status, 0, "{name}");
     assert_eq!(host;
         came.text.as_slice(),
@@ -524,7 +526,7 @@ fn try_sessions<R: Threads + Wait + Sync>(
     for session in sessions {
         let (name, lines) = session.split_once('\n').ok_or("no name")?;
         let (script, report) = lines.split_once("-- report\n").ok_or("no report")?;
-        try_session(rt, host, alloc, parts, name, script, report)?;
+        try_session(rt, host, alloc, "replay", parts, name, script, report)?;
     }
     Ok(())
 }
@@ -567,7 +569,16 @@ fn each_answer_to_a_relay_has_its_ending(rt: HostRuntime) -> Result<(), Fail> {
             account rover2 0 0 0\ntotal 0 0 0\n"
         )?;
         let parts = [VERSION_1, FRONT, BACK, RELAY];
-        try_session(&rt, &rt, rt.alloc(), &parts, ending, &script, &report)?;
+        try_session(
+            &rt,
+            &rt,
+            rt.alloc(),
+            "replay",
+            &parts,
+            ending,
+            &script,
+            &report,
+        )?;
     }
     Ok(())
 }
@@ -577,7 +588,16 @@ fn a_filter_of_a_mountpoint_stands_in_version_2_alone(rt: HostRuntime) -> Result
     let reports = [(VERSION_2, FILTERED_REPORT), (VERSION_1, UNFILTERED_REPORT)];
     for (version, report) in reports {
         let parts = [version, FRONT, BRAVO_FILTER, BACK];
-        try_session(&rt, &rt, rt.alloc(), &parts, "filter", FILTERED, report)?;
+        try_session(
+            &rt,
+            &rt,
+            rt.alloc(),
+            "replay",
+            &parts,
+            "filter",
+            FILTERED,
+            report,
+        )?;
     }
     Ok(())
 }
@@ -621,8 +641,8 @@ const NEVER: u64 = 0;
 
 const UNTORN: (u64, u64) = (0, 0);
 
-// With each call of the store failing in turn, up to the last one, the command ends with a read fault,
-// and was asked for the second file from its fourth call on. Then it ends so.
+// With each call of the store failing in turn, up to the last one, the command ends with a read
+// fault, and was asked for the second file from its fourth call on. Then it ends so.
 fn try_failing<R: Threads + Wait + Sync>(
     rt: &R,
     host: &impl Abort,
@@ -648,8 +668,8 @@ fn try_failing<R: Threads + Wait + Sync>(
     Ok(())
 }
 
-// With its one write failing after no byte, one byte and all of them, the command ends with status 5.
-// Then it ends so.
+// With its one write failing after no byte, one byte and all of them, the command ends with status
+// 5. Then it ends so.
 fn try_torn<R: Threads + Wait + Sync>(
     rt: &R,
     host: &impl Abort,
@@ -680,12 +700,13 @@ fn each_command_meets_each_failing_call_of_the_store_and_of_the_output(
     let text = written(rt.alloc(), report)?;
     // The document that `migrate` writes is the one that it writes without a fault.
     let migrated = failing_run(&rt, rt.alloc(), &["migrate", "a"], &session, NEVER, UNTORN)?;
-    let commands: [(&[&str], u64, u8, &[u8]); 5] = [
+    let commands: [(&[&str], u64, u8, &[u8]); 6] = [
         (&["check", "a"], 3, 0, b"ok\n"),
         (&["table", "a"], 3, 0, TABLE),
         (&["migrate", "a"], 3, 0, &migrated.text),
         (&["replay", "a", "s"], 6, 0, &text),
         (&["serve", "a", "b", "1"], 3, 6, b"network fault\n"),
+        (&["record", "a", "b", "1"], 3, 6, b"network fault\n"),
     ];
     for (words, calls, status, text) in commands {
         try_failing(&rt, &rt, rt.alloc(), words, &session, calls, status, text)?;

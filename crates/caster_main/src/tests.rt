@@ -20,8 +20,8 @@ const UPPER: &[u8] = b"D300133ED7D30202980EDEEF34B4BD62AC0941986F33360B98";
 
 const LOWER: &[u8] = b"d300133ed7d30202980edeef34b4bd62ac0941986f33360b98";
 
-// A configuration of two mountpoints, a near one and two groups, behind its version: up to the first
-// group, and from the second one on.
+// A configuration of two mountpoints, a near one and two groups, behind its version: up to the
+// first group, and from the second one on.
 pub const FRONT: &[u8] = b"workers = 3
 hysteresis = 10
 [[mount]]
@@ -137,7 +137,8 @@ fn long_report(alloc: Global) -> Result<Vec<u8>, Fail> {
     Ok(report)
 }
 
-// The pieces are of 65,536 bytes and of the rest. Each is torn after no byte, one byte and all of them.
+// The pieces are of 65,536 bytes and of the rest. Each is torn after no byte, one byte and all of
+// them.
 #[test]
 fn a_long_report_is_written_in_pieces(rt: HostRuntime) -> Result<(), Fail> {
     let script = long_script(rt.alloc())?;
@@ -160,8 +161,9 @@ fn a_long_report_is_written_in_pieces(rt: HostRuntime) -> Result<(), Fail> {
     Ok(())
 }
 
-// These words with this input over no files: the status and the text, and status 5 and its beginning
-// where the one write fails after no byte, one byte and all of them. The street is asked for nothing.
+// These words with this input over no files: the status and the text, and status 5 and its
+// beginning where the one write fails after no byte, one byte and all of them. The street is asked
+// for nothing.
 fn try_words<R: Threads + Wait + Sync>(
     rt: &R,
     host: &impl Abort,
@@ -186,7 +188,7 @@ fn try_words<R: Threads + Wait + Sync>(
 #[test]
 fn each_refusal_has_its_status_and_line(rt: HostRuntime) -> Result<(), Fail> {
     let nothing: [&str; 0] = [];
-    let cases: [(&[&str], &[u8], u8, &[u8]); 17] = [
+    let cases: [(&[&str], &[u8], u8, &[u8]); 19] = [
         (&nothing, EXAMPLE, 1, USAGE),
         (&["bare", "0"], EXAMPLE, 1, USAGE),
         (&["bare", "4097"], EXAMPLE, 1, USAGE),
@@ -198,6 +200,8 @@ fn each_refusal_has_its_status_and_line(rt: HostRuntime) -> Result<(), Fail> {
         (&["check", "a"], EXAMPLE, 4, READ_FAULT),
         (&["replay", "a"], EXAMPLE, 1, USAGE),
         (&["replay", "a", "s"], EXAMPLE, 4, READ_FAULT),
+        (&["warm", "a"], EXAMPLE, 1, USAGE),
+        (&["warm", "a", "s"], EXAMPLE, 4, READ_FAULT),
         (&["make", "1", "1", "65"], EXAMPLE, 1, USAGE),
         (
             &["make", "1", "1", "1"],
@@ -225,7 +229,7 @@ fn each_refusal_has_its_status_and_line(rt: HostRuntime) -> Result<(), Fail> {
 
 #[test]
 fn words_of_a_caster_have_their_limits(rt: HostRuntime) -> Result<(), Fail> {
-    let cases: [(&[&str], u8, &[u8]); 8] = [
+    let cases: [(&[&str], u8, &[u8]); 16] = [
         (&["serve", "a", "b"], 1, USAGE),
         (&["serve", "", "b", "1"], 1, USAGE),
         (&["serve", "a", "", "1"], 1, USAGE),
@@ -234,6 +238,14 @@ fn words_of_a_caster_have_their_limits(rt: HostRuntime) -> Result<(), Fail> {
         (&["serve", "a", "b", "1000001"], 1, USAGE),
         (&["serve", "a", "b", "1", "1"], 1, USAGE),
         (&["serve", "a", "b", "1000000"], 4, READ_FAULT),
+        (&["record", "a", "b"], 1, USAGE),
+        (&["record", "", "b", "1"], 1, USAGE),
+        (&["record", "a", "", "1"], 1, USAGE),
+        (&["record", "a", "b", "0"], 1, USAGE),
+        (&["record", "a", "b", "01"], 1, USAGE),
+        (&["record", "a", "b", "257"], 1, USAGE),
+        (&["record", "a", "b", "1", "1"], 1, USAGE),
+        (&["record", "a", "b", "256"], 4, READ_FAULT),
     ];
     let mut case = 0u64;
     for (words, status, line) in cases {
@@ -331,8 +343,8 @@ fn a_faulty_file_has_the_line_of_its_first_fault(rt: HostRuntime) -> Result<(), 
     Ok(())
 }
 
-// What the peers of a caster send: a source of BRAVO with the messages 1005 and 1077, two rovers that
-// may hear 1005 alone of it, and another caster that answers a relay.
+// What the peers of a caster send: a source of BRAVO with the messages 1005 and 1077, two rovers
+// that may hear 1005 alone of it, and another caster that answers a relay.
 const SOURCE: &[&[u8]] = &[
     b"SOURCE sesame BRAVO\r\nSource-Agent: NTRIP test\r\n\r\n",
     b"\xd3\x00\x02\x3e\xd0\xa4\xe0\x00\xd3\x00\x02\x43\x50\x06\xa2\x7e",
@@ -355,8 +367,8 @@ pub fn peers(alloc: Global, accepts: &[u64], calls: &[u64]) -> Result<MemStreet,
     street_of(alloc, &[SOURCE, ROVER, ROVER, UPSTREAM], 50, accepts, calls)
 }
 
-// What a caster of these peers writes whose two rovers were sent so many frames, while so many others
-// were lost to them.
+// What a caster of these peers writes whose two rovers were sent so many frames, while so many
+// others were lost to them.
 fn closing(alloc: Global, alpha: &str, sent: u32, overrun: u32) -> Result<Vec<u8>, Fail> {
     let text = format!(in alloc;
         "mount ALPHA {alpha}\nmount BRAVO 2 1\naccount rover1 0 0 0\n\
@@ -375,8 +387,8 @@ fn is_closing(alloc: Global, text: &[u8], alpha: &str) -> Result<bool, Fail> {
     Ok(false)
 }
 
-// A caster of these peers ends with status 0, and asked for this. There is no second accept, no third
-// call of the street and no second write that could fail.
+// A caster of these peers ends with status 0, and asked for this. There is no second accept, no
+// third call of the street and no second write that could fail.
 fn try_caster<R: Threads + Wait + Sync>(
     rt: &R,
     host: &impl Abort,

@@ -1,10 +1,11 @@
 //! The call that the program makes.
-ghost use Rattle.std.specs.Prelude.{◌≡◌, ◌≢◌, ◌≤◌, ◌<◌, ◌+◌, ◌*◌, ◌++◌, ◌⊎◌, ℕ, List, Some, Ok, Err, Result, codes, length, OnOk, OnErr};
+ghost use Rattle.std.specs.Prelude.{◌≡◌, ◌≢◌, ◌≤◌, ◌<◌, ◌+◌, ◌*◌, ◌⊎◌, ℕ, List, Some, Ok, Result, codes, length, OnOk, OnErr};
 ghost use Rattle.std.specs.Io.KnownBytes.{Appends};
 ghost use Rattle.session_script.specs.declared.Event.{Event};
 ghost use Rattle.session_script.specs.declared.ScriptKind.TheVariants.{Bare};
 ghost use Rattle.session_script.specs.Script.{script_of};
-ghost use Rattle.run_texts.specs.Texts.{IsRunText, made_text, report};
+ghost use Rattle.session_script.specs.Writing.{script_text};
+ghost use Rattle.run_texts.specs.Texts.{IsRunText, IsWarmText, made_text, report};
 ghost use Rattle.session_core.specs.declared.report.Closed.{Closed};
 ghost use Rattle.session_core.specs.Text.{closed_text};
 ghost use Rattle.cast_io.specs.Causes.{Rose, HasCause};
@@ -18,17 +19,18 @@ ghost use Rattle.config_table.specs.Table.{table_records};
 ghost use Rattle.config_write.specs.Written.{HasVersion};
 ghost use Rattle.caster_main.specs.declared.command.Aim.{Aim};
 ghost use Rattle.caster_main.specs.declared.command.Aim.TheVariants.{Check, Table, Migrate};
-ghost use Rattle.caster_main.specs.Command.{AreBare, AreFetch, AreMake, AreOver, AreOfNoForm, AreReplay, AreServe, AskNoStreet, NameNoFile, ReadNoInput, WriteAtEnd, files_of, form_of, texts};
+ghost use Rattle.caster_main.specs.declared.command.Task.{Task};
+ghost use Rattle.caster_main.specs.Command.{AreBare, AreCasting, AreFetch, AreMake, AreOver, AreOfNoForm, AreRecord, AreReplay, AreServe, AreWarm, AskNoStreet, NameNoFile, ReadNoInput, WriteAtEnd, files_of, form_of, texts};
 ghost use Rattle.caster_main.specs.Outcome.{memory_exit, network_exit, one_line, read_fault_exit, session_in};
 ghost use Rattle.caster_main.specs.Told.{FollowsOutcome, HaveCome, HaveFault, IsAsked, IsConfigAt, IsFaultyConfig, IsFaultyScript, IsSessionAt, IsStatus, IsTooLong, IsWhole, WritesPart};
 ghost use Rattle.caster_main.specs.Answers.{exit_of, Writes};
-ghost use Rattle.caster_main.specs.Serving.{HasServing, IsUnserved};
+ghost use Rattle.caster_main.specs.Casting.{HasCast, HasCasting, IsUnserved, no_network};
+ghost use Rattle.caster_main.specs.Recording.{HasRecorded};
 ghost use Rattle.caster_main.specs.Fetching.{HasFetched, HasFetching};
 ghost use Rattle.ntrip_fetch.specs.Tries.{HasStopped};
 ghost use Rattle.ntrip_fetch.specs.declared.left.FetchFault.TheVariants as faults;
 ghost use Rattle.ntrip_fetch.specs.declared.target.Target.{Target};
 ghost use Rattle.caster_serve.specs.Caster.{HasServed};
-ghost use Rattle.caster_serve.specs.declared.whole.ServeFault.TheVariants.{Network};
 
 use crate::answers::{Answer, answer_to};
 use crate::fetch_words::fetch_in;
@@ -54,18 +56,20 @@ const PIECE: usize = 65_536;
 /// | `table CONFIG` | | its sourcetable |
 /// | `migrate CONFIG` | | a document of version 2 that says it |
 /// | `replay CONFIG SESSION` | plays the session in the file SESSION over the configuration | the report |
+/// | `warm CONFIG SESSION` | the same, with rovers that are greeted | the report with greetings |
 /// | `make SEED FRAMES ROVERS` | makes a session of the number SEED and plays it | its laps and sums |
 /// | `serve CONFIG ADDR LIMIT` | serves at ADDR, each worker LIMIT connections | what it came to |
+/// | `record CONFIG ADDR LIMIT` | serves LIMIT connections at ADDR by one thread | the script of what happened |
 /// | `fetch FRAMES TARGET..` | asks the targets in order for frames, until there are FRAMES | the frames |
 ///
-/// C is from 1 to 4,096, CONFIG, SESSION and ADDR have 1 to 255 bytes. SEED is below 2^64, FRAMES from 1
-/// to 10,000, ROVERS from 1 to 64 and LIMIT from 1 to 1,000,000. Numbers are decimal, without signs
-/// and leading zeros. A session that is made is played over one mountpoint `A` with a ring of 64
-/// frames. A fetch has FRAMES from 1 to 1,000,000 and 1 to 8 targets of five words each, `PROTOCOL
-/// ADDR MOUNT USER PASSWORD`: the version of NTRIP, 1 or 2, the caster's address of 1 to 100 bytes
-/// without CR and LF, the mountpoint, the user or `-` for none, and a password of at most 100 bytes
-/// without CR, LF and `;`. Where what is asked for is not to be had, one line says why; a fetch
-/// writes none:
+/// C is from 1 to 4,096, CONFIG, SESSION and ADDR have 1 to 255 bytes. SEED is below 2^64, FRAMES
+/// from 1 to 10,000, ROVERS from 1 to 64 and LIMIT from 1 to 1,000,000, or for a record to 256.
+/// Numbers are decimal, without signs and leading zeros. A session that is made is played over one
+/// mountpoint `A` with a ring of 64 frames. A fetch has FRAMES from 1 to 1,000,000 and 1 to 8
+/// targets of five words each, `PROTOCOL ADDR MOUNT USER PASSWORD`: the version of NTRIP, 1 or 2,
+/// the caster's address of 1 to 100 bytes without CR and LF, the mountpoint, the user or `-` for
+/// none, and a password of at most 100 bytes without CR, LF and `;`. Where what is asked for is not
+/// to be had, one line says why; a fetch writes none:
 ///
 /// | Status | Line | Comes |
 /// |---|---|---|
@@ -74,7 +78,7 @@ const PIECE: usize = 65_536;
 /// | 3 | `session: line N`, `session: state N`, `session: no stop` | where the script is none |
 /// | 4 | `read fault` | only where a read of the input, or a call of the store, failed |
 /// | 5 | | only where a write failed |
-/// | 6 | `network fault` | where the network failed a caster that serves |
+/// | 6 | `network fault` | where the network failed a caster that serves or records |
 /// | 7 | `memory` | where there is no memory |
 /// | 8 | `too long` | where the script or the configuration has more than 8 MiB |
 /// | 9 | | where a fetch tried every target, and there were fewer frames |
@@ -142,6 +146,23 @@ where
         → (result ≡ 7) ⊎ ((result ≡ 0) × (text : List ℕ) × IsRunText c events text
         × Appends (O.taken out.old) (O.taken out.new) text) }
 
+    // And what is done with it where rovers are greeted.
+    ensures warmed { result ≡ 0 → (config session : List ℕ)
+        → AreWarm (texts words.now) config session
+        → (c : Config) × (events : List Event) × (text : List ℕ)
+        × IsConfigAt (S.store store.old).files config c
+        × IsSessionAt (S.store store.old).files session c events
+        × IsWarmText c events text × Appends (O.taken out.old) (O.taken out.new) text }
+    ensures complete_warm { (config session : List ℕ) (files : List (List ℕ × List ℕ))
+        (bytes script : List ℕ) (c : Config) (events : List Event)
+        → AreWarm (texts words.now) config session → (S.store store.old).files ≡ Some files
+        → content_of files config ≡ Some bytes → length bytes ≤ 8388608 → IsRead bytes (Ok c)
+        → content_of files session ≡ Some script → session_in c script ≡ Ok events
+        → ¬ Rose (S.faults store.old) (S.faults store.new)
+        → ¬ Rose (O.faults out.old) (O.faults out.new)
+        → (result ≡ 7) ⊎ ((result ≡ 0) × (text : List ℕ) × IsWarmText c events text
+        × Appends (O.taken out.old) (O.taken out.new) text) }
+
     // What is done with a number.
     ensures made { result ≡ 0 → (seed frames rovers : ℕ)
         → AreMake (texts words.now) seed frames rovers
@@ -152,10 +173,11 @@ where
         → (result ≡ 7) ⊎ ((result ≡ 0)
         × Appends (O.taken out.old) (O.taken out.new) (made_text seed frames rovers)) }
 
-    // What a caster does that serves: the whole of it, and what that says with 0 and with 6.
-    ensures serving { (config addr : List ℕ) (limit : ℕ)
-        → AreServe (texts words.now) config addr limit
-        → HasServing (S.store store.old).files config addr limit
+    // What a caster does that serves, or that records: the whole of it, and what that says with 0
+    // and with 6.
+    ensures casting { (task : Task) (config addr : List ℕ) (limit : ℕ)
+        → AreCasting task (texts words.now) config addr limit
+        → HasCasting task (S.store store.old).files config addr limit
         (N.told street.old) (N.told street.new) (Rose (S.faults store.old) (S.faults store.new))
         (O.taken out.old) (O.taken out.new) (O.faults out.old) (O.faults out.new) result }
     ensures served { result ≡ 0 → (config addr : List ℕ) (limit : ℕ)
@@ -163,15 +185,21 @@ where
         → (c : Config) × (closed : Closed) × IsConfigAt (S.store store.old).files config c
         × HasServed c addr limit (N.told street.old) (N.told street.new) (Ok closed)
         × Appends (O.taken out.old) (O.taken out.new) (closed_text c closed) }
-    ensures network_fault { result ≡ 6 → (config addr : List ℕ) × (limit : ℕ) × (c : Config)
-        × AreServe (texts words.now) config addr limit
+    ensures recorded { result ≡ 0 → (config addr : List ℕ) (limit : ℕ)
+        → AreRecord (texts words.now) config addr limit
+        → (c : Config) × (events : List Event) × IsConfigAt (S.store store.old).files config c
+        × HasRecorded c addr limit (N.told street.old) (N.told street.new) events
+        × Appends (O.taken out.old) (O.taken out.new) (script_text events) }
+    ensures network_fault { result ≡ 6 → (task : Task) × (config addr : List ℕ) × (limit : ℕ)
+        × (c : Config) × AreCasting task (texts words.now) config addr limit
         × IsConfigAt (S.store store.old).files config c
-        × HasServed c addr limit (N.told street.old) (N.told street.new) (Err Network)
+        × HasCast task c addr limit (N.told street.old) (N.told street.new) no_network
         × Rose (N.told street.old).faults (N.told street.new).faults
         × Appends (O.taken out.old) (O.taken out.new) network_exit.text }
-    ensures complete_serve { (config addr : List ℕ) (limit : ℕ) (files : List (List ℕ × List ℕ))
-        (bytes : List ℕ) (c : Config)
-        → AreServe (texts words.now) config addr limit → (S.store store.old).files ≡ Some files
+    ensures complete_cast { (task : Task) (config addr : List ℕ) (limit : ℕ)
+        (files : List (List ℕ × List ℕ)) (bytes : List ℕ) (c : Config)
+        → AreCasting task (texts words.now) config addr limit
+        → (S.store store.old).files ≡ Some files
         → content_of files config ≡ Some bytes → length bytes ≤ 8388608 → IsRead bytes (Ok c)
         → ¬ Rose (S.faults store.old) (S.faults store.new)
         → ¬ Rose (O.faults out.old) (O.faults out.new)
@@ -240,7 +268,8 @@ where
     ensures outcome { result ≢ 4 → result ≢ 5 → result ≢ 7
         → FollowsOutcome (texts words.now) (I.left input.old) (S.store store.old).files
         result (O.taken out.old) (O.taken out.new) }
-    ensures undisturbed { ¬ HaveFault (texts words.now) (Rose (I.faults input.old) (I.faults input.new))
+    ensures undisturbed { ¬ HaveFault (texts words.now)
+        (Rose (I.faults input.old) (I.faults input.new))
         (Rose (S.faults store.old) (S.faults store.new))
         → ¬ Rose (O.faults out.old) (O.faults out.new) → result ≢ 7
         → FollowsOutcome (texts words.now) (I.left input.old) (S.store store.old).files

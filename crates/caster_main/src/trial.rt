@@ -1,5 +1,6 @@
-//! What tests run: a whole call over files, an input, an output and a street in memory, and what came of
-//! it as plain values. What runs the program has no contract here, so that a test has little to prove.
+//! What tests run: a whole call over files, an input, an output and a street in memory, and what
+//! came of it as plain values. What runs the program has no contract here, so that a test has
+//! little to prove.
 ghost use Rattle.std.specs.Prelude.{IsTrue, IfOk};
 ghost use Rattle.std.specs.List.{list_all};
 ghost use Rattle.cast_io.specs.FakeLinks.{has_bytes, is_new_link};
@@ -150,8 +151,8 @@ pub fn serve_run<R: Threads + Wait + Sync>(
     run(rt, alloc, &words, store, source, writes, street)
 }
 
-/// A store of a file `a` of these parts and of a file `s`, whose calls of these numbers fail. Behind
-/// them there is another `a`.
+/// A store of a file `a` of these parts and of a file `s`, whose calls of these numbers fail.
+/// Behind them there is another `a`.
 pub fn store_of(
     alloc: Global,
     parts: &[&[u8]],
@@ -180,9 +181,9 @@ pub fn no_street(alloc: Global) -> Result<MemStreet, Fail> {
     Ok(MemStreet::new(alloc, Vec::new(alloc), Vec::new(alloc), Vec::new(alloc))?)
 }
 
-/// A street of three doors with one link each, and one link to dial, whose peers send these bytes, are
-/// then idle so often, and end. The accepts of the second door and the calls of the street of these
-/// numbers fail.
+/// A street of three doors with one link each, and one link to dial, whose peers send these bytes,
+/// are then idle so often, and end. The accepts of the second door and the calls of the street of
+/// these numbers fail.
 pub fn street_of(
     alloc: Global,
     peers: &[&[&[u8]]; 4],
@@ -206,6 +207,46 @@ fn door_of(alloc: Global, link: MemLink, accepts: &[u64]) -> Result<MemDoor, Fai
     let mut arrivals = Vec::new(alloc);
     arrivals.push(Some(link))?;
     Ok(MemDoor::new(alloc, arrivals, accepts.to_vec(alloc)?)?)
+}
+
+/// A street of one door, at which a link arrives for each of these two clients, which send these
+/// parts and end; an empty part is nothing yet. The write of this number of the second takes so
+/// many bytes and fails. The accepts and the calls of the street of these numbers fail.
+pub fn pair(
+    alloc: Global,
+    first: &[&[u8]],
+    second: &[&[u8]],
+    write: (u64, u64),
+    accepts: &[u64],
+    calls: &[u64],
+) -> Result<MemStreet, Fail> {
+    let mut arrivals = Vec::new(alloc);
+    arrivals.push(Some(MemLink::new(alloc, talk(alloc, first)?, Vec::new(alloc))))?;
+    let torn = [write].to_vec(alloc)?;
+    arrivals.push(Some(MemLink::torn(alloc, talk(alloc, second)?, torn)))?;
+    let mut doors = Vec::new(alloc);
+    doors.push(MemDoor::new(alloc, arrivals, accepts.to_vec(alloc)?)?)?;
+    Ok(MemStreet::new(alloc, doors, Vec::new(alloc), calls.to_vec(alloc)?)?)
+}
+
+// The steps of a client that sends these parts; an empty part is nothing yet.
+fn talk(alloc: Global, parts: &[&[u8]]) -> Result<Vec<LinkStep>, Fail>
+    ensures { IfOk result (λ steps. IsTrue (list_all has_bytes steps.items)) }
+{
+    let mut steps = Vec::new(alloc);
+    for part in parts {
+        steps.push(step_of(alloc, part)?)?;
+    }
+    Ok(steps)
+}
+
+fn step_of(alloc: Global, part: &[u8]) -> Result<LinkStep, Fail>
+    ensures { IfOk result (λ step. IsTrue (has_bytes step)) }
+{
+    if part.is_empty() {
+        return Ok(LinkStep::Idle);
+    }
+    Ok(LinkStep::Bytes(ByteString::copy_of(alloc, part)?))
 }
 
 fn link_of(alloc: Global, parts: &[&[u8]], idle: usize) -> Result<MemLink, Fail>
@@ -233,8 +274,8 @@ fn push_bytes(alloc: Global, steps: &mut Vec<LinkStep>, part: &[u8]) -> Result<(
     Ok(())
 }
 
-/// A street without doors, and with a link to dial for each of these casters, which sends these bytes
-/// and ends. The calls of the street of these numbers fail.
+/// A street without doors, and with a link to dial for each of these casters, which sends these
+/// bytes and ends. The calls of the street of these numbers fail.
 pub fn casters(alloc: Global, sent: &[&[&[u8]]], calls: &[u64]) -> Result<MemStreet, Fail> {
     let mut links = Vec::new(alloc);
     for parts in sent {

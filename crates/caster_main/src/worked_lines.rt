@@ -4,8 +4,8 @@ use std::test::Fail;
 
 /// The script or the report that these lines stand for. A line `text K TEXT` stands for the line
 /// `in K` of a script with the bytes of that text, and a line `sent TEXT` for the line `bytes` of a
-/// report. In a text `|` is a line's end, CR LF, and `^` is LF alone; digits behind ` +` are further
-/// bytes. Where it begins with `*N ` the rest of it comes N times.
+/// report. In a text `|` is a line's end, CR LF, and `^` is LF alone; digits behind ` +` are
+/// further bytes. Where it begins with `*N ` the rest of it comes N times.
 pub fn written(alloc: Global, lines: &str) -> Result<Vec<u8>, Fail> {
     let mut out = Vec::new(alloc);
     for line in lines.lines() {

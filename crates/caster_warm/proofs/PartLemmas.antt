@@ -26,14 +26,12 @@ use Rattle.caster_replay.specs.Places.{AllGreet, cleared_at}
 use Rattle.caster_replay.specs.Runs.{Pairs}
 use Rattle.caster_replay.specs.Sends.{sent_in, told_sent, Sends}
 use Rattle.caster_replay.proofs.ReplayLemmas.{split_at}
+use Rattle.caster_replay.proofs.WorldReportLemmas.{report_with}
 use Rattle.caster_replay.proofs.WorldRunnerLemmas.{after_one}
 use Rattle.caster_warm.specs.declared.parts.Part.{Part}
 use Rattle.caster_warm.specs.Numbers.{number_of, brings_bytes}
 use Rattle.caster_warm.specs.Parts.{part_to, parts_to}
 use Rattle.caster_warm.specs.Warm.{greeting_for, greeting_by, sent_so_far, sent_by_event, sent_by_events, told_with, IsWarmReport}
-
-abbrev report_with : List Connection → totals.Closed → Report
-report_with connections closed = record { connections = connections; closed = closed }
 
 abbrev told_as : Connection → List ℕ → Connection
 told_as told bytes = record { number = told.number; receipt = told.receipt; bytes = bytes }
@@ -292,18 +290,18 @@ told_same sent bytes (told ∷ list) same =
     ∙ ap (λ (l : List Connection). told_with bytes told ∷ l) (told_same sent bytes list same)
 
 -- the report of the run with the bytes of its parts
-pub warm_of : (c : Config) (events : List Event) (sent : ℕ → List ℕ) (cold list told : List Connection)
-    (closed : totals.Closed) → IsReport c events (record { connections = cold; closed = closed })
+pub warm_of : (c : Config) (events : List Event) (sent : ℕ → List ℕ) (plain list told : List Connection)
+    (closed : totals.Closed) → IsReport c events (record { connections = plain; closed = closed })
     → ((headings : ℕ → Heading) (n : ℕ) → AreHeadings events headings
     → sent n ≡ sent_by_events c headings (after_events c headings []) events n)
-    → list ≡ map (told_with sent) cold → told ≡ list
+    → list ≡ map (told_with sent) plain → told ≡ list
     → IsWarmReport c events (record { connections = told; closed = closed })
-warm_of c events sent cold list told closed report bytes is same =
+warm_of c events sent plain list told closed report bytes is same =
     let headings : ℕ → Heading = report.0 in (
       headings,
       report.1,
       ap (λ (l : List Connection). report_with l closed) (same ∙ is
-          ∙ told_same sent (sent_by_events c headings (after_events c headings []) events) cold
+          ∙ told_same sent (sent_by_events c headings (after_events c headings []) events) plain
           (λ n. bytes headings n report.1))
           ∙ ap (λ (r : Report). report_with
           (map (told_with (sent_by_events c headings (after_events c headings []) events)) r.connections) r.closed) report.2,

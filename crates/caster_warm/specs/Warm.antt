@@ -1,6 +1,6 @@
--- The report of a recorded run in which rovers are greeted: that of the run, with this change. Where
--- bytes come in on a connection and a rover begins a segment by them, it is sent, behind all that
--- the event sends it, the last permitted frames of the messages 1005, 1006, 1007, 1008, 1033 and
+-- The report of a recorded run in which rovers are greeted: that of the run, with this change.
+-- Where bytes come in on a connection and a rover begins a segment by them, it is sent, behind all
+-- that the event sends it, the last permitted frames of the messages 1005, 1006, 1007, 1008, 1033 and
 -- 1230 (RTCM 10403.3) that were published before the segment's Join.
 use Rattle.std.specs.Prelude.{◌≡◌, ℕ, ◌==◌, ◌&&◌, if◌then◌else◌, List, [], ◌∷◌, ◌++◌, length, map, drop, Option, None, Some}
 use Rattle.ntrip_head.specs.declared.request.Version.{Version}
@@ -27,8 +27,8 @@ abbrev pub greeting_text : Version → Greeting → List ℕ
 greeting_text version None = []
 greeting_text version (Some frames) = body_of version frames
 
--- What a rover is greeted by that stands so behind the calls that led from these histories to those:
--- where the mountpoint of its newest segment was joined among them, the last permitted frames of
+-- What a rover is greeted by that stands so behind the calls that led from these histories to
+-- those: where the mountpoint of its newest segment was joined among them, the last permitted frames of
 -- the six messages, of all that was published there before the last such Join.
 abbrev pub greeting_for : Config → Histories → Histories → Option RoverState → List ℕ
 greeting_for c old now None = []
@@ -75,12 +75,12 @@ told_with sent told =
 -- the report of these events, where the connections have these headings by number
 abbrev pub warm_report : Config → (ℕ → Heading) → List Event → Report
 warm_report c headings events =
-    let cold = report c headings events in
+    let plain = report c headings events in
     record {
       connections = map
           (told_with (sent_by_events c headings (after_events c headings []) events))
-          cold.connections;
-      closed = cold.closed;
+          plain.connections;
+      closed = plain.closed;
     }
 
 -- the report of a recorded run with greetings

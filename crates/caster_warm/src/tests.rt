@@ -52,8 +52,8 @@ group = \"survey\"
 cap = 8
 ";
 
-/// Appends a line of a script. A line `text K TEXT` stands for the line `in K` with the bytes of that
-/// text, in which `|` is a line's end, CR LF, and `^` is LF alone.
+/// Appends a line of a script. A line `text K TEXT` stands for the line `in K` with the bytes of
+/// that text, in which `|` is a line's end, CR LF, and `^` is LF alone.
 fn push_line(alloc: Global, script: &mut Vec<u8>, line: &str) -> Result<(), Fail> {
     let Some((number, text)) = line
         .strip_prefix("text ")

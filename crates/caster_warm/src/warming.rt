@@ -85,8 +85,8 @@ pub fn warm(alloc: Global, config: &Config, events: &[Event]) -> Result<Report, 
     ensures { IfOk result (λ report. IsWarmReport config.now events.now report) }
 {
     let (run, parts) = played(alloc, config, events)?;
-    let (cold, closed) = run.parts(alloc, config)?;
-    let connections = told_all(alloc, cold, &parts)?;
+    let (plain, closed) = run.parts(alloc, config)?;
+    let connections = told_all(alloc, plain, &parts)?;
     Ok(Report {
         connections: Connections::new(connections),
         closed,

@@ -17,8 +17,9 @@ use Rattle.session_core.specs.Judged.{Opening, sends_head, relays, bare_source, 
 use Rattle.session_core.specs.Reports as reports
 use Rattle.session_core.specs.Reports.{no_heads, opened_as, opened_if, bytes_to, IsHeadingOf, AreHeadings, IsReport}
 use Rattle.session_core.specs.Text.{report_text}
-use Rattle.session_core.proofs.LawLemmas.{one_report}
-use Rattle.run_texts.specs.Texts.{IsRunText, bare_report, report}
+use Rattle.session_core.proofs.LawLemmas.{one_of, one_report}
+use Rattle.caster_warm.specs.Warm.{IsWarmReport, warm_report}
+use Rattle.run_texts.specs.Texts.{IsRunText, IsWarmText, bare_report, report}
 
 -- it did not open, or as a bare source or rover
 abbrev IsBare : Option Opening → Type 0
@@ -92,3 +93,16 @@ bare_text c script text session is =
 pub one_text : (c : Config) (script : List Event) (a b : List ℕ) → IsRunText c script a → IsRunText c script b → a ≡ b
 one_text c script a b x y =
     x.text_is ∙ ap (report_text c) (one_report c script x.report y.report x.is y.is) ∙ sym y.text_is
+
+-- and so is that of a run in which rovers are greeted
+one_warm_report : (c : Config) (script : List Event) (a b : Report) → IsWarmReport c script a
+    → IsWarmReport c script b → a ≡ b
+one_warm_report c script a b x y =
+    let same : x.0 ≡ y.0 =
+    fun_ext (λ (n : ℕ). one_of (opened_as n script) (bytes_to n script) (x.0 n) (y.0 n) (x.1 n) (y.1 n)) in
+    x.2 ∙ ap (λ (headings : ℕ → Heading). warm_report c headings script) same ∙ sym y.2
+
+pub one_warm_text : (c : Config) (script : List Event) (a b : List ℕ) → IsWarmText c script a
+    → IsWarmText c script b → a ≡ b
+one_warm_text c script a b x y =
+    x.text_is ∙ ap (report_text c) (one_warm_report c script x.report y.report x.is y.is) ∙ sym y.text_is

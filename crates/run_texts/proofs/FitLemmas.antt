@@ -18,6 +18,7 @@ use Rattle.session_core.specs.Owed.{received, closing, Happening, arrives, takes
 use Rattle.session_core.specs.Endings.{ended_by}
 use Rattle.session_core.proofs.ReportSums.{sums_long}
 use Rattle.session_core.specs.Reports.{IsReport, report, mount_total}
+use Rattle.caster_warm.specs.Warm.{IsWarmReport, warm_report}
 use Rattle.session_core.specs.Run.{Histories, Connected, World, Moved, nothing_called, with_call, with_calls, made, judged_of, makes, closed_if, with_text, with_last, moved, moved_if, is_concerned, happens_in, happens, is_opened, opened_if, fresh, opens, after_event, after_events, closes, world}
 
 -- ---- the rings stay as many
@@ -145,3 +146,12 @@ report_fits c headings script =
 
 pub fits : (c : Config) (script : List Event) (r : Report) → IsReport c script r → Fits c r
 fits c script r is = subst (Fits c) (sym is.2) (report_fits c is.0 script)
+
+-- greetings leave what the mountpoints and the accounts came to
+warm_fits : (c : Config) (headings : ℕ → Heading) (script : List Event) → Fits c (warm_report c headings script)
+warm_fits c headings script =
+    let plain = report_fits c headings script in
+    record { mounts = plain.mounts; accounts = plain.accounts }
+
+pub fits_greeted : (c : Config) (script : List Event) (r : Report) → IsWarmReport c script r → Fits c r
+fits_greeted c script r is = subst (Fits c) (sym is.2) (warm_fits c is.0 script)

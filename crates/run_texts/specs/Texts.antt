@@ -13,11 +13,18 @@ use Rattle.session_core.specs.declared.report.Report.{Report}
 use Rattle.session_core.specs.Reports as reports
 use Rattle.session_core.specs.Reports.{IsReport, no_heads}
 use Rattle.session_core.specs.Text.{line, closed_text, report_text}
+use Rattle.caster_warm.specs.Warm.{IsWarmReport}
 
 -- the text is that of the report of a recorded run of these events
 pub record IsRunText (c : Config) (events : List Event) (text : List ℕ) : Type 0 where
   pub report : Report
   pub is : IsReport c events report
+  pub text_is : text ≡ report_text c report
+
+-- the text is that of the report of a recorded run of these events in which rovers are greeted
+pub record IsWarmText (c : Config) (events : List Event) (text : List ℕ) : Type 0 where
+  pub report : Report
+  pub is : IsWarmReport c events report
   pub text_is : text ≡ report_text c report
 
 -- ---- of bare connections

@@ -8,4 +8,4 @@ mod report;
 mod summary;
 
 pub use made::made_text;
-pub use report::run_text;
+pub use report::{run_text, warm_text};

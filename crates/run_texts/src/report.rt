@@ -3,10 +3,11 @@
 ghost use Rattle.std.specs.Prelude.{ℕ, IfOk};
 ghost use Rattle.cast_config.specs.Kept.{KeepsRules};
 ghost use Rattle.caster_replay.specs.Scripts.{IsScriptFor};
-ghost use Rattle.run_texts.specs.Texts.{IsRunText};
+ghost use Rattle.run_texts.specs.Texts.{IsRunText, IsWarmText};
 
 use cast_config::Config;
 use caster_replay::replay;
+use caster_warm::warm;
 use session_core::report_text;
 use session_script::Event;
 use std::alloc::{AllocError, Global};
@@ -24,5 +25,21 @@ pub fn run_text(alloc: Global, config: &Config, events: &[Event]) -> Result<Vec<
     let report = replay(alloc, config, events)?;
     let mut text = Vec::new(alloc);
     report_text(config, &report, &mut text)?;
+    Ok(text)
+}
+
+/// The same with rovers that are greeted: one that joins is also sent the last permitted frames of
+/// the messages 1005, 1006, 1007, 1008, 1033 and 1230 (RTCM 10403.3) that were published before.
+///
+/// # Errors
+/// For want of memory.
+pub fn warm_text(alloc: Global, config: &Config, events: &[Event]) -> Result<Vec<u8>, AllocError>
+    requires kept { (cap : ℕ) × KeepsRules cap config.now }
+    requires script { IsScriptFor config.now events.now }
+    ensures { IfOk result (λ text. IsWarmText config.now events.now text.items) }
+{
+    let greeted = warm(alloc, config, events)?;
+    let mut text = Vec::new(alloc);
+    report_text(config, &greeted, &mut text)?;
     Ok(text)
 }

@@ -2,8 +2,8 @@
 use Rattle.std.proofs.Common.{sym}
 use Rattle.caster_main.proofs.AnswerLemmas.{usage_is_outcome, input_answer, file_answer, files_answer, made_answer}
 use Rattle.caster_main.proofs.AskedLemmas.{over_asked}
-use Rattle.caster_main.specs.Command.{texts, serving}
-use Rattle.caster_main.proofs.ServingLemmas.{serving_answer, serving_asked, serving_read}
+use Rattle.caster_main.specs.Command.{texts, casting}
+use Rattle.caster_main.proofs.CastingLemmas.{casting_answer, casting_asked, casting_read}
 use Rattle.caster_main.proofs.answers.answer_to.Goals as goal
 
 pub returns-in-None-clause-answer : goal.returns-in-None-clause-answer
@@ -29,7 +29,7 @@ returns-in-Some-Over-clause-asked g c =
 
 pub returns-in-Some-Replay-clause-answer : goal.returns-in-Some-Replay-clause-answer
 returns-in-Some-Replay-clause-answer g c =
-    files_answer _ _ _ _ _ _ _ c.answer_to_replay.result
+    files_answer _ _ _ _ _ _ _ _ c.answer_to_replay.result
     (sym (rw c.in-Some-Replay.field-0-is at c.in-Some-Replay.ensures.command))
     (rw c.in-Some-Replay.field-0-is at c.in-Some-Replay.ensures.form) c.answer_to_replay.ensures.answer
 
@@ -39,23 +39,23 @@ returns-in-Some-Make-clause-answer g c =
     (sym (rw c.in-Some-Make.field-0-is at c.in-Some-Make.ensures.command))
     (rw c.in-Some-Make.field-0-is at c.in-Some-Make.ensures.form) c.answer_to_make.ensures
 
-pub returns-in-Some-Serve-clause-answer : goal.returns-in-Some-Serve-clause-answer
-returns-in-Some-Serve-clause-answer g c =
-    serving_answer _ _ _ _ _ _ _ _ _ _ c.answer_to_serve.result
-    (sym (rw c.in-Some-Serve.field-0-is at c.in-Some-Serve.ensures.command))
-    (rw c.in-Some-Serve.field-0-is at c.in-Some-Serve.ensures.form) c.answer_to_serve.ensures.serving
+pub returns-in-Some-Cast-clause-answer : goal.returns-in-Some-Cast-clause-answer
+returns-in-Some-Cast-clause-answer g c =
+    casting_answer _ _ _ _ _ _ _ _ _ _ _ c.answer_to_cast.result
+    (sym (rw c.in-Some-Cast.field-0-is at c.in-Some-Cast.ensures.command))
+    (rw c.in-Some-Cast.field-0-is at c.in-Some-Cast.ensures.form) c.answer_to_cast.ensures.casting
 
-pub returns-in-None-clause-serving : goal.returns-in-None-clause-serving
-returns-in-None-clause-serving g c config addr limit are =
-    absurd (c.in-None.ensures.none (serving config addr limit) are)
+pub returns-in-None-clause-casting : goal.returns-in-None-clause-casting
+returns-in-None-clause-casting g c task config addr limit are =
+    absurd (c.in-None.ensures.none (casting task config addr limit) are)
 
-pub returns-in-Some-Serve-clause-asked : goal.returns-in-Some-Serve-clause-asked
-returns-in-Some-Serve-clause-asked g c =
-    serving_asked (texts c.args.words.now) c.in-Some-Serve.config.now c.in-Some-Serve.addr.now c.in-Some-Serve.limit
-    (g.S.Source.store c.args.store.now).files _ _
-    (sym (rw c.in-Some-Serve.field-0-is at c.in-Some-Serve.ensures.command)) c.answer_to_serve.ensures.asked
+pub returns-in-Some-Cast-clause-asked : goal.returns-in-Some-Cast-clause-asked
+returns-in-Some-Cast-clause-asked g c =
+    casting_asked (texts c.args.words.now) c.in-Some-Cast.task c.in-Some-Cast.config.now c.in-Some-Cast.addr.now
+    c.in-Some-Cast.limit (g.S.Source.store c.args.store.now).files _ _
+    (sym (rw c.in-Some-Cast.field-0-is at c.in-Some-Cast.ensures.command)) c.answer_to_cast.ensures.asked
 
-pub returns-in-Some-Serve-clause-serving : goal.returns-in-Some-Serve-clause-serving
-returns-in-Some-Serve-clause-serving g c config addr limit are =
-    serving_read (texts c.args.words.now) _ _ _ config addr _ limit _ _ _ c.answer_to_serve.result
-    (sym (rw c.in-Some-Serve.field-0-is at c.in-Some-Serve.ensures.command)) are c.answer_to_serve.ensures.serving
+pub returns-in-Some-Cast-clause-casting : goal.returns-in-Some-Cast-clause-casting
+returns-in-Some-Cast-clause-casting g c task config addr limit are =
+    casting_read (texts c.args.words.now) _ _ task _ _ config addr _ limit _ _ _ c.answer_to_cast.result
+    (sym (rw c.in-Some-Cast.field-0-is at c.in-Some-Cast.ensures.command)) are c.answer_to_cast.ensures.casting

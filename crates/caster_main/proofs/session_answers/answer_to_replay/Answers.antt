@@ -7,15 +7,17 @@ use Rattle.caster_main.proofs.session_answers.answer_to_replay.Goals as goal
 
 pub returns-in-Ok-clause-answer : goal.returns-in-Ok-clause-answer
 returns-in-Ok-clause-answer g c =
-    replay_answer _ _ _ _ _ _ c.in-Ok.config c.answer_to_session.result c.in-Ok.ensures.config c.in-Ok.ensures.files
+    replay_answer c.args.start _ _ _ _ _ _ c.in-Ok.config c.answer_to_session.result c.in-Ok.ensures.config
+    c.in-Ok.ensures.files
     (λ rose. rose_since _ _ _ c.in-Ok.ensures.later rose) c.answer_to_session.ensures.answer
 
 pub returns-in-Ok-clause-asked : goal.returns-in-Ok-clause-asked
 returns-in-Ok-clause-asked g c =
-    both_asked _ _ _ _ _ _ c.in-Ok.config c.in-Ok.ensures.asked c.answer_to_session.ensures.asked c.in-Ok.ensures.config
+    both_asked c.args.start _ _ _ _ _ _ c.in-Ok.config c.in-Ok.ensures.asked c.answer_to_session.ensures.asked
+    c.in-Ok.ensures.config
 
 pub returns-in-Err-clause-answer : goal.returns-in-Err-clause-answer
-returns-in-Err-clause-answer g c = refused_replay _ _ _ _ c.in-Err.answer c.in-Err.ensures.refused
+returns-in-Err-clause-answer g c = refused_replay c.args.start _ _ _ _ c.in-Err.answer c.in-Err.ensures.refused
 
 pub returns-in-Err-clause-asked : goal.returns-in-Err-clause-asked
-returns-in-Err-clause-asked g c = config_asked _ _ _ _ _ c.in-Err.ensures.asked
+returns-in-Err-clause-asked g c = config_asked c.args.start _ _ _ _ _ c.in-Err.ensures.asked

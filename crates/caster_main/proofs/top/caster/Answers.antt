@@ -2,12 +2,14 @@
 use Rattle.std.proofs.Common.{inl, inr, refl, ap, subst, ◌∙◌, arith}
 use Rattle.std.specs.Io.KnownBytes.{Appends}
 use Rattle.caster_main.specs.declared.command.Aim.TheVariants.{Check, Table, Migrate}
-use Rattle.caster_main.specs.Command.{bare, over, replay, made, serving, fetching}
+use Rattle.caster_main.specs.declared.command.Start.TheVariants.{Cold, Warm}
+use Rattle.caster_main.specs.declared.command.Task.TheVariants.{Serve, Record}
+use Rattle.caster_main.specs.Command.{bare, over, replay, made, casting, fetching}
 use Rattle.caster_main.specs.Outcome.{Exit}
 use Rattle.caster_main.specs.Told.{IsWhole, IsFaultyConfig, IsFaultyScript, IsTooLong}
 use Rattle.caster_main.proofs.StatusLemmas.{IsOfCaster, network_form, whole_form, faulty_config_form, faulty_script_form, too_long_form}
 use Rattle.caster_main.proofs.ClauseLemmas.{undisturbed_run, decided_run, have_come, no_form_run, script_run, usage_run, bare_fault, over_fault, replay_fault, make_fault, over_run, config_run, replay_run, session_run, made_run}
-use Rattle.caster_main.proofs.ServingLemmas.{serving_written, served_run, lost_run, network_rose, complete_run, unserved_run, of_caster}
+use Rattle.caster_main.proofs.CastingLemmas.{casting_written, served_run, recorded_run, lost_run, network_rose, complete_run, unserved_run, of_caster}
 use Rattle.caster_main.proofs.FetchClauseLemmas.{fetch_alone, fetch_asked, fetch_follows, fetch_never, fetch_of_words, fetch_rose, fetch_status, fetch_unserved, fetch_whole, fetched_run, never_nine, torn_run, wanting_run}
 use Rattle.caster_main.proofs.top.caster.Goals as goal
 
@@ -67,19 +69,39 @@ returns-clause-complete_over g c aim path files bytes config are told content sh
 
 pub returns-clause-replayed : goal.returns-clause-replayed
 returns-clause-replayed g c zero config session are =
-    replay_run _ _ _ _ _ _ config session zero
+    replay_run _ _ _ _ _ _ Cold config session zero
     (decided_run _ _ _ _ _ _ _ _ _ _ _ c.answer_to-answer.ensures.answer c.write_answer.ensures.writes
     (λ e. omega (arith, zero, e)) (λ e. omega (arith, zero, e)) (λ e. omega (arith, zero, e)))
     are
 
 pub returns-clause-complete_replay : goal.returns-clause-complete_replay
-returns-clause-complete_replay g c config session files bytes script setting events are told content short is found read
-    store write =
+returns-clause-complete_replay g c config session files bytes script setting events are told content short is
+    found read store write =
     elim (undisturbed_run _ _ _ _ _ _ _ _ _ _ _ c.answer_to-answer.ensures.answer c.write_answer.ensures.writes
-    (replay_fault _ _ _ config session are store) write) [
+    (replay_fault _ _ _ Cold config session are store) write) [
       | inl memory ↦ inl memory
       | inr follows ↦
-          inr (session_run _ _ _ _ _ _ config session files bytes script setting events follows are told content short
+          inr (session_run _ _ _ _ _ _ Cold config session files bytes script setting events follows are told content
+          short
+          is found read)
+    ]
+
+pub returns-clause-warmed : goal.returns-clause-warmed
+returns-clause-warmed g c zero config session are =
+    replay_run _ _ _ _ _ _ Warm config session zero
+    (decided_run _ _ _ _ _ _ _ _ _ _ _ c.answer_to-answer.ensures.answer c.write_answer.ensures.writes
+    (λ e. omega (arith, zero, e)) (λ e. omega (arith, zero, e)) (λ e. omega (arith, zero, e)))
+    are
+
+pub returns-clause-complete_warm : goal.returns-clause-complete_warm
+returns-clause-complete_warm g c config session files bytes script setting events are told content short is
+    found read store write =
+    elim (undisturbed_run _ _ _ _ _ _ _ _ _ _ _ c.answer_to-answer.ensures.answer c.write_answer.ensures.writes
+    (replay_fault _ _ _ Warm config session are store) write) [
+      | inl memory ↦ inl memory
+      | inr follows ↦
+          inr (session_run _ _ _ _ _ _ Warm config session files bytes script setting events follows are told content
+          short
           is found read)
     ]
 
@@ -145,14 +167,18 @@ returns-clause-undisturbed g c calm write memory =
       | inr follows ↦ follows
     ]
 
-pub returns-clause-serving : goal.returns-clause-serving
-returns-clause-serving g c config addr limit are =
-    serving_written _ config addr limit _ _ _ _ _ _ _ _ c.answer_to-answer.result
-    (c.answer_to-answer.ensures.serving config addr limit are) c.write_answer.ensures.writes
+pub returns-clause-casting : goal.returns-clause-casting
+returns-clause-casting g c task config addr limit are =
+    casting_written task _ config addr limit _ _ _ _ _ _ _ _ c.answer_to-answer.result
+    (c.answer_to-answer.ensures.casting task config addr limit are) c.write_answer.ensures.writes
 
 pub returns-clause-served : goal.returns-clause-served
 returns-clause-served g c zero config addr limit are =
-    served_run _ config addr limit _ _ _ _ _ _ _ _ zero (returns-clause-serving g c config addr limit are)
+    served_run _ config addr limit _ _ _ _ _ _ _ _ zero (returns-clause-casting g c Serve config addr limit are)
+
+pub returns-clause-recorded : goal.returns-clause-recorded
+returns-clause-recorded g c zero config addr limit are =
+    recorded_run _ config addr limit _ _ _ _ _ _ _ _ zero (returns-clause-casting g c Record config addr limit are)
 
 pub returns-clause-network_fault : goal.returns-clause-network_fault
 returns-clause-network_fault g c six =
@@ -160,29 +186,30 @@ returns-clause-network_fault g c six =
     (λ form came h. network_form form came (h ∙ six))
     (decided_run _ _ _ _ _ _ _ _ _ _ _ c.answer_to-answer.ensures.answer c.write_answer.ensures.writes
     (λ e. omega (arith, six, e)) (λ e. omega (arith, six, e)) (λ e. omega (arith, six, e)))) in
-    let lost = lost_run _ words.0 words.1 words.2 _ _ _ _ _ _ _ _ six
-    (returns-clause-serving g c words.0 words.1 words.2 words.3) in (
+    let lost = lost_run words.0 _ words.1 words.2 words.3 _ _ _ _ _ _ _ _ six
+    (returns-clause-casting g c words.0 words.1 words.2 words.3 words.4) in (
       words.0,
       words.1,
       words.2,
-      lost.0,
       words.3,
+      lost.0,
+      words.4,
       lost.1,
       lost.2,
-      network_rose lost.0 words.1 words.2 _ _ lost.2,
+      network_rose words.0 lost.0 words.2 words.3 _ _ lost.2,
       lost.3,
     )
 
-pub returns-clause-complete_serve : goal.returns-clause-complete_serve
-returns-clause-complete_serve g c config addr limit files bytes setting are told content short is store write lost =
-    complete_run _ config addr limit _ _ _ _ _ _ _ _ files bytes setting
-    (returns-clause-serving g c config addr limit are) told content short is store write lost
+pub returns-clause-complete_cast : goal.returns-clause-complete_cast
+returns-clause-complete_cast g c task config addr limit files bytes setting are told content short is store write lost =
+    complete_run task _ config addr limit _ _ _ _ _ _ _ _ files bytes setting
+    (returns-clause-casting g c task config addr limit are) told content short is store write lost
 
 pub returns-clause-unserved : goal.returns-clause-unserved
 returns-clause-unserved g c is =
     unserved_run _ _ _ _ _ _ _ _ _ _ is
     (λ nothing. ap g.N.Street.told (c.answer_to-answer.ensures.alone nothing))
-    (λ config addr limit are. returns-clause-serving g c config addr limit are)
+    (λ task config addr limit are. returns-clause-casting g c task config addr limit are)
 
 -- ---- a fetch
 
@@ -212,12 +239,21 @@ returns-in-Some-clause-complete_over g c aim path files bytes config are told co
 
 pub returns-in-Some-clause-replayed : goal.returns-in-Some-clause-replayed
 returns-in-Some-clause-replayed g c zero config session are =
-    fetch_alone _ _ _ (replay config session) c.in-Some.ensures.fetch are refl
+    fetch_alone _ _ _ (replay Cold config session) c.in-Some.ensures.fetch are refl
 
 pub returns-in-Some-clause-complete_replay : goal.returns-in-Some-clause-complete_replay
 returns-in-Some-clause-complete_replay g c config session files bytes script setting events are told content short is
     found read store write =
-    fetch_alone _ _ _ (replay config session) c.in-Some.ensures.fetch are refl
+    fetch_alone _ _ _ (replay Cold config session) c.in-Some.ensures.fetch are refl
+
+pub returns-in-Some-clause-warmed : goal.returns-in-Some-clause-warmed
+returns-in-Some-clause-warmed g c zero config session are =
+    fetch_alone _ _ _ (replay Warm config session) c.in-Some.ensures.fetch are refl
+
+pub returns-in-Some-clause-complete_warm : goal.returns-in-Some-clause-complete_warm
+returns-in-Some-clause-complete_warm g c config session files bytes script setting events are told content short is
+    found read store write =
+    fetch_alone _ _ _ (replay Warm config session) c.in-Some.ensures.fetch are refl
 
 pub returns-in-Some-clause-made : goal.returns-in-Some-clause-made
 returns-in-Some-clause-made g c zero seed frames rovers are =
@@ -227,18 +263,22 @@ pub returns-in-Some-clause-complete_make : goal.returns-in-Some-clause-complete_
 returns-in-Some-clause-complete_make g c seed frames rovers are write =
     fetch_alone _ _ _ (made seed frames rovers) c.in-Some.ensures.fetch are refl
 
-pub returns-in-Some-clause-serving : goal.returns-in-Some-clause-serving
-returns-in-Some-clause-serving g c config addr limit are =
-    fetch_alone _ _ _ (serving config addr limit) c.in-Some.ensures.fetch are refl
+pub returns-in-Some-clause-casting : goal.returns-in-Some-clause-casting
+returns-in-Some-clause-casting g c task config addr limit are =
+    fetch_alone _ _ _ (casting task config addr limit) c.in-Some.ensures.fetch are refl
 
 pub returns-in-Some-clause-served : goal.returns-in-Some-clause-served
 returns-in-Some-clause-served g c zero config addr limit are =
-    fetch_alone _ _ _ (serving config addr limit) c.in-Some.ensures.fetch are refl
+    fetch_alone _ _ _ (casting Serve config addr limit) c.in-Some.ensures.fetch are refl
 
-pub returns-in-Some-clause-complete_serve : goal.returns-in-Some-clause-complete_serve
-returns-in-Some-clause-complete_serve g c config addr limit files bytes setting are told content short is store write
-    lost =
-    fetch_alone _ _ _ (serving config addr limit) c.in-Some.ensures.fetch are refl
+pub returns-in-Some-clause-recorded : goal.returns-in-Some-clause-recorded
+returns-in-Some-clause-recorded g c zero config addr limit are =
+    fetch_alone _ _ _ (casting Record config addr limit) c.in-Some.ensures.fetch are refl
+
+pub returns-in-Some-clause-complete_cast : goal.returns-in-Some-clause-complete_cast
+returns-in-Some-clause-complete_cast g c task config addr limit files bytes setting are told content short is store
+    write lost =
+    fetch_alone _ _ _ (casting task config addr limit) c.in-Some.ensures.fetch are refl
 
 pub returns-in-Some-clause-network_fault : goal.returns-in-Some-clause-network_fault
 returns-in-Some-clause-network_fault g c is =

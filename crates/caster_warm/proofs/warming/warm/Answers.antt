@@ -10,10 +10,10 @@ parts-requires-clause-run c = (c.args.events.now, c.requires.script.1, c.in_ok-r
 
 pub returns : goal.returns
 returns c =
-    warm_of c.args.config.now c.args.events.now (λ n. parts_to n c.in_ok-run.parts.items) c.in_ok-cold.cold.items
-    c.in_ok-connections.connections.items c.new.result c.in_ok-cold.closed
-    (c.in_ok-cold.ensures.report c.args.events.now c.requires.script.1 c.in_ok-run.ensures.stands)
+    warm_of c.args.config.now c.args.events.now (λ n. parts_to n c.in_ok-run.parts.items) c.in_ok-plain.plain.items
+    c.in_ok-connections.connections.items c.new.result c.in_ok-plain.closed
+    (c.in_ok-plain.ensures.report c.args.events.now c.requires.script.1 c.in_ok-run.ensures.stands)
     c.in_ok-run.ensures.parts
     (c.in_ok-connections.ensures
-    ∙ ap (λ (l : List Part). map (told_with (λ n. parts_to n l)) c.in_ok-cold.cold.items) c.deref.ensures.value)
+    ∙ ap (λ (l : List Part). map (told_with (λ n. parts_to n l)) c.in_ok-plain.plain.items) c.deref.ensures.value)
     c.new.ensures
