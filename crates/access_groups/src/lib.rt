@@ -8,6 +8,3 @@ mod party;
 
 pub use admission::{Admission, Denial, SourceDenial, admit, admit_source};
 pub use numbers::Bases;
-
-#[cfg(test)]
-mod tests;

@@ -17,6 +17,3 @@ pub struct Base {
     /// Where the antenna stands.
     pub at: Position,
 }
-
-#[cfg(test)]
-mod tests;

@@ -15,6 +15,3 @@ pub use name::{GroupName, MountName, UserName, is_name};
 pub use number::{push_decimal, push_hex};
 pub use split::{place_of, split_first, split_line};
 pub use text::Text;
-
-#[cfg(test)]
-mod tests;

@@ -13,8 +13,3 @@ pub mod laws;
 pub use account::Sum;
 pub use book::Book;
 pub use call::{BookAnswer, BookCall};
-
-#[cfg(test)]
-mod lock_tests;
-#[cfg(test)]
-mod tests;

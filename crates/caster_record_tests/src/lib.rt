@@ -1,5 +1,5 @@
-//! Sessions that are recorded over doors and links in memory, by the public calls of
-//! `caster_record`.
+//! Sessions that are recorded over doors and links in memory, and a run that is played event by
+//! event, by the public calls of `caster_record` and `caster_replay`.
 //!
 //! They stand in a crate of their own, so that the crate that they try is proved once.
 #![tactic(auto)]
@@ -14,3 +14,5 @@ mod limit_tests;
 mod link_tests;
 #[cfg(test)]
 mod replay_tests;
+#[cfg(test)]
+mod run_tests;

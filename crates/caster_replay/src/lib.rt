@@ -13,8 +13,5 @@ mod run;
 mod run_place;
 mod totals;
 
-pub use replaying::replay;
+pub use replaying::{played, replay};
 pub use run::Run;
-
-#[cfg(test)]
-mod tests;

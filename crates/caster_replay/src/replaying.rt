@@ -12,8 +12,14 @@ use session_core::Report;
 use session_script::Event;
 use std::alloc::{AllocError, Global};
 
-/// The run of the events of a script.
-pub(crate) fn played(alloc: Global, config: &Config, events: &[Event]) -> Result<Run, AllocError>
+/// The run of the events of a script, which are played one after the other over the same desks as
+/// by `replay`. The connections that are still open then stay open.
+///
+/// All bytes that come in are fewer than 2^63.
+///
+/// # Errors
+/// For want of memory, also where a session or a turn was halted by it.
+pub fn played(alloc: Global, config: &Config, events: &[Event]) -> Result<Run, AllocError>
     requires kept { (cap : ℕ) × KeepsRules cap config.now }
     requires script { IsScriptFor config.now events.now }
     ensures { IfOk result (λ run. StandsFor config.now events.now run) }

@@ -5,8 +5,6 @@
 mod events;
 mod greeting;
 mod parts;
-#[cfg(test)]
-mod tests;
 mod warming;
 
 pub use warming::warm;

@@ -9,6 +9,3 @@ mod phase;
 
 pub use chunks::chunk;
 pub use dechunk::{Dechunk, Step};
-
-#[cfg(test)]
-mod tests;

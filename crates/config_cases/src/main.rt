@@ -7,7 +7,13 @@
 #![tactic(auto)]
 
 #[cfg(test)]
+mod access_tests;
+#[cfg(test)]
+mod table_tests;
+#[cfg(test)]
 mod values;
+#[cfg(test)]
+mod write_tests;
 
 use cast_config::read_config;
 use cast_text::push_decimal;

@@ -5,6 +5,3 @@ mod degrees;
 mod table;
 
 pub use table::table_of;
-
-#[cfg(test)]
-mod tests;

@@ -8,6 +8,3 @@ mod lists;
 mod members;
 
 pub use document::write_config;
-
-#[cfg(test)]
-mod tests;

@@ -16,6 +16,3 @@ pub struct Position {
     /// The longitude, from -1,800,000,000 to 1,800,000,000.
     pub lon: i64,
 }
-
-#[cfg(test)]
-mod tests;

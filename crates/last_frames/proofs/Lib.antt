@@ -1,3 +1,2 @@
 pub mod LastLemmas
 pub mod GreetedLemmas
-pub mod TestLemmas

@@ -8,12 +8,8 @@
 
 mod hall;
 mod latest;
-#[cfg(test)]
-mod lock_tests;
 mod place;
 mod station;
-#[cfg(test)]
-mod tests;
 
 pub use hall::Hall;
 pub use place::StationPlace;

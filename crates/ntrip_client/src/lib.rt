@@ -11,6 +11,3 @@ mod request;
 pub use answer::{Answer, Refusal};
 pub use head::{AnswerHead, Taken};
 pub use request::push_request;
-
-#[cfg(test)]
-mod tests;

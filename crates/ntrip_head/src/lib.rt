@@ -20,6 +20,3 @@ pub use fault::HeadFault;
 pub use reading::read_head;
 pub use request::{Auth, Request, Version};
 pub use upstream::{Upstream, read_upstream};
-
-#[cfg(test)]
-mod tests;

@@ -11,6 +11,3 @@ mod version_two;
 
 pub use kind::Reply;
 pub use text::reply;
-
-#[cfg(test)]
-mod tests;

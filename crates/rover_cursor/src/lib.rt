@@ -9,6 +9,3 @@ mod segment;
 pub use fault::SegFault;
 pub use laps::Laps;
 pub use segment::Segment;
-
-#[cfg(test)]
-mod tests;

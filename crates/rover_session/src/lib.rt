@@ -10,6 +10,3 @@ mod places;
 mod session;
 
 pub use session::RoverSession;
-
-#[cfg(test)]
-mod tests;

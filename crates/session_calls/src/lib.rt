@@ -6,6 +6,3 @@ pub mod laws;
 mod looking;
 
 pub use looking::look;
-
-#[cfg(test)]
-mod tests;

@@ -11,6 +11,3 @@ pub mod laws;
 mod making;
 
 pub use making::make;
-
-#[cfg(test)]
-mod tests;

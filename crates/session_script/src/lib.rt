@@ -89,6 +89,3 @@ impl<T: Drop> From<AllocFailed<T>> for ScriptFault {
         ScriptFault::Memory
     }
 }
-
-#[cfg(test)]
-mod tests;

@@ -8,6 +8,3 @@ mod session;
 
 pub use fault::{ClaimFault, SourceHalt};
 pub use session::SourceSession;
-
-#[cfg(test)]
-mod tests;

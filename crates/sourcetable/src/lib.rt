@@ -15,6 +15,3 @@ pub use lists::{Field, Fields, Records};
 pub use reading::{read_record, read_table};
 pub use record::{Kind, Record, Table};
 pub use writing::write_table;
-
-#[cfg(test)]
-mod tests;

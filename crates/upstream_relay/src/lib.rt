@@ -9,6 +9,3 @@ mod session;
 
 pub use fault::RelayHalt;
 pub use session::RelaySession;
-
-#[cfg(test)]
-mod tests;

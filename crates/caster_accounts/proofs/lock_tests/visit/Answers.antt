@@ -1,7 +1,0 @@
--- Who entered may leave.
-use Rattle.std.proofs.Common.{length}
-use Rattle.std.proofs.lemmas.Bool.{lt-ltb}
-use Rattle.caster_accounts.proofs.lock_tests.visit.Goals as goal
-
-pub turn-requires-clause-fits : goal.turn-requires-clause-fits
-turn-requires-clause-fits g c = lt-ltb 0 (length (g.T.Turns.shape c.args.place.now)) c.requires.account

@@ -1,6 +1,0 @@
-use Rattle.std.proofs.Common.{◌≡◌, length}
-use Rattle.caster_accounts.specs.Kept.{caps_of}
-use Rattle.caster_accounts.proofs.tests.many_accounts_are_kept.Given as goal
-
-abbrev pub invariant-loop-account : goal.invariant-loop-account
-invariant-loop-account g l = length (caps_of l.desk.value) ≡ 1024

@@ -1,1 +1,0 @@
--- A source that holds a mountpoint goes on to hold it by what it publishes, whatever others call between.

@@ -1,9 +1,0 @@
--- A pass that met a note is one of the same lock.
-use Rattle.std.proofs.Common.{◌∙◌}
-use Rattle.last_frames.proofs.lock_tests.tell.Goals as goal
-
-pub greeting_at-requires-clause-pass : goal.greeting_at-requires-clause-pass
-greeting_at-requires-clause-pass g c κs within =
-    let same = c.meet.ensures.same in
-    let is = c.publish_beside-first.ensures.second.here in
-    (same.2 ∙ is.0, (is.1.0, same.3 ∙ is.1.1, is.1.2))

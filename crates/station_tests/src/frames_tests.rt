@@ -1,0 +1,214 @@
+//! Stations at desks, by their public calls.
+ghost use Rattle.std.specs.Prelude.{◌<◌, [], length, IsTrue, IfOk, OnOk};
+ghost use Rattle.mount_ring.specs.History.{state_of, is_holder};
+ghost use Rattle.turn_log.specs.Turn.{SamePlace};
+
+use last_frames::{Hall, Station, StationPlace};
+use mount_ring::{Outbox, Ring, RingAnswer, RingCall};
+use rtcm_frame::Frame;
+use std::alloc::Global;
+use std::process::Abort;
+use std::test::Fail;
+use turn_log::{Desk, Played, TurnFault, Turns};
+use type_filter::{Filter, Filters};
+
+// Frames whose payload is a message number and four bits: two of 1005, and one of each other.
+pub(crate) const FRAME_1005: [u8; 8] = [0xD3, 0x00, 0x02, 0x3E, 0xD0, 0xA4, 0xE0, 0x00];
+
+const LATER_1005: [u8; 8] = [0xD3, 0x00, 0x02, 0x3E, 0xD1, 0x22, 0xAC, 0xFB];
+
+const FRAME_1006: [u8; 8] = [0xD3, 0x00, 0x02, 0x3E, 0xE0, 0x6D, 0x7F, 0x60];
+
+const FRAME_1007: [u8; 8] = [0xD3, 0x00, 0x02, 0x3E, 0xF0, 0xA8, 0x31, 0xE9];
+
+const FRAME_1008: [u8; 8] = [0xD3, 0x00, 0x02, 0x3F, 0x00, 0x2D, 0xC5, 0xB7];
+
+const FRAME_1033: [u8; 8] = [0xD3, 0x00, 0x02, 0x40, 0x90, 0x87, 0xD7, 0xD0];
+
+const FRAME_1077: [u8; 8] = [0xD3, 0x00, 0x02, 0x43, 0x50, 0x06, 0xA2, 0x7E];
+
+const FRAME_1230: [u8; 8] = [0xD3, 0x00, 0x02, 0x4C, 0xE0, 0x73, 0x79, 0x0F];
+
+/// Claims the mountpoint for a caller.
+fn claim<T: Turns<Ring>>(place: &mut T, me: u32, out: &mut Outbox) -> Result<u64, Fail>
+    requires speaks { IsTrue (T.speaks place.old me) }
+    ensures same { SamePlace T.shape T.speaks T.may_lack T.alone T.home place.old place.new }
+    ensures held { IfOk result (λ claim.
+        IsTrue (is_holder (state_of (T.seen place.new)).holder me claim)) }
+{
+    match place.turn(me, RingCall::Claim, out)? {
+        RingAnswer::Given(claim) => Ok(claim),
+        _ => Err("the mountpoint is held".into()),
+    }
+}
+
+/// The holder publishes a frame.
+fn publish<T: Turns<Ring>>(
+    place: &mut T,
+    me: u32,
+    claim: u64,
+    frame: Frame,
+    out: &mut Outbox,
+) -> Result<(), TurnFault>
+    requires speaks { IsTrue (T.speaks place.old me) }
+    requires held { IsTrue (is_holder (state_of (T.seen place.old)).holder me claim) }
+    ensures same { SamePlace T.shape T.speaks T.may_lack T.alone T.home place.old place.new }
+    ensures held { OnOk result (IsTrue (is_holder (state_of (T.seen place.new)).holder me claim)) }
+{
+    place.turn(me, RingCall::Publish(claim, frame), out)?;
+    Ok(())
+}
+
+/// Claims the mountpoint for a caller, and publishes a frame.
+pub(crate) fn publish_first<T: Turns<Ring>>(
+    place: &mut T,
+    me: u32,
+    frame: Frame,
+) -> Result<(), Fail>
+    requires speaks { IsTrue (T.speaks place.old me) }
+    ensures same { SamePlace T.shape T.speaks T.may_lack T.alone T.home place.old place.new }
+{
+    let mut out = Outbox::new();
+    let number = claim(place, me, &mut out)?;
+    publish(place, me, number, frame, &mut out)?;
+    Ok(())
+}
+
+/// Claims the mountpoint for a caller, and publishes these frames.
+fn publish_all<T: Turns<Ring>>(place: &mut T, me: u32, frames: &[[u8; 8]]) -> Result<(), Fail>
+    requires speaks { IsTrue (T.speaks place.old me) }
+    ensures same { SamePlace T.shape T.speaks T.may_lack T.alone T.home place.old place.new }
+{
+    let mut out = Outbox::new();
+    let number = claim(place, me, &mut out)?;
+    for bytes in frames {
+        let frame = Frame::of(bytes).ok_or("no frame")?;
+        publish(place, me, number, frame, &mut out)?;
+    }
+    Ok(())
+}
+
+/// A caller joins by the first filter.
+pub(crate) fn join_first<T: Turns<Ring>>(place: &mut T, me: u32) -> Result<RingAnswer, TurnFault>
+    requires speaks { IsTrue (T.speaks place.old me) }
+    requires filter { 0 < length (T.shape place.old).filters }
+    ensures same { SamePlace T.shape T.speaks T.may_lack T.alone T.home place.old place.new }
+{
+    place.turn(me, RingCall::Join(0), &mut Outbox::new())
+}
+
+/// A new station whose ring keeps two frames and offers this filter.
+pub(crate) fn new_station(alloc: Global, filter: Filter) -> Result<Station, Fail>
+    ensures filter { IfOk result (λ station.
+        0 < length (⟦<Station as Played>⟧.shape station).filters) }
+    ensures stands { IfOk result (λ station. ⟦<Station as Played>⟧.stands station []) }
+{
+    let mut list = Vec::new(alloc);
+    list.push(filter)?;
+    Ok(Station::new(alloc, 2, &Filters::new(list))?)
+}
+
+/// A place at such a station, at which these frames were published and one joined.
+fn joined_place(
+    alloc: Global,
+    filter: Filter,
+    frames: &[[u8; 8]],
+) -> Result<StationPlace<Desk<Station>>, Fail> {
+    let station = new_station(alloc, filter)?;
+    let mut place = StationPlace::new(alloc, Desk::new(station))?;
+    publish_all(&mut place, 1, frames)?;
+    if place.greeting().is_some() {
+        return Err("a greeting before a Join".into());
+    }
+    join_first(&mut place, 2)?;
+    Ok(place)
+}
+
+// The frames of all numbers, of which the ring keeps the last two alone.
+const ALL: [[u8; 8]; 10] = [
+    FRAME_1230, FRAME_1033, FRAME_1005, FRAME_1077, LATER_1005, FRAME_1008, FRAME_1007, FRAME_1006,
+    FRAME_1077, FRAME_1077,
+];
+
+/// The greeting at this place has these frames.
+fn expect_greeting(
+    rt: &impl Abort,
+    place: &StationPlace<Desk<Station>>,
+    frames: &[[u8; 8]],
+) -> Result<(), Fail> {
+    let greeting = place.greeting().ok_or("nobody joined")?;
+    assert_eq!(rt; greeting.len(), frames.len());
+    for (frame, bytes) in greeting.iter().zip(frames) {
+        assert_eq!(rt; frame.bytes(), bytes.as_slice());
+    }
+    Ok(())
+}
+
+#[test]
+fn one_who_joins_is_greeted_by_the_last_frame_of_each_number(rt: HostRuntime) -> Result<(), Fail> {
+    let place = joined_place(rt.alloc(), Filter::all(), &ALL)?;
+    let last = [
+        LATER_1005, FRAME_1006, FRAME_1007, FRAME_1008, FRAME_1033, FRAME_1230,
+    ];
+    expect_greeting(&rt, &place, &last)
+}
+
+#[test]
+fn the_filter_permits_some_of_the_greeting(rt: HostRuntime) -> Result<(), Fail> {
+    let filter = Filter::list(rt.alloc(), &[1077, 1230, 1005])?;
+    let place = joined_place(rt.alloc(), filter, &ALL)?;
+    expect_greeting(&rt, &place, &[LATER_1005, FRAME_1230])
+}
+
+#[test]
+fn a_greeting_stands_until_it_is_cleared(rt: HostRuntime) -> Result<(), Fail> {
+    let mut place = joined_place(rt.alloc(), Filter::all(), &[FRAME_1077, FRAME_1005])?;
+    place.turn(3, RingCall::Look, &mut Outbox::new())?;
+    expect_greeting(&rt, &place, &[FRAME_1005])?;
+    place.clear();
+    assert_eq!(rt; place.greeting(), None);
+    join_first(&mut place, 2)?;
+    expect_greeting(&rt, &place, &[FRAME_1005])
+}
+
+#[test]
+fn a_place_gives_its_station_back(rt: HostRuntime) -> Result<(), Fail> {
+    let place = joined_place(rt.alloc(), Filter::all(), &ALL)?;
+    let desk = place.inner();
+    assert_eq!(rt; desk.value().ring().published(), 10);
+    Ok(())
+}
+
+// The calls of a ring, at a station itself.
+#[test]
+fn a_hall_has_what_was_read_and_the_greeting(rt: HostRuntime) -> Result<(), Fail> {
+    let mut desk = Desk::new(new_station(rt.alloc(), Filter::all())?);
+    let mut hall = Hall::new(rt.alloc())?;
+    let RingAnswer::Joined(cursor) = desk.turn(2, RingCall::Join(0), &mut hall)? else {
+        unreachable!();
+    };
+    let RingAnswer::Given(claim) = desk.turn(1, RingCall::Claim, &mut hall)? else {
+        unreachable!();
+    };
+    let frame = Frame::of(&FRAME_1005).ok_or("no frame")?;
+    desk.turn(1, RingCall::Publish(claim, frame), &mut hall)?;
+    desk.turn(2, RingCall::Read { cursor, budget: 16 }, &mut hall)?;
+    assert_eq!(rt; hall.outbox().frames(), [frame].as_slice());
+    assert!(rt; hall.greeting().is_empty());
+    desk.turn(2, RingCall::Join(0), &mut hall)?;
+    assert_eq!(rt; hall.greeting(), [frame].as_slice());
+    assert_eq!(rt; hall.outbox().frames(), [frame].as_slice());
+    Ok(())
+}
+
+// Beside its ring a station is two lists, of six frames and of filters; a place is the place
+// within, its hall and a mark. No list of all frames is kept anywhere.
+#[test]
+fn a_station_is_its_ring_and_two_lists(rt: HostRuntime) -> Result<(), Fail> {
+    let list = size_of::<Vec<Frame>>();
+    assert_eq!(rt; size_of::<Station>(), size_of::<Ring>() + 2 * list);
+    assert_eq!(rt; size_of::<Hall>(), size_of::<Outbox>() + list);
+    let within = size_of::<Desk<Station>>() + size_of::<Hall>();
+    assert_eq!(rt; size_of::<StationPlace<Desk<Station>>>(), within + 8);
+    Ok(())
+}
