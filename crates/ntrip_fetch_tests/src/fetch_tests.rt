@@ -10,6 +10,10 @@ use std::process::Abort;
 use std::sync::Wait;
 use std::test::Fail;
 
+/// The frames of both casters.
+const THREE: &[u8] = b"\xD3\x00\x02\x3E\xD0\xA4\xE0\x00\xD3\x00\x02\x43\x50\x06\xA2\x7E\
+\xD3\x00\x02\x43\x50\x06\xA2\x7E";
+
 /// The street was asked to dial these addresses, and nothing else.
 fn expect_dialled(
     rt: &impl Abort,
@@ -49,6 +53,22 @@ fn expect_tries<R: Wait + Abort>(
     Ok(())
 }
 
+/// A caster that sends two frames and one that sends a frame in a chunk.
+fn two_casters(alloc: Global) -> Result<MemStreet, Fail> {
+    let both = joined(alloc, &[ICY, FRAME_A, FRAME_B])?;
+    let chunk = joined(alloc, &[CHUNKED, b"8\r\n", FRAME_B, b"\r\n"])?;
+    Ok(street_of(alloc, &[&[&both], &[&chunk]])?)
+}
+
+/// Two links came back to the street, and of the last one so many steps were taken.
+fn expect_links(rt: &impl Abort, street: &MemStreet, steps: usize) -> Result<(), Fail> {
+    let links = street.links_back().ok_or("links are told no longer")?;
+    assert_eq!(rt; links.len(), 2);
+    let taken = links.last().ok_or("no link")?.taken();
+    assert_eq!(rt; taken.ok_or("steps are told no longer")?.len(), steps);
+    Ok(())
+}
+
 /// A fetch of so many frames writes two of the first caster and one of the second, whose link is
 /// left for this after so many steps.
 fn expect_three<R: Wait + Abort>(
@@ -60,18 +80,11 @@ fn expect_three<R: Wait + Abort>(
 ) -> Result<(), Fail>
     requires { (1 ≤ frames) × (frames ≤ 1000000) }
 {
-    let chunk = joined(alloc, &[CHUNKED, b"8\r\n", FRAME_B, b"\r\n"])?;
-    let written = joined(alloc, &[FRAME_A, FRAME_B, FRAME_B])?;
-    let both = joined(alloc, &[ICY, FRAME_A, FRAME_B])?;
-    let mut street = street_of(alloc, &[&[&both], &[&chunk]])?;
+    let mut street = two_casters(alloc)?;
     let wanted = [tried(2, Left::End), tried(1, left)];
-    expect_tries(rt, alloc, frames, &mut street, &wanted, &written)?;
+    expect_tries(rt, alloc, frames, &mut street, &wanted, THREE)?;
     expect_dialled(rt, alloc, &street, &[b"a:1", b"b:2"])?;
-    let links = street.links_back().ok_or("links are told no longer")?;
-    assert_eq!(rt; links.len(), 2);
-    let taken = links.last().ok_or("no link")?.taken();
-    assert_eq!(rt; taken.ok_or("steps are told no longer")?.len(), steps);
-    Ok(())
+    expect_links(rt, &street, steps)
 }
 
 #[test]

@@ -58,21 +58,32 @@ const GZIP: &[u8] = b"HTTP/1.1 200 OK\r\nTransfer-Encoding: gzip\r\n\r\n";
 /// The head of an answer to wrong credentials.
 const UNAUTHORIZED: &[u8] = b"HTTP/1.1 401 Unauthorized\r\n\r\n";
 
-/// What a fetch of so many frames over this link comes to and writes.
-fn fetched<R: Wait>(
+/// A fetch of so many frames over this link comes to this and writes these bytes.
+fn expect_fetched<R: Wait + Abort>(
     rt: &R,
     alloc: Global,
     most: u64,
     link: &mut MemLink,
-) -> Result<(Try, Vec<u8>), Fail>
+    want: Try,
+    written: &[u8],
+) -> Result<(), Fail>
     requires { (1 ≤ most) × (most ≤ 1000000) }
 {
-    let mut out = MemSink::new(alloc, Vec::new(alloc));
     let target = target_of(alloc, 1, "a:1")?;
-    match fetch_link(rt, alloc, &target, most, link, &mut out) {
-        Ok(tried) => Ok((tried, out.bytes().to_vec(alloc)?)),
-        Err(_) => Err(Fail::from("a fault")),
-    }
+    let mut out = MemSink::new(alloc, Vec::new(alloc));
+    let Ok(tried) = fetch_link(rt, alloc, &target, most, link, &mut out) else {
+        panic!(rt; "a fault");
+    };
+    assert_eq!(rt; tried, want);
+    assert_eq!(rt; out.bytes(), written);
+    Ok(())
+}
+
+/// So many steps of the link were taken.
+fn expect_steps(rt: &impl Abort, link: &MemLink, steps: usize) -> Result<(), Fail> {
+    let taken = link.taken().ok_or("steps are told no longer")?;
+    assert_eq!(rt; taken.len(), steps);
+    Ok(())
 }
 
 /// A fetch of so many frames from a caster that sends these pieces comes to this, writes these
@@ -89,15 +100,9 @@ fn expect<R: Wait + Abort>(
     requires { (1 ≤ most) × (most ≤ 1000000) }
 {
     let mut link = link_of(alloc, pieces, &[])?;
-    let (tried, bytes) = fetched(rt, alloc, most, &mut link)?;
-    assert_eq!(rt; tried, want);
-    assert_eq!(rt; bytes.as_slice(), written);
+    expect_fetched(rt, alloc, most, &mut link, want, written)?;
     assert_eq!(rt; link.bytes(), REQUEST);
-    assert_eq!(rt;
-        link.taken().ok_or("steps are told no longer")?.len(),
-        steps
-    );
-    Ok(())
+    expect_steps(rt, &link, steps)
 }
 
 #[test]
@@ -156,20 +161,22 @@ fn enough_frames_come_before_the_end_of_a_body(rt: HostRuntime) -> Result<(), Fa
 }
 
 #[test]
-fn a_link_that_fails_is_left(rt: HostRuntime) -> Result<(), Fail> {
+fn a_link_whose_read_fails_is_left(rt: HostRuntime) -> Result<(), Fail> {
     let alloc = rt.alloc();
     let one = joined(alloc, &[ICY, FRAME_A])?;
     let mut link = link_of(alloc, &[&one, FRAME_B], &[3])?;
-    let (first, bytes) = fetched(&rt, alloc, 2, &mut link)?;
-    assert_eq!(rt; first, tried(1, Left::LinkFault));
-    assert_eq!(rt; bytes.as_slice(), FRAME_A);
-    let mut torn = torn_link(alloc, &[&one], 7)?;
-    let (second, bytes) = fetched(&rt, alloc, 2, &mut torn)?;
-    assert_eq!(rt; second, tried(0, Left::LinkFault));
-    assert!(rt; bytes.is_empty());
-    assert_eq!(rt; torn.bytes(), b"GET /UP".as_slice());
-    assert_eq!(rt; torn.taken().ok_or("steps are told no longer")?.len(), 1);
-    Ok(())
+    let want = tried(1, Left::LinkFault);
+    expect_fetched(&rt, alloc, 2, &mut link, want, FRAME_A)
+}
+
+#[test]
+fn a_link_whose_write_is_torn_is_left(rt: HostRuntime) -> Result<(), Fail> {
+    let alloc = rt.alloc();
+    let mut link = torn_link(alloc, &[ICY], 7)?;
+    let want = tried(0, Left::LinkFault);
+    expect_fetched(&rt, alloc, 2, &mut link, want, b"")?;
+    assert_eq!(rt; link.bytes(), b"GET /UP".as_slice());
+    expect_steps(&rt, &link, 1)
 }
 
 /// Two frames come from these bytes, which come in two reads that part at each place in turn,
