@@ -164,16 +164,23 @@ pub fn store_of(
         content.extend_from_slice(part)?;
     }
     let mut files = Vec::new(alloc);
-    files.push((ByteString::copy_of(alloc, b"a")?, ByteString::new(content)))?;
-    files.push((
-        ByteString::copy_of(alloc, b"s")?,
-        ByteString::copy_of(alloc, session)?,
-    ))?;
-    files.push((
-        ByteString::copy_of(alloc, b"a")?,
-        ByteString::copy_of(alloc, b"=")?,
-    ))?;
+    push_file(alloc, &mut files, b"a", &content)?;
+    push_file(alloc, &mut files, b"s", session)?;
+    push_file(alloc, &mut files, b"a", b"=")?;
     Ok(MemStore::new(alloc, files, calls.to_vec(alloc)?))
+}
+
+// Appends a file of this path.
+fn push_file(
+    alloc: Global,
+    files: &mut Vec<(ByteString, ByteString)>,
+    path: &[u8],
+    content: &[u8],
+) -> Result<(), Fail> {
+    let path = ByteString::copy_of(alloc, path)?;
+    let content = ByteString::copy_of(alloc, content)?;
+    files.push((path, content))?;
+    Ok(())
 }
 
 /// A street that gives nothing.
@@ -192,12 +199,28 @@ pub fn street_of(
     calls: &[u64],
 ) -> Result<MemStreet, Fail> {
     let mut doors = Vec::new(alloc);
-    doors.push(door_of(alloc, link_of(alloc, peers[0], idle)?, &[])?)?;
-    doors.push(door_of(alloc, link_of(alloc, peers[1], idle)?, accepts)?)?;
-    doors.push(door_of(alloc, link_of(alloc, peers[2], idle)?, &[])?)?;
-    let mut links = Vec::new(alloc);
-    links.push(link_of(alloc, peers[3], idle)?)?;
+    push_door(alloc, &mut doors, peers[0], idle, &[])?;
+    push_door(alloc, &mut doors, peers[1], idle, accepts)?;
+    push_door(alloc, &mut doors, peers[2], idle, &[])?;
+    let links = vec![in alloc; link_of(alloc, peers[3], idle)?]?;
     Ok(MemStreet::new(alloc, doors, links, calls.to_vec(alloc)?)?)
+}
+
+// Appends a door with one link, whose peer sends these bytes, is then idle so often, and ends.
+fn push_door(
+    alloc: Global,
+    doors: &mut Vec<MemDoor>,
+    parts: &[&[u8]],
+    idle: usize,
+    accepts: &[u64],
+) -> Result<(), Fail>
+    requires { IsTrue (list_all is_new_door doors.old.items) }
+    ensures { IsTrue (list_all is_new_door doors.new.items) }
+{
+    let link = link_of(alloc, parts, idle)?;
+    let door = door_of(alloc, link, accepts)?;
+    doors.push(door)?;
+    Ok(())
 }
 
 fn door_of(alloc: Global, link: MemLink, accepts: &[u64]) -> Result<MemDoor, Fail>
