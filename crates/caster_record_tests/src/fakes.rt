@@ -116,11 +116,18 @@ pub(crate) fn torn_rover(alloc: Global, write: u64, most: u64) -> Result<MemLink
     Ok(MemLink::torn(alloc, steps_of(alloc, &[ROVER, b"", b""])?, fails))
 }
 
+/// A client that sends these two pieces, the second one after a while.
+fn slow_link(alloc: Global, first: &[u8], second: &[u8]) -> Result<MemLink, AllocError>
+    ensures { IfOk result (λ link. IsTrue (is_new_link link)) }
+{
+    link_of(alloc, &[first, b"", second], &[])
+}
+
 /// A source that sends its head and, after a while, the frame.
 pub(crate) fn source_of(alloc: Global) -> Result<MemLink, AllocError>
     ensures { IfOk result (λ link. IsTrue (is_new_link link)) }
 {
-    link_of(alloc, &[SOURCE, b"", FRAME], &[])
+    slow_link(alloc, SOURCE, FRAME)
 }
 
 /// A door at which the source comes and then this link, and whose accepts of these numbers fail.

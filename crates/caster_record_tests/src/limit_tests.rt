@@ -15,15 +15,25 @@ use std::test::Fail;
 /// As many bytes of junk as one read takes.
 const PIECE: &[u8] = &[0; 4096];
 
+/// This head and 1,100 of these pieces.
+fn with_pieces<'a>(
+    alloc: Global,
+    head: &'a [u8],
+    piece: &'a [u8],
+) -> Result<Vec<&'a [u8]>, AllocError> {
+    let mut pieces = Vec::new(alloc);
+    pieces.push(head)?;
+    for _ in 0..1100 {
+        pieces.push(piece)?;
+    }
+    Ok(pieces)
+}
+
 /// A source that sends its head and 1,100 pieces of junk.
 fn endless_source(alloc: Global) -> Result<MemLink, AllocError>
     ensures { IfOk result (λ link. IsTrue (is_new_link link)) }
 {
-    let mut pieces = Vec::new(alloc);
-    pieces.push(SOURCE)?;
-    for _ in 0..1100 {
-        pieces.push(PIECE)?;
-    }
+    let pieces = with_pieces(alloc, SOURCE, PIECE)?;
     link_of(alloc, &pieces, &[])
 }
 
