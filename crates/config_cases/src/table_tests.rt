@@ -66,9 +66,8 @@ ENDSOURCETABLE\r\n"
     Ok(())
 }
 
-#[test]
-fn every_key_has_its_field(rt: HostRuntime) -> Result<(), Fail> {
-    let file = b"version = 2
+/// A file in which each key that a field shows has a value of its own.
+const EVERY_KEY: &[u8] = b"version = 2
 records = ['NET;1;2;3;4;5;6;7;8;9', 'CAS;h;1;i;o;0;DEU;1.00;2.00;m']
 [[mount]]
 name = 'M'
@@ -102,7 +101,10 @@ types = 'all'
 group = 'g'
 cap = 1
 ";
-    let config = read_config(rt.alloc(), file)?;
+
+#[test]
+fn every_key_has_its_field(rt: HostRuntime) -> Result<(), Fail> {
+    let config = read_config(rt.alloc(), EVERY_KEY)?;
     let text = text_of(rt.alloc(), &config)?;
     assert_eq!(rt;
         text.as_slice(),

@@ -85,52 +85,35 @@ fn accepted(at: u64, chunked: bool) -> Answer {
 
 #[test]
 fn answers_say_what_follows(rt: HostRuntime) -> Result<(), Fail> {
-    for (bytes, want) in [
-        (b"ICY 200 OK\r\n\r\n".as_slice(), accepted(12, false)),
+    let cases: [(&[u8], Answer); 14] = [
+        (b"ICY 200 OK\r\n\r\n", accepted(12, false)),
+        (b"ICY 200 OK\nHTTP/1.1 404 X", accepted(11, false)),
+        (b"HTTP/1.1 200 OK\r\n\r\nmore", accepted(19, false)),
         (
-            b"ICY 200 OK\nHTTP/1.1 404 X".as_slice(),
-            accepted(11, false),
-        ),
-        (
-            b"HTTP/1.1 200 OK\r\n\r\nmore".as_slice(),
-            accepted(19, false),
-        ),
-        (
-            b"HTTP/1.1 200 OK\r\nTransfer-Encoding: Chunked\r\n\r\n8\r\n".as_slice(),
+            b"HTTP/1.1 200 OK\r\nTransfer-Encoding: Chunked\r\n\r\n8\r\n",
             accepted(47, true),
         ),
         (
-            b"HTTP/1.1 200 OK\r\nTransfer-Encoding: gzip\r\n\r\n".as_slice(),
+            b"HTTP/1.1 200 OK\r\nTransfer-Encoding: gzip\r\n\r\n",
             Answer::Refused(Refusal::Coding),
         ),
         (
-            b"HTTP/1.1 404 Not Found\r\n\r\n".as_slice(),
+            b"HTTP/1.1 404 Not Found\r\n\r\n",
             Answer::Refused(Refusal::Status(404)),
         ),
         (
-            b"HTTP/1.1 401 Unauthorized\nTransfer-Encoding: gzip\n\n".as_slice(),
+            b"HTTP/1.1 401 Unauthorized\nTransfer-Encoding: gzip\n\n",
             Answer::Refused(Refusal::Status(401)),
         ),
-        (
-            b"SOURCETABLE 200 OK\r\n".as_slice(),
-            Answer::Refused(Refusal::Table),
-        ),
-        (b"HELLO\n".as_slice(), Answer::Refused(Refusal::BadHead)),
-        (
-            b"\r\nICY 200 OK\r\n".as_slice(),
-            Answer::Refused(Refusal::BadHead),
-        ),
-        (
-            b"ICY 200 OK \r\n".as_slice(),
-            Answer::Refused(Refusal::BadHead),
-        ),
-        (
-            b"HTTP/1.1 OK\r\n\r\n".as_slice(),
-            Answer::Refused(Refusal::BadHead),
-        ),
-        (b"ICY 200 OK\r".as_slice(), Answer::Open),
-        (b"HTTP/1.1 200 OK\r\nServer: x\r\n".as_slice(), Answer::Open),
-    ] {
+        (b"SOURCETABLE 200 OK\r\n", Answer::Refused(Refusal::Table)),
+        (b"HELLO\n", Answer::Refused(Refusal::BadHead)),
+        (b"\r\nICY 200 OK\r\n", Answer::Refused(Refusal::BadHead)),
+        (b"ICY 200 OK \r\n", Answer::Refused(Refusal::BadHead)),
+        (b"HTTP/1.1 OK\r\n\r\n", Answer::Refused(Refusal::BadHead)),
+        (b"ICY 200 OK\r", Answer::Open),
+        (b"HTTP/1.1 200 OK\r\nServer: x\r\n", Answer::Open),
+    ];
+    for (bytes, want) in cases {
         for at in 0..bytes.len() + 1 {
             assert_eq!(rt; said_in_two(&rt, bytes, at)?, want);
         }

@@ -63,52 +63,50 @@ Content-Length: 0\r\nConnection: close\r\n\r\n"
     Ok(())
 }
 
+/// The reply to a head that asks for a mountpoint that there is not, in version 2.
+const NOT_FOUND: &[u8] = b"HTTP/1.1 404 Not Found\r\nNtrip-Version: Ntrip/2.0\r\n\
+Server: NTRIP lapcast/1.0\r\nContent-Length: 0\r\nConnection: close\r\n\r\n";
+
+/// The reply where credentials are wanted, in version 2.
+const UNAUTHORIZED: &[u8] = b"HTTP/1.1 401 Unauthorized\r\nNtrip-Version: Ntrip/2.0\r\n\
+Server: NTRIP lapcast/1.0\r\nWWW-Authenticate: Basic realm=\"caster\"\r\n\
+Content-Length: 0\r\nConnection: close\r\n\r\n";
+
 #[test]
 fn replies_of_version_two_are_these_bytes(rt: HostRuntime) -> Result<(), Fail> {
-    let not_found = b"HTTP/1.1 404 Not Found\r\nNtrip-Version: Ntrip/2.0\r\n\
-Server: NTRIP lapcast/1.0\r\nContent-Length: 0\r\nConnection: close\r\n\r\n"
-        .as_slice();
-    let unauthorized = b"HTTP/1.1 401 Unauthorized\r\nNtrip-Version: Ntrip/2.0\r\n\
-Server: NTRIP lapcast/1.0\r\nWWW-Authenticate: Basic realm=\"caster\"\r\n\
-Content-Length: 0\r\nConnection: close\r\n\r\n"
-        .as_slice();
-    for (r, want) in [
+    let cases: [(Reply, &[u8]); 9] = [
         (
             Reply::RoverOk,
             b"HTTP/1.1 200 OK\r\nNtrip-Version: Ntrip/2.0\r\nServer: NTRIP lapcast/1.0\r\n\
 Content-Type: gnss/data\r\nTransfer-Encoding: chunked\r\nConnection: close\r\n\r\n\
-"
-                .as_slice(),
+",
         ),
         (
             Reply::SourceOk,
             b"HTTP/1.1 200 OK\r\nNtrip-Version: Ntrip/2.0\r\nServer: NTRIP lapcast/1.0\r\n\
-Connection: close\r\n\r\n"
-                .as_slice(),
+Connection: close\r\n\r\n",
         ),
-        (Reply::RoverNoMount, not_found),
-        (Reply::SourceNoMount, not_found),
-        (Reply::Unauthorized, unauthorized),
-        (Reply::SourcePassword, unauthorized),
+        (Reply::RoverNoMount, NOT_FOUND),
+        (Reply::SourceNoMount, NOT_FOUND),
+        (Reply::Unauthorized, UNAUTHORIZED),
+        (Reply::SourcePassword, UNAUTHORIZED),
         (
             Reply::Denied,
             b"HTTP/1.1 403 Forbidden\r\nNtrip-Version: Ntrip/2.0\r\n\
-Server: NTRIP lapcast/1.0\r\nContent-Length: 0\r\nConnection: close\r\n\r\n"
-                .as_slice(),
+Server: NTRIP lapcast/1.0\r\nContent-Length: 0\r\nConnection: close\r\n\r\n",
         ),
         (
             Reply::Full,
             b"HTTP/1.1 503 Service Unavailable\r\nNtrip-Version: Ntrip/2.0\r\n\
-Server: NTRIP lapcast/1.0\r\nContent-Length: 0\r\nConnection: close\r\n\r\n"
-                .as_slice(),
+Server: NTRIP lapcast/1.0\r\nContent-Length: 0\r\nConnection: close\r\n\r\n",
         ),
         (
             Reply::Taken,
             b"HTTP/1.1 409 Conflict\r\nNtrip-Version: Ntrip/2.0\r\n\
-Server: NTRIP lapcast/1.0\r\nContent-Length: 0\r\nConnection: close\r\n\r\n"
-                .as_slice(),
+Server: NTRIP lapcast/1.0\r\nContent-Length: 0\r\nConnection: close\r\n\r\n",
         ),
-    ] {
+    ];
+    for (r, want) in cases {
         assert_eq!(rt; text_of(&rt, Version::Two, r, TABLE)?.as_slice(), want);
     }
     Ok(())
