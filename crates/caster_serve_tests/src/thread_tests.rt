@@ -29,6 +29,16 @@ fn timed_door<'a, R: Clock>(
     Ok(TimedDoor::new(TimedLink::new(rt, flags, stops, link)))
 }
 
+/// A door at which a link arrives that ends at once.
+fn silent_door<'a, R: Clock>(
+    rt: &'a R,
+    alloc: Global,
+    flags: &'a [AtomicBool],
+) -> Result<TimedDoor<'a, R>, Fail> {
+    let silent = link_of(alloc, &[], &[])?;
+    timed_door(rt, alloc, flags, &[], silent)
+}
+
 /// The link that came back to this door met all that it waited for, and was sent this.
 fn expect_met<R: Clock>(
     rt: &impl Abort,
@@ -73,8 +83,7 @@ fn meeting_street<'a, R: Clock>(
         let rover = link_of(alloc, &[ROVER_BRAVO], &[])?;
         doors.push(timed_door(rt, alloc, flags, &[stop], rover)?)?;
     }
-    let silent = link_of(alloc, &[], &[])?;
-    doors.push(timed_door(rt, alloc, flags, &[], silent)?)?;
+    doors.push(silent_door(rt, alloc, flags)?)?;
     Ok(TimedStreet::new(alloc, doors))
 }
 
@@ -100,9 +109,31 @@ const SIX: &[u8] = b"\xd3\x00\x02\x3e\xd0\xa4\xe0\x00\xd3\x00\x02\x3e\xd0\xa4\xe
 \xd3\x00\x02\x43\x50\x06\xa2\x7e\xd3\x00\x02\x43\x50\x06\xa2\x7e\
 \xd3\x00\x02\x3e\xd0\xa4\xe0\x00\xd3\x00\x02\x43\x50\x06\xa2\x7e";
 
+/// The door of a source of ALPHA, which waits for this flag. Its third read comes after its frames
+/// were published, and is told by the flag 1.
+fn source_door<'a, R: Clock>(
+    rt: &'a R,
+    alloc: Global,
+    flags: &'a [AtomicBool],
+    begins: usize,
+) -> Result<TimedDoor<'a, R>, Fail> {
+    let begins = Stop {
+        call: 1,
+        sets: NONE,
+        awaits: begins,
+    };
+    let done = Stop {
+        call: 4,
+        sets: 1,
+        awaits: NONE,
+    };
+    let source = link_of(alloc, &[SOURCE_ALPHA, SIX], &[])?;
+    timed_door(rt, alloc, flags, &[begins, done], source)
+}
+
 /// A street of a rover and a source of ALPHA, and of a link that ends at once. The rover's first
 /// write, of its reply, waits until six frames came. The source waits for this flag, which is set
-/// once the rover was let in, and its third read comes after its frames were published.
+/// once the rover was let in.
 fn slow_street<'a, R: Clock>(
     rt: &'a R,
     alloc: Global,
@@ -115,22 +146,10 @@ fn slow_street<'a, R: Clock>(
         sets: 0,
         awaits: 1,
     };
-    let begins = Stop {
-        call: 1,
-        sets: NONE,
-        awaits: begins,
-    };
-    let done = Stop {
-        call: 4,
-        sets: 1,
-        awaits: NONE,
-    };
-    let source = link_of(alloc, &[SOURCE_ALPHA, SIX], &[])?;
-    let silent = link_of(alloc, &[], &[])?;
     let mut doors = Vec::new(alloc);
     doors.push(timed_door(rt, alloc, flags, &[slow], rover)?)?;
-    doors.push(timed_door(rt, alloc, flags, &[begins, done], source)?)?;
-    doors.push(timed_door(rt, alloc, flags, &[], silent)?)?;
+    doors.push(source_door(rt, alloc, flags, begins)?)?;
+    doors.push(silent_door(rt, alloc, flags)?)?;
     Ok(TimedStreet::new(alloc, doors))
 }
 
