@@ -18,6 +18,8 @@ mod sending;
 mod serving;
 mod shared;
 mod tally;
+#[cfg(test)]
+mod tests;
 mod whole;
 mod worker;
 mod working;
