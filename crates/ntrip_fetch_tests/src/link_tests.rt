@@ -172,7 +172,7 @@ fn a_link_whose_read_fails_is_left(rt: HostRuntime) -> Result<(), Fail> {
 #[test]
 fn a_link_whose_write_is_torn_is_left(rt: HostRuntime) -> Result<(), Fail> {
     let alloc = rt.alloc();
-    let mut link = torn_link(alloc, &[ICY], 7)?;
+    let mut link = torn_link(alloc, &[ICY, FRAME_A], 7)?;
     let want = tried(0, Left::LinkFault);
     expect_fetched(&rt, alloc, 2, &mut link, want, b"")?;
     assert_eq!(rt; link.bytes(), b"GET /UP".as_slice());
