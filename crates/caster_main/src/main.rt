@@ -1,42 +1,13 @@
-//! The caster's program: it reads its words and what they name, runs the command, and writes its
-//! text or one line that says why there is none. Its status says which.
+//! The caster's program: it runs the command that its words are over standard input, standard
+//! output, the file system and the sockets of std. Its status says what came of it.
 #![tactic(auto)]
 
-mod adapters;
-mod answers;
-mod casting_answers;
-mod command;
-mod config_answers;
-mod fetch_words;
-mod fetching;
-#[cfg(test)]
-mod fetching_tests;
-#[cfg(test)]
-mod memory_tests;
-mod network;
-mod recording;
-#[cfg(test)]
-mod recording_tests;
-mod session_answers;
-#[cfg(test)]
-mod session_tests;
-#[cfg(test)]
-mod tests;
-mod top;
-#[cfg(test)]
-mod trial;
-#[cfg(test)]
-mod warm_tests;
-#[cfg(test)]
-mod worked_lines;
-
-use adapters::{FileStore, ReaderSource, WriterSink};
-use network::part_of;
+use caster_net::{FileStore, ReaderSource, WriterSink, part_of};
+use caster_top::{caster, refuse_for_memory};
 use std::alloc::AllocError;
 use std::env;
 use std::io::ErrorKind;
 use std::process::ExitCode;
-use top::{caster, refuse_for_memory};
 
 // The words after the program's name. Where one of them is no text, no words are given: they are
 // then of no form.

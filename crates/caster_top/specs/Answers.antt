@@ -1,0 +1,98 @@
+-- What was decided before anything is written, and what it stands on.
+use Rattle.std.specs.Prelude.{◌≡◌, ℕ, ◌⊎◌, List, codes, Option, ⊤}
+use Rattle.session_script.specs.declared.ScriptKind.TheVariants.{Bare}
+use Rattle.session_script.specs.Script.{script_of}
+use Rattle.cast_io.specs.Causes.{Rose}
+use Rattle.cast_config.specs.declared.config.Config.{Config}
+use Rattle.cast_config.specs.Bare as settings
+use Rattle.cast_io.specs.Pieces.{AppendsPrefix}
+use Rattle.caster_top.specs.declared.answers.Answer.{Answer}
+use Rattle.caster_top.specs.declared.answers.Answer.TheVariants.{Done, Valid, NoConfig, NoSession, Usage, Long, ReadFault, NetworkFault, Memory}
+use Rattle.caster_top.specs.declared.command.Aim.{Aim}
+use Rattle.caster_top.specs.declared.command.Start.{Start}
+use Rattle.caster_top.specs.declared.command.Start.TheVariants.{Cold}
+use Rattle.caster_top.specs.Command.{replay}
+use Rattle.caster_top.specs.Outcome.{Exit, Ending, EndsSo, Came, ending_of_bytes, ending_of_config, ending_of_form, ending_of_script, session_in, one_line, whole_exit, usage_exit, long_exit, read_fault_exit, network_exit, memory_exit}
+use Rattle.caster_top.specs.Told.{Files, Tells, Holds, IsConfigIn, IsOutcome, EndsWith, HaveForm, HaveFault}
+
+-- what the program ends with after this answer, where no write fails
+abbrev pub exit_of : Answer → Exit
+exit_of (Done text) = whole_exit text.items
+exit_of Valid = whole_exit (one_line (codes "ok"))
+exit_of (NoConfig text) = record { status = 2; text = text.items }
+exit_of (NoSession text) = record { status = 3; text = text.items }
+exit_of Usage = usage_exit
+exit_of Long = long_exit
+exit_of ReadFault = read_fault_exit
+exit_of NetworkFault = network_exit
+exit_of Memory = memory_exit
+
+-- the answer is such an end of the program; want of memory and a fault of reading have their causes
+abbrev pub IsGiven : Type 0 → Type 0 → (Exit → Type 0) → Answer → Type 0
+IsGiven memory fault IsSuch Memory = memory
+IsGiven memory fault IsSuch ReadFault = fault
+IsGiven memory fault IsSuch answer = IsSuch (exit_of answer)
+
+-- the answer is such an end of the program, or want of memory
+abbrev pub GivesEnd : Ending → Answer → Type 0
+GivesEnd ending answer = IsGiven ⊤ ⊥ (EndsSo ending) answer
+
+-- how a bare session over a ring of this capacity ends, with this input
+abbrev pub IsInputEnd : ℕ → Option (List ℕ) → Exit → Type 0
+IsInputEnd capacity left end = (script : List ℕ) × Tells left script
+    × EndsSo (ending_of_script Cold (settings.bare capacity) (script_of Bare script)) end
+
+abbrev pub IsInputAnswer : ℕ → Option (List ℕ) → Type 0 → Answer → Type 0
+IsInputAnswer capacity left fault answer = IsGiven ⊤ fault (IsInputEnd capacity left) answer
+
+-- how a command ends that does this with the configuration in the file of this path
+abbrev pub IsFileEnd : Aim → List ℕ → Files → Exit → Type 0
+IsFileEnd aim path files end = (config : List ℕ) × Holds files path config
+    × EndsSo (ending_of_bytes (ending_of_config aim) config) end
+
+abbrev pub IsFileAnswer : Aim → List ℕ → Files → Type 0 → Answer → Type 0
+IsFileAnswer aim path files fault answer = IsGiven ⊤ fault (IsFileEnd aim path files) answer
+
+-- the bytes are no configuration, and so the program ends, whatever comes next with one
+pub record IsRefused (bytes : List ℕ) (end : Exit) : Type 0 where
+  pub none : (c : Config) → IsConfigIn bytes c → ⊥
+  pub ends : (next : Config → Ending) → EndsSo (ending_of_bytes next bytes) end
+
+-- how a command ends for whose configuration the file of this path holds no configuration
+abbrev pub IsRefusedAt : List ℕ → Files → Exit → Type 0
+IsRefusedAt path files end = (config : List ℕ) × Holds files path config × IsRefused config end
+
+abbrev pub IsRefusal : List ℕ → Files → Type 0 → Answer → Type 0
+IsRefusal path files fault answer = IsGiven ⊤ fault (IsRefusedAt path files) answer
+
+-- how the session in the file of this path ends over a configuration, whose rovers start so
+abbrev pub IsSessionEnd : Start → Config → List ℕ → Files → Exit → Type 0
+IsSessionEnd start c path files end = (script : List ℕ) × Holds files path script
+    × EndsSo (ending_of_script start c (session_in c script)) end
+
+abbrev pub IsSessionAnswer : Start → Config → List ℕ → Files → Type 0 → Answer → Type 0
+IsSessionAnswer start c path files fault answer =
+    IsGiven ⊤ fault (IsSessionEnd start c path files) answer
+
+-- how a session ends over the configuration in another file: the paths of both
+abbrev pub IsReplayEnd : Start → List ℕ → List ℕ → Files → Exit → Type 0
+IsReplayEnd start config session files end = (came : Came)
+    × Holds files config came.config
+    × ((c : Config) → IsConfigIn came.config c → Holds files session came.script)
+    × EndsSo (ending_of_form (replay start config session) came) end
+
+abbrev pub IsReplayAnswer : Start → List ℕ → List ℕ → Files → Type 0 → Answer → Type 0
+IsReplayAnswer start config session files fault answer =
+    IsGiven ⊤ fault (IsReplayEnd start config session files) answer
+
+-- the answer to these words, this input and these files: want of memory, a fault of reading that
+-- was counted, or the outcome
+abbrev pub IsAnswer : List (List ℕ) → Option (List ℕ) → Files → Type 0 → Type 0 → Answer → Type 0
+IsAnswer words left files of_input of_store answer =
+    IsGiven (HaveForm words) (HaveFault words of_input of_store) (IsOutcome words left files) answer
+
+-- the text of this end was written and its status given, or status 5 with a write that failed
+-- inside the text
+abbrev pub Writes : Exit → Option (List ℕ) → Option (List ℕ) → ℕ → ℕ → ℕ → Type 0
+Writes end old new before now status =
+    EndsWith status old new end ⊎ ((status ≡ 5) × Rose before now × AppendsPrefix old new end.text)

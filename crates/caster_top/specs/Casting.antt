@@ -1,0 +1,109 @@
+-- What the program ends with that is to be a caster, one that serves or one that records, and what
+-- the street tells of it.
+use Rattle.std.specs.Prelude.{◌≡◌, ℕ, ◌⊎◌, List, Option, Ok, Err}
+use Rattle.cast_io.specs.Causes.{Rose}
+use Rattle.cast_io.specs.Told.{StreetTold}
+use Rattle.cast_config.specs.declared.config.Config.{Config}
+use Rattle.session_script.specs.declared.Event.{Event}
+use Rattle.session_script.specs.Writing.{script_text}
+use Rattle.session_core.specs.declared.report.Closed.{Closed}
+use Rattle.session_core.specs.Text.{closed_text}
+use Rattle.caster_serve.specs.Caster.{HasServed}
+use Rattle.caster_serve.specs.declared.whole.ServeFault.TheVariants as faults
+use Rattle.caster_top.specs.declared.answers.Answer.{Answer}
+use Rattle.caster_top.specs.declared.answers.Answer.TheVariants.{NetworkFault, Memory}
+use Rattle.caster_top.specs.declared.command.Task.{Task}
+use Rattle.caster_top.specs.declared.command.Task.TheVariants.{Serve, Record}
+use Rattle.caster_top.specs.Outcome.{Exit, exactly, whole_exit, read_fault_exit, network_exit, memory_exit}
+use Rattle.caster_top.specs.Told.{Files, IsConfigAt}
+use Rattle.caster_top.specs.Answers.{GivesEnd, IsRefusedAt, IsRefusal, Writes}
+use Rattle.caster_top.specs.Recording.{HasRecorded, HasNotRecorded}
+
+-- ---- what it came to
+
+-- a text, no network, or no memory
+pub data CameTo : Type 0 where
+  a_text : List ℕ → CameTo
+  no_network : CameTo
+  no_memory : CameTo
+
+-- A caster of this task over this configuration came to this: one that serves to the text of what
+-- it counted, one that records to the script of its session.
+abbrev pub HasCast : Task → Config → List ℕ → ℕ → StreetTold → StreetTold → CameTo → Type 0
+HasCast Serve c addr limit before after (a_text text) = (closed : Closed)
+    × HasServed c addr limit before after (Ok closed) × (text ≡ closed_text c closed)
+HasCast Serve c addr limit before after no_network =
+    HasServed c addr limit before after (Err faults.Network)
+HasCast Serve c addr limit before after no_memory =
+    HasServed c addr limit before after (Err faults.Memory)
+HasCast Record c addr limit before after (a_text text) = (events : List Event)
+    × HasRecorded c addr limit before after events × (text ≡ script_text events)
+HasCast Record c addr limit before after no_network =
+    HasNotRecorded addr before after × Rose before.faults after.faults
+HasCast Record c addr limit before after no_memory = HasNotRecorded addr before after
+
+-- ---- before anything is written
+
+-- the answer where a caster came to this
+abbrev pub GivesCame : CameTo → Answer → Type 0
+GivesCame (a_text text) answer = GivesEnd (exactly (whole_exit text)) answer
+GivesCame no_network answer = answer ≡ NetworkFault
+GivesCame no_memory answer = answer ≡ Memory
+
+-- there was a caster over the configuration in the file of this path, and this is the answer
+pub record HasAnswered (task : Task) (files : Files) (config addr : List ℕ) (limit : ℕ)
+    (before after : StreetTold) (answer : Answer) : Type 0 where
+  pub c : Config
+  pub came_to : CameTo
+  pub config_is : IsConfigAt files config c
+  pub cast : HasCast task c addr limit before after came_to
+  pub given : GivesCame came_to answer
+
+-- so it was, or the street was left alone, since there is no configuration to be had
+abbrev pub IsCastingAnswer : Task → Files → List ℕ → List ℕ → ℕ → StreetTold → StreetTold → Type 0
+    → Answer → Type 0
+IsCastingAnswer task files config addr limit before after fault answer =
+    ((after ≡ before) × IsRefusal config files fault answer)
+    ⊎ HasAnswered task files config addr limit before after answer
+
+-- ---- and with it
+
+-- what the program ends with where a caster came to this, unless a write fails: want of memory can
+-- come where the text is made, too
+abbrev pub CastEnd : CameTo → Exit → Type 0
+CastEnd (a_text text) end = (end ≡ whole_exit text) ⊎ (end ≡ memory_exit)
+CastEnd no_network end = end ≡ network_exit
+CastEnd no_memory end = end ≡ memory_exit
+
+-- what it ends with where there is no configuration to be had
+abbrev pub RefusedEnd : List ℕ → Files → Type 0 → Exit → Type 0
+RefusedEnd config files fault end =
+    (end ≡ memory_exit) ⊎ ((fault × (end ≡ read_fault_exit)) ⊎ IsRefusedAt config files end)
+
+-- there was a caster over the configuration in the file of this path, and the program ends so
+pub record HasEnded (task : Task) (files : Files) (config addr : List ℕ) (limit : ℕ)
+    (before after : StreetTold) (end : Exit) : Type 0 where
+  pub c : Config
+  pub came_to : CameTo
+  pub config_is : IsConfigAt files config c
+  pub cast : HasCast task c addr limit before after came_to
+  pub ends : CastEnd came_to end
+
+-- so it ends, or with the street left alone
+abbrev pub CastingEnd : Task → Files → List ℕ → List ℕ → ℕ → StreetTold → StreetTold → Type 0
+    → Exit → Type 0
+CastingEnd task files config addr limit before after fault end =
+    ((after ≡ before) × RefusedEnd config files fault end)
+    ⊎ HasEnded task files config addr limit before after end
+
+-- the whole outcome: how it ends, and what was written of that
+pub record HasCasting (task : Task) (files : Files) (config addr : List ℕ) (limit : ℕ)
+    (before after : StreetTold) (fault : Type 0) (old new : Option (List ℕ))
+    (faults now status : ℕ) : Type 0 where
+  pub end : Exit
+  pub ends : CastingEnd task files config addr limit before after fault end
+  pub written : Writes end old new faults now status
+
+-- a status that says that there was no caster
+abbrev pub IsUnserved : ℕ → Type 0
+IsUnserved status = (status ≡ 1) ⊎ ((status ≡ 2) ⊎ ((status ≡ 4) ⊎ (status ≡ 8)))

@@ -1,0 +1,155 @@
+//! What is decided by a caster, one that serves or one that records.
+ghost use Rattle.std.specs.Prelude.{◌≡◌, ◌≤◌, ◌+◌, ◌∷◌, [], length};
+ghost use Rattle.cast_io.specs.Causes.{Rose};
+ghost use Rattle.cast_io.specs.Told.{Grew};
+ghost use Rattle.cast_config.specs.Kept.{KeepsRules};
+ghost use Rattle.session_core.specs.Text.{closed_text};
+ghost use Rattle.session_script.specs.Writing.{script_text};
+ghost use Rattle.caster_top.specs.declared.command.Task.TheVariants.{Record, Serve};
+ghost use Rattle.caster_top.specs.Command.{most_of};
+ghost use Rattle.caster_top.specs.Outcome.{exactly, whole_exit};
+ghost use Rattle.caster_top.specs.Answers.{GivesEnd};
+ghost use Rattle.caster_top.specs.Casting.{CameTo, GivesCame, HasCast, IsCastingAnswer};
+
+use crate::answers::Answer;
+use crate::command::Task;
+use crate::config_answers::config_at;
+use crate::recording::record_at;
+use cast_config::Config;
+use cast_io::{Store, Street};
+use caster_record::RecorderFault;
+use caster_serve::{ServeFault, serve};
+use session_core::{Closed, closed_text};
+use session_script::{Event, script_text};
+use std::alloc::{AllocError, Global};
+use std::sync::Wait;
+use std::thread::Threads;
+
+/// The answer to a caster of this task over the configuration in the file of this path. The store
+/// is asked for that file once, and the street only where it holds a configuration.
+pub fn answer_to_cast<R: Threads + Wait + Sync, S: Store, N: Street>(
+    rt: &R,
+    alloc: Global,
+    task: Task,
+    config: &str,
+    addr: &str,
+    limit: u32,
+    store: &mut S,
+    street: &mut N,
+) -> Answer
+where
+    N::Door: Send,
+    N::Link: Send,
+    requires limit { (1 ≤ limit) × (limit ≤ most_of task) }
+    ensures casting { IsCastingAnswer task (S.store store.old).files config.now addr.now limit
+        (N.told street.old) (N.told street.new)
+        (Rose (S.faults store.old) (S.faults store.new)) result }
+    ensures later { S.faults store.old ≤ S.faults store.new }
+    ensures asked { Grew (S.store store.old).asked (S.store store.new).asked (config.now ∷ []) }
+    ensures files { (S.store store.new).files ≡ (S.store store.old).files }
+    ensures few { S.reads store.new ≤ S.reads store.old + 8388610 }
+    ensures street_later { (N.told street.old).faults ≤ (N.told street.new).faults }
+{
+    match config_at(alloc, config, store) {
+        Ok(config) => answer_to_task(rt, alloc, task, &config, addr, limit, street),
+        Err(answer) => answer,
+    }
+}
+
+// The answer to a caster of this task over this configuration.
+fn answer_to_task<R: Threads + Wait + Sync, N: Street>(
+    rt: &R,
+    alloc: Global,
+    task: Task,
+    config: &Config,
+    addr: &str,
+    limit: u32,
+    street: &mut N,
+) -> Answer
+where
+    N::Door: Send,
+    N::Link: Send,
+    requires kept { KeepsRules 1000000 config.now }
+    requires limit { (1 ≤ limit) × (limit ≤ most_of task) }
+    ensures cast { (came_to : CameTo)
+        × HasCast task config.now addr.now limit (N.told street.old) (N.told street.new) came_to
+        × GivesCame came_to result }
+    ensures later { (N.told street.old).faults ≤ (N.told street.new).faults }
+{
+    match task {
+        Task::Serve => answer_to_server(rt, alloc, config, addr, limit, street),
+        Task::Record => answer_to_recorder(rt, alloc, config, addr, limit, street),
+    }
+}
+
+// The answer to a caster that serves.
+fn answer_to_server<R: Threads + Wait + Sync, N: Street>(
+    rt: &R,
+    alloc: Global,
+    config: &Config,
+    addr: &str,
+    limit: u32,
+    street: &mut N,
+) -> Answer
+where
+    N::Door: Send,
+    N::Link: Send,
+    requires { KeepsRules 1000000 config.now }
+    ensures cast { (came_to : CameTo)
+        × HasCast Serve config.now addr.now limit (N.told street.old) (N.told street.new) came_to
+        × GivesCame came_to result }
+    ensures later { (N.told street.old).faults ≤ (N.told street.new).faults }
+{
+    match serve(rt, alloc, config, addr, u64::from(limit), street) {
+        Ok(closed) => answer_to_closed(alloc, config, &closed),
+        Err(ServeFault::Network) => Answer::NetworkFault,
+        Err(ServeFault::Memory) => Answer::Memory,
+    }
+}
+
+// The answer to what a caster over this configuration came to.
+fn answer_to_closed(alloc: Global, config: &Config, closed: &Closed) -> Answer
+    requires mounts { length closed.now.mounts ≡ length config.now.mount }
+    requires accounts { length closed.now.accounts ≡ length config.now.account }
+    ensures { GivesEnd (exactly (whole_exit (closed_text config.now closed.now))) result }
+{
+    let mut text = Vec::new(alloc);
+    match closed_text(config, closed, &mut text) {
+        Ok(()) => Answer::Done(text),
+        Err(AllocError) => Answer::Memory,
+    }
+}
+
+// The answer to a caster that records.
+fn answer_to_recorder<R: Wait, N: Street>(
+    rt: &R,
+    alloc: Global,
+    config: &Config,
+    addr: &str,
+    limit: u32,
+    street: &mut N,
+) -> Answer
+    requires kept { KeepsRules 1000000 config.now }
+    requires limit { (1 ≤ limit) × (limit ≤ 256) }
+    ensures cast { (came_to : CameTo)
+        × HasCast Record config.now addr.now limit (N.told street.old) (N.told street.new) came_to
+        × GivesCame came_to result }
+    ensures later { (N.told street.old).faults ≤ (N.told street.new).faults }
+{
+    match record_at(rt, alloc, config, addr, limit, street) {
+        Ok(events) => answer_to_events(alloc, &events),
+        Err(RecorderFault::Network) => Answer::NetworkFault,
+        Err(RecorderFault::Memory) => Answer::Memory,
+    }
+}
+
+// The answer to a session of these events that was recorded.
+fn answer_to_events(alloc: Global, events: &[Event]) -> Answer
+    ensures { GivesEnd (exactly (whole_exit (script_text events.now))) result }
+{
+    let mut text = Vec::new(alloc);
+    match script_text(events, &mut text) {
+        Ok(()) => Answer::Done(text),
+        Err(AllocError) => Answer::Memory,
+    }
+}
