@@ -59,8 +59,8 @@ def example(workers, relays='', ring=256):
     return text
 
 
-def serve(config, limit=1, addr=None):
-    caster = Caster(config, limit, addr)
+def serve(config, limit=1, addr=None, descriptors=None):
+    caster = Caster(config, limit, addr, descriptors=descriptors)
     casters.append(caster)
     return caster
 
@@ -249,6 +249,43 @@ def refusals():
         except Wrong as wrong:
             raise Wrong('%s: %s' % (show(head), wrong)) from None
     caster.ends_with(['mount ALPHA 0 0', 'mount BRAVO 0 0', 'account rover1 0 0 0', 'total 0 0 0'])
+
+
+def refused_source_that_goes_on_sending():
+    """A source with a wrong password sends frames before it reads: its reply comes whole, and then the end
+    of the connection, which is not reset."""
+    caster = serve(example(1), 2)
+    stream = b''.join(frames(1077, 0, 3000))
+    for head, reply in [(source_1('ALPHA', 'open'), BAD_PASSWORD_1),
+                        (source_2('ALPHA', 'open'), UNAUTHORIZED_2)]:
+        client = caster.client().send(head + stream)
+        time.sleep(0.2)
+        client.expect(reply).expect_end()
+    caster.ends_with(['mount ALPHA 0 0', 'mount BRAVO 0 0', 'account rover1 0 0 0', 'total 0 0 0'])
+
+
+def descriptors_that_run_out():
+    """Sixteen workers with descriptors for eight connections: the others wait at the listener, and no
+    worker is lost. Each is served as soon as another has ended."""
+    caster = serve(example(16), 1, descriptors=12)
+    first = caster.client().send(rover_1('ALPHA')).expect(ICY)
+    workers = caster.threads()
+    rovers = [first] + [caster.client().send(rover_1('ALPHA')) for _ in range(14)]
+    for rover in rovers[1:8]:
+        rover.expect(ICY)
+    # The other workers find each time that no descriptor is left.
+    time.sleep(0.3)
+    if caster.threads() != workers:
+        raise Wrong('%d threads, and then %d' % (workers, caster.threads()))
+    for rover in rovers[8:]:
+        if rover.came or select.select([rover.socket], [], [], 0)[0]:
+            raise Wrong('there are descriptors for more connections than eight')
+    for number, rover in enumerate(rovers):
+        rover.close()
+        if number + 8 < len(rovers):
+            rovers[number + 8].expect(ICY)
+    caster.client().send(source_1('ALPHA', 'sesame')).expect(ICY).send(A).close()
+    caster.ends_with(['mount ALPHA 1 1', 'mount BRAVO 0 0', 'account rover1 0 0 0', 'total 15 0 0'])
 
 
 def taken():
@@ -454,6 +491,24 @@ def relay_that_is_refused():
     second.client().send(rover_1('')).expect(table_1(TABLE)).expect_end()
     for caster in (first, second):
         caster.ends_with(['mount ALPHA 0 0', 'mount BRAVO 0 0', 'account rover1 0 0 0', 'total 0 0 0'])
+
+
+def relay_that_does_not_answer():
+    """A relay whose caster takes no connections any more: the dial ends after five seconds."""
+    with socket.socket() as silent, socket.socket() as one, socket.socket() as other:
+        silent.bind(('127.0.0.1', 0))
+        silent.listen(0)
+        # One connection waits to be accepted; then the queue is full, and nobody is answered.
+        for client in (one, other):
+            client.setblocking(False)
+            client.connect_ex(silent.getsockname())
+        time.sleep(0.2)
+        begun = time.monotonic()
+        relay = RELAY % ('ALPHA', '127.0.0.1:%d' % silent.getsockname()[1], 'ALPHA', 1)
+        serve(example(2, relay)).ends_with(['network fault'], 6)
+        took = time.monotonic() - begun
+        if not 4.5 < took < 8:
+            raise Wrong('the dial took %.1f seconds' % took)
 
 
 # ---- recorded sessions
@@ -737,6 +792,20 @@ def recorded_session_that_comes_to_its_limit():
                          'total 1 %d 0' % count])
 
 
+def recorded_clients_that_stay():
+    """Eight refused clients that never end: when the last one is refused the session is over, and the
+    program waits for them for two seconds in all."""
+    caster = record(example(1), 8)
+    clients = [caster.client().send(source_1('ALPHA', 'open')).expect(BAD_PASSWORD_1) for _ in range(8)]
+    begun = time.monotonic()
+    caster.ends()
+    took = time.monotonic() - begun
+    for client in clients:
+        client.close()
+    if not 1.5 < took < 4:
+        raise Wrong('the program ended after %.1f seconds' % took)
+
+
 def recorded_session_that_is_not_written():
     """A session of one connection, whose script goes to a device that is full: status 5."""
     with open('/dev/full', 'wb') as full:
@@ -817,12 +886,12 @@ def workers_side_by_side():
 
 CASES = [sessions_of_version_1, sessions_of_version_2, near_rover, near_rover_of_version_2, sourcetables,
          fetches, fetches_that_get_nothing,
-         refusals, taken, full_account, lapped_rover, rover_that_reads_late, rover_that_never_reads,
-         resets, reset_while_written_to, relays, relay_that_is_refused,
+         refusals, refused_source_that_goes_on_sending, descriptors_that_run_out, taken, full_account, lapped_rover, rover_that_reads_late, rover_that_never_reads,
+         resets, reset_while_written_to, relays, relay_that_is_refused, relay_that_does_not_answer,
          recorded_session, recorded_rovers_that_are_lapped, recorded_rovers_that_go_away,
          recorded_near_rover, recorded_near_rover_that_moves, recorded_sessions_that_end_by_themselves,
          recorded_session_of_256_connections, recorded_session_that_comes_to_its_limit,
-         recorded_session_that_is_not_written,
+         recorded_clients_that_stay, recorded_session_that_is_not_written,
          network_faults_of_a_recorder, other_addresses, network_faults, workers_side_by_side]
 
 
@@ -852,13 +921,13 @@ def main(names):
     watch.start()
     cases = [case for case in CASES if not names or case.__name__ in names]
     failed = []
-    # The one that waits for ten seconds runs beside the others.
-    beside = [threading.Thread(target=run, args=(case, failed)) for case in cases
-              if case is rover_that_never_reads]
+    # Those that wait for seconds run beside the others.
+    slow = [rover_that_never_reads, relay_that_does_not_answer, recorded_clients_that_stay]
+    beside = [threading.Thread(target=run, args=(case, failed)) for case in cases if case in slow]
     for thread in beside:
         thread.start()
     for case in cases:
-        if case is not rover_that_never_reads:
+        if case not in slow:
             run(case, failed)
     for thread in beside:
         thread.join()

@@ -297,17 +297,25 @@ class Caster:
 
     command = 'serve'
 
-    def __init__(self, config, limit, addr=None, output=subprocess.PIPE):
+    def __init__(self, config, limit, addr=None, output=subprocess.PIPE, descriptors=None):
         self.port = free_port()
         self.addr = addr or '127.0.0.1:%d' % self.port
         with tempfile.NamedTemporaryFile('w', suffix='.toml', delete=False) as file:
             file.write(config)
         self.path = file.name
-        self.process = subprocess.Popen([PROGRAM, self.command, self.path, self.addr, str(limit)],
-                                        stdin=subprocess.DEVNULL, stdout=output, stderr=subprocess.PIPE)
+        # With so many descriptors at most, where a number is given.
+        front = ['sh', '-c', 'ulimit -n %d && exec "$@"' % descriptors, 'sh'] if descriptors else []
+        words = [PROGRAM, self.command, self.path, self.addr, str(limit)]
+        self.process = subprocess.Popen(front + words, stdin=subprocess.DEVNULL, stdout=output,
+                                        stderr=subprocess.PIPE)
 
     def client(self, room=None):
         return Client(self.port, room)
+
+    def threads(self):
+        """How many threads the program has."""
+        with open('/proc/%d/status' % self.process.pid) as file:
+            return next(int(line.split()[1]) for line in file if line.startswith('Threads:'))
 
     def ends_with(self, wanted, status=0):
         """It ends by itself, with this status, and has written these lines and nothing else."""

@@ -2,7 +2,7 @@
 //! output, the file system and the sockets of std. Its status says what came of it.
 #![tactic(auto)]
 
-use caster_net::{FileStore, ReaderSource, WriterSink, part_of};
+use caster_net::{FileStore, ReaderSource, TcpStreet, WriterSink};
 use caster_top::{caster, refuse_for_memory};
 use std::alloc::AllocError;
 use std::env;
@@ -29,7 +29,7 @@ fn main(rt: HostRuntime) -> ExitCode {
     let mut store = FileStore::new(&rt);
     let mut input = ReaderSource::new(rt.stdin());
     let mut out = WriterSink::new(rt.stdout());
-    let mut street = part_of(&rt, 0u64);
+    let mut street = TcpStreet::new(&rt);
     let status = match words(&rt) {
         Ok(words) => caster(
             &rt,

@@ -188,6 +188,14 @@ mod tests {
         }
     }
 
+    // What two reads of a source answer, and what it counts then.
+    fn reads_of<R: Read>(source: &mut ReaderSource<R>) -> (bool, bool, u64, u64) {
+        let mut buf = [0u8; 8];
+        let first = source.read(&mut buf).is_err();
+        let second = source.read(&mut buf).is_err();
+        (first, second, source.faults, source.reads)
+    }
+
     #[test]
     fn a_source_counts_its_failures_up_to_the_last_value(rt: HostRuntime) {
         let mut source = ReaderSource {
@@ -195,38 +203,49 @@ mod tests {
             reads: 0,
             faults: u64::MAX - 1,
         };
-        let mut buf = [0u8; 8];
-        assert_eq!(rt; source.read(&mut buf), Err(Failed));
-        assert_eq!(rt; source.faults, u64::MAX);
-        assert_eq!(rt; source.read(&mut buf), Err(Failed));
-        assert_eq!(rt; source.faults, u64::MAX);
-        assert_eq!(rt; source.reads, 2);
+        assert_eq!(rt; reads_of(&mut source), (true, true, u64::MAX, 2));
+    }
+
+    // Whether this piece is written, and the count of failures then.
+    fn written_to<W: Write>(sink: &mut WriterSink<W>, piece: &[u8]) -> (bool, u64) {
+        (sink.write(piece).is_ok(), sink.faults)
     }
 
     #[test]
     fn a_sink_writes_the_whole_piece_or_counts_a_failure(rt: HostRuntime) {
         let mut sink = WriterSink::new(Narrow { left: 5 });
-        assert_eq!(rt; sink.write(b"abc"), Ok(()));
-        assert_eq!(rt; sink.faults, 0);
-        assert_eq!(rt; sink.write(b"def"), Err(Failed));
-        assert_eq!(rt; sink.faults, 1);
-        assert_eq!(rt; sink.write(b""), Ok(()));
-        assert_eq!(rt; sink.faults, 1);
+        for (piece, wanted) in [
+            (b"abc".as_slice(), (true, 0)),
+            (b"def", (false, 1)),
+            (b"", (true, 1)),
+        ] {
+            assert_eq!(rt; written_to(&mut sink, piece), wanted);
+        }
+    }
+
+    // Whether this file is opened, whether it is read, and the counts of failures and reads then.
+    fn opened_in(store: &mut FileStore<'_>, path: &str) -> (bool, Result<usize, Failed>, u64, u64) {
+        let is_open = store.open(path).is_ok();
+        (
+            is_open,
+            store.read(&mut [0u8; 8]),
+            store.faults,
+            store.reads,
+        )
     }
 
     #[test]
     fn a_store_counts_its_failures_up_to_the_last_value(rt: HostRuntime) {
         let mut store = FileStore::new(&rt);
         store.faults = u64::MAX - 1;
-        let mut buf = [0u8; 8];
-        assert_eq!(rt; store.read(&mut buf), Ok(0), "no file is open");
-        assert_eq!(rt; store.open("no such folder/no such file"), Err(Failed));
-        assert_eq!(rt; store.faults, u64::MAX);
-        assert_eq!(rt; store.open("."), Ok(()), "a folder is opened");
-        assert_eq!(rt; store.read(&mut buf), Err(Failed), "and not read");
-        assert_eq!(rt; store.faults, u64::MAX);
-        assert_eq!(rt; store.open("/dev/null"), Ok(()));
-        assert_eq!(rt; store.read(&mut buf), Ok(0), "an empty file");
-        assert_eq!(rt; store.reads, 3);
+        let last = u64::MAX;
+        // A file that is not there leaves none to read; a folder is opened and not read.
+        for (path, wanted) in [
+            ("no such folder/no such file", (false, Ok(0), last, 1)),
+            (".", (true, Err(Failed), last, 2)),
+            ("/dev/null", (true, Ok(0), last, 3)),
+        ] {
+            assert_eq!(rt; opened_in(&mut store, path), wanted);
+        }
     }
 }

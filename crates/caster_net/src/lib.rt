@@ -1,9 +1,15 @@
 //! What the program runs on: the readers, the writers, the files and the sockets of std as the
-//! sources, sinks, stores and streets of `cast_io`.
+//! sources, sinks, stores, links, doors and streets of `cast_io`. What those give and take is
+//! outside of every proof.
 #![tactic(auto)]
 
 mod adapters;
-mod network;
+mod door;
+mod link;
+mod street;
+mod waiting;
 
 pub use adapters::{FileStore, ReaderSource, WriterSink};
-pub use network::{Tcp, TcpDoor, TcpLink, TcpStreet, part_of};
+pub use door::TcpDoor;
+pub use link::TcpLink;
+pub use street::TcpStreet;

@@ -1,7 +1,7 @@
 -- So many doors are in the list, none of them with a fault, and there is room for the rest.
 use Rattle.std.proofs.Common.{◌≡◌, ◌≤◌, length, vec_capacity}
 use Rattle.std.specs.List.{All}
-use Rattle.caster_net.proofs.network.open_all.Given as goal
+use Rattle.caster_net.proofs.street.open_all.Given as goal
 
 abbrev pub invariant-loop : goal.invariant-loop
 invariant-loop l = record {

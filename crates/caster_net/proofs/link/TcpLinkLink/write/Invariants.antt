@@ -1,6 +1,6 @@
 -- The piece up to `at` was taken, no write failed, and a try that would have to wait is one of 500.
 use Rattle.std.proofs.Common.{◌≡◌, ◌≤◌, ◌-◌, ◌+◌, ◌*◌, length}
-use Rattle.caster_net.proofs.network.TcpTcpStreamLink.write.Given as goal
+use Rattle.caster_net.proofs.link.TcpLinkLink.write.Given as goal
 
 abbrev pub invariant-loop-at : goal.invariant-loop-at
 invariant-loop-at l = record {
