@@ -1,5 +1,5 @@
 //! A lock is opened with an object, and its passes are dealt.
-ghost use Rattle.std.specs.Prelude.{◌≡◌, ℕ, suc, ◌<◌, ◌≤◌, [], length, vec_capacity, IfOk};
+ghost use Rattle.std.specs.Prelude.{◌≡◌, ℕ, suc, ◌<◌, ◌≤◌, [], ◌∷◌, length, vec_capacity, IfOk, None};
 ghost use mathlib.Core.Option.{some};
 ghost use lib.ListN.{get_elem?};
 ghost use Rattle.turn_log.specs.LockSteps.{after_deal};
@@ -30,19 +30,41 @@ impl<V: Played + Drop> Turn<V> {
             × IsPassOf pass opened.0) }
     {
         let list = Vec::with_capacity(alloc, passes as usize)?;
-        let mut slots = Vec::with_capacity(alloc, 1)?;
+        let (turn, first) = Turn::at_table(alloc, value, passes)?;
+        let list = turn.deal_all(first, list, passes);
+        Ok((turn, list))
+    }
+
+    /// A lock for an object that no call was made of yet, and the token that speaks for all its
+    /// callers.
+    fn at_table(alloc: Global, value: V, passes: u32) -> Result<(Turn<V>, Token<V>), AllocError>
+        requires new { V.stands value [] }
+        requires some_pass { 0 < passes }
+        ensures turn { IfOk result (λ opened. (turn_passes opened.0 ≡ passes)
+            × (turn_value opened.0 ≡ value)) }
+        ensures first { IfOk result (λ opened.
+            (opened.1.table_id ≡ opened.0.table.shared.table_id)
+            × (opened.1.me ≡ (maker value passes, []))) }
+    {
         let key = Key {
             passes,
             value: Snapshot::of(&value),
         };
-        slots.push_reserved(Held { value, last: None });
-        let Ok((table, first)) = Table::new(alloc, &[0, 0], slots, &key) else {
-            return Err(AllocError);
-        };
-        let turn = Turn { table };
-        let list = turn.deal_all(first, list, passes);
-        Ok((turn, list))
+        let slots = lone_slot(alloc, value)?;
+        match Table::new(alloc, &[0, 0], slots, &key) {
+            Ok((table, first)) => Ok((Turn { table }, first)),
+            Err(_) => Err(AllocError),
+        }
     }
+}
+
+/// The slot of a lock, with an object that no call was made of yet.
+fn lone_slot<V: Played + Drop>(alloc: Global, value: V) -> Result<Vec<Held<V, V::Call>>, AllocError>
+    ensures { IfOk result (λ slots. slots.items ≡ record { value = value; last = None } ∷ []) }
+{
+    let mut slots = Vec::with_capacity(alloc, 1)?;
+    slots.push_reserved(Held { value, last: None });
+    Ok(slots)
 }
 
 impl<V: Played> Turn<V> {
