@@ -105,15 +105,20 @@ rover_event k value = option_map (λ mount. Rover k mount) (mount_of value)
 abbrev pub relay_event : ℕ → List ℕ → Option Event
 relay_event k value = option_map (λ n. Relay k (relay_number n)) (number_of value)
 
+-- the lines of three parts that open a connection
+abbrev pub opening_event : ScriptKind → List ℕ → ℕ → List ℕ → Option Event
+opening_event kind word k value =
+    if bytes_eq word (codes "source") && is_bare kind then source_event k value
+    else if bytes_eq word (codes "rover") && is_bare kind then rover_event k value
+    else if bytes_eq word (codes "relay") && is_replay kind then relay_event k value
+    else None
+
 -- the lines of three parts
 abbrev pub long_event : ScriptKind → List ℕ → ℕ → List ℕ → Option Event
 long_event kind word k value =
     if bytes_eq word (codes "in") then in_event k value
     else if bytes_eq word (codes "turn") then turn_event k value
-    else if bytes_eq word (codes "source") && is_bare kind then source_event k value
-    else if bytes_eq word (codes "rover") && is_bare kind then rover_event k value
-    else if bytes_eq word (codes "relay") && is_replay kind then relay_event k value
-    else None
+    else opening_event kind word k value
 
 -- the event of these parts
 abbrev pub event_of_parts : ScriptKind → List (List ℕ) → Option Event

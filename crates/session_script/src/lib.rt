@@ -22,7 +22,7 @@ use thiserror::Error;
 pub use writing::{push_line, script_text};
 
 /// One event of a script. The first number of each is the connection's, from 1 to 9999.
-#[derive(Debug, PartialEq, Eq, Drop)]
+#[derive(Drop)]
 pub enum Event {
     /// A source opens, for this mountpoint.
     Source(u32, MountName),
@@ -43,7 +43,7 @@ pub enum Event {
 }
 
 /// Which lines a script may have.
-#[derive(Clone, Copy, Debug, PartialEq, Eq)]
+#[derive(Clone, Copy)]
 pub enum ScriptKind {
     /// Sources and rovers open at their mountpoints: `source` and `rover`.
     Bare,

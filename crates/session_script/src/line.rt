@@ -2,7 +2,7 @@
 
 ghost use Rattle.std.specs.Prelude.{◌≡◌, ◌-◌, ◌^◌, min, IfOk};
 ghost use Rattle.std.specs.Option.{option_map};
-ghost use Rattle.session_script.specs.Line.{is_bare, is_replay, mount_of, input_of, relay_number, short_event, long_event, event_of_line};
+ghost use Rattle.session_script.specs.Line.{is_bare, is_replay, mount_of, input_of, relay_number, short_event, opening_event, long_event, event_of_line};
 
 use crate::number::{number_of, number_within};
 use crate::parts::split_part;
@@ -85,6 +85,27 @@ fn short_event(kind: ScriptKind, word: &[u8], k: u32) -> Option<Event>
     }
 }
 
+/// The event of a line of three parts that opens a connection.
+fn opening_event(
+    alloc: Global,
+    kind: ScriptKind,
+    word: &[u8],
+    k: u32,
+    value: &[u8],
+) -> Result<Option<Event>, AllocError>
+    ensures { IfOk result (λ event. event ≡ opening_event kind word.now k value.now) }
+{
+    if word == b"source".as_slice() && is_bare(kind) {
+        Ok(mount_of(alloc, value)?.map(|mount| Event::Source(k, mount)))
+    } else if word == b"rover".as_slice() && is_bare(kind) {
+        Ok(mount_of(alloc, value)?.map(|mount| Event::Rover(k, mount)))
+    } else if word == b"relay".as_slice() && is_replay(kind) {
+        Ok(number_of(value).map(|n| Event::Relay(k, relay_number(n))))
+    } else {
+        Ok(None)
+    }
+}
+
 /// The event of a line of three parts.
 fn long_event(
     alloc: Global,
@@ -99,14 +120,8 @@ fn long_event(
         Ok(input_of(alloc, value)?.map(|input| Event::In(k, input)))
     } else if word == b"turn".as_slice() {
         Ok(number_within(LAST_BUDGET, value).map(|budget| Event::Turn(k, budget)))
-    } else if word == b"source".as_slice() && is_bare(kind) {
-        Ok(mount_of(alloc, value)?.map(|mount| Event::Source(k, mount)))
-    } else if word == b"rover".as_slice() && is_bare(kind) {
-        Ok(mount_of(alloc, value)?.map(|mount| Event::Rover(k, mount)))
-    } else if word == b"relay".as_slice() && is_replay(kind) {
-        Ok(number_of(value).map(|n| Event::Relay(k, relay_number(n))))
     } else {
-        Ok(None)
+        opening_event(alloc, kind, word, k, value)
     }
 }
 

@@ -47,6 +47,24 @@ fn decimal_of(alloc: Global, number: u64) -> Result<Vec<u8>, AllocError>
     Ok(text)
 }
 
+/// Appends a line of three parts, of which the third is a number.
+fn push_numbers(out: &mut Vec<u8>, word: &[u8], number: u32, value: u64) -> Result<(), AllocError>
+    ensures { OnOk result (out.new.items ≡ out.old.items
+        ++ join_with_byte 32 (word.now ∷ decimal number ∷ decimal value ∷ []) ++ 10 ∷ []) }
+{
+    let value = decimal_of(*out.allocator(), value)?;
+    push_long(out, word, number, &value)
+}
+
+/// Appends the line of bytes that come in, as hexadecimal digits.
+fn push_input(out: &mut Vec<u8>, number: u32, bytes: &[u8]) -> Result<(), AllocError>
+    ensures { OnOk result (out.new.items ≡ out.old.items
+        ++ line_text (Event.In number bytes.now) ++ 10 ∷ []) }
+{
+    let digits = hex::encode(*out.allocator(), bytes)?;
+    push_long(out, b"in", number, digits.as_bytes())
+}
+
 /// Appends the line of an event, with an LF.
 ///
 /// # Errors
@@ -54,23 +72,15 @@ fn decimal_of(alloc: Global, number: u64) -> Result<Vec<u8>, AllocError>
 pub fn push_line(out: &mut Vec<u8>, event: &Event) -> Result<(), AllocError>
     ensures { OnOk result (out.new.items ≡ out.old.items ++ line_text event.now ++ 10 ∷ []) }
 {
-    let alloc = *out.allocator();
     match event {
         Event::Source(number, mount) => push_long(out, b"source", *number, mount.bytes()),
         Event::Rover(number, mount) => push_long(out, b"rover", *number, mount.bytes()),
         Event::Open(number) => push_short(out, b"open", *number),
         Event::Relay(number, relay) => {
-            let relay = decimal_of(alloc, *relay as u64 + 1)?;
-            push_long(out, b"relay", *number, &relay)
+            push_numbers(out, b"relay", *number, u64::from(*relay) + 1)
         }
-        Event::In(number, bytes) => {
-            let digits = hex::encode(alloc, bytes.bytes())?;
-            push_long(out, b"in", *number, digits.as_bytes())
-        }
-        Event::Turn(number, budget) => {
-            let budget = decimal_of(alloc, *budget as u64)?;
-            push_long(out, b"turn", *number, &budget)
-        }
+        Event::In(number, bytes) => push_input(out, *number, bytes.bytes()),
+        Event::Turn(number, budget) => push_numbers(out, b"turn", *number, u64::from(*budget)),
         Event::Break(number) => push_short(out, b"break", *number),
         Event::End(number) => push_short(out, b"end", *number),
     }
@@ -81,7 +91,6 @@ pub fn push_line(out: &mut Vec<u8>, event: &Event) -> Result<(), AllocError>
 ///
 /// # Errors
 /// Where there is no memory. Then `out` is as it was.
-#[tactic(auto, using(crate::proofs::ScriptLemmas::reads_plain))]
 pub fn script_text(events: &[Event], out: &mut Vec<u8>) -> Result<(), AllocError>
     ensures ok { OnOk result (out.new.items ≡ out.old.items ++ script_text events.now) }
     ensures err { OnErr result (out.new.items ≡ out.old.items) }
