@@ -1,6 +1,7 @@
 -- A line of a word and numbers, piece by piece.
-use Rattle.std.proofs.Common.{◌≡◌, ◌∙◌, ◌++◌, ◌+◌, ◌<◌, ◌≤◌, ℕ, zero, suc, List, [], ◌∷◌, map, take, length, get_or, refl, sym, ap, append_assoc, arith}
+use Rattle.std.proofs.Common.{◌≡◌, ◌∙◌, ◌++◌, ◌+◌, ◌^◌, ◌<◌, ◌≤◌, ℕ, zero, suc, List, [], ◌∷◌, map, take, length, get_or, refl, sym, ap, append_assoc, arith}
 use Rattle.std.proofs.lemmas.List.{append-nil}
+use Rattle.std.proofs.lemmas.Fmt.{length-decimal-le_wide}
 use Rattle.std.specs.List.{join_with_byte, flat_map, zip}
 use Rattle.std.specs.Fmt.{decimal}
 use Rattle.session_core.specs.Text.{line, spaced}
@@ -70,3 +71,9 @@ zip_take (x ∷ xs) (y ∷ ys) (suc i) all = ap (λ l. (x, y) ∷ l) (zip_take x
 pub zip_all : {X Y : Type 0} (f : X × Y → List ℕ) (xs : List X) (ys : List Y) (i : ℕ) → length xs ≤ i
     → (old now : List ℕ) → now ≡ old ++ flat_map f (take i (zip xs ys)) → now ≡ old ++ flat_map f (zip xs ys)
 zip_all f xs ys i all old now is = is ∙ ap (λ l. old ++ flat_map f l) (zip_take xs ys i all)
+
+-- ---- room
+
+-- a number of 128 bits has 39 digits at most
+pub short_number : (n : ℕ) → n < 2 ^ 128 → length (decimal n) ≤ 39
+short_number n fits = length-decimal-le_wide 39 n (omega arith) (omega (arith, fits)) (omega (arith, fits))

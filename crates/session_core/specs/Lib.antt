@@ -7,6 +7,7 @@ pub mod Replies
 pub mod Run
 pub mod Reports
 pub mod Text
+pub mod Room
 pub mod Promises
 pub mod Published
 pub mod Entries

@@ -33,4 +33,4 @@ pub use report::{Closed, Connection, MountTotal, Receipt, Report};
 pub use report_lines::report_text;
 pub use rover_state::RoverState;
 pub use session::Session;
-pub use text::closed_text;
+pub use text::{closed_text, room_for_closed};
