@@ -82,7 +82,7 @@ impl<W: Write> Sink for WriterSink<W> {
 }
 
 /// A store of the file system's files, which counts its reads and its failures. A path is one of
-/// the system, seen from the folder in which the program runs.
+/// the system, seen from the folder in which the program runs. A file is closed at its end.
 #[derive(Drop)]
 pub struct FileStore<'a> {
     rt: &'a HostRuntime,
@@ -122,6 +122,9 @@ impl Source for FileStore<'_> {
             self.faults = self.faults.saturating_add(1);
             return Err(Failed);
         };
+        if count == 0 && !buf.is_empty() {
+            self.file = None;
+        }
         Ok(count)
     }
 }
