@@ -1,5 +1,5 @@
 -- What a link did while frames were fetched from it.
-use Rattle.std.proofs.Common.{◌≡◌, ◌≤◌, ◌<◌, ◌+◌, ◌^◌, ℕ, Bool, true, false, IsTrue, List, [], ◌∷◌, ◌++◌, length, take, Option, refl, ap, sym, subst, ◌∙◌, inl, inr, arith, append_assoc, length-append}
+use Rattle.std.proofs.Common.{◌≡◌, ◌≤◌, ◌<◌, ◌+◌, ◌^◌, ℕ, Bool, true, false, IsTrue, List, [], ◌∷◌, ◌++◌, length, take, Option, None, Some, refl, ap, sym, subst, ◌∙◌, inl, inr, arith, append_assoc, length-append}
 use Rattle.std.specs.List.{list_all}
 use Rattle.std.proofs.lemmas.Bool.{and_parts}
 use Rattle.std.proofs.lemmas.List.{append-nil}
@@ -22,8 +22,8 @@ use Rattle.ntrip_fetch.specs.declared.stage.Stage.{Stage}
 use Rattle.ntrip_fetch.specs.declared.stage.Stage.TheVariants as stages
 use Rattle.ntrip_fetch.specs.Answered.{IsWanting}
 use Rattle.ntrip_fetch.specs.Steps.{goes_on, IsLastIf, AreNeeded}
-use Rattle.ntrip_fetch.specs.Stages.{IsAtStage, IsDecided, StageLeft, StageTorn}
-use Rattle.ntrip_fetch.specs.Fetched.{HasTaken, HasReceived, ReceivingBroken, IsLeft}
+use Rattle.ntrip_fetch.specs.Stages.{IsAtStage, IsDecided, StageIs, StageLeft, StageTorn}
+use Rattle.ntrip_fetch.specs.Fetched.{HasTaken, HasReceived, HeardIs, Receiving, ReceivingBroken, IsLeft}
 use Rattle.ntrip_fetch.proofs.StageLemmas.{StillOpen, open_at, wanting}
 
 -- ---- steps
@@ -42,15 +42,21 @@ last_alone false = refl
 -- one step more was needed, too
 needed_more : (most : ℕ) (bytes : List ℕ) (taken : List Step) (step : Step)
     → IsTrue (list_all goes_on taken) → AreNeeded most bytes taken → IsWanting most (bytes ++ bytes_in taken)
-    → AreNeeded most bytes (taken ++ step ∷ [])
-needed_more most bytes [] step quiet needed wants =
-    (subst (IsWanting most) (append-nil bytes) wants, last_alone (goes_on step), tt)
-needed_more most bytes (x ∷ taken) step quiet needed wants =
-    let parts = and_parts (goes_on x) (list_all goes_on taken) quiet in (
+    → length (bytes ++ bytes_in taken) < 2 ^ 62 → AreNeeded most bytes (taken ++ step ∷ [])
+needed_more most bytes [] step quiet needed wants few = (
+  subst (IsWanting most) (append-nil bytes) wants,
+  subst (λ (l : List ℕ). length l < 2 ^ 62) (append-nil bytes) few,
+  last_alone (goes_on step),
+  tt,
+)
+needed_more most bytes (x ∷ taken) step quiet needed wants few =
+    let parts = and_parts (goes_on x) (list_all goes_on taken) quiet in
+    let same = sym (append_assoc bytes (bytes_of x) (bytes_in taken)) in (
       needed.0,
+      needed.1,
       last_quiet x (taken ++ step ∷ []) parts.0,
-      needed_more most (bytes ++ bytes_of x) taken step parts.1 needed.2
-          (subst (IsWanting most) (sym (append_assoc bytes (bytes_of x) (bytes_in taken))) wants),
+      needed_more most (bytes ++ bytes_of x) taken step parts.1 needed.3 (subst (IsWanting most) same wants)
+          (subst (λ (l : List ℕ). length l < 2 ^ 62) same few),
     )
 
 bytes_more : (taken : List Step) (step : Step) → bytes_in (taken ++ step ∷ []) ≡ bytes_in taken ++ bytes_of step
@@ -69,12 +75,13 @@ quiet_more (x ∷ taken) step quiet so =
 -- a step more, and nothing written
 taken_more : (most : ℕ) (a b c : LinkTold) (taken : List Step) (result : Got) (buf : List ℕ)
     → HasTaken most a b taken → IsTrue (list_all goes_on taken) → IsWanting most (bytes_in taken)
-    → HasRead b c result buf → HasTaken most a c (taken ++ step_of result buf ∷ [])
-taken_more most a b c taken result buf so_far quiet wants read = record {
+    → length (bytes_in taken) < 2 ^ 62 → HasRead b c result buf
+    → HasTaken most a c (taken ++ step_of result buf ∷ [])
+taken_more most a b c taken result buf so_far quiet wants few read = record {
   given = read.given ∙ so_far.given;
   steps = grew_both a.taken b.taken c.taken taken (step_of result buf ∷ []) so_far.steps read.taken;
   bytes = subst (λ told. Grew a.bytes told []) (sym read.bytes) so_far.bytes;
-  needed = needed_more most [] taken (step_of result buf) quiet so_far.needed wants;
+  needed = needed_more most [] taken (step_of result buf) quiet so_far.needed wants few;
   later = omega (arith, so_far.later, read.later);
 }
 
@@ -89,15 +96,6 @@ taken_none most a = record {
 
 -- ---- the loop
 
--- all that the link gave so far was taken, and the fetch goes on
-pub record Receiving (most : ℕ) (before told : LinkTold) (start now : Option (List ℕ)) (stage : Stage)
-    (count given : ℕ) : Type 0 where
-  pub taken : List Step
-  pub link : HasTaken most before told taken
-  pub quiet : IsTrue (list_all goes_on taken)
-  pub stands : IsAtStage start now most stage (bytes_in taken) count
-  pub size : given ≡ length (bytes_in taken)
-
 pub begins : (most : ℕ) (told : LinkTold) (now : Option (List ℕ)) (head : List ℕ) → head ≡ [] → IsAnswer head Open
     → Appends now now [] → Receiving most told told now now (stages.Head head) 0 0
 begins most told now head empty open_ none = record {
@@ -110,18 +108,18 @@ begins most told now head empty open_ none = record {
 
 -- the link gave bytes, or nothing yet, and the fetch goes on
 pub goes_more : (most : ℕ) (before told later : LinkTold) (start now then_ : Option (List ℕ)) (stage next : Stage)
-    (count counted given more : ℕ) (result : Got) (buf : List ℕ) → 0 < most
+    (count counted given more : ℕ) (result : Got) (buf : List ℕ) → 0 < most → given < 2 ^ 62
     → (x : Receiving most before told start now stage count given) → HasRead told later result buf
     → IsTrue (goes_on (step_of result buf)) → more ≡ given + length (bytes_of (step_of result buf))
     → IsAtStage start then_ most next (bytes_in x.taken ++ bytes_of (step_of result buf)) counted
     → Receiving most before later start then_ next counted more
-goes_more most before told later start now then_ stage next count counted given more result buf some x read so size
+goes_more most before told later start now then_ stage next count counted given more result buf some few x read so size
     stands =
     let step = step_of result buf in record {
       taken = x.taken ++ step ∷ [];
       link = taken_more most before told later x.taken result buf x.link x.quiet
           (wanting start now most (bytes_in x.taken) count (open_at start now most stage (bytes_in x.taken) count some
-          x.stands))
+          x.stands)) (omega (arith, few, x.size))
           read;
       quiet = quiet_more x.taken step x.quiet so;
       stands = subst (λ l. IsAtStage start then_ most next l counted) (sym (bytes_more x.taken step)) stands;
@@ -160,18 +158,18 @@ left_by most before after taken answer count (BadChunk place) x = x
 
 -- by what its bytes say
 pub is_left : (most : ℕ) (before told later : LinkTold) (start now then_ : Option (List ℕ)) (stage : Stage)
-    (count given : ℕ) (tried : Try) (n : ℕ) (buf : List ℕ) → 0 < most
+    (count given : ℕ) (tried : Try) (n : ℕ) (buf : List ℕ) → 0 < most → given < 2 ^ 62
     → (x : Receiving most before told start now stage count given) → HasRead told later (got.Bytes n) buf
     → StageLeft start then_ most (bytes_in x.taken ++ take n buf) tried.frames tried.left
     → HasReceived most before later start then_ tried
-is_left most before told later start now then_ stage count given tried n buf some x read left =
+is_left most before told later start now then_ stage count given tried n buf some few x read left =
     let step : Step = took.Bytes (take n buf) in
     let on : StageLeft start then_ most (bytes_in (x.taken ++ step ∷ [])) tried.frames tried.left =
     subst (λ l. StageLeft start then_ most l tried.frames tried.left) (sym (bytes_more x.taken step)) left in record {
       taken = x.taken ++ step ∷ [];
       link = taken_more most before told later x.taken (got.Bytes n) buf x.link x.quiet
           (wanting start now most (bytes_in x.taken) count (open_at start now most stage (bytes_in x.taken) count some
-          x.stands))
+          x.stands)) (omega (arith, few, x.size))
           read;
       answer = on.answer;
       says = on.says;
@@ -181,15 +179,15 @@ is_left most before told later start now then_ stage count given tried n buf som
 
 -- the sink failed
 pub is_broken : (most : ℕ) (before told later : LinkTold) (start now then_ : Option (List ℕ)) (stage : Stage)
-    (count given : ℕ) (n : ℕ) (buf : List ℕ) → 0 < most
+    (count given : ℕ) (n : ℕ) (buf : List ℕ) → 0 < most → given < 2 ^ 62
     → (x : Receiving most before told start now stage count given) → HasRead told later (got.Bytes n) buf
     → StageTorn start then_ most (bytes_in x.taken ++ take n buf) → ReceivingBroken most before later start then_
-is_broken most before told later start now then_ stage count given n buf some x read torn =
+is_broken most before told later start now then_ stage count given n buf some few x read torn =
     let step : Step = took.Bytes (take n buf) in record {
       taken = x.taken ++ step ∷ [];
       link = taken_more most before told later x.taken (got.Bytes n) buf x.link x.quiet
           (wanting start now most (bytes_in x.taken) count (open_at start now most stage (bytes_in x.taken) count some
-          x.stands))
+          x.stands)) (omega (arith, few, x.size))
           read;
       torn = subst (StageTorn start then_ most) (sym (bytes_more x.taken step)) torn;
     }
@@ -220,15 +218,15 @@ open_still start now most taken step count none x =
 -- it ended
 pub has_ended : (most : ℕ) (before told later : LinkTold) (start now : Option (List ℕ)) (stage : Stage)
     (count given : ℕ)
-    (buf : List ℕ) → 0 < most → Receiving most before told start now stage count given
+    (buf : List ℕ) → 0 < most → given < 2 ^ 62 → Receiving most before told start now stage count given
     → HasRead told later got.End buf
     → HasReceived most before later start now (record { frames = count; left = End })
-has_ended most before told later start now stage count given buf some x read =
+has_ended most before told later start now stage count given buf some few x read =
     let open_ = open_at start now most stage (bytes_in x.taken) count some x.stands in
     let on = open_still start now most x.taken took.End count refl open_ in record {
       taken = x.taken ++ took.End ∷ [];
       link = taken_more most before told later x.taken got.End buf x.link x.quiet
-          (wanting start now most (bytes_in x.taken) count open_) read;
+          (wanting start now most (bytes_in x.taken) count open_) (omega (arith, few, x.size)) read;
       answer = on.answer;
       says = on.says;
       wrote = on.wrote;
@@ -238,15 +236,15 @@ has_ended most before told later start now stage count given buf some x read =
 -- a read of it failed
 pub has_failed : (most : ℕ) (before told later : LinkTold) (start now : Option (List ℕ)) (stage : Stage)
     (count given : ℕ)
-    (buf : List ℕ) → 0 < most → Receiving most before told start now stage count given
+    (buf : List ℕ) → 0 < most → given < 2 ^ 62 → Receiving most before told start now stage count given
     → HasRead told later got.Failed buf
     → HasReceived most before later start now (record { frames = count; left = LinkFault })
-has_failed most before told later start now stage count given buf some x read =
+has_failed most before told later start now stage count given buf some few x read =
     let open_ = open_at start now most stage (bytes_in x.taken) count some x.stands in
     let on = open_still start now most x.taken took.ReadFailed count refl open_ in record {
       taken = x.taken ++ took.ReadFailed ∷ [];
       link = taken_more most before told later x.taken got.Failed buf x.link x.quiet
-          (wanting start now most (bytes_in x.taken) count open_) read;
+          (wanting start now most (bytes_in x.taken) count open_) (omega (arith, few, x.size)) read;
       answer = on.answer;
       says = on.says;
       wrote = on.wrote;
@@ -257,3 +255,30 @@ has_failed most before told later start now stage count given buf some x read =
         omega (arith, x.link.later, read.failed refl),
       );
     }
+
+-- ---- one read
+
+-- bytes came, and what they say is known
+pub heard_bytes : (most : ℕ) (before told later : LinkTold) (start now then_ : Option (List ℕ)) (stage next : Stage)
+    (count counted given more n : ℕ) (buf : List ℕ) (left : Option Left) → 0 < most → given < 2 ^ 62
+    → (x : Receiving most before told start now stage count given) → HasRead told later (got.Bytes n) buf
+    → more ≡ given + length (take n buf)
+    → StageIs start then_ most next (bytes_in x.taken ++ take n buf) counted left
+    → HeardIs most before later start then_ next counted more left
+heard_bytes most before told later start now then_ stage next count counted given more n buf None some few x read size
+    is =
+    goes_more most before told later start now then_ stage next count counted given more (got.Bytes n) buf some few x
+    read refl size is
+heard_bytes most before told later start now then_ stage next count counted given more n buf (Some left) some few x
+    read size is =
+    is_left most before told later start now then_ stage count given (record { frames = counted; left = left }) n buf
+    some few x read is
+
+-- nothing came yet
+pub heard_nothing : (most : ℕ) (before told later : LinkTold) (start now : Option (List ℕ)) (stage : Stage)
+    (count given : ℕ) (buf : List ℕ) → 0 < most → given < 2 ^ 62 → Receiving most before told start now stage count given
+    → HasRead told later got.Idle buf → Receiving most before later start now stage count given
+heard_nothing most before told later start now stage count given buf some few x read =
+    goes_more most before told later start now now stage stage count count given given got.Idle buf some few x read refl
+    (omega arith)
+    (subst (λ l. IsAtStage start now most stage l count) (sym (append-nil (bytes_in x.taken))) x.stands)

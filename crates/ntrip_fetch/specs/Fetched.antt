@@ -1,6 +1,6 @@
 -- What a fetch over one link came to.
-use Rattle.std.specs.Prelude.{◌≡◌, ◌<◌, ◌≤◌, ℕ, List, [], length, take, Option}
-use Rattle.std.specs.List.{concat}
+use Rattle.std.specs.Prelude.{◌≡◌, ◌<◌, ◌≤◌, ℕ, IsTrue, List, [], length, take, Option, None, Some}
+use Rattle.std.specs.List.{concat, list_all}
 use Rattle.std.specs.Io.KnownBytes.{Appends}
 use Rattle.cast_io.specs.Pieces.{AppendsPrefix}
 use Rattle.cast_io.specs.declared.steps.Step.{Step}
@@ -14,12 +14,13 @@ use Rattle.ntrip_fetch.specs.declared.target.Target.{Target}
 use Rattle.ntrip_fetch.specs.declared.left.Left.{Left}
 use Rattle.ntrip_fetch.specs.declared.left.Left.TheVariants.{Enough, Dial, End, LinkFault, BadHead, LongHead, Coding, Table, Status, Done, BadChunk}
 use Rattle.ntrip_fetch.specs.declared.left.Try.{Try}
+use Rattle.ntrip_fetch.specs.declared.stage.Stage.{Stage}
 use Rattle.ntrip_fetch.specs.Request.{target_request}
 use Rattle.ntrip_fetch.specs.Answered.{answered, IsDone, IsFaulty, MayFollow}
-use Rattle.ntrip_fetch.specs.Steps.{AreNeeded, HasRunOut, FailsLast, IsSent}
+use Rattle.ntrip_fetch.specs.Steps.{AreNeeded, HasRunOut, FailsLast, IsSent, goes_on}
 use Rattle.cast_io.specs.Links.{bytes_in}
 use Rattle.ntrip_fetch.specs.Writing.{HasWritten}
-use Rattle.ntrip_fetch.specs.Stages.{StageTorn}
+use Rattle.ntrip_fetch.specs.Stages.{IsAtStage, StageTorn}
 
 -- The link took these steps and was sent the request; by all bytes that it gave, `frames` are those
 -- that are wanted of it.
@@ -97,6 +98,15 @@ pub record HasTaken (most : ℕ) (before after : LinkTold) (taken : List Step) :
   pub needed : AreNeeded most [] taken
   pub later : before.faults ≤ after.faults
 
+-- all that the link gave so far was taken, and the fetch goes on
+pub record Receiving (most : ℕ) (before told : LinkTold) (start now : Option (List ℕ))
+    (stage : Stage) (count given : ℕ) : Type 0 where
+  pub taken : List Step
+  pub link : HasTaken most before told taken
+  pub quiet : IsTrue (list_all goes_on taken)
+  pub stands : IsAtStage start now most stage (bytes_in taken) count
+  pub size : given ≡ length (bytes_in taken)
+
 -- frames were written as many as are wanted of all bytes that the link gave, and then it was left
 pub record HasReceived (most : ℕ) (before after : LinkTold) (start now : Option (List ℕ))
     (tried : Try) : Type 0 where
@@ -113,3 +123,11 @@ pub record ReceivingBroken (most : ℕ) (before after : LinkTold) (start now : O
   pub taken : List Step
   pub link : HasTaken most before after taken
   pub torn : StageTorn start now most (bytes_in taken)
+
+-- after one read more the fetch goes on, or the link is left
+abbrev pub HeardIs : ℕ → LinkTold → LinkTold → Option (List ℕ) → Option (List ℕ) → Stage → ℕ → ℕ
+    → Option Left → Type 0
+HeardIs most before told start now stage count given None =
+    Receiving most before told start now stage count given
+HeardIs most before told start now stage count given (Some left) =
+    HasReceived most before told start now (record { frames = count; left = left })

@@ -1,5 +1,5 @@
 -- The steps of a link from which frames are fetched.
-use Rattle.std.specs.Prelude.{◌≡◌, ◌≤◌, ◌⊎◌, ◌^◌, ℕ, ⊤, Bool, true, false, IsTrue, List, [], ◌∷◌, ◌++◌, length, take}
+use Rattle.std.specs.Prelude.{◌≡◌, ◌<◌, ◌≤◌, ◌⊎◌, ◌^◌, ℕ, ⊤, Bool, true, false, IsTrue, List, [], ◌∷◌, ◌++◌, length, take}
 use Rattle.cast_io.specs.declared.steps.Step.{Step}
 use Rattle.cast_io.specs.declared.steps.Step.TheVariants as took
 use Rattle.cast_io.specs.Links.{bytes_of, bytes_in, is_failure}
@@ -18,12 +18,12 @@ abbrev pub IsLastIf : Bool → List Step → Type 0
 IsLastIf true more = ⊤
 IsLastIf false more = more ≡ []
 
--- Behind these bytes each of the steps was needed: the bytes before it were wanting, and no call
--- followed an end or a failure.
+-- Behind these bytes each of the steps was needed: the bytes before it were wanting and fewer than
+-- 2^62, and no call followed an end or a failure.
 abbrev pub AreNeeded : ℕ → List ℕ → List Step → Type 0
 AreNeeded most bytes [] = ⊤
 AreNeeded most bytes (step ∷ more) =
-    IsWanting most bytes × IsLastIf (goes_on step) more
+    IsWanting most bytes × (length bytes < 2 ^ 62) × IsLastIf (goes_on step) more
     × AreNeeded most (bytes ++ bytes_of step) more
 
 -- the last step was a read that answered the end; or the link gave 2^62 bytes or more

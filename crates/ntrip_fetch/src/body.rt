@@ -16,7 +16,7 @@ use rtcm_frame::Cutter;
 
 /// A body that goes on: as it is, or in the chunked transfer coding (RFC 9112, section 7.1), with
 /// what was not cut into frames yet.
-#[derive(Debug, Drop)]
+#[derive(Drop)]
 pub(crate) struct Body {
     pub(crate) chunks: Option<Dechunk>,
     pub(crate) cutter: Cutter,

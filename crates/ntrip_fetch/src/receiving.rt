@@ -1,15 +1,16 @@
 //! A fetch over one link.
 
-ghost use Rattle.std.specs.Prelude.{◌≡◌, ◌<◌, ◌≤◌, ℕ, List, [], Option, IfOk, IsErrOf, OnOk};
+ghost use Rattle.std.specs.Prelude.{◌≡◌, ◌+◌, ◌^◌, ◌<◌, ◌≤◌, ℕ, List, [], length, Option, IfOk, IsErrOf, OnErr, OnOk};
 ghost use Rattle.cast_io.specs.Causes.{Rose};
+ghost use Rattle.cast_io.specs.Told.{LinkTold};
 ghost use Rattle.ntrip_client.specs.Answer.{IsAnswer};
 ghost use Rattle.ntrip_fetch.specs.Request.{IsSpoken, target_request};
-ghost use Rattle.ntrip_fetch.specs.Fetched.{LinkBroken, LinkFetched, HasReceived, ReceivingBroken};
+ghost use Rattle.ntrip_fetch.specs.Fetched.{LinkBroken, LinkFetched, HasReceived, HeardIs, Receiving, ReceivingBroken};
 
 use crate::left::{FetchFault, Left, Try};
 use crate::stage::{Stage, take};
 use crate::target::{Target, request_of};
-use cast_io::{Got, Link, Sink};
+use cast_io::{Failed, Got, Link, Sink};
 use ntrip_client::{Answer, AnswerHead};
 use std::alloc::Global;
 use std::sync::Wait;
@@ -19,6 +20,52 @@ const MOST: u64 = 1 << 62;
 
 /// How many bytes one read takes at most.
 const PIECE: usize = 4096;
+
+/// Reads the link once, and writes the frames that the bytes complete which it gave, until `most`
+/// were written in all. Answers why the link is to be left, if it is. It rests where it gave nothing.
+fn hear<L: Link, O: Sink>(
+    stage: &mut Stage,
+    frames: &mut u64,
+    most: u64,
+    given: &mut u64,
+    piece: &mut [u8],
+    link: &mut L,
+    out: &mut O,
+) -> Result<Option<Left>, Failed>
+    requires some { 0 < most }
+    requires size { length piece.old ≡ 4096 }
+    requires few { given.old < 2 ^ 62 }
+    requires received { (before : LinkTold) × (start : Option (List ℕ))
+        × Receiving most before (L.told link.old) start (O.taken out.old) stage.old frames.old
+        given.old }
+    ensures few { given.new < 2 ^ 62 + 4096 }
+    ensures heard { IfOk result (λ left. (before : LinkTold) (start : Option (List ℕ))
+        → Receiving most before (L.told link.old) start (O.taken out.old) stage.old frames.old
+        given.old
+        → HeardIs most before (L.told link.new) start (O.taken out.new) stage.new frames.new
+        given.new left) }
+    ensures broken { OnErr result ((before : LinkTold) (start : Option (List ℕ))
+        → Receiving most before (L.told link.old) start (O.taken out.old) stage.old frames.old
+        given.old
+        → ReceivingBroken most before (L.told link.new) start (O.taken out.new)) }
+    ensures unharmed { OnOk result (O.faults out.new ≡ O.faults out.old) }
+    ensures later { O.faults out.old ≤ O.faults out.new }
+    ensures cause { OnErr result (Rose (O.faults out.old) (O.faults out.new)) }
+{
+    match link.read(piece) {
+        Got::Bytes(count) => {
+            *given += count as u64;
+            let left = take(stage, frames, most, &piece[..count], out)?;
+            Ok(left)
+        }
+        Got::Idle => {
+            link.rest();
+            Ok(None)
+        }
+        Got::End => Ok(Some(Left::End)),
+        Got::Failed => Ok(Some(Left::LinkFault)),
+    }
+}
 
 /// Reads the link, to which the request was sent, and writes frames until `most` were written or
 /// the link is left.
@@ -53,28 +100,18 @@ fn receive<L: Link, O: Sink, R: Wait>(
                 left: Left::End,
             });
         }
-        match link.read(&mut piece) {
-            Got::Bytes(count) => {
-                given += count as u64;
-                match take(&mut stage, &mut frames, most, &piece[..count], out) {
-                    Ok(None) => {}
-                    Ok(Some(left)) => return Ok(Try { frames, left }),
-                    Err(_) => return Err(FetchFault::Sink),
-                }
-            }
-            Got::Idle => link.rest(),
-            Got::End => {
-                return Ok(Try {
-                    frames,
-                    left: Left::End,
-                });
-            }
-            Got::Failed => {
-                return Ok(Try {
-                    frames,
-                    left: Left::LinkFault,
-                });
-            }
+        match hear(
+            &mut stage,
+            &mut frames,
+            most,
+            &mut given,
+            &mut piece,
+            link,
+            out,
+        ) {
+            Ok(None) => {}
+            Ok(Some(left)) => return Ok(Try { frames, left }),
+            Err(_) => return Err(FetchFault::Sink),
         }
     }
     unreachable!()

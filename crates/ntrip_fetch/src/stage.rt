@@ -12,7 +12,7 @@ use cast_io::{Failed, Sink};
 use ntrip_client::{Answer, AnswerHead};
 
 /// How far a fetch is with what its link gives.
-#[derive(Debug, Drop)]
+#[derive(Drop)]
 pub(crate) enum Stage {
     /// The head of the answer comes.
     Head(AnswerHead),

@@ -8,9 +8,8 @@ use cast_text::{MountName, Text, UserName};
 use ntrip_client::push_request;
 use ntrip_head::Version;
 use std::alloc::AllocError;
-use std::fmt;
 
-/// A mountpoint of a caster, and as whom it is asked for.
+/// A mountpoint of a caster, and as whom it is asked for. It is shown nowhere, for its password.
 #[derive(Drop)]
 pub struct Target {
     /// The version of NTRIP that is spoken there, 1 or 2.
@@ -23,18 +22,6 @@ pub struct Target {
     pub user: Option<UserName>,
     /// The password there; it is sent only where there is a user.
     pub password: Text,
-}
-
-// A password is not shown.
-impl fmt::Debug for Target {
-    fn fmt<W: fmt::Write>(&self, f: &mut fmt::Formatter<W>) -> fmt::Result {
-        f.debug_struct("Target")
-            .field("protocol", &self.protocol)
-            .field("address", &self.address)
-            .field("mount", &self.mount)
-            .field("user", &self.user)
-            .finish_non_exhaustive()
-    }
 }
 
 /// The version of NTRIP that this protocol is.

@@ -1,6 +1,6 @@
 -- all that the link gave was taken
 use Rattle.std.proofs.Common.{◌≡◌, ◌+◌, ◌<◌, ◌^◌, length}
-use Rattle.ntrip_fetch.proofs.ReceivingLemmas.{Receiving}
+use Rattle.ntrip_fetch.specs.Fetched.{Receiving}
 use Rattle.ntrip_fetch.proofs.receiving.receive.Given as goal
 
 abbrev pub invariant-loop : goal.invariant-loop
