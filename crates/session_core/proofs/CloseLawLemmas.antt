@@ -71,13 +71,18 @@ is_closed c alone old now me ended j steps plan last receipt (Err fault) due set
   receipt_is = told;
 }
 
--- all that was called is its own, whether its turn was taken or refused
+-- all that was called is what gives back what was held, or nothing where its turn was refused
 pub called_either : (c : Config) (alone : Bool) (old now : Histories) (me : ℕ) (plan : Plan)
-    (settled : Result (Unit {0}) TurnFault) → OnOk settled (Makes c alone old now me plan)
-    → OnErr settled (now ≡ old) → (more : List Step) × Called c alone old now me more
-called_either c alone old now me plan (Ok x) makes same = (makes.more, makes.called)
-called_either c alone old now me plan (Err fault) makes same =
-    ([], subst (λ (h : Histories). Called c alone old h me []) (sym same) (called_none c alone old me))
+    (settled : Result (Unit {0}) TurnFault) (told : Bool) → told ≡ is_ok settled
+    → OnOk settled (Makes c alone old now me plan) → OnErr settled (now ≡ old)
+    → (more : List Step) × Called c alone old now me more × IsSettled told plan more
+called_either c alone old now me plan (Ok x) told is makes same =
+    (makes.more, makes.called, subst (λ (b : Bool). IsSettled b plan makes.more) (sym is) makes.made)
+called_either c alone old now me plan (Err fault) told is makes same = (
+  [],
+  subst (λ (h : Histories). Called c alone old h me []) (sym same) (called_none c alone old me),
+  subst (λ (b : Bool). IsSettled b plan []) (sym is) refl,
+)
 
 -- ---- why its turn was refused
 

@@ -1,6 +1,6 @@
 -- A source at one of several places.
 use Rattle.std.proofs.Common.{◌≡◌, ◌∙◌, ◌<◌, ◌≤◌, ℕ, Bool, true, false, List, [], ◌∷◌, length, map, get_or, set, refl, sym, ap, subst, arith, Result, Ok, Err, Option, None, Some}
-use Rattle.std.specs.Prelude.{IfErr, OnOk, ◌^◌}
+use Rattle.std.specs.Prelude.{Contains, IfErr, OnOk, ◌^◌}
 use Rattle.std.specs.List.{list_all}
 use Rattle.std.proofs.lemmas.List.{get_or-map, get_or-set_same, length-map, length-set}
 use Rattle.turn_log.specs.History.{History}
@@ -48,30 +48,38 @@ worn_there worn places mount new given within is most =
       most,
     )
 
+-- the place there may lack memory
+pub lacks_there : {P : Type 0} (may_lack : P → Bool) (places : List P) (mount : ℕ) (d : P) → mount < length places
+    → may_lack (get_or places mount d) ≡ true → Contains (map may_lack places) true
+lacks_there may_lack places mount d within is =
+    (mount, omega (arith, within, length-map places may_lack), get_or-map may_lack places mount d true within ∙ is)
+
 pub turn_refused_at : {P : Type 0} (may_lack : P → Bool) (worn : P → ℕ) (places : List P) (mount : ℕ) (d new : P)
     (fault : TurnFault) → mount < length places → IsFault (may_lack (get_or places mount d)) (worn new) fault
     → IsTurnRefused (map may_lack places) (map worn (set places mount new)) fault
 turn_refused_at may_lack worn places mount d new (turns.Worn given) within is =
     worn_there worn places mount new given within is.0 is.1
 turn_refused_at may_lack worn places mount d new turns.Memory within is =
-    (mount, omega (arith, within, length-map places may_lack), get_or-map may_lack places mount d true within ∙ is)
+    lacks_there may_lack places mount d within is
 
-pub claim_refused_at : {P : Type 0} (may_lack : Bool) (worn : P → ℕ) (places : List P) (mount : ℕ) (new : P)
-    (fault : ClaimFault) → mount < length places → IsClaimFault may_lack (worn new) fault
-    → IsClaimRefused (map worn (set places mount new)) fault
-claim_refused_at may_lack worn places mount new (claims.Taken caller claim) within is = tt
-claim_refused_at may_lack worn places mount new (claims.Worn given) within is = worn_there worn places mount new given
-    within is.0 is.1
-claim_refused_at may_lack worn places mount new claims.Memory within is = tt
+pub claim_refused_at : {P : Type 0} (may_lack : P → Bool) (worn : P → ℕ) (places : List P) (mount : ℕ) (d new : P)
+    (fault : ClaimFault) → mount < length places → IsClaimFault (may_lack (get_or places mount d)) (worn new) fault
+    → IsClaimRefused (map may_lack places) (map worn (set places mount new)) fault
+claim_refused_at may_lack worn places mount d new (claims.Taken caller claim) within is = tt
+claim_refused_at may_lack worn places mount d new (claims.Worn given) within is =
+    worn_there worn places mount new given within is.0 is.1
+claim_refused_at may_lack worn places mount d new claims.Memory within is =
+    lacks_there may_lack places mount d within is
 
-pub feed_refused_at : {P : Type 0} (may_lack : Bool) (worn : P → ℕ) (places : List P) (mount : ℕ) (new : P)
-    (halt : SourceHalt) → mount < length places → IsHaltOf may_lack (worn new) halt
-    → IsFeedRefused (map worn (set places mount new)) halt
-feed_refused_at may_lack worn places mount new sources.Done within is = tt
-feed_refused_at may_lack worn places mount new (sources.BadChunk place) within is = tt
-feed_refused_at may_lack worn places mount new (sources.Worn given) within is = worn_there worn places mount new given
-    within is.0 is.1
-feed_refused_at may_lack worn places mount new sources.Memory within is = tt
+pub feed_refused_at : {P : Type 0} (may_lack : P → Bool) (worn : P → ℕ) (places : List P) (mount : ℕ) (d new : P)
+    (halt : SourceHalt) → mount < length places → IsHaltOf (may_lack (get_or places mount d)) (worn new) halt
+    → IsFeedRefused (map may_lack places) (map worn (set places mount new)) halt
+feed_refused_at may_lack worn places mount d new sources.Done within is = tt
+feed_refused_at may_lack worn places mount d new (sources.BadChunk place) within is = tt
+feed_refused_at may_lack worn places mount d new (sources.Worn given) within is =
+    worn_there worn places mount new given within is.0 is.1
+feed_refused_at may_lack worn places mount d new sources.Memory within is =
+    lacks_there may_lack places mount d within is
 
 -- ---- a claim that was not given
 

@@ -1,10 +1,14 @@
 -- A line of a word and numbers, piece by piece.
 use Rattle.std.proofs.Common.{◌≡◌, ◌∙◌, ◌++◌, ◌+◌, ◌^◌, ◌<◌, ◌≤◌, ℕ, zero, suc, List, [], ◌∷◌, map, take, length, get_or, refl, sym, ap, append_assoc, arith}
-use Rattle.std.proofs.lemmas.List.{append-nil}
+use Rattle.std.proofs.lemmas.List.{append-nil, take_more}
 use Rattle.std.proofs.lemmas.Fmt.{length-decimal-le_wide}
+use Rattle.std.proofs.lemmas.Grind.{flat_map-append}
 use Rattle.std.specs.List.{join_with_byte, flat_map, zip}
+use Rattle.std.specs.Prelude.{codes}
 use Rattle.std.specs.Fmt.{decimal}
-use Rattle.session_core.specs.Text.{line, spaced}
+use Rattle.session_core.specs.declared.ending.Ending.{Ending}
+use Rattle.session_core.specs.declared.ending.Ending.TheVariants.{SourceEnd, RoverEnd, TableSent, NoHead, BadHead, LongHead, Method, Coding, NoMount, NoAccount, Password, SourcePassword, Denied, Taken, Full, BadChunk, UpstreamTable, Upstream, ReadFault, WriteFault, Worn, Memory}
+use Rattle.session_core.specs.Text.{ending_words, line, spaced}
 
 join_spaced : (word numbers : List ℕ) → join_with_byte 32 (word ∷ map decimal numbers) ≡ word ++ spaced numbers
 join_spaced word [] = sym (append-nil word)
@@ -27,6 +31,81 @@ pub three_pieces : (old front mid now a b c : List ℕ) → front ≡ old ++ a �
     → now ≡ old ++ ((a ++ b) ++ c)
 three_pieces old front mid now a b c first second third =
     two_pieces old mid now (a ++ b) c (two_pieces old front mid a b first second) third
+
+-- ---- the line of an ending behind a number
+
+-- words of which there is a first
+record HasFirst (words : List (List ℕ)) : Type 0 where
+  first : List ℕ
+  others : List (List ℕ)
+  is : words ≡ first ∷ others
+
+has_first : (first : List ℕ) (others : List (List ℕ)) → HasFirst (first ∷ others)
+has_first first others = record { first = first; others = others; is = refl }
+
+ending_first : (ending : Ending) → HasFirst (ending_words ending)
+ending_first (SourceEnd claim) = has_first (codes "source-end") (decimal claim ∷ [])
+ending_first RoverEnd = has_first (codes "rover-end") []
+ending_first TableSent = has_first (codes "table-sent") []
+ending_first NoHead = has_first (codes "no-head") []
+ending_first BadHead = has_first (codes "bad-head") []
+ending_first LongHead = has_first (codes "long-head") []
+ending_first Method = has_first (codes "method") []
+ending_first Coding = has_first (codes "coding") []
+ending_first NoMount = has_first (codes "no-mount") []
+ending_first NoAccount = has_first (codes "no-account") []
+ending_first (Password account) = has_first (codes "password") (decimal account ∷ [])
+ending_first SourcePassword = has_first (codes "source-password") []
+ending_first (Denied group) = has_first (codes "denied") (decimal group ∷ [])
+ending_first (Taken caller claim) = has_first (codes "taken") (decimal caller ∷ decimal claim ∷ [])
+ending_first (Full busy cap) = has_first (codes "full") (decimal busy ∷ decimal cap ∷ [])
+ending_first (BadChunk place) = has_first (codes "bad-chunk") (decimal place ∷ [])
+ending_first UpstreamTable = has_first (codes "upstream-table") []
+ending_first (Upstream status) = has_first (codes "upstream") (decimal status ∷ [])
+ending_first ReadFault = has_first (codes "read-fault") []
+ending_first WriteFault = has_first (codes "write-fault") []
+ending_first (Worn turns) = has_first (codes "worn") (decimal turns ∷ [])
+ending_first Memory = has_first (codes "memory") []
+
+-- two words in front of others
+behind_two : (kind number first : List ℕ) (others : List (List ℕ))
+    → (kind ++ 32 ∷ []) ++ (number ++ 32 ∷ line (first ∷ others)) ≡ line (kind ∷ number ∷ first ∷ others)
+behind_two kind number first others =
+    let words = join_with_byte 32 (first ∷ others) in
+    append_assoc kind (32 ∷ []) (number ++ 32 ∷ line (first ∷ others))
+    ∙ ap (λ (l : List ℕ). kind ++ 32 ∷ l) (sym (append_assoc number (32 ∷ words) (10 ∷ [])))
+    ∙ sym (append_assoc kind (32 ∷ (number ++ 32 ∷ words)) (10 ∷ []))
+
+pub ending_pieces : (old one two three now kind number : List ℕ) (ending : Ending) → one ≡ old ++ (kind ++ 32 ∷ [])
+    → two ≡ one ++ number → three ≡ two ++ 32 ∷ [] → now ≡ three ++ line (ending_words ending)
+    → now ≡ old ++ line (kind ∷ number ∷ ending_words ending)
+ending_pieces old one two three now kind number ending first second third last =
+    let tail = line (ending_words ending) in
+    let has = ending_first ending in
+    last
+    ∙ ap (λ (l : List ℕ). l ++ tail) (third ∙ ap (λ (l : List ℕ). l ++ 32 ∷ [])
+    (second ∙ ap (λ (l : List ℕ). l ++ number) first))
+    ∙ append_assoc ((old ++ (kind ++ 32 ∷ [])) ++ number) (32 ∷ []) tail
+    ∙ append_assoc (old ++ (kind ++ 32 ∷ [])) number (32 ∷ tail)
+    ∙ append_assoc old (kind ++ 32 ∷ []) (number ++ 32 ∷ tail)
+    ∙ ap (λ (words : List (List ℕ)). old ++ ((kind ++ 32 ∷ []) ++ (number ++ 32 ∷ line words))) has.is
+    ∙ ap (λ (l : List ℕ). old ++ l) (behind_two kind number has.first has.others)
+    ∙ ap (λ (words : List (List ℕ)). old ++ line (kind ∷ number ∷ words)) (sym has.is)
+
+-- ---- the texts of a list, one after the other
+
+pub flat_more : {X : Type 0} (f : X → List ℕ) (xs : List X) (i : ℕ) (x : X) → x ≡ get_or xs i x → i < length xs
+    → (old mid now : List ℕ) → mid ≡ old ++ flat_map f (take i xs) → now ≡ mid ++ f x
+    → now ≡ old ++ flat_map f (take (i + 1) xs)
+flat_more {X} f xs i x is within old mid now before appended =
+    let so_far = flat_map f (take i xs) in
+    appended
+    ∙ ap (λ (l : List ℕ). l ++ f x) before
+    ∙ append_assoc old so_far (f x)
+    ∙ ap (λ (l : List ℕ). old ++ (so_far ++ l)) (sym (append-nil (f x)))
+    ∙ ap (λ (l : List ℕ). old ++ l) (sym (flat_map-append f (take i xs) (x ∷ [])))
+    ∙ ap (λ (y : X). old ++ flat_map f (take i xs ++ y ∷ [])) is
+    ∙ ap (λ l. old ++ flat_map f l) (sym (take_more xs i x within))
 
 -- ---- lines of pairs
 

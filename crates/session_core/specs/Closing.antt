@@ -18,6 +18,7 @@ use Rattle.upstream_relay.specs.Standing as relay_standing
 use Rattle.rover_session.specs.Made.{sent_in, overrun_in}
 use Rattle.rover_session.specs.Standing.{rover_of}
 use Rattle.cast_config.specs.declared.config.Config.{Config}
+use Rattle.session_core.specs.declared.session.Session.{Session}
 use Rattle.session_core.specs.declared.stage.Stage.{Stage}
 use Rattle.session_core.specs.declared.stage.Stage.TheVariants.{Head, Over, Source, Relay, Rover}
 use Rattle.session_core.specs.Owed.{Received, unasked, claimed, entered}
@@ -38,6 +39,10 @@ closing_at (Relay mount session) = releasing mount (relay_standing.claim_at sess
 closing_at (Rover account session) =
     asks (to_book (Leave account (sent_in (rover_of session).segments)
     (overrun_in (rover_of session).segments))) (λ answer. done)
+
+-- what a connection makes when it is closed
+abbrev pub closing_of : Session → Plan
+closing_of session = closing_at session.stage
 
 -- the claim or the account is held by this caller, under these caps of accounts
 abbrev pub IsHeldBy : List ℕ → ℕ → Histories → Stage → Type 0

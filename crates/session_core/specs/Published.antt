@@ -40,16 +40,16 @@ steps_unclaimed mount claims.Memory = []
 abbrev pub IsWornBy : List ℕ → ℕ → Type 0
 IsWornBy worn given = Contains worn given × (2 ^ 62 ≤ given)
 
-abbrev pub IsClaimRefused : List ℕ → ClaimFault → Type 0
-IsClaimRefused worn (claims.Taken caller claim) = ⊤
-IsClaimRefused worn (claims.Worn given) = IsWornBy worn given
-IsClaimRefused worn claims.Memory = ⊤
+abbrev pub IsClaimRefused : List Bool → List ℕ → ClaimFault → Type 0
+IsClaimRefused lacks worn (claims.Taken caller claim) = ⊤
+IsClaimRefused lacks worn (claims.Worn given) = IsWornBy worn given
+IsClaimRefused lacks worn claims.Memory = Contains lacks true
 
-abbrev pub IsFeedRefused : List ℕ → SourceHalt → Type 0
-IsFeedRefused worn sources.Done = ⊤
-IsFeedRefused worn (sources.BadChunk place) = ⊤
-IsFeedRefused worn (sources.Worn given) = IsWornBy worn given
-IsFeedRefused worn sources.Memory = ⊤
+abbrev pub IsFeedRefused : List Bool → List ℕ → SourceHalt → Type 0
+IsFeedRefused lacks worn sources.Done = ⊤
+IsFeedRefused lacks worn (sources.BadChunk place) = ⊤
+IsFeedRefused lacks worn (sources.Worn given) = IsWornBy worn given
+IsFeedRefused lacks worn sources.Memory = Contains lacks true
 
 abbrev pub IsTurnRefused : List Bool → List ℕ → TurnFault → Type 0
 IsTurnRefused lacks worn (turns.Worn given) = IsWornBy worn given
@@ -67,14 +67,14 @@ pub record RelayFed (shapes : List RingShape) (alone : Bool) (old now : List (Hi
   pub went : Went shapes alone old now me more
   pub stands : StandsFor mount session answer (steps ++ more)
 
-abbrev pub IsRelayRefused : List ℕ → RelayHalt → Type 0
-IsRelayRefused worn relays.BadHead = ⊤
-IsRelayRefused worn relays.LongHead = ⊤
-IsRelayRefused worn relays.Coding = ⊤
-IsRelayRefused worn relays.Table = ⊤
-IsRelayRefused worn (relays.Status status) = ⊤
-IsRelayRefused worn (relays.Taken caller claim) = ⊤
-IsRelayRefused worn relays.Done = ⊤
-IsRelayRefused worn (relays.BadChunk place) = ⊤
-IsRelayRefused worn (relays.Worn given) = IsWornBy worn given
-IsRelayRefused worn relays.Memory = ⊤
+abbrev pub IsRelayRefused : List Bool → List ℕ → RelayHalt → Type 0
+IsRelayRefused lacks worn relays.BadHead = ⊤
+IsRelayRefused lacks worn relays.LongHead = ⊤
+IsRelayRefused lacks worn relays.Coding = ⊤
+IsRelayRefused lacks worn relays.Table = ⊤
+IsRelayRefused lacks worn (relays.Status status) = ⊤
+IsRelayRefused lacks worn (relays.Taken caller claim) = ⊤
+IsRelayRefused lacks worn relays.Done = ⊤
+IsRelayRefused lacks worn (relays.BadChunk place) = ⊤
+IsRelayRefused lacks worn (relays.Worn given) = IsWornBy worn given
+IsRelayRefused lacks worn relays.Memory = Contains lacks true

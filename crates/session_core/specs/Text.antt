@@ -11,6 +11,8 @@ use Rattle.cast_config.specs.declared.config.Mount.{Mount}
 use Rattle.cast_config.specs.declared.config.Account.{Account}
 use Rattle.session_core.specs.declared.ending.Ending.{Ending}
 use Rattle.session_core.specs.declared.ending.Ending.TheVariants.{SourceEnd, RoverEnd, TableSent, NoHead, BadHead, LongHead, Method, Coding, NoMount, NoAccount, Password, SourcePassword, Denied, Taken, Full, BadChunk, UpstreamTable, Upstream, ReadFault, WriteFault, Worn, Memory}
+use Rattle.session_core.specs.declared.report_lines.EndingWords.{EndingWords}
+use Rattle.session_core.specs.declared.report_lines.EndingWords.TheVariants.{Bare, One, Two}
 use Rattle.session_core.specs.declared.report.MountTotal.{MountTotal}
 use Rattle.session_core.specs.declared.report.Closed.{Closed}
 use Rattle.session_core.specs.declared.report.Connection.{Connection}
@@ -49,6 +51,12 @@ ending_words ReadFault = codes "read-fault" ∷ []
 ending_words WriteFault = codes "write-fault" ∷ []
 ending_words (Worn turns) = codes "worn" ∷ decimal turns ∷ []
 ending_words Memory = codes "memory" ∷ []
+
+-- the words that are written so
+abbrev pub words_in : EndingWords → List (List ℕ)
+words_in (Bare word) = word.now ∷ []
+words_in (One word number) = word.now ∷ decimal number ∷ []
+words_in (Two word first second) = word.now ∷ decimal first ∷ decimal second ∷ []
 
 abbrev pub lap_line : Lap → List ℕ
 lap_line lap =

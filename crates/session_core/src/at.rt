@@ -39,7 +39,8 @@ pub(crate) fn claim_at<T: Turns<Ring>>(
     ensures unclaimed { IfErr result (λ fault.
         Went (map T.shape rings.old) (all_alone T.alone rings.old)
         (map T.seen rings.old) (map T.seen rings.new) me (steps_unclaimed mount fault)) }
-    ensures cause { IfErr result (IsClaimRefused (map T.worn rings.new)) }
+    ensures cause { IfErr result
+        (IsClaimRefused (map T.may_lack rings.old) (map T.worn rings.new)) }
 {
     SourceSession::claim(me, chunked, cutter, &mut rings[mount as usize])
 }
@@ -72,7 +73,7 @@ pub(crate) fn feed_at<T: Turns<Ring>>(
     ensures halts { IfErr result (λ halt. session.new.halt ≡ Some halt) }
     ensures holds { IsHolding session.old.me session.old.claim
         (history_at (map T.seen rings.new) mount) }
-    ensures cause { IfErr result (IsFeedRefused (map T.worn rings.new)) }
+    ensures cause { IfErr result (IsFeedRefused (map T.may_lack rings.old) (map T.worn rings.new)) }
 {
     session.feed(bytes, &mut rings[mount as usize])
 }

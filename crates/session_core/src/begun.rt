@@ -22,7 +22,7 @@ use std::alloc::AllocError;
 pub(crate) const REPLY_ROOM: usize = 256;
 
 /// What became of a connection that began.
-#[derive(Debug, Drop)]
+#[derive(Drop)]
 pub(crate) struct Begun {
     pub(crate) stage: Stage,
     /// How it ended by itself, or what halted it.

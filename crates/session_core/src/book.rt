@@ -11,7 +11,7 @@ use caster_accounts::{Book, BookAnswer, BookCall};
 use turn_log::{Played, TurnFault, Turns};
 
 /// What became of an entry.
-#[derive(Clone, Copy, Debug, PartialEq, Eq)]
+#[derive(Clone, Copy)]
 pub enum Entry {
     /// The session is open.
     Entered,

@@ -1,7 +1,7 @@
 //! How connections end.
 
 /// How a connection was closed from outside.
-#[derive(Clone, Copy, Debug, PartialEq, Eq)]
+#[derive(Clone, Copy)]
 pub enum Last {
     /// It came to its end.
     End,
@@ -21,7 +21,7 @@ pub enum Bare {
 }
 
 /// Whether a session goes on.
-#[derive(Clone, Copy, Debug, PartialEq, Eq)]
+#[derive(Clone, Copy)]
 pub enum Flow {
     /// It waits for more.
     Open,

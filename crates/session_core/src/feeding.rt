@@ -86,7 +86,7 @@ fn ended_relay(claim: Option<u64>, fed: Result<(), RelayHalt>) -> Option<Ending>
 }
 
 /// What bytes of a head come to.
-#[derive(Debug, Drop)]
+#[derive(Drop)]
 struct Heard {
     /// What became of the connection, unless its head goes on.
     begun: Option<Begun>,

@@ -7,7 +7,7 @@ ghost use Rattle.ntrip_client.specs.Steps.{IsStep};
 use ntrip_head::{HeadBuf, HeadStep};
 
 /// The bytes of a head up to the one that ends it, and what they make of it.
-#[derive(Clone, Copy, Debug, PartialEq, Eq)]
+#[derive(Clone, Copy)]
 pub(crate) struct HeadTaken {
     /// How many bytes were taken.
     pub(crate) count: usize,

@@ -109,7 +109,7 @@ impl Sums {
 }
 
 /// Bytes that were sent. Contracts see the list of them.
-#[derive(Debug, Drop)]
+#[derive(Drop)]
 pub struct Sent {
     bytes: Vec<u8>,
 }
@@ -147,7 +147,7 @@ impl Sent {
 
 /// What is told of the connections of a run, in increasing order of number. Contracts see the list
 /// of them.
-#[derive(Debug, Drop)]
+#[derive(Drop)]
 pub struct Connections {
     items: Vec<Connection>,
 }

@@ -38,7 +38,8 @@ pub(crate) fn feed_relay_at<T: Turns<Ring>>(
     ensures fed { IsFed (halt_at session.new.stage) result }
     ensures holds { IsHoldingBy session.old.me (claim_at session.new.stage)
         (history_at (map T.seen rings.new) mount) }
-    ensures cause { IfErr result (IsRelayRefused (map T.worn rings.new)) }
+    ensures cause { IfErr result
+        (IsRelayRefused (map T.may_lack rings.old) (map T.worn rings.new)) }
 {
     session.feed(bytes, &mut rings[mount as usize])
 }

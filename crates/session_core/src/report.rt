@@ -44,7 +44,7 @@ pub struct Closed {
 }
 
 /// What is told of one connection.
-#[derive(Debug, Drop)]
+#[derive(Drop)]
 pub struct Connection {
     /// Its number, which is that of its caller too.
     pub number: u32,
@@ -55,7 +55,7 @@ pub struct Connection {
 }
 
 /// What is told of a whole run.
-#[derive(Debug, Drop)]
+#[derive(Drop)]
 pub struct Report {
     /// Its connections, in increasing order of number.
     pub connections: Connections,

@@ -4,7 +4,7 @@ ghost use Rattle.std.specs.Prelude.{◌≡◌, ◌<◌, ℕ, List, [], ◌∷◌
 ghost use Rattle.std.specs.List.{flat_map};
 ghost use Rattle.std.specs.Fmt.{decimal};
 ghost use Rattle.hex.specs.Hex.{encode_lower, lower_digits};
-ghost use Rattle.session_core.specs.Text.{connection_lines, ending_words, hex_or_dash, lap_line, line, name_of, report_text, segment_lines};
+ghost use Rattle.session_core.specs.Text.{connection_lines, ending_words, hex_or_dash, lap_line, line, name_of, report_text, segment_lines, words_in};
 
 use crate::ending::Ending;
 use crate::report::{Connection, Report};
@@ -27,38 +27,59 @@ fn push_words(out: &mut Vec<u8>, word: &[u8], numbers: &[u128]) -> Result<(), Al
     push_line(out, b"", word, numbers)
 }
 
+/// What an ending is told by: a word, and up to two numbers behind it.
+enum EndingWords {
+    /// The word alone.
+    Bare(&'static [u8]),
+    /// The word and a number.
+    One(&'static [u8], u128),
+    /// The word and two numbers.
+    Two(&'static [u8], u128, u128),
+}
+
+/// What this ending is told by.
+fn words_of(ending: Ending) -> EndingWords
+    ensures { words_in result ≡ ending_words ending }
+{
+    match ending {
+        Ending::SourceEnd { claim } => EndingWords::One(b"source-end", u128::from(claim)),
+        Ending::RoverEnd => EndingWords::Bare(b"rover-end"),
+        Ending::TableSent => EndingWords::Bare(b"table-sent"),
+        Ending::NoHead => EndingWords::Bare(b"no-head"),
+        Ending::BadHead => EndingWords::Bare(b"bad-head"),
+        Ending::LongHead => EndingWords::Bare(b"long-head"),
+        Ending::Method => EndingWords::Bare(b"method"),
+        Ending::Coding => EndingWords::Bare(b"coding"),
+        Ending::NoMount => EndingWords::Bare(b"no-mount"),
+        Ending::NoAccount => EndingWords::Bare(b"no-account"),
+        Ending::Password { account } => EndingWords::One(b"password", u128::from(account)),
+        Ending::SourcePassword => EndingWords::Bare(b"source-password"),
+        Ending::Denied { group } => EndingWords::One(b"denied", u128::from(group)),
+        Ending::Taken { caller, claim } => {
+            EndingWords::Two(b"taken", u128::from(caller), u128::from(claim))
+        }
+        Ending::Full { busy, cap } => {
+            EndingWords::Two(b"full", u128::from(busy), u128::from(cap))
+        }
+        Ending::BadChunk { at } => EndingWords::One(b"bad-chunk", u128::from(at)),
+        Ending::UpstreamTable => EndingWords::Bare(b"upstream-table"),
+        Ending::Upstream { status } => EndingWords::One(b"upstream", u128::from(status)),
+        Ending::ReadFault => EndingWords::Bare(b"read-fault"),
+        Ending::WriteFault => EndingWords::Bare(b"write-fault"),
+        Ending::Worn { turns } => EndingWords::One(b"worn", u128::from(turns)),
+        Ending::Memory => EndingWords::Bare(b"memory"),
+    }
+}
+
 /// Appends the words of an ending as a line. A refusal may leave a part of it.
 fn push_ending(out: &mut Vec<u8>, ending: Ending) -> Result<(), AllocError>
     ensures ok { OnOk result (out.new.items ≡ out.old.items ++ line (ending_words ending)) }
     ensures begins { (more : List ℕ) × (out.new.items ≡ out.old.items ++ more) }
 {
-    match ending {
-        Ending::SourceEnd { claim } => push_words(out, b"source-end", &[u128::from(claim)]),
-        Ending::RoverEnd => push_words(out, b"rover-end", &[]),
-        Ending::TableSent => push_words(out, b"table-sent", &[]),
-        Ending::NoHead => push_words(out, b"no-head", &[]),
-        Ending::BadHead => push_words(out, b"bad-head", &[]),
-        Ending::LongHead => push_words(out, b"long-head", &[]),
-        Ending::Method => push_words(out, b"method", &[]),
-        Ending::Coding => push_words(out, b"coding", &[]),
-        Ending::NoMount => push_words(out, b"no-mount", &[]),
-        Ending::NoAccount => push_words(out, b"no-account", &[]),
-        Ending::Password { account } => push_words(out, b"password", &[u128::from(account)]),
-        Ending::SourcePassword => push_words(out, b"source-password", &[]),
-        Ending::Denied { group } => push_words(out, b"denied", &[u128::from(group)]),
-        Ending::Taken { caller, claim } => {
-            push_words(out, b"taken", &[u128::from(caller), u128::from(claim)])
-        }
-        Ending::Full { busy, cap } => {
-            push_words(out, b"full", &[u128::from(busy), u128::from(cap)])
-        }
-        Ending::BadChunk { at } => push_words(out, b"bad-chunk", &[u128::from(at)]),
-        Ending::UpstreamTable => push_words(out, b"upstream-table", &[]),
-        Ending::Upstream { status } => push_words(out, b"upstream", &[u128::from(status)]),
-        Ending::ReadFault => push_words(out, b"read-fault", &[]),
-        Ending::WriteFault => push_words(out, b"write-fault", &[]),
-        Ending::Worn { turns } => push_words(out, b"worn", &[u128::from(turns)]),
-        Ending::Memory => push_words(out, b"memory", &[]),
+    match words_of(ending) {
+        EndingWords::Bare(word) => push_words(out, word, &[]),
+        EndingWords::One(word, number) => push_words(out, word, &[number]),
+        EndingWords::Two(word, first, second) => push_words(out, word, &[first, second]),
     }
 }
 

@@ -1,6 +1,6 @@
 //! How a rover begins.
 
-ghost use Rattle.std.specs.Prelude.{◌≡◌, ℕ, ◌<◌, ◌≤◌, ◌++◌, IsTrue, List, [], length, map, unwrap_or, Ok, Err, IfNone, IfOk, IfSome, OnOk, option_to_list, slice_get};
+ghost use Rattle.std.specs.Prelude.{◌≡◌, ℕ, ◌+◌, ◌<◌, ◌≤◌, ◌++◌, IsTrue, List, [], length, map, unwrap_or, vec_len, vec_capacity, Ok, Err, IfNone, IfOk, IfSome, OnOk, option_to_list, slice_get};
 ghost use Rattle.std.specs.Result.{result_err};
 ghost use Rattle.turn_log.specs.Turn.{SamePlace};
 ghost use Rattle.base_select.specs.Measure.{IsOnEarth};
@@ -14,6 +14,7 @@ ghost use Rattle.session_core.specs.Setting.{shapes, caps};
 ghost use Rattle.session_core.specs.Setting as setting;
 ghost use Rattle.session_core.specs.Judged.{rover_judged};
 ghost use Rattle.session_core.specs.Owed.{terms_of};
+ghost use Rattle.session_core.specs.Replies.{text_if};
 ghost use Rattle.session_core.specs.Called.{IsCause, seen_at, alone_at};
 ghost use Rattle.session_core.specs.Beginnings.{end_unentered, ended_joining, worn_at};
 ghost use Rattle.session_core.specs.Standing.{BeginsFor, StartsAs};
@@ -126,6 +127,17 @@ pub(crate) fn halted<X: Copy>(answered: Result<X, SegFault>) -> Option<Ending>
     }
 }
 
+/// A rover whose account is full is told so.
+fn turn_away(version: Option<Version>, busy: u32, cap: u32, out: &mut Vec<u8>) -> Begun
+    requires room { vec_len out.old + 256 ≤ vec_capacity out.old }
+    ensures stage { result.stage ≡ Stage.Over }
+    ensures ended { result.ended ≡ Some (Ending.Full busy cap) }
+    ensures sent { out.new.items ≡ out.old.items ++ text_if version Reply.Full [] }
+{
+    push_reply(version, Reply::Full, out);
+    Begun::over(Ending::Full { busy, cap })
+}
+
 /// Lets a rover in that is admitted: it enters its account, is replied to, and joins.
 pub(crate) fn begin_rover<T: Turns<Ring>, B: Turns<Book>>(
     alloc: Global,
@@ -179,10 +191,7 @@ pub(crate) fn begin_rover<T: Turns<Ring>, B: Turns<Book>>(
                 ended: halted(joined),
             }
         }
-        Ok(Entry::Full { busy, cap }) => {
-            push_reply(version, Reply::Full, out);
-            Begun::over(Ending::Full { busy, cap })
-        }
+        Ok(Entry::Full { busy, cap }) => turn_away(version, busy, cap, out),
         Err(fault) => Begun::over(unentered(fault)),
     }
 }

@@ -8,6 +8,7 @@ ghost use Rattle.cast_config.specs.declared.config.Config.{Config as ConfigValue
 ghost use Rattle.cast_config.specs.Kept.{KeepsRules};
 ghost use Rattle.session_core.specs.Beginnings.{lacks_at, worn_at};
 ghost use Rattle.session_core.specs.Called.{Called, OthersCalled, alone_at, seen_at};
+ghost use Rattle.session_core.specs.Closing.{closing_of};
 ghost use Rattle.session_core.specs.Headings.{Heading};
 ghost use Rattle.session_core.specs.Judged.{Opening, judged, relays, sends_head};
 ghost use Rattle.session_core.specs.Published.{MayRefuse};
@@ -15,7 +16,7 @@ ghost use Rattle.session_core.specs.Replies.{opening_text};
 ghost use Rattle.session_core.specs.Reports.{IsHeadingOf};
 ghost use Rattle.session_core.specs.Run.{Histories};
 ghost use Rattle.session_core.specs.Setting.{caps, shapes};
-ghost use Rattle.session_core.specs.Standing.{Follows, IsClosed, IsNewRelay, StandsFor};
+ghost use Rattle.session_core.specs.Standing.{Follows, IsClosed, IsNewRelay, IsSettled, StandsFor};
 ghost use Rattle.upstream_relay.specs.Request.{relay_request};
 
 use crate::closing::receipt_of;
@@ -139,7 +140,8 @@ impl Session {
             → B.shape places.old.book ≡ caps c → (more : List Step)
             × Called c (alone_at T.alone B.alone places.old.rings.items places.old.book)
             (seen_at T.seen B.seen places.old.rings.items places.old.book)
-            (seen_at T.seen B.seen places.new.rings.items places.new.book) self.me more }
+            (seen_at T.seen B.seen places.new.rings.items places.new.book) self.me more
+            × IsSettled result.settled (closing_of self) more }
         ensures unsettled { result.settled ≡ false → MayRefuse
             (lacks_at T.may_lack B.may_lack places.old.rings.items places.old.book)
             (worn_at T.worn B.worn places.new.rings.items places.new.book) }

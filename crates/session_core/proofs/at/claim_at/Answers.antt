@@ -1,5 +1,5 @@
 -- The place at which the claim is made changes as a turn changes it, and the others do not change.
-use Rattle.std.proofs.Common.{sym, subst, get_or}
+use Rattle.std.proofs.Common.{sym, subst}
 use Rattle.std.proofs.lemmas.Result.{IfOk-weaker, MatchResult-weaker}
 use Rattle.turn_log.specs.History.{History}
 use Rattle.mount_ring.specs.declared.call.RingCall.{RingCall}
@@ -47,6 +47,5 @@ returns-clause-unclaimed g c =
 pub returns-clause-cause : goal.returns-clause-cause
 returns-clause-cause g c =
     MatchResult-weaker c.claim.result c.claim.ensures.cause (λ session any. any)
-    (λ (fault : ClaimFault) is. claim_refused_at
-    (g.T.Turns.may_lack (get_or c.args.rings.now c.args.mount c.index-rings-mount.result))
-    g.T.Turns.worn c.args.rings.now c.args.mount c.claim.new.place fault c.requires.within is)
+    (λ (fault : ClaimFault) is. claim_refused_at g.T.Turns.may_lack
+    g.T.Turns.worn c.args.rings.now c.args.mount c.index-rings-mount.result c.claim.new.place fault c.requires.within is)

@@ -49,6 +49,5 @@ returns-clause-cause g c =
     (IsHaltOf (g.T.Turns.may_lack (get_or c.args.rings.now c.args.mount c.index-rings-mount.result))
     (g.T.Turns.worn c.feed.new.place))))
     c.requires.goes_on c.feed.ensures.cause) (λ x any. any)
-    (λ (halt : SourceHalt) is. feed_refused_at
-    (g.T.Turns.may_lack (get_or c.args.rings.now c.args.mount c.index-rings-mount.result))
-    g.T.Turns.worn c.args.rings.now c.args.mount c.feed.new.place halt c.requires.within is)
+    (λ (halt : SourceHalt) is. feed_refused_at g.T.Turns.may_lack
+    g.T.Turns.worn c.args.rings.now c.args.mount c.index-rings-mount.result c.feed.new.place halt c.requires.within is)

@@ -63,8 +63,8 @@ returns-in-Ok-Full-clause-begins g c =
     (seen_at g.T.Turns.seen g.B.Turns.seen c.args.places.now.rings.items c.args.places.now.book)
     (seen_at g.T.Turns.seen g.B.Turns.seen c.args.places.now.rings.items c.enter.new.book) c.args.me
     (record { version = c.args.version; admission = c.args.admission.now; first = c.args.first })
-    c.in-Ok-Full.busy c.in-Ok-Full.cap c.over-in-Ok-Full.result.stage c.over-in-Ok-Full.result.ended
-    c.args.out.now.items c.push_reply-in-Ok-Full.new.out.items
+    c.in-Ok-Full.busy c.in-Ok-Full.cap c.turn_away.result.stage c.turn_away.result.ended
+    c.args.out.now.items c.turn_away.new.out.items
     (heard_as c.args.config.now (g.B.Turns.shape c.args.places.now.book)
     (alone_at g.T.Turns.alone g.B.Turns.alone c.args.places.now.rings.items c.args.places.now.book)
     (g.B.Turns.alone c.args.places.now.book) (g.B.Turns.seen c.args.places.now.book)
@@ -72,8 +72,8 @@ returns-in-Ok-Full-clause-begins g c =
     (λ both. (and_parts (all_alone g.T.Turns.alone c.args.places.now.rings.items)
     (g.B.Turns.alone c.args.places.now.book) both).1)
     (rw c.in-Ok-Full.field-0-is at c.in-Ok-Full.ensures.heard))
-    refl c.over-in-Ok-Full.ensures.stage c.over-in-Ok-Full.ensures.ended
-    (c.push_reply-in-Ok-Full.ensures ∙ ap (λ (l : List ℕ). l ++ text_if c.args.version replies.Full [])
+    refl c.turn_away.ensures.stage c.turn_away.ensures.ended
+    (c.turn_away.ensures.sent ∙ ap (λ (l : List ℕ). l ++ text_if c.args.version replies.Full [])
     c.reserve.ensures.items)
 
 pub returns-in-Err-clause-cause : goal.returns-in-Err-clause-cause

@@ -25,7 +25,7 @@ returns-clause-called g c = λ config shaped capped.
     called_either config (alone_at g.T.Turns.alone g.B.Turns.alone old.rings.items old.book)
     (seen_at g.T.Turns.seen g.B.Turns.seen old.rings.items old.book)
     (seen_at g.T.Turns.seen g.B.Turns.seen new.rings.items new.book) c.args.self.me (closing_at c.args.self.stage)
-    c.settle_at-settled.result
+    c.settle_at-settled.result c.receipt_of.result.settled (c.receipt_of.ensures.settled ∙ c.is_ok.ensures.value)
     (on_ok_weaker c.settle_at-settled.result (λ told. told config shaped capped) c.settle_at-settled.ensures.settled)
     c.settle_at-settled.ensures.refused
 
