@@ -1,11 +1,12 @@
 -- Links that a door gave, one after the other.
-use Rattle.std.proofs.Common.{◌≡◌, ◌∙◌, ◌+◌, ◌≤◌, ◌++◌, ℕ, List, [], ◌∷◌, fold, refl, sym, ap, subst, inl, Option, Some, arith}
+use Rattle.std.proofs.Common.{◌≡◌, ◌∙◌, ◌+◌, ◌≤◌, ◌++◌, ℕ, List, [], ◌∷◌, fold, refl, sym, ap, subst, inl, inr, Option, Some, arith}
 use Rattle.std.proofs.lemmas.List.{map-append, length-append}
 use Rattle.std.proofs.lemmas.Grind.{fold-append}
 use Rattle.cast_io.specs.Told.{LinkTold, DoorTold, Grew}
 use Rattle.cast_io.specs.Links.{IsNewLink}
-use Rattle.cast_io.specs.Doors.{HasHungUp}
-use Rattle.cast_io.proofs.ToldLemmas.{grew_none, grew_both}
+use Rattle.cast_io.specs.declared.door.Arrived.TheVariants as arrived
+use Rattle.cast_io.specs.Doors.{HasAccepted, HasHungUp}
+use Rattle.cast_io.proofs.ToldLemmas.{grew_none, grew_both, rose_since}
 use Rattle.caster_accounts.specs.declared.account.Sum.{Sum}
 use Rattle.cast_config.specs.declared.config.Config.{Config}
 use Rattle.session_core.specs.declared.report.Receipt.{Receipt}
@@ -15,6 +16,7 @@ use Rattle.caster_serve.specs.Links.{IsCausedBy}
 use Rattle.caster_serve.specs.Served.{LinkServed}
 use Rattle.caster_places.specs.Leaves.{Leaves}
 use Rattle.caster_serve.proofs.LeaveLemmas.{leaves_none, leaves_both, leaves_of}
+use Rattle.caster_serve.specs.Visits.{Visit, HasCome, GoesOnBy, WentOn}
 use Rattle.caster_serve.specs.Works.{Record, IsTold, RecordGoes, Followed, tallied, links_of, receipts_of, Works, OneServed, RelayGoes, Worked}
 
 -- ---- one link
@@ -106,11 +108,110 @@ works_more c me start between now before door opened after old sum new count wor
   later = omega (arith, works.later, later, one.faults);
 }
 
+-- ---- the door, from accept to accept
+
+went-snoc : (visits : List Visit) (visit : Visit) (before now : DoorTold) → WentOn visits before now
+    → HasCome visit.came now visit.opened → GoesOnBy visit.came visit.opened visit.left
+    → WentOn (visits ++ visit ∷ []) before visit.left
+went-snoc [] visit before now went came goes =
+    (subst (λ (d : DoorTold). HasCome visit.came d visit.opened) went came, goes, refl)
+went-snoc (first ∷ visits) visit before now went came goes =
+    (went.0, went.1, went-snoc visits visit first.left now went.2 came goes)
+
+-- links are seen through what they tell
+link_come : {L : Type 0} (told : L → LinkTold) (link : L) (old new : DoorTold)
+    → HasAccepted told old new (arrived.Link link) → HasCome (arrived.Link (told link)) old new
+link_come told link old new is =
+    record { left = is.left; fresh = is.fresh; back = is.back; later = is.later; failed = is.failed }
+
+none_come : {L : Type 0} (told : L → LinkTold) (old new : DoorTold) → HasAccepted told old new arrived.Idle
+    → HasCome arrived.Idle old new
+none_come told old new is =
+    record { left = is.left; fresh = is.fresh; back = is.back; later = is.later; failed = is.failed }
+
+fault_come : {L : Type 0} (told : L → LinkTold) (old new : DoorTold) → HasAccepted told old new arrived.Failed
+    → HasCome arrived.Failed old new
+fault_come told old new is =
+    record { left = is.left; fresh = is.fresh; back = is.back; later = is.later; failed = is.failed }
+
+-- what a worker saw of its door so far
+pub record Visited (before now : DoorTold) : Type 0 where
+  pub visits : List Visit
+  pub went : WentOn visits before now
+
+pub visited_none : (door : DoorTold) → Visited door door
+visited_none door = record { visits = []; went = refl }
+
+-- a link came, was served and hung up
+pub visited_link : {L : Type 0} (told : L → LinkTold) (link : L) (before now opened after : DoorTold) (c : Config)
+    (me : ℕ) (start later : Histories) (old new : Sum) → Visited before now
+    → HasAccepted told now opened (arrived.Link link) → OneServed c me start later opened after old new
+    → Visited before after
+visited_link told link before now opened after c me start later old new so_far came one =
+    let visit : Visit = record { came = arrived.Link (told link); opened = opened; left = after } in record {
+      visits = so_far.visits ++ visit ∷ [];
+      went = went-snoc so_far.visits visit before now so_far.went (link_come told link now opened came)
+          (one.entry.link, record { left = one.left; back = one.back; faults = one.faults });
+    }
+
+-- none came
+pub visited_idle : {L : Type 0} (told : L → LinkTold) (before now opened after : DoorTold) → Visited before now
+    → HasAccepted told now opened arrived.Idle → after ≡ opened → Visited before after
+visited_idle told before now opened after so_far came same =
+    let visit : Visit = record { came = arrived.Idle; opened = opened; left = after } in record {
+      visits = so_far.visits ++ visit ∷ [];
+      went = went-snoc so_far.visits visit before now so_far.went (none_come told now opened came) same;
+    }
+
+-- ---- the end
+
+-- an accept without a link leaves what was done as it was
+works_still : (c : Config) (me : ℕ) (start now : Histories) (before door opened : DoorTold) (old new : Sum)
+    (count : ℕ) → Works c me start now before door old new count → opened.back ≡ door.back
+    → door.faults ≤ opened.faults → Works c me start now before opened old new count
+works_still c me start now before door opened old new count works back later = record {
+  entries = works.entries;
+  back = subst (λ told. Grew before.back told (links_of works.entries)) (sym back) works.back;
+  followed = works.followed;
+  counted = works.counted;
+  tally = works.tally;
+  leaves = works.leaves;
+  later = omega (arith, works.later, later);
+}
+
+-- nor does a rest
+pub works_idle : (c : Config) (me : ℕ) (start now : Histories) (before door opened after : DoorTold) (old new : Sum)
+    (count : ℕ) → Works c me start now before door old new count → opened.back ≡ door.back
+    → door.faults ≤ opened.faults → after ≡ opened → Works c me start now before after old new count
+works_idle c me start now before door opened after old new count works back later same =
+    subst (λ (d : DoorTold). Works c me start now before d old new count) (sym same)
+    (works_still c me start now before door opened old new count works back later)
+
+-- its door failed
+pub worked_failed : {L : Type 0} (told : L → LinkTold) (c : Config) (me : ℕ) (start now : Histories)
+    (before door after : DoorTold) (old new : Sum) (count limit answer : ℕ)
+    → Works c me start now before door old new count → Visited before door
+    → HasAccepted told door after arrived.Failed → count ≡ answer
+    → Worked c me start now before after old new limit answer
+worked_failed told c me start now before door after old new count limit answer works visited failed is = record {
+  works = subst (Works c me start now before after old new) is
+      (works_still c me start now before door after old new count works failed.back failed.later);
+  done = inr (rose_since before.faults door.faults after.faults works.later (failed.failed refl));
+  visits = visited.visits;
+  at = door;
+  went_on = visited.went;
+  stopped = inr (fault_come told door after failed);
+}
+
 -- as many links came as it was to serve
 pub worked_all : (c : Config) (me : ℕ) (start now : Histories) (before after : DoorTold) (old new : Sum)
-    (count limit : ℕ) → Works c me start now before after old new count → count ≡ limit
+    (count limit : ℕ) → Works c me start now before after old new count → Visited before after → count ≡ limit
     → Worked c me start now before after old new limit limit
-worked_all c me start now before after old new count limit works all = record {
+worked_all c me start now before after old new count limit works visited all = record {
   works = subst (Works c me start now before after old new) all works;
   done = inl refl;
+  visits = visited.visits;
+  at = after;
+  went_on = visited.went;
+  stopped = inl (refl, refl);
 }

@@ -10,3 +10,4 @@ pub mod Hands
 pub mod Seated
 pub mod Prepared
 pub mod Caster
+pub mod Visits

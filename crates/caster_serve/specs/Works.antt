@@ -1,6 +1,7 @@
 -- What a worker did: the links that came back to its door, one after the other.
 use Rattle.std.specs.Prelude.{◌≡◌, ℕ, ◌+◌, ◌*◌, ◌^◌, ◌≤◌, ◌&&◌, ◌⊎◌, if◌then◌else◌, List, [], ◌∷◌, length, map, fold, Option, Some}
 use Rattle.cast_io.specs.declared.steps.Step.{Step as LinkTook}
+use Rattle.cast_io.specs.declared.door.Arrived.TheVariants as arrived
 use Rattle.cast_io.specs.Causes.{Rose}
 use Rattle.cast_io.specs.Told.{LinkTold, DoorTold, Grew}
 use Rattle.caster_accounts.specs.declared.account.Sum.{Sum}
@@ -12,6 +13,7 @@ use Rattle.session_core.specs.Run.{Histories}
 use Rattle.caster_serve.specs.Links.{IsCausedBy}
 use Rattle.caster_serve.specs.Served.{LinkGoes}
 use Rattle.caster_places.specs.Leaves.{Leaves}
+use Rattle.caster_serve.specs.Visits.{Visit, HasCome, WentOn}
 
 -- what a link told when it came back, and the receipt of its connection
 pub record Record : Type 0 where
@@ -71,11 +73,16 @@ pub record Works (c : Config) (me : ℕ) (start now : Histories) (before after :
   pub leaves : Leaves me start.book now.book old new
   pub later : before.faults ≤ after.faults
 
--- The worker stopped after so many links as it was to serve, or where its door failed.
+-- The worker stopped after so many links as it was to serve, or where its door failed: up to there
+-- it went on from accept to accept, none of which failed, and there it asked the door no more.
 pub record Worked (c : Config) (me : ℕ) (start now : Histories) (before after : DoorTold)
     (old new : Sum) (limit count : ℕ) : Type 0 where
   pub works : Works c me start now before after old new count
   pub done : (count ≡ limit) ⊎ Rose before.faults after.faults
+  pub visits : List Visit
+  pub at : DoorTold
+  pub went_on : WentOn visits before at
+  pub stopped : ((count ≡ limit) × (after ≡ at)) ⊎ HasCome arrived.Failed at after
 
 -- one link more was served and came back, and the tally counts its receipt
 pub record OneServed (c : Config) (me : ℕ) (start now : Histories) (before after : DoorTold)

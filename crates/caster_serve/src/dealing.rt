@@ -1,6 +1,6 @@
 //! The passes of several locks are dealt to workers.
 
-ghost use Rattle.std.specs.Prelude.{◌≡◌, ℕ, ◌+◌, ◌^◌, ◌<◌, ◌≤◌, List, ◌++◌, length, vec_len, vec_capacity, OnOk};
+ghost use Rattle.std.specs.Prelude.{◌≡◌, ℕ, ◌+◌, ◌^◌, ◌<◌, ◌≤◌, List, ◌++◌, length, vec_len, vec_capacity, IfOk, OnOk};
 ghost use mathlib.Core.Option.{some};
 ghost use lib.ListN.{get_elem?};
 ghost use Rattle.caster_places.specs.Piles.{AreMatched};
@@ -46,7 +46,7 @@ fn take_last(
 
 /// Hands all passes out: of each lock one to each of so many workers, in the order of their
 /// numbers. After a refusal some were handed out.
-pub(crate) fn hand_out(
+fn hand_out(
     alloc: Global,
     shared: &Shared,
     piles: &mut Vec<Vec<Pass<Ring>>>,
@@ -76,4 +76,24 @@ pub(crate) fn hand_out(
         book: pass,
     });
     Ok(())
+}
+
+/// The passes of so many workers, in the order of their numbers: of each lock one to each.
+pub(crate) fn deal_out(
+    alloc: Global,
+    shared: &Shared,
+    mut piles: Vec<Vec<Pass<Ring>>>,
+    mut of_book: Vec<Pass<Book>>,
+    passes: u32,
+) -> Result<Vec<Passes>, AllocError>
+    requires rings { AreMatched (λ pile lock. AreDealt passes pile.items lock)
+        piles.items shared.now.rings.items }
+    requires book { AreDealt passes of_book.items shared.now.book }
+    ensures count { IfOk result (λ list. length list.items ≡ passes) }
+    ensures each { IfOk result (λ list. (number : ℕ) (passes : _)
+        → get_elem? list.items number ≡ some passes → AreNewPasses number passes shared.now) }
+{
+    let mut list = Vec::with_capacity(alloc, passes as usize)?;
+    hand_out(alloc, shared, &mut piles, &mut of_book, &mut list)?;
+    Ok(list)
 }

@@ -4,6 +4,7 @@
 
 mod arriving;
 mod calling;
+mod closing;
 mod dealing;
 mod hands;
 pub mod laws;
@@ -18,8 +19,6 @@ mod sending;
 mod serving;
 mod shared;
 mod tally;
-#[cfg(test)]
-mod tests;
 mod whole;
 mod worker;
 mod working;

@@ -3,6 +3,7 @@
 ghost use Rattle.std.specs.Prelude.{◌≡◌, ℕ, ◌<◌, length, map, slice_get, IfOk};
 ghost use Rattle.std.specs.List.{All};
 ghost use Rattle.mount_ring.specs.Kept.{ring_shape};
+ghost use Rattle.caster_accounts.specs.Kept.{caps_of};
 ghost use Rattle.turn_log.specs.Lock.{turn_passes, turn_value};
 ghost use Rattle.cast_config.specs.Kept.{KeepsRules};
 ghost use Rattle.session_core.specs.Setting.{anonymous_cap, caps, shapes};
@@ -10,6 +11,7 @@ ghost use Rattle.caster_places.specs.Piles.{AreMatched};
 ghost use Rattle.caster_serve.specs.Sharing.{AreDealt, ring_of};
 
 use cast_config::{Anonymous, Config};
+use caster_accounts::Book;
 use mount_ring::Ring;
 use std::alloc::{AllocError, Global};
 use turn_log::{Pass, Turn};
@@ -72,7 +74,7 @@ fn anonymous_cap(anonymous: &Option<Anonymous>) -> u32
 }
 
 /// How many sessions of each account may be open, those of rovers without credentials first.
-pub(crate) fn caps_of(alloc: Global, config: &Config) -> Result<Vec<u32>, AllocError>
+fn caps_of(alloc: Global, config: &Config) -> Result<Vec<u32>, AllocError>
     ensures { IfOk result (λ list. list.items ≡ caps config.now) }
 {
     let mut list = Vec::new(alloc);
@@ -81,4 +83,21 @@ pub(crate) fn caps_of(alloc: Global, config: &Config) -> Result<Vec<u32>, AllocE
         list.push(account.cap)?;
     }
     Ok(list)
+}
+
+/// The lock of the book, with its passes.
+pub(crate) fn open_book(
+    alloc: Global,
+    config: &Config,
+    passes: u32,
+) -> Result<(Turn<Book>, Vec<Pass<Book>>), AllocError>
+    requires some_pass { 0 < passes }
+    ensures caps { IfOk result (λ opened. caps_of (turn_value opened.0) ≡ caps config.now) }
+    ensures passes { IfOk result (λ opened. turn_passes opened.0 ≡ passes) }
+    ensures dealt { IfOk result (λ opened. AreDealt passes opened.1.items opened.0) }
+{
+    let caps = caps_of(alloc, config)?;
+    let book = Book::new(alloc, &caps)?;
+    let (turn, list) = Turn::open(alloc, book, passes)?;
+    Ok((turn, list))
 }

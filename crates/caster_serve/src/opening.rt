@@ -9,8 +9,8 @@ ghost use Rattle.caster_places.specs.Known.{Fit};
 ghost use Rattle.caster_places.specs.Rows.{AreAt};
 ghost use Rattle.caster_serve.specs.Sharing.{AreNewPasses, AreOpenFor, ArePassesOf, IsReady, seen_by};
 
-use crate::dealing::hand_out;
-use crate::locks::{caps_of, open_rings};
+use crate::dealing::deal_out;
+use crate::locks::{open_book, open_rings};
 use crate::seating::sit_down;
 use crate::shared::{Passes, Shared};
 use cast_config::Config;
@@ -54,17 +54,15 @@ impl<'c> Shared<'c> {
         ensures passes { IfOk result (λ opened. AreOpenFor passes opened.0) }
     {
         let table = table_text(alloc, config)?;
-        let (rings, mut piles) = open_rings(alloc, config, passes)?;
-        let caps = caps_of(alloc, config)?;
-        let (book, mut of_book) = Turn::open(alloc, Book::new(alloc, &caps)?, passes)?;
-        let mut list = Vec::with_capacity(alloc, passes as usize)?;
+        let (rings, piles) = open_rings(alloc, config, passes)?;
+        let (book, of_book) = open_book(alloc, config, passes)?;
         let shared = Shared {
             config,
             table,
             rings,
             book,
         };
-        hand_out(alloc, &shared, &mut piles, &mut of_book, &mut list)?;
+        let list = deal_out(alloc, &shared, piles, of_book, passes)?;
         Ok((shared, list))
     }
 

@@ -1,5 +1,5 @@
 /// How a connection is served.
-#[derive(Clone, Copy, Debug, PartialEq, Eq)]
+#[derive(Clone, Copy)]
 pub enum Role {
     /// As one of a client, which is to send a head.
     Caller,

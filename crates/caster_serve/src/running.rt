@@ -1,15 +1,16 @@
 //! A connection over its link, from its first byte to its receipt.
 
-ghost use Rattle.std.specs.Prelude.{◌≡◌, ◌<◌, ℕ, List, [], length, None, Some, IfOk, IfSome, true};
+ghost use Rattle.std.specs.Prelude.{◌≡◌, ◌+◌, ◌^◌, ◌<◌, ℕ, List, [], length, None, Some, IfNone, IfOk, IfSome, true};
+ghost use Rattle.cast_io.specs.Told.{LinkTold};
 ghost use Rattle.cast_config.specs.Kept.{KeepsRules};
 ghost use Rattle.session_core.specs.Called.{IsCause};
-ghost use Rattle.session_core.specs.Judged.{waiting};
+ghost use Rattle.session_core.specs.Judged.{Opening, waiting};
 ghost use Rattle.session_core.specs.Run.{Histories};
 ghost use Rattle.session_core.specs.Setting as setting;
 ghost use Rattle.session_core.specs.Standing.{IsReceipt, StandsFor};
 ghost use Rattle.caster_places.specs.Known.{Fit};
 ghost use Rattle.caster_serve.specs.Links.{opening_of};
-ghost use Rattle.caster_serve.specs.Served.{Came, IsWornBy, LinkServed, Reached};
+ghost use Rattle.caster_serve.specs.Served.{Came, ComesTo, IsServedOn, IsWornBy, LinkServed, Reached, Serving};
 
 use crate::arriving::{arrive, take_turn};
 use crate::role::Role;
@@ -29,6 +30,59 @@ const MOST: u64 = 1 << 62;
 
 /// How many bytes one read takes at most.
 const PIECE: usize = 4096;
+
+/// Reads the link once, and the session does what is due then. Says how the session is to be
+/// closed, where the link has ended or the read failed.
+fn hear<T: Turns<Ring>, B: Turns<Book>, L: Link>(
+    config: &Config,
+    table: &[u8],
+    session: &mut Session,
+    places: &mut Places<T, B>,
+    out: &mut Vec<u8>,
+    given: &mut u64,
+    piece: &mut [u8],
+    link: &mut L,
+) -> Option<Last>
+    requires kept { (cap : ℕ) × KeepsRules cap config.now }
+    requires table { table.now ≡ setting.table config.now }
+    requires fit { Fit config.now session.old.me (⟦<Places<T, B> as AllPlaces>⟧.known places.old) }
+    requires goes_on { session.old.ended ≡ None }
+    requires empty { out.old.items ≡ [] }
+    requires size { length piece.old ≡ 4096 }
+    requires few { given.old < 2 ^ 62 }
+    requires served { (opening : Opening) × (me : ℕ) × (start : Histories) × (before : LinkTold)
+        × Serving config.now opening me start (⟦<Places<T, B> as AllPlaces>⟧.seen places.old)
+        session.old before (L.told link.old) [] given.old }
+    ensures me { session.new.me ≡ session.old.me }
+    ensures known { ⟦<Places<T, B> as AllPlaces>⟧.known places.new
+        ≡ ⟦<Places<T, B> as AllPlaces>⟧.known places.old }
+    ensures cause { IfSome session.new.ended
+        (IsCause (⟦<Places<T, B> as AllPlaces>⟧.worn places.new)) }
+    ensures few { given.new < 2 ^ 62 + 4096 }
+    ensures goes { IfNone result (IsServedOn config.now
+        (⟦<Places<T, B> as AllPlaces>⟧.seen places.old)
+        (⟦<Places<T, B> as AllPlaces>⟧.seen places.new) session.old session.new
+        (L.told link.old) (L.told link.new) given.old given.new out.new.items) }
+    ensures closes { IfSome result (ComesTo config.now
+        (⟦<Places<T, B> as AllPlaces>⟧.seen places.old)
+        (⟦<Places<T, B> as AllPlaces>⟧.seen places.new) session.old session.new
+        (L.told link.old) (L.told link.new) given.old) }
+{
+    match link.read(piece) {
+        Got::Bytes(count) => {
+            *given += count as u64;
+            arrive(config, table, session, &piece[..count], places, out);
+            None
+        }
+        Got::Idle => {
+            take_turn(session, places, out);
+            rest_if_idle(link, out);
+            None
+        }
+        Got::End => Some(Last::End),
+        Got::Failed => Some(Last::ReadFault),
+    }
+}
 
 /// Serves the link until it ends, a read or write of it fails, or the session ends by itself; and
 /// says how the session is to be closed.
@@ -68,17 +122,11 @@ fn run<T: Turns<Ring>, B: Turns<Book>, L: Link, R: Wait>(
         if session.ended() || given >= MOST {
             return Last::End;
         }
-        match link.read(&mut piece) {
-            Got::Bytes(count) => {
-                given += count as u64;
-                arrive(config, table, session, &piece[..count], places, out);
-            }
-            Got::Idle => {
-                take_turn(session, places, out);
-                rest_if_idle(link, out);
-            }
-            Got::End => return Last::End,
-            Got::Failed => return Last::ReadFault,
+        let heard = hear(
+            config, table, session, places, out, &mut given, &mut piece, link,
+        );
+        if let Some(last) = heard {
+            return last;
         }
     }
     unreachable!()

@@ -11,7 +11,7 @@ use crate::calling::serve_ends;
 use crate::shared::{Passes, Shared};
 use cast_config::Config;
 use cast_io::{Street, StreetFault};
-use caster_places::{Piles, Totals, close};
+use caster_places::{Piles, Totals};
 use caster_street::{End, ask_all, give_back};
 use session_core::Closed;
 use std::alloc::{AllocError, Global};
@@ -91,13 +91,7 @@ where
     let Ok(is_whole) = served else {
         return Err(ServeFault::Memory);
     };
-    let Shared {
-        config,
-        table: _,
-        rings,
-        book,
-    } = shared;
-    let closed = close(config, rings, book, piles, totals);
+    let closed = shared.close(piles, totals);
     if is_whole {
         Ok(closed)
     } else {

@@ -7,22 +7,19 @@ pub returns-in_default-clause-ended : goal.returns-in_default-clause-ended
 returns-in_default-clause-ended g c =
     none_served _ _ _ (unused_still _ _ _ c.in_default.ensures.kept c.requires.unused) c.give_back.ensures
 
-pub close-closed-requires-clause-rings : goal.close-closed-requires-clause-rings
-close-closed-requires-clause-rings g c = λ k d less.
-    c.requires.prepared.opened.rings k d less
-    ∙ sym (passes_are _ _ _ c.args.ends.items _ _ _ c.requires.kinds c.in-Ok.ensures.called)
-
-pub close-closed-requires-clause-book : goal.close-closed-requires-clause-book
-close-closed-requires-clause-book g c =
-    c.requires.prepared.opened.book
-    ∙ sym (passes_are _ _ _ c.args.ends.items _ _ _ c.requires.kinds c.in-Ok.ensures.called)
+pub close-closed-requires-clause-opened : goal.close-closed-requires-clause-opened
+close-closed-requires-clause-opened g c =
+    let so_many = passes_are _ _ _ c.args.ends.items _ _ _ c.requires.kinds c.in-Ok.ensures.called in record {
+      rings = λ k d less. c.requires.prepared.opened.rings k d less ∙ sym so_many;
+      book = c.requires.prepared.opened.book ∙ sym so_many;
+    }
 
 pub returns-then-is_whole-clause-ended : goal.returns-then-is_whole-clause-ended
 returns-then-is_whole-clause-ended g c =
     closed_whole c.args.ready.shared _ _ _ _ _ _ _ c.in-Ok.ensures.called c.close-closed.ensures c.give_back.ensures
     c.if-is_whole.true
 
-pub returns-clause-ended : goal.returns-clause-ended
-returns-clause-ended g c =
+pub returns-else-is_whole-clause-ended : goal.returns-else-is_whole-clause-ended
+returns-else-is_whole-clause-ended g c =
     ended_early c.args.ready.shared _ _ _ _ _ _ c.close-closed.result c.in-Ok.ensures.called c.close-closed.ensures
     c.give_back.ensures c.if-is_whole.false

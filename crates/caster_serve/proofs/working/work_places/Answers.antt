@@ -1,6 +1,6 @@
 -- A link more, or none yet.
 use Rattle.std.proofs.Common.{◌∙◌, ◌+◌, refl, arith}
-use Rattle.caster_serve.proofs.WorkLemmas.{works_none, works_more, worked_all}
+use Rattle.caster_serve.proofs.WorkLemmas.{works_none, works_more, works_idle, worked_all, worked_failed, visited_none, visited_link, visited_idle}
 use Rattle.caster_serve.proofs.working.work_places.Goals as goal
 
 pub loop-init : goal.loop-init
@@ -13,12 +13,20 @@ loop-init g c = record {
   count = 0;
   so_many = omega arith;
   works = works_none _ _ _ _ _;
+  visited = visited_none (g.D.Door.told c.args.door.now);
 }
 
 pub returns-then-left-eq0-clause-worked : goal.returns-then-left-eq0-clause-worked
 returns-then-left-eq0-clause-worked g c =
     let kept = c.loop.invariant in
-    worked_all _ _ _ _ _ _ _ _ kept.count _ kept.works (omega (arith, kept.so_many, c.if-left-eq0.true))
+    worked_all _ _ _ _ _ _ _ _ kept.count _ kept.works kept.visited
+    (omega (arith, kept.so_many, c.if-left-eq0.true))
+
+pub returns-in-Failed-clause-worked : goal.returns-in-Failed-clause-worked
+returns-in-Failed-clause-worked g c =
+    let kept = c.loop.invariant in
+    worked_failed g.D.Link.Link.told _ _ _ _ _ _ _ _ _ kept.count _ _ kept.works kept.visited
+    c.in-Failed.ensures.accepted (omega (arith, kept.so_many))
 
 pub loop-preserved-in-Link : goal.loop-preserved-in-Link
 loop-preserved-in-Link g c =
@@ -34,4 +42,22 @@ loop-preserved-in-Link g c =
       count = kept.count + 1;
       so_many = omega (arith, kept.so_many, c.if-left-eq0.false);
       works = works_more _ _ _ _ _ _ _ _ _ _ _ _ _ kept.works accepted.back accepted.later one.one;
+      visited = visited_link g.D.Link.Link.told c.in-Link.link _ _ _ _ _ _ _ _ _ _ kept.visited
+          c.in-Link.ensures.accepted one.one;
+    }
+
+pub loop-preserved : goal.loop-preserved
+loop-preserved g c =
+    let kept = c.loop.invariant in
+    let accepted = c.in-Idle.ensures.accepted in
+    record {
+      can = tt;
+      finite = tt;
+      known = kept.known;
+      room = kept.room;
+      within = kept.within;
+      count = kept.count;
+      so_many = kept.so_many;
+      works = works_idle _ _ _ _ _ _ _ _ _ _ kept.count kept.works accepted.back accepted.later c.rest.ensures;
+      visited = visited_idle g.D.Link.Link.told _ _ _ _ kept.visited accepted c.rest.ensures;
     }

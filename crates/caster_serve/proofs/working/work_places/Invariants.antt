@@ -3,6 +3,7 @@ use Rattle.std.proofs.Common.{◌≡◌, ◌+◌, ◌^◌, ◌<◌, ℕ}
 use Rattle.session_core.specs.Called.{seen_at}
 use Rattle.caster_places.specs.Known.{known_at}
 use Rattle.caster_serve.specs.Works.{IsWithin, Works}
+use Rattle.caster_serve.proofs.WorkLemmas.{Visited}
 use Rattle.caster_serve.proofs.working.work_places.Given as goal
 
 abbrev pub invariant-loop : goal.invariant-loop
@@ -20,4 +21,5 @@ invariant-loop g l = let t = g.T.Turns in let b = g.B.Turns in record {
   works : Works l.config l.me (seen_at t.seen b.seen l.fn.places.rings.items l.fn.places.book)
       (seen_at t.seen b.seen l.places.rings.items l.places.book) (g.D.Door.told l.fn.door) (g.D.Door.told l.door)
       l.fn.tally l.tally count;
+  visited : Visited (g.D.Door.told l.fn.door) (g.D.Door.told l.door);
 }
