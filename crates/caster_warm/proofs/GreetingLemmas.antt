@@ -1,5 +1,5 @@
 -- The greeting that a run keeps is that of its histories.
-use Rattle.std.proofs.Common.{◌≡◌, ◌∙◌, ◌++◌, ℕ, List, [], length, get_or, refl, sym, ap, Option, None, Some}
+use Rattle.std.proofs.Common.{◌≡◌, ◌∙◌, ◌++◌, ℕ, List, [], length, get_or, sym, ap, Option, None, Some}
 use Rattle.std.proofs.Math.ListN.{get_or-map}
 use Rattle.turn_log.specs.History.{History}
 use Rattle.mount_ring.specs.declared.call.RingCall.{RingCall}
@@ -11,7 +11,7 @@ use Rattle.cast_config.specs.declared.config.Config.{Config}
 use Rattle.session_core.specs.declared.rover_state.RoverState.{RoverState}
 use Rattle.session_core.specs.Headings.{Heading}
 use Rattle.session_core.specs.Reports.{AreHeadings}
-use Rattle.session_core.specs.Run.{Histories, World, after_events}
+use Rattle.session_core.specs.Run.{Histories, after_events}
 use Rattle.session_core.specs.Setting.{shapes}
 use Rattle.caster_replay.specs.declared.run.Run.{Run}
 use Rattle.caster_replay.specs.Kept.{StandsFor, cleared_of, greeting_of}

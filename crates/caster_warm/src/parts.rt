@@ -21,7 +21,7 @@ use session_script::Event;
 use std::alloc::{AllocError, Global};
 
 /// What one event sends the connection of this number, with its greeting.
-#[derive(Debug, Drop)]
+#[derive(Drop)]
 pub(crate) struct Part {
     pub(crate) number: u32,
     pub(crate) bytes: Vec<u8>,

@@ -1,5 +1,4 @@
 use Rattle.std.proofs.Common.{◌∙◌, ◌++◌, ℕ, List, take, sym, ap, append_assoc}
-use Rattle.std.proofs.lemmas.List.{take_all}
 use Rattle.rover_session.specs.Body.{frame_sent, body_of}
 use Rattle.rover_session.proofs.LawLemmas.{body_more}
 use Rattle.caster_warm.proofs.greeting.append_frames.Goals as goal

@@ -1,4 +1,4 @@
-use Rattle.std.proofs.Common.{◌∙◌, ◌++◌, List, [], ◌∷◌, map, sym, ap, append_assoc}
+use Rattle.std.proofs.Common.{◌∙◌, ◌++◌, List, [], ◌∷◌, sym, ap, append_assoc}
 use Rattle.std.proofs.lemmas.List.{map-append}
 use Rattle.session_core.specs.declared.report.Connection.{Connection}
 use Rattle.caster_warm.specs.Parts.{parts_to}
