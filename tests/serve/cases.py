@@ -269,14 +269,14 @@ def descriptors_that_run_out():
     worker is lost. Each is served as soon as another has ended."""
     caster = serve(example(16), 1, descriptors=12)
     first = caster.client().send(rover_1('ALPHA')).expect(ICY)
-    workers = caster.threads()
+    caster.wait_for_threads(16)
     rovers = [first] + [caster.client().send(rover_1('ALPHA')) for _ in range(14)]
     for rover in rovers[1:8]:
         rover.expect(ICY)
     # The other workers find each time that no descriptor is left.
     time.sleep(0.3)
-    if caster.threads() != workers:
-        raise Wrong('%d threads, and then %d' % (workers, caster.threads()))
+    if caster.threads() != 16:
+        raise Wrong('of 16 workers there are %d' % caster.threads())
     for rover in rovers[8:]:
         if rover.came or select.select([rover.socket], [], [], 0)[0]:
             raise Wrong('there are descriptors for more connections than eight')

@@ -317,6 +317,14 @@ class Caster:
         with open('/proc/%d/status' % self.process.pid) as file:
             return next(int(line.split()[1]) for line in file if line.startswith('Threads:'))
 
+    def wait_for_threads(self, count):
+        """All its workers have started."""
+        until = time.monotonic() + PATIENCE
+        while self.threads() != count:
+            if time.monotonic() > until:
+                raise Wrong('%d threads, wanted %d' % (self.threads(), count))
+            time.sleep(0.01)
+
     def ends_with(self, wanted, status=0):
         """It ends by itself, with this status, and has written these lines and nothing else."""
         got = self.ends(status)
