@@ -1,10 +1,14 @@
 //! A caster that records its session.
 
-ghost use Rattle.std.specs.Prelude.{◌≡◌, ℕ, ◌≤◌, [], length, map, false, IsTrue, IfOk, OnErr, OnOk};
+ghost use Rattle.std.specs.Prelude.{◌≡◌, ℕ, ◌+◌, ◌<◌, ◌≤◌, ◌++◌, [], ◌∷◌, length, map, false, vec_len, vec_capacity, IsTrue, IfOk, OnErr, OnOk};
 ghost use Rattle.std.specs.Result.{IsErrOf};
 ghost use Rattle.cast_config.specs.Kept.{KeepsRules};
 ghost use Rattle.cast_io.specs.Causes.{Rose};
+ghost use Rattle.cast_io.specs.Links.{IsNewLink};
+ghost use Rattle.session_core.specs.Reports.{IsReport};
 ghost use Rattle.caster_replay.specs.Going.{GoesOn};
+ghost use Rattle.caster_replay.specs.Kept.{sent_by_run};
+ghost use Rattle.caster_replay.specs.Sends.{told_sent};
 ghost use Rattle.caster_record.specs.Arriving.{HasTakenBack, HaveCome, HaveLeft};
 ghost use Rattle.caster_record.specs.Keeping.{IsWithin, RestsAfter};
 ghost use Rattle.caster_record.specs.Recorded.{IsAtEnd, IsRecorded};
@@ -14,10 +18,10 @@ use crate::fault::RecorderFault;
 use crate::recorder::Recorder;
 use crate::rounds::MOST;
 use cast_config::Config;
-use cast_io::{Arrived, Door};
+use cast_io::{Arrived, Door, Link};
 use session_core::Report;
 use session_script::Event;
-use std::alloc::Global;
+use std::alloc::{AllocError, Global};
 use std::sync::Wait;
 
 /// A session that was recorded.
@@ -62,6 +66,35 @@ impl Recorder {
         self.tape.size > MOST || count as u32 == limit && self.none_goes_on(config, limit)
     }
 
+    /// A link came: its connection opens, and no write to it was torn.
+    fn open_link<L: Link>(
+        &mut self,
+        alloc: Global,
+        config: &Config,
+        limit: u32,
+        link: L,
+        links: &mut Vec<L>,
+        torn: &mut Vec<bool>,
+    ) -> Result<(), AllocError>
+        requires kept { (cap : ℕ) × KeepsRules cap config.now }
+        requires limit { limit ≤ 256 }
+        requires rests { RestsAfter L.told config.now limit self.old links.old.items
+            torn.old.items }
+        requires fresh { IsNewLink (L.told link) }
+        requires fewer { length links.old.items < limit }
+        requires small { self.old.tape.size ≤ 8370000 }
+        requires room { vec_len links.old + 1 ≤ vec_capacity links.old }
+        requires mark { vec_len torn.old + 1 ≤ vec_capacity torn.old }
+        ensures begins { OnOk result (IsWithin L.told config.now limit 0 self.new links.new.items
+            torn.new.items) }
+        ensures pushed { links.new.items ≡ links.old.items ++ link ∷ [] }
+    {
+        links.push_reserved(link);
+        torn.push_reserved(false);
+        self.play(alloc, config, Event::Open(links.len() as u32))?;
+        Ok(())
+    }
+
     /// Asks the door for a link, where fewer came than may. Answers whether one came.
     fn accept<D: Door>(
         &mut self,
@@ -90,15 +123,43 @@ impl Recorder {
         torn.reserve(1)?;
         match door.accept() {
             Arrived::Link(link) => {
-                links.push_reserved(link);
-                torn.push_reserved(false);
-                self.play(alloc, config, Event::Open(links.len() as u32))?;
+                self.open_link(alloc, config, limit, link, links, torn)?;
                 Ok(true)
             }
             Arrived::Idle => Ok(false),
             Arrived::Failed => Err(RecorderFault::Network),
         }
     }
+}
+
+/// One round: a link may come, and then all that are due are served.
+fn round<D: Door>(
+    alloc: Global,
+    config: &Config,
+    limit: u32,
+    door: &mut D,
+    recorder: &mut Recorder,
+    links: &mut Vec<D::Link>,
+    torn: &mut Vec<bool>,
+) -> Result<(), RecorderFault>
+    requires kept { (cap : ℕ) × KeepsRules cap config.now }
+    requires limit { limit ≤ 256 }
+    requires rests { RestsAfter D.Link.told config.now limit recorder.old links.old.items
+        torn.old.items }
+    ensures rests { OnOk result
+        (RestsAfter D.Link.told config.now limit recorder.new links.new.items torn.new.items) }
+    ensures come { HaveCome (D.told door.old) (D.told door.new)
+        (map D.Link.told links.old.items) (map D.Link.told links.new.items) }
+    ensures network { IsErrOf result RecorderFault.Network
+        → Rose (D.told door.old).faults (D.told door.new).faults }
+{
+    let came = recorder.accept(alloc, config, limit, door, links, torn)?;
+    let busy = recorder.serve_all(alloc, config, limit, links, torn)?;
+    if came || busy {
+        return Ok(());
+    }
+    door.rest();
+    Ok(())
 }
 
 /// Rounds, until the recording is at its end.
@@ -129,13 +190,28 @@ fn run<D: Door, R: Wait>(
         if recorder.is_at_end(config, limit, links.len()) {
             return Ok(());
         }
-        let came = recorder.accept(alloc, config, limit, door, links, torn)?;
-        let busy = recorder.serve_all(alloc, config, limit, links, torn)?;
-        if !came && !busy {
-            door.rest();
-        }
+        round(alloc, config, limit, door, recorder, links, torn)?;
     }
     unreachable!()
+}
+
+/// The events and the report of what was recorded.
+fn finished(alloc: Global, config: &Config, recorder: Recorder) -> Result<Told, AllocError>
+    requires kept { (cap : ℕ) × KeepsRules cap config.now }
+    requires records { Records config.now recorder }
+    requires bound { recorder.tape.size ≤ 8378380 }
+    ensures events { IfOk result (λ told. told.events.items ≡ events_in recorder) }
+    ensures report { IfOk result (λ told.
+        IsReport config.now (events_in recorder) told.report) }
+    ensures sent { (n : ℕ) → IfOk result (λ told.
+        told_sent n told.report.connections ≡ sent_by_run recorder.run n) }
+{
+    let Recorder { run, tape } = recorder;
+    let report = run.finish(alloc, config)?;
+    Ok(Told {
+        events: tape.events,
+        report,
+    })
 }
 
 /// Records a session, whose links stand in `links` then.
@@ -169,12 +245,8 @@ fn session<D: Door, R: Wait>(
         links,
         &mut torn,
     )?;
-    let Recorder { run, tape } = recorder;
-    let report = run.finish(alloc, config)?;
-    Ok(Told {
-        events: tape.events,
-        report,
-    })
+    let told = finished(alloc, config, recorder)?;
+    Ok(told)
 }
 
 /// Hangs all of these links up at the door that gave them, in order.
