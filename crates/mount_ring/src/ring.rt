@@ -11,11 +11,7 @@ use std::alloc::{AllocError, Global};
 use turn_log::Played;
 use type_filter::Filters;
 
-#[cfg(test)]
-mod lock_tests;
 mod playing;
-#[cfg(test)]
-mod tests;
 
 /// The ring of a mountpoint: who holds it, and the last frames that were published there, as many
 /// as its capacity.
@@ -33,6 +29,16 @@ pub struct Ring {
     // Its capacity is 1 to 4,096 frames.
     ghost sized: { (1 ≤ frames.capacity) × (frames.capacity ≤ 4096) },
 }
+
+// A ring is its last frames, the counts for its filters, two numbers and the holder. There is no
+// list of all frames beside them.
+const _: () = prove!(
+    size_of::<Ring>()
+        == size_of::<HeapCircularBuffer<Frame>>()
+            + size_of::<Vec<Watch>>()
+            + size_of::<[u64; 2]>()
+            + size_of::<Option<Holder>>()
+);
 
 impl Ring {
     ghost use Rattle.mount_ring.specs.History.{State, state_of, claim_answer, after_claim, joined, live_claim};

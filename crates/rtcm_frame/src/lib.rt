@@ -14,6 +14,3 @@ mod tables;
 pub use checksum::crc24q;
 pub use framing::Frame;
 pub use stream::Cutter;
-
-#[cfg(test)]
-mod tests;

@@ -8,4 +8,3 @@ pub mod LockRule
 pub mod LockSteps
 pub mod LockNames
 pub mod Lock
-pub mod LockTests

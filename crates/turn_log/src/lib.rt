@@ -8,8 +8,6 @@ mod lock;
 mod object;
 mod past;
 mod place;
-#[cfg(test)]
-mod tests;
 
 pub use desk::Desk;
 pub use lock::{Leaves, Note, Pass, Seat, Turn};

@@ -8,8 +8,6 @@ mod plays;
 mod rule;
 mod seats;
 mod steps;
-#[cfg(test)]
-mod tests;
 
 pub use parts::{Note, Pass, Seat, Turn};
 pub use seats::Leaves;

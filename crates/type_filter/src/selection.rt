@@ -180,6 +180,3 @@ fn in_order(alloc: Global, numbers: &[u16]) -> Result<Vec<u16>, AllocError>
     kept.dedup();
     Ok(kept)
 }
-
-#[cfg(test)]
-mod tests;

@@ -1,0 +1,10 @@
+//! The frames that the tests are made of.
+
+/// The shortest frame, which has no message number.
+pub const FRAME_Z: [u8; 6] = [0xD3, 0x00, 0x00, 0x47, 0xEA, 0x4B];
+
+/// A frame whose payload is the number 1005 alone.
+pub const FRAME_A: [u8; 8] = [0xD3, 0x00, 0x02, 0x3E, 0xD0, 0xA4, 0xE0, 0x00];
+
+/// A frame whose payload is the number 1077 alone.
+pub const FRAME_B: [u8; 8] = [0xD3, 0x00, 0x02, 0x43, 0x50, 0x06, 0xA2, 0x7E];
