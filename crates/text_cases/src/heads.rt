@@ -1,0 +1,116 @@
+//! Heads of requests, and of the answers of other casters.
+ghost use Rattle.ntrip_head.specs.Head.{IsOpen};
+
+use crate::printing::{put, say, say_kept, show_in_brackets};
+use cast_text::{MountName, Text};
+use gga_read::Position;
+use ntrip_head::{Auth, HeadBuf, HeadStep, Request, Version, read_head, read_upstream};
+use std::alloc::AllocError;
+
+/// The credentials in words.
+fn say_auth(out: &mut Vec<u8>, auth: &Auth) -> Result<(), AllocError> {
+    match auth {
+        Auth::None => put(out, " none "),
+        Auth::Unread => put(out, " unread "),
+        Auth::Basic { user, password } => {
+            put(out, " basic ")?;
+            show_in_brackets(out, user.bytes())?;
+            show_in_brackets(out, password.bytes())?;
+            put(out, " ")
+        }
+    }
+}
+
+/// What is asked for, its version and its mountpoint.
+fn say_asked(
+    out: &mut Vec<u8>,
+    kind: &str,
+    version: Version,
+    mount: &MountName,
+) -> Result<(), AllocError> {
+    put(out, kind)?;
+    say(out, &version)?;
+    put(out, " ")?;
+    show_in_brackets(out, mount.bytes())
+}
+
+/// A rover's request, behind its front: the credentials, and the position that it reports.
+fn say_rover(out: &mut Vec<u8>, auth: &Auth, gga: Option<Position>) -> Result<(), AllocError> {
+    say_auth(out, auth)?;
+    say(out, &gga)
+}
+
+/// A source's request, behind its front: the password, and how the body comes.
+fn say_source(out: &mut Vec<u8>, password: &Text, chunked: bool) -> Result<(), AllocError> {
+    show_in_brackets(out, password.bytes())?;
+    put(out, if chunked { " chunked" } else { " raw" })
+}
+
+/// The request in words.
+fn say_request(out: &mut Vec<u8>, request: &Request) -> Result<(), AllocError> {
+    match request {
+        Request::Table(version) => {
+            put(out, "table ")?;
+            say(out, version)
+        }
+        Request::Rover {
+            version,
+            mount,
+            auth,
+            gga,
+        } => {
+            say_asked(out, "rover ", *version, mount)?;
+            say_rover(out, auth, *gga)
+        }
+        Request::Source {
+            version,
+            mount,
+            password,
+            chunked,
+        } => {
+            say_asked(out, "source ", *version, mount)?;
+            say_source(out, password, *chunked)
+        }
+    }
+}
+
+/// What a head asks for that is no longer than heads may be, or its fault.
+pub fn head(head: &[u8], out: &mut Vec<u8>) -> Result<(), AllocError> {
+    if head.len() > 8192 {
+        return put(out, "above 8192 bytes");
+    }
+    match read_head(*out.allocator(), head) {
+        Ok(request) => say_request(out, &request),
+        Err(fault) => say(out, &fault),
+    }
+}
+
+/// Pushes bytes up to the step that ends the head, and says which byte gave it, from 1.
+fn ended_by(head: &mut HeadBuf, bytes: &[u8]) -> (usize, HeadStep)
+    requires { IsOpen head.old }
+{
+    let mut count: usize = 0;
+    for byte in bytes {
+        count += 1;
+        let step = head.push(*byte);
+        if step != HeadStep::More {
+            return (count, step);
+        }
+    }
+    (count, HeadStep::More)
+}
+
+/// Behind how many bytes a head ends, how, and whether just these bytes are kept.
+pub fn head_end(bytes: &[u8], out: &mut Vec<u8>) -> Result<(), AllocError> {
+    let mut head = HeadBuf::new(*out.allocator())?;
+    let ended = ended_by(&mut head, bytes);
+    say(out, &ended)?;
+    put(out, " ")?;
+    let taken = bytes.get(..ended.0).unwrap_or(b"");
+    say_kept(out, taken, head.bytes(), head.bytes())
+}
+
+/// What the head of another caster's answer says.
+pub fn upstream(head: &[u8], out: &mut Vec<u8>) -> Result<(), AllocError> {
+    say(out, &read_upstream(head))
+}
