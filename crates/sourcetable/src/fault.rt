@@ -8,7 +8,7 @@ use std::alloc::AllocError;
 use thiserror::Error;
 
 /// Why a line is no record. The faults are tested in this order, but for `Memory`.
-#[derive(Clone, Copy, Debug, PartialEq, Eq, Error)]
+#[derive(Clone, Copy, Debug, Error)]
 pub enum RecordFault {
     /// It does not begin with `STR;`, `CAS;` or `NET;`.
     #[error("not a record of a sourcetable")]
@@ -33,7 +33,7 @@ impl From<AllocError> for RecordFault {
 }
 
 /// Why a text is no sourcetable. Lines are numbered from 1.
-#[derive(Clone, Copy, Debug, PartialEq, Eq, Error)]
+#[derive(Clone, Copy, Debug, Error)]
 pub enum TableFault {
     /// It has more than 1 MiB, 1,048,576 bytes.
     #[error("more than 1048576 bytes")]
@@ -61,7 +61,7 @@ impl From<AllocError> for TableFault {
 }
 
 /// Why a line of a table is no record.
-#[derive(Clone, Copy, Debug, PartialEq, Eq)]
+#[derive(Clone, Copy)]
 pub(crate) enum LineFault {
     /// It does not begin with `STR;`, `CAS;` or `NET;`.
     Kind,

@@ -1,14 +1,12 @@
 //! Lists of a sourcetable, which contracts see as plain lists. Each is made from a `Vec` and gives
 //! it back without taking memory.
 ghost use Rattle.std.specs.Prelude.{◌≡◌};
-ghost use Rattle.std.proofs.Common.{rules};
-ghost use Rattle.std.specs.Cmp.Rules.{comparing};
 
 use crate::record::Record;
 use std::marker::Model;
 
 /// A field of a record: bytes. Contracts see the list of them.
-#[derive(Debug, Drop)]
+#[derive(Drop)]
 pub struct Field {
     bytes: Vec<u8>,
 }
@@ -44,24 +42,8 @@ impl Field {
     }
 }
 
-impl PartialEq for Field {
-    ghost use Rattle.std.specs.Str.{bytes_eq};
-
-    ghost eq = { bytes_eq };
-
-    ghost laws = { Prim.search (comparing, rules) };
-
-    fn eq(&self, other: &Field) -> bool {
-        self.bytes.as_slice() == other.bytes.as_slice()
-    }
-}
-
-impl Eq for Field {
-    ghost laws = { Prim.search (comparing, rules) };
-}
-
 /// The fields of a record, in order. Contracts see the list of them, each as its bytes.
-#[derive(Debug, Drop)]
+#[derive(Drop)]
 pub struct Fields {
     items: Vec<Field>,
 }
@@ -97,25 +79,8 @@ impl Fields {
     }
 }
 
-impl PartialEq for Fields {
-    ghost use Rattle.std.specs.Cmp.Lexicographic.{pointwise};
-    ghost use Rattle.std.specs.Str.{bytes_eq};
-
-    ghost eq = { pointwise bytes_eq };
-
-    ghost laws = { Prim.search (comparing, rules) };
-
-    fn eq(&self, other: &Fields) -> bool {
-        self.items.as_slice() == other.items.as_slice()
-    }
-}
-
-impl Eq for Fields {
-    ghost laws = { Prim.search (comparing, rules) };
-}
-
 /// The records of a table, in order. Contracts see the list of them.
-#[derive(Debug, Drop)]
+#[derive(Drop)]
 pub struct Records {
     items: Vec<Record>,
 }

@@ -1,6 +1,7 @@
 ghost use Rattle.std.specs.Prelude.{◌≡◌, IfOk};
 
-use crate::lists::{Field, Fields, Records};
+use crate::lists::{Fields, Records};
+use crate::split::push_field;
 use std::alloc::{AllocError, Global};
 
 /// What a record of a sourcetable describes.
@@ -20,7 +21,7 @@ pub enum Kind {
 
 /// A record of a sourcetable: its kind, and as many fields as the kind has. A `;` stands in the
 /// last field at most.
-#[derive(Debug, PartialEq, Eq, Drop)]
+#[derive(Drop)]
 pub struct Record {
     pub kind: Kind,
     pub fields: Fields,
@@ -33,8 +34,7 @@ impl Record {
     {
         let mut fields = Vec::new(alloc);
         for field in self.fields.as_slice() {
-            let field = Field::new(Vec::from_slice(alloc, field.bytes())?);
-            fields.push(field)?;
+            push_field(alloc, &mut fields, field.bytes())?;
         }
         Ok(Record {
             kind: self.kind,
@@ -44,7 +44,7 @@ impl Record {
 }
 
 /// A sourcetable: its records, in order.
-#[derive(Debug, Drop)]
+#[derive(Drop)]
 pub struct Table {
     pub records: Records,
 }

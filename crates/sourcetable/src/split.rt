@@ -1,5 +1,5 @@
 //! A line in its fields.
-ghost use Rattle.std.specs.Prelude.{◌≡◌, ◌+◌, ◌<◌, ◌∷◌, length, position, IfOk, IfSome, IfNone};
+ghost use Rattle.std.specs.Prelude.{◌≡◌, ◌+◌, ◌<◌, [], ◌∷◌, ◌++◌, length, position, IfOk, IfSome, IfNone, OnOk};
 ghost use Rattle.std.specs.List.{count_by};
 ghost use Rattle.sourcetable.specs.Record.{is_separator, is_line_end, fields_text, AreFreeButLast};
 
@@ -12,6 +12,19 @@ pub fn line_end_place(text: &[u8]) -> Option<usize>
     ensures { result ≡ position is_line_end text.now }
 {
     text.iter().position(|b| *b == b'\r' || *b == b'\n')
+}
+
+/// Appends a field of these bytes.
+pub(crate) fn push_field(
+    alloc: Global,
+    fields: &mut Vec<Field>,
+    text: &[u8],
+) -> Result<(), AllocError>
+    ensures { OnOk result (fields.new.items ≡ fields.old.items ++ text.now ∷ []) }
+{
+    let field = Field::new(Vec::from_slice(alloc, text)?);
+    fields.push(field)?;
+    Ok(())
 }
 
 /// The text in so many fields, at least one, between `;`: the last one takes the rest. None where
@@ -31,9 +44,9 @@ pub fn split_fields(alloc: Global, count: usize, text: &[u8]) -> Result<Option<F
         let Some((field, more)) = split_first(b';', rest) else {
             return Ok(None);
         };
-        fields.push(Field::new(Vec::from_slice(alloc, field)?))?;
+        push_field(alloc, &mut fields, field)?;
         rest = more;
     }
-    fields.push(Field::new(Vec::from_slice(alloc, rest)?))?;
+    push_field(alloc, &mut fields, rest)?;
     Ok(Some(Fields::new(fields)))
 }

@@ -13,5 +13,5 @@ returns-in_default-clause-few c =
 
 pub returns-clause-free : goal.returns-clause-free
 returns-clause-free c =
-    rw (c.new-3.ensures, c.in_ok-push-2.ensures.items)
-    (free_push c.loop-rest.fields.items c.new-2.result c.loop-rest.invariant.free)
+    rw (c.new.ensures, c.in_ok-push_field-2.ensures)
+    (free_push c.loop-rest.fields.items c.loop-rest.rest.now c.loop-rest.invariant.free)
