@@ -21,7 +21,7 @@ use toml::{Table, Value};
 use type_filter::{Filter, FilterFault};
 
 /// The filter of a group for one mountpoint, as the file has it.
-#[derive(Debug, Drop)]
+#[derive(Drop)]
 pub struct FilterEntry {
     /// The name of the mountpoint.
     pub mount: MountName,

@@ -8,7 +8,7 @@ ghost use Rattle.toml.specs.View.{table_view};
 use toml::{Table, Value};
 
 /// A key of a configuration, by numbers.
-#[derive(Clone, Copy, Debug, PartialEq, Eq)]
+#[derive(Clone, Copy, Debug)]
 pub struct Key {
     /// The top key, by its place in the file's description: 1 is `version`, 10 is `anonymous`.
     pub list: u32,

@@ -16,7 +16,7 @@ use std::alloc::Global;
 use toml::Value;
 
 /// What a text is for: it has at most 100 bytes and no CR or LF.
-#[derive(Clone, Copy, Debug, PartialEq, Eq)]
+#[derive(Clone, Copy)]
 pub enum TextKind {
     /// A field of the sourcetable: no `;`.
     Plain,
