@@ -11,8 +11,8 @@ use Rattle.std.proofs.Math.Utf8.{encode}
 use Rattle.config_keys.specs.Lists.{tables}
 use Rattle.config_keys.specs.Types.{types}
 use Rattle.cast_config.specs.Names.{new_name, names_once, named}
-use Rattle.cast_config.specs.Entries.{mount_of, position_of, near_of, group_of, account_of}
-use Rattle.cast_config.specs.Document.{heard_of, parties_of, config_of}
+use Rattle.cast_config.specs.Entries.{position_of, station_of, signals_of, origin_of, mount_of, near_of, hearing_of, given_of, group_of, credentials_of, membership_of, account_of}
+use Rattle.cast_config.specs.Document.{places_of, heard_of, parties_of, settings_of, config_of}
 
 -- ---- the document, each table's keys in order
 
@@ -102,6 +102,7 @@ example = record {
 }
 
 document_says_it : config_of document ≡ Ok example
-unfolding config_of heard_of parties_of mount_of position_of near_of group_of account_of tables new_name names_once
-    named types is_utf8 chars encode
+unfolding config_of settings_of heard_of places_of parties_of mount_of station_of position_of signals_of origin_of
+    near_of group_of hearing_of given_of account_of credentials_of membership_of tables new_name names_once named types
+    is_utf8 chars encode
 document_says_it = refl

@@ -20,7 +20,7 @@ use Rattle.config_keys.specs.declared.strings.TextKind.TheVariants.{Plain, Secre
 use Rattle.config_keys.specs.declared.fault.KeyFault.TheVariants.{Range}
 use Rattle.config_keys.specs.Lists.{each_once, each_of, texts}
 use Rattle.config_keys.specs.Records.{but_mountpoints, given_record, record_line, record_at, records}
-use Rattle.config_keys.specs.Rules.{optional, count, is_within}
+use Rattle.config_keys.specs.Rules.{required, optional, count, is_within}
 use Rattle.config_keys.proofs.KeepLemmas.{value_is, taken, held, again_or, count_keeps, count_within, text_fits, name_is, whole_within}
 use Rattle.cast_config.specs.declared.config.Config.{Config}
 use Rattle.cast_config.specs.declared.config.Mount.{Mount}
@@ -31,13 +31,15 @@ use Rattle.cast_config.specs.declared.config.Relay.{Relay}
 use Rattle.cast_config.specs.declared.config.Anonymous.{Anonymous}
 use Rattle.cast_config.specs.declared.document.Heard.{Heard}
 use Rattle.cast_config.specs.declared.document.Parties.{Parties}
+use Rattle.cast_config.specs.declared.document.Places.{Places}
+use Rattle.cast_config.specs.declared.document.Settings.{Settings}
 use Rattle.cast_config.proofs.NameTexts.{name_fits, empty_fits, carrier_fits, navigation_fits}
 use Rattle.cast_config.specs.Bare.{mount_a, group_all, bare}
 use Rattle.cast_config.specs.Names.{mount_names, near_names, group_names, user_names, heard_names}
 use Rattle.cast_config.specs.Entries.{place, top, mount_of, near_of, group_of, account_of, relay_of}
 use Rattle.config_keys.specs.Texts.{name}
 use Rattle.cast_config.specs.Served.{all_filters}
-use Rattle.cast_config.specs.Document.{most_groups, heard_of, parties_of, config_of}
+use Rattle.cast_config.specs.Document.{most_groups, places_of, heard_of, parties_of, settings_of, config_from, config_of}
 use Rattle.cast_config.specs.Kept.{AreNumbers, filtered, KeepsMount, KeepsNear, KeepsGroup, KeepsAccount, KeepsRelay, KeepsAnonymous, KeepsRules}
 use Rattle.cast_config.proofs.NameKeeps.{given_some}
 use Rattle.cast_config.proofs.EntryKeeps.{mount_is, near_is, group_is, account_is, relay_is, IsAnonymous, optional_anonymous}
@@ -215,32 +217,48 @@ group_limit true n h = let parts = within 1 16 n h in and_from _ _ (le-leb 1 n p
     (le-leb n 64 (omega (arith, parts.1)))
 group_limit false n h = h
 
-keeps_heard : (version : ℕ) (ms : Members) (h : Heard) → heard_of version ms ≡ Ok h → KeepsHeard h
-unfolding heard_of
-keeps_heard version ms h e =
-    taken KeepsHeard _ _ h e (λ v1 f1 e1.
-    taken KeepsHeard _ _ h e1 (λ v2 f2 e2.
-    taken KeepsHeard _ _ h e2 (λ v3 f3 e3.
-    let mounts = listed_kept KeepsMount mount_of keeps_mount 1 64 (top 5) (get_member (codes "mount") ms) v1 f1 in
+record KeepsPlaces (p : Places) : Type 0 where
+  pub mount : AreKept KeepsMount 1 64 p.mount
+  pub near : AreKept (KeepsNear (length p.mount)) 0 (64 - length p.mount) p.near
+  pub names : each_once (heard_names p.mount p.near) ≡ true
+
+keeps_places : (ms : Members) (p : Places) → places_of ms ≡ Ok p → KeepsPlaces p
+unfolding places_of
+keeps_places ms p e =
+    taken KeepsPlaces _ _ p e (λ v1 f1 e1.
+    taken KeepsPlaces _ _ p e1 (λ v2 f2 e2.
     let names = listed_differ (λ (m : Mount). m.name) [] mount_of (λ n before ms m e.
     (mount_is n before ms m e).name.new) refl 1 64 (top 5) (get_member (codes "mount") ms) v1 f1 in
-    let groups = listed_kept (KeepsGroup (length v1) (length v2)) (group_of version v1 v2) (keeps_group version v1 v2) 1
-    (most_groups version) (top 7) (get_member (codes "group") ms) v3 f3 in
-    subst KeepsHeard (value_is _ h e3) (record {
-      mount = mounts;
+    subst KeepsPlaces (value_is _ p e2) (record {
+      mount = listed_kept KeepsMount mount_of keeps_mount 1 64 (top 5) (get_member (codes "mount") ms) v1 f1;
       near = listed_or_none_kept (KeepsNear (length v1)) (near_of v1) (keeps_near v1) (64 - length v1) (top 6)
           (get_member (codes "near") ms) v2 f2;
       names = listed_or_none_differ (λ (n : Near). n.name) (mount_names v1) (near_of v1)
           (λ n before ms m e. (near_is v1 n before ms m e).name.new)
           (subst (λ ns. each_once ns ≡ true) (sym (append-nil (mount_names v1))) names) (64 - length v1) (top 6)
           (get_member (codes "near") ms) v2 f2;
+    })))
+
+keeps_heard : (version : ℕ) (ms : Members) (h : Heard) → heard_of version ms ≡ Ok h → KeepsHeard h
+unfolding heard_of
+keeps_heard version ms h e =
+    taken KeepsHeard _ _ h e (λ v1 f1 e1.
+    taken KeepsHeard _ _ h e1 (λ v2 f2 e2.
+    let places = keeps_places ms v1 f1 in
+    let one = group_of version v1.mount v1.near in
+    let groups = listed_kept (KeepsGroup (length v1.mount) (length v1.near)) one
+    (keeps_group version v1.mount v1.near) 1 (most_groups version) (top 7) (get_member (codes "group") ms) v2 f2 in
+    subst KeepsHeard (value_is _ h e2) (record {
+      mount = places.mount;
+      near = places.near;
+      names = places.names;
       group = groups.each;
-      count_groups = group_limit (version == 1) (length v3) groups.count;
-      groups = listed_differ (λ (g : Group). g.name) [] (group_of version v1 v2)
-          (λ n before ms g e. (group_is version v1 v2 n before ms g e).name.new) refl 1 (most_groups version) (top 7)
-          (get_member (codes "group") ms) v3 f3;
+      count_groups = group_limit (version == 1) (length v2) groups.count;
+      groups = listed_differ (λ (g : Group). g.name) [] one
+          (λ n before ms g e. (group_is version v1.mount v1.near n before ms g e).name.new) refl 1 (most_groups version)
+          (top 7) (get_member (codes "group") ms) v2 f2;
       filters = refl;
-    }))))
+    })))
 
 pub record KeepsParties (mounts groups : ℕ) (p : Parties) : Type 0 where
   pub account : AreKept (KeepsAccount 1000000 groups) 0 1024 p.account
@@ -267,19 +285,22 @@ keeps_parties mounts groups ms p e =
           f3);
     }))))
 
-abbrev pub made : ℕ → ℕ → List Record → Heard → Parties → Config
-made workers hysteresis records heard parties = record {
-  workers = workers;
-  hysteresis = hysteresis;
-  records = records;
-  mount = heard.mount;
-  near = heard.near;
-  group = heard.group;
-  account = parties.account;
-  relay = parties.relay;
-  anonymous = parties.anonymous;
-  permits = heard.permits;
-}
+record KeepsSettings (s : Settings) : Type 0 where
+  pub workers : IsTrue (is_within 1 256 s.workers)
+  pub hysteresis : s.hysteresis ≤ 50
+
+keeps_settings : (ms : Members) (s : Settings) → settings_of ms ≡ Ok s → KeepsSettings s
+unfolding settings_of
+keeps_settings ms s e =
+    taken KeepsSettings (required (count 1 2) (top 1) (get_member (codes "version") ms)) _ s e (λ v1 f1 e1.
+    taken KeepsSettings _ _ s e1 (λ v2 f2 e2.
+    taken KeepsSettings _ _ s e2 (λ v3 f3 e3.
+    subst KeepsSettings (value_is _ s e3) (record {
+      workers = count_within 1 256 (top 2) v2 (again_or (count 1 256) (λ n. integer (pos n)) (count_keeps 1 256) (top 2)
+          4 (get_member (codes "workers") ms) v2 refl f2);
+      hysteresis = (within 0 50 v3 (count_within 0 50 (top 3) v3 (again_or (count 0 50) (λ n. integer (pos n))
+          (count_keeps 0 50) (top 3) 10 (get_member (codes "hysteresis") ms) v3 refl f3))).1;
+    }))))
 
 pub keeps_rules : (ms : Members) (c : Config) → config_of ms ≡ Ok c → KeepsRules 1000000 c
 unfolding config_of
@@ -288,20 +309,17 @@ keeps_rules ms c e =
     taken (KeepsRules 1000000) _ _ c e1 (λ v2 f2 e2.
     taken (KeepsRules 1000000) _ _ c e2 (λ v3 f3 e3.
     taken (KeepsRules 1000000) _ _ c e3 (λ v4 f4 e4.
-    taken (KeepsRules 1000000) _ _ c e4 (λ v5 f5 e5.
-    taken (KeepsRules 1000000) _ _ c e5 (λ v6 f6 e6.
-    let heard = keeps_heard v1 ms v5 f5 in
-    let parties = keeps_parties v5.mount v5.group ms v6 f6 in
-    let kept = keeps_records (top 4) (get_member (codes "records") ms) v4 f4 in
-    let some = within 1 64 (length v5.mount) heard.mount.count in
-    let more = within 0 (64 - length v5.mount) (length v5.near) heard.near.count in
-    let accounts = within 0 1024 (length v6.account) parties.account.count in
-    let relays = within 0 16 (length v6.relay) parties.relay.count in
-    subst (KeepsRules 1000000) (value_is (made v2 v3 v4 v5 v6) c e6) (record {
-      workers = count_within 1 256 (top 2) v2 (again_or (count 1 256) (λ n. integer (pos n)) (count_keeps 1 256) (top 2)
-          4 (get_member (codes "workers") ms) v2 refl f2);
-      hysteresis = (within 0 50 v3 (count_within 0 50 (top 3) v3 (again_or (count 0 50) (λ n. integer (pos n))
-          (count_keeps 0 50) (top 3) 10 (get_member (codes "hysteresis") ms) v3 refl f3))).1;
+    let settings = keeps_settings ms v1 f1 in
+    let kept = keeps_records (top 4) (get_member (codes "records") ms) v2 f2 in
+    let heard = keeps_heard v1.version ms v3 f3 in
+    let parties = keeps_parties v3.mount v3.group ms v4 f4 in
+    let some = within 1 64 (length v3.mount) heard.mount.count in
+    let more = within 0 (64 - length v3.mount) (length v3.near) heard.near.count in
+    let accounts = within 0 1024 (length v4.account) parties.account.count in
+    let relays = within 0 16 (length v4.relay) parties.relay.count in
+    subst (KeepsRules 1000000) (value_is (config_from v1 v2 v3 v4) c e4) (record {
+      workers = settings.workers;
+      hysteresis = settings.hysteresis;
       few_records = kept.1;
       records = kept.0;
       some_mounts = some.0;
@@ -319,7 +337,7 @@ keeps_rules ms c e =
       relay = parties.relay.each;
       anonymous = parties.anonymous;
       filters = heard.filters;
-    })))))))
+    })))))
 
 -- ---- the smallest configuration
 

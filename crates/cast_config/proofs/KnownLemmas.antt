@@ -3,11 +3,22 @@ use Rattle.std.proofs.Common.{◌≡◌, ℕ, ◌+◌, ◌||◌, List, [], ◌�
 use Rattle.std.proofs.lemmas.List.{length-map}
 use Rattle.std.specs.List.{position_from}
 use Rattle.std.specs.Str.{bytes_eq}
+use Rattle.std.specs.Option.{is_some}
 use Rattle.std.proofs.lemmas.Bool.{cases_Bool}
 use Rattle.config_keys.specs.Lists.{is_among}
 use Rattle.cast_config.specs.declared.config.Mount.{Mount}
 use Rattle.cast_config.specs.declared.config.Near.{Near}
 use Rattle.cast_config.specs.Names.{mount_names, near_names, heard_names, place_of}
+
+-- a name is found from any number on, or is none of these
+found_from : (names : List (List ℕ)) (name : List ℕ) (from : ℕ)
+    → is_some (position_from (λ n. bytes_eq n name) from names) ≡ is_among names name
+found_from [] name from = refl
+found_from (n ∷ names) name from =
+    elim (cases_Bool (bytes_eq n name)) [
+      | inl same ↦ rw same refl
+      | inr other ↦ rw other (found_from names name (from + 1))
+    ]
 
 pub among_both : (names others : List (List ℕ)) (name : List ℕ) → is_among (names ++ others) name ≡
     (is_among names name || is_among others name)
@@ -72,3 +83,7 @@ not_in_mounts mounts nears name place e f =
     ∙ ap (λ n. position_from (λ other. bytes_eq other name) n (near_names nears)) from
     ∙ shifted (near_names nears) name (length mounts) 0
     ∙ ap (option_map (λ i. length mounts + i)) f
+
+-- what is found among names is one of them
+pub found_among : (names : List (List ℕ)) (name : List ℕ) → is_some (place_of names name) ≡ is_among names name
+found_among names name = found_from names name 0

@@ -4,6 +4,9 @@ use Rattle.type_filter.specs.Permitted.{All}
 use Rattle.cast_config.specs.declared.config.Config.{Config}
 use Rattle.cast_config.specs.declared.config.Mount.{Mount}
 use Rattle.cast_config.specs.declared.config.Group.{Group}
+use Rattle.cast_config.specs.declared.mountpoint.Station.{Station}
+use Rattle.cast_config.specs.declared.mountpoint.Signals.{Signals}
+use Rattle.cast_config.specs.declared.mountpoint.Origin.{Origin}
 use Rattle.cast_config.specs.Served.{all_filters}
 
 -- the mountpoint `A` of this capacity, without a password, at latitude and longitude 0; all else
@@ -24,6 +27,26 @@ mount_a capacity = record {
   bitrate = 0;
   misc = [];
 }
+
+-- its parts
+abbrev pub station_a : ℕ → Station
+station_a capacity = record {
+  name = codes "A";
+  password = [];
+  ring = capacity;
+  at = record { lat = pos 0; lon = pos 0 };
+}
+
+abbrev pub signals_a : Signals
+signals_a = record {
+  identifier = codes "A";
+  details = [];
+  carrier = codes "2";
+  navigation = codes "GPS";
+}
+
+abbrev pub origin_a : Origin
+origin_a = record { network = []; country = []; generator = []; bitrate = 0; misc = [] }
 
 -- the group `all`, which lists it and is given every frame
 abbrev pub group_all : Group

@@ -8,6 +8,7 @@ use Rattle.std.specs.Prelude.{◌≡◌, ℕ, ◌+◌, ◌-◌, ◌==◌, if◌t
 use Rattle.std.specs.Str.{IsUtf8}
 use Rattle.toml.specs.Data.{Data, table, Items, no_items, item, Members, get_member}
 use Rattle.toml.specs.Parse.{parse_document}
+use Rattle.sourcetable.specs.declared.record.Record.{Record}
 use Rattle.config_keys.specs.declared.key.Key.{Key}
 use Rattle.config_keys.specs.declared.fault.KeyFault.TheVariants as keys
 use Rattle.config_keys.specs.Answers.{Read, ◌>>=◌}
@@ -19,6 +20,8 @@ use Rattle.cast_config.specs.declared.config.Mount.{Mount}
 use Rattle.cast_config.specs.declared.config.Group.{Group}
 use Rattle.cast_config.specs.declared.document.Heard.{Heard}
 use Rattle.cast_config.specs.declared.document.Parties.{Parties}
+use Rattle.cast_config.specs.declared.document.Places.{Places}
+use Rattle.cast_config.specs.declared.document.Settings.{Settings}
 use Rattle.cast_config.specs.declared.fault.ConfigFault.{ConfigFault}
 use Rattle.cast_config.specs.declared.fault.ConfigFault.TheVariants.{Toml, Missing, Wrong, Range, Twice, Unknown, Memory}
 use Rattle.cast_config.specs.Names.{some_of}
@@ -48,14 +51,25 @@ listed_or_none one most key found =
 abbrev pub most_groups : ℕ → ℕ
 most_groups version = if version == 1 then 16 else 64
 
--- the mountpoints, the near mountpoints and the groups that list them
-unfoldable pub heard_of : ℕ → Members → Read Heard
-heard_of version ms = do
+-- the mountpoints and the near mountpoints
+unfoldable pub places_of : Members → Read Places
+places_of ms = do
   mount ← listed mount_of 1 64 (top 5) (get_member (codes "mount") ms)
   near ← listed_or_none (near_of mount) (64 - length mount) (top 6) (get_member (codes "near") ms)
-  group ← listed (group_of version mount near) 1 (most_groups version) (top 7)
+  Ok (record { mount = mount; near = near })
+
+-- the same and the groups that list them
+unfoldable pub heard_of : ℕ → Members → Read Heard
+heard_of version ms = do
+  places ← places_of ms
+  group ← listed (group_of version places.mount places.near) 1 (most_groups version) (top 7)
       (get_member (codes "group") ms)
-  Ok (record { mount = mount; near = near; group = group; permits = all_filters mount group })
+  Ok (record {
+    mount = places.mount;
+    near = places.near;
+    group = group;
+    permits = all_filters places.mount group;
+  })
 
 -- the accounts, the relays and who has no account
 unfoldable pub parties_of : List Mount → List Group → Members → Read Parties
@@ -66,27 +80,37 @@ parties_of mount group ms = do
       (get_member (codes "anonymous") ms)
   Ok (record { account = account; relay = relay; anonymous = anonymous })
 
--- all keys, in their order
-unfoldable pub config_of : Members → Read Config
-config_of ms = do
+-- the keys that are numbers
+unfoldable pub settings_of : Members → Read Settings
+settings_of ms = do
   version ← required (count 1 2) (top 1) (get_member (codes "version") ms)
   workers ← optional 4 (count 1 256) (top 2) (get_member (codes "workers") ms)
   hysteresis ← optional 10 (count 0 50) (top 3) (get_member (codes "hysteresis") ms)
+  Ok (record { version = version; workers = workers; hysteresis = hysteresis })
+
+-- the configuration of these parts
+abbrev pub config_from : Settings → List Record → Heard → Parties → Config
+config_from settings records heard parties = record {
+  workers = settings.workers;
+  hysteresis = settings.hysteresis;
+  records = records;
+  mount = heard.mount;
+  near = heard.near;
+  group = heard.group;
+  account = parties.account;
+  relay = parties.relay;
+  anonymous = parties.anonymous;
+  permits = heard.permits;
+}
+
+-- all keys, in their order
+unfoldable pub config_of : Members → Read Config
+config_of ms = do
+  settings ← settings_of ms
   records ← optional [] records (top 4) (get_member (codes "records") ms)
-  heard ← heard_of version ms
+  heard ← heard_of settings.version ms
   parties ← parties_of heard.mount heard.group ms
-  Ok (record {
-    workers = workers;
-    hysteresis = hysteresis;
-    records = records;
-    mount = heard.mount;
-    near = heard.near;
-    group = heard.group;
-    account = parties.account;
-    relay = parties.relay;
-    anonymous = parties.anonymous;
-    permits = heard.permits;
-  })
+  Ok (config_from settings records heard parties)
 
 -- ---- bytes
 

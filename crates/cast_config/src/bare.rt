@@ -1,11 +1,12 @@
 //! The smallest configuration, and the filters that a configuration gives.
 
-ghost use Rattle.std.specs.Prelude.{◌≡◌, ◌≤◌, ◌<◌, length, IfOk, Ok};
+ghost use Rattle.std.specs.Prelude.{◌≡◌, ◌≤◌, ◌<◌, [], ◌∷◌, length, IfOk, Ok};
 ghost use Rattle.config_keys.specs.Answers.{Gives};
-ghost use Rattle.cast_config.specs.Bare.{bare, group_all, mount_a};
+ghost use Rattle.cast_config.specs.Bare.{bare, group_all, mount_a, origin_a, signals_a, station_a};
 
 use crate::config::{Anonymous, Config, Group, Mount};
 use crate::lists::{Accounts, GroupFilters, Groups, Mounts, Nears, Numbers, Relays};
+use crate::mountpoint::{Origin, Signals, Station, mount_from};
 use crate::served::all_filters;
 use config_keys::{KeyFault, group_name, mount_name, text_in};
 use gga_read::Position;
@@ -13,24 +14,57 @@ use sourcetable::Records;
 use std::alloc::{AllocError, Global};
 use type_filter::{Filter, Filters};
 
+fn station_a(alloc: Global, capacity: u32) -> Result<Station, KeyFault>
+    ensures { Gives result (Ok (station_a capacity)) }
+{
+    let name = mount_name(alloc, b"A")?;
+    let password = text_in(alloc, b"")?;
+    Ok(Station {
+        name,
+        password,
+        ring: capacity,
+        at: Position { lat: 0, lon: 0 },
+    })
+}
+
+fn signals_a(alloc: Global) -> Result<Signals, KeyFault>
+    ensures { Gives result (Ok signals_a) }
+{
+    let identifier = text_in(alloc, b"A")?;
+    let details = text_in(alloc, b"")?;
+    let carrier = text_in(alloc, b"2")?;
+    let navigation = text_in(alloc, b"GPS")?;
+    Ok(Signals {
+        identifier,
+        details,
+        carrier,
+        navigation,
+    })
+}
+
+fn origin_a(alloc: Global) -> Result<Origin, KeyFault>
+    ensures { Gives result (Ok origin_a) }
+{
+    let network = text_in(alloc, b"")?;
+    let country = text_in(alloc, b"")?;
+    let generator = text_in(alloc, b"")?;
+    let misc = text_in(alloc, b"")?;
+    Ok(Origin {
+        network,
+        country,
+        generator,
+        bitrate: 0,
+        misc,
+    })
+}
+
 fn mount_a(alloc: Global, capacity: u32) -> Result<Mount, KeyFault>
     ensures { Gives result (Ok (mount_a capacity)) }
 {
-    Ok(Mount {
-        name: mount_name(alloc, b"A")?,
-        password: text_in(alloc, b"")?,
-        ring: capacity,
-        at: Position { lat: 0, lon: 0 },
-        identifier: text_in(alloc, b"A")?,
-        details: text_in(alloc, b"")?,
-        carrier: text_in(alloc, b"2")?,
-        navigation: text_in(alloc, b"GPS")?,
-        network: text_in(alloc, b"")?,
-        country: text_in(alloc, b"")?,
-        generator: text_in(alloc, b"")?,
-        bitrate: 0,
-        misc: text_in(alloc, b"")?,
-    })
+    let station = station_a(alloc, capacity)?;
+    let signals = signals_a(alloc)?;
+    let origin = origin_a(alloc)?;
+    Ok(mount_from(station, signals, origin))
 }
 
 fn group_all(alloc: Global) -> Result<Group, KeyFault>
@@ -44,11 +78,25 @@ fn group_all(alloc: Global) -> Result<Group, KeyFault>
     })
 }
 
+fn mounts_a(alloc: Global, capacity: u32) -> Result<Mounts, KeyFault>
+    ensures { Gives result (Ok (mount_a capacity ∷ [])) }
+{
+    let mount = mount_a(alloc, capacity)?;
+    Ok(Mounts::new(vec![in alloc; mount]?))
+}
+
+fn groups_all(alloc: Global) -> Result<Groups, KeyFault>
+    ensures { Gives result (Ok (group_all ∷ [])) }
+{
+    let group = group_all(alloc)?;
+    Ok(Groups::new(vec![in alloc; group]?))
+}
+
 fn bare_in(alloc: Global, capacity: u32) -> Result<Config, KeyFault>
     ensures { Gives result (Ok (bare capacity)) }
 {
-    let mount = Mounts::new(vec![in alloc; mount_a(alloc, capacity)?]?);
-    let group = Groups::new(vec![in alloc; group_all(alloc)?]?);
+    let mount = mounts_a(alloc, capacity)?;
+    let group = groups_all(alloc)?;
     let permits = all_filters(alloc, mount.as_slice(), group.as_slice())?;
     Ok(Config {
         workers: 4,

@@ -4,12 +4,11 @@ use crate::lists::{Accounts, FilterTable, GroupFilters, Groups, Mounts, Nears, N
 use cast_text::{GroupName, MountName, Text, UserName};
 use gga_read::Position;
 use sourcetable::Records;
-use std::fmt;
 use type_filter::Filter;
 
 /// The configuration of a caster, as a document says it. A mountpoint, a group or a relay is named
 /// by its place in its list, from 0.
-#[derive(Debug, Drop)]
+#[derive(Drop)]
 pub struct Config {
     /// How many threads serve, 1 to 256.
     pub workers: u32,
@@ -66,7 +65,7 @@ pub struct Mount {
 }
 
 /// A near mountpoint: a rover of it is given the frames of the nearest of its bases.
-#[derive(Debug, Drop)]
+#[derive(Drop)]
 pub struct Near {
     /// The name, which no mountpoint and no other near mountpoint has.
     pub name: MountName,
@@ -75,7 +74,7 @@ pub struct Near {
 }
 
 /// A group of accounts: what they may hear.
-#[derive(Debug, Drop)]
+#[derive(Drop)]
 pub struct Group {
     /// The name, which no other group has.
     pub name: GroupName,
@@ -89,7 +88,7 @@ pub struct Group {
 }
 
 /// Which frames the rovers of a group are given at one mountpoint.
-#[derive(Debug, Drop)]
+#[derive(Drop)]
 pub struct GroupFilter {
     /// The number of the mountpoint, for which the group has no other such filter.
     pub mount: u32,
@@ -128,42 +127,10 @@ pub struct Relay {
 }
 
 /// What rovers without credentials may hear.
-#[derive(Clone, Copy, Debug, PartialEq, Eq, Drop)]
+#[derive(Clone, Copy, Drop)]
 pub struct Anonymous {
     /// The number of their group.
     pub group: u32,
     /// How many of their sessions may be open at a time, 1 to 1,000,000.
     pub cap: u32,
-}
-
-// What holds a password does not show it.
-
-impl fmt::Debug for Mount {
-    fn fmt<W: fmt::Write>(&self, f: &mut fmt::Formatter<W>) -> fmt::Result {
-        f.debug_struct("Mount")
-            .field("name", &self.name)
-            .field("at", &self.at)
-            .finish_non_exhaustive()
-    }
-}
-
-impl fmt::Debug for Account {
-    fn fmt<W: fmt::Write>(&self, f: &mut fmt::Formatter<W>) -> fmt::Result {
-        f.debug_struct("Account")
-            .field("user", &self.user)
-            .field("group", &self.group)
-            .field("cap", &self.cap)
-            .finish_non_exhaustive()
-    }
-}
-
-impl fmt::Debug for Relay {
-    fn fmt<W: fmt::Write>(&self, f: &mut fmt::Formatter<W>) -> fmt::Result {
-        f.debug_struct("Relay")
-            .field("mount", &self.mount)
-            .field("address", &self.address)
-            .field("upstream", &self.upstream)
-            .field("protocol", &self.protocol)
-            .finish_non_exhaustive()
-    }
 }

@@ -6,10 +6,9 @@ ghost use Rattle.cast_text.specs.Name.{is_name};
 ghost use Rattle.config_keys.specs.Answers.{Gives, GivesBy};
 ghost use Rattle.config_keys.specs.Lists.{each_of};
 ghost use Rattle.config_keys.specs.Rules.{required, optional, seen};
-ghost use Rattle.config_keys.specs.Texts.{name, text};
-ghost use Rattle.config_keys.specs.declared.strings.TextKind.TheVariants.{Plain};
+ghost use Rattle.config_keys.specs.Texts.{name};
 ghost use Rattle.cast_config.specs.Names.{mount_names, group_names, user_names, heard_names, new_name, named, all_named, entries_once, filters_at, filter_at, some_of};
-ghost use Rattle.cast_config.specs.Entries.{place, position_of, mount_of, near_of, group_of, account_of, relay_of, anonymous_in, anonymous_of, filters_by};
+ghost use Rattle.cast_config.specs.Entries.{place, near_of, hearing_of, given_of, group_of, credentials_of, membership_of, account_of, pull_of, relay_of, anonymous_in, anonymous_of, filters_by};
 ghost use Rattle.toml.specs.Data.{get_member};
 ghost use Rattle.toml.specs.View.{view, table_view};
 
@@ -21,32 +20,15 @@ use config_keys::{
     FilterEntry, Key, KeyFault, TextKind, count, count_or, filter_entries, group_name, mount_name,
     name_bytes, text, text_or, types, user_name, value_at, whole,
 };
-use gga_read::Position;
 use std::alloc::Global;
 use toml::{Table, Value};
+use type_filter::Filter;
 
 /// The key of an entry of a list.
 pub(crate) fn place(list: u32, entry: u32, key: u32) -> Key
     ensures { result ≡ place list entry key }
 {
     Key { list, entry, key }
-}
-
-/// The name of a mountpoint that none of these has.
-#[tactic(auto, unfolding(crate::specs::Names::new_name))]
-fn new_mount_name(
-    alloc: Global,
-    value: Option<&Value>,
-    key: Key,
-    before: &[Mount],
-) -> Result<MountName, KeyFault>
-    ensures { Gives result (required (new_name (mount_names before.now)) key (seen value.entry)) }
-{
-    let bytes = name_bytes(value, key)?;
-    if has_name(before, bytes) {
-        return Err(KeyFault::Twice(key));
-    }
-    mount_name(alloc, bytes)
 }
 
 /// The name of a near mountpoint that none of these has.
@@ -154,74 +136,6 @@ fn heard(
     Ok(Numbers::new(numbers))
 }
 
-#[tactic(auto, unfolding(crate::specs::Entries::position_of))]
-fn position_in(table: &Table, n: u32) -> Result<Position, KeyFault>
-    ensures { result ≡ position_of n (table_view table.now) }
-{
-    let lat = value_at(table, "latitude");
-    let lat = whole(lat, place(5, n, 4), -900_000_000, 900_000_000)?;
-    let lon = value_at(table, "longitude");
-    let lon = whole(lon, place(5, n, 5), -1_800_000_000, 1_800_000_000)?;
-    Ok(Position { lat, lon })
-}
-
-/// The plain text that a table has at a key, and this one where the key is not there.
-fn plain_or(
-    alloc: Global,
-    table: &Table,
-    name: &str,
-    key: Key,
-    default: &[u8],
-) -> Result<Text, KeyFault>
-    requires { length default.now ≤ 100 }
-    ensures { Gives result
-        (optional default.now (text Plain) key (get_member name.now (table_view table.now))) }
-{
-    text_or(alloc, value_at(table, name), key, TextKind::Plain, default)
-}
-
-/// The mountpoint of number `n`, from 1, of a table that stands behind these.
-#[tactic(auto, unfolding(crate::specs::Entries::mount_of))]
-pub(crate) fn mount_in(
-    alloc: Global,
-    n: u32,
-    before: &[Mount],
-    table: &Table,
-) -> Result<Mount, KeyFault>
-    ensures { Gives result (mount_of n before.now (table_view table.now)) }
-{
-    let name = new_mount_name(alloc, value_at(table, "name"), place(5, n, 1), before)?;
-    let password = value_at(table, "password");
-    let password = text(alloc, password, place(5, n, 2), TextKind::Plain)?;
-    let ring = count(value_at(table, "ring"), place(5, n, 3), 1, 4096)?;
-    let at = position_in(table, n)?;
-    let identifier = plain_or(alloc, table, "identifier", place(5, n, 6), name.bytes())?;
-    let details = plain_or(alloc, table, "details", place(5, n, 7), b"")?;
-    let carrier = plain_or(alloc, table, "carrier", place(5, n, 8), b"2")?;
-    let navigation = plain_or(alloc, table, "navigation", place(5, n, 9), b"GPS")?;
-    let network = plain_or(alloc, table, "network", place(5, n, 10), b"")?;
-    let country = plain_or(alloc, table, "country", place(5, n, 11), b"")?;
-    let generator = plain_or(alloc, table, "generator", place(5, n, 12), b"")?;
-    let bitrate = value_at(table, "bitrate");
-    let bitrate = count_or(bitrate, place(5, n, 13), 0, 1_000_000_000, 0)?;
-    let misc = plain_or(alloc, table, "misc", place(5, n, 14), b"")?;
-    Ok(Mount {
-        name,
-        password,
-        ring,
-        at,
-        identifier,
-        details,
-        carrier,
-        navigation,
-        network,
-        country,
-        generator,
-        bitrate,
-        misc,
-    })
-}
-
 /// The near mountpoint of number `n`, from 1, of a table that stands behind these.
 #[tactic(auto, unfolding(crate::specs::Entries::near_of))]
 pub(crate) fn near_in(
@@ -291,6 +205,18 @@ fn filters_in(
     Ok(GroupFilters::new(filters))
 }
 
+/// The same filter, with the number of its mountpoint.
+fn numbered_filter(entry: FilterEntry, key: Key, mounts: &[Mount]) -> Result<GroupFilter, KeyFault>
+    requires { length mounts.now ≤ 64 }
+    ensures { result ≡ filter_at key (mount_names mounts.now) entry }
+{
+    let mount = number_of(mounts, entry.mount.bytes(), key)?;
+    Ok(GroupFilter {
+        mount,
+        types: entry.types,
+    })
+}
+
 /// The same filters, each with the number of its mountpoint.
 fn numbered_filters(
     alloc: Global,
@@ -304,13 +230,61 @@ fn numbered_filters(
 {
     let mut filters = Vec::new(alloc);
     for entry in entries {
-        let mount = number_of(mounts, entry.mount.bytes(), key)?;
-        filters.push(GroupFilter {
-            mount,
-            types: entry.types,
-        })?;
+        let filter = numbered_filter(entry, key, mounts)?;
+        filters.push(filter)?;
     }
     Ok(filters)
+}
+
+/// The name of a group, and what it lists.
+#[derive(Drop)]
+struct Hearing {
+    name: GroupName,
+    mounts: Numbers,
+}
+
+#[tactic(auto, unfolding(crate::specs::Entries::hearing_of))]
+fn hearing_in(
+    alloc: Global,
+    mounts: &[Mount],
+    nears: &[Near],
+    n: u32,
+    before: &[Group],
+    table: &Table,
+) -> Result<Hearing, KeyFault>
+    requires mounts { length mounts.now ≤ 64 }
+    requires nears { length nears.now ≤ 64 }
+    ensures { Gives result
+        (hearing_of mounts.now nears.now n before.now (table_view table.now)) }
+{
+    let name = new_group_name(alloc, value_at(table, "name"), place(7, n, 1), before)?;
+    let listed = value_at(table, "mounts");
+    let mounts = heard(alloc, listed, place(7, n, 2), mounts, nears)?;
+    Ok(Hearing { name, mounts })
+}
+
+/// Which frames a group is given.
+#[derive(Drop)]
+struct Given {
+    types: Filter,
+    filter: GroupFilters,
+}
+
+#[tactic(auto, unfolding(crate::specs::Entries::given_of))]
+fn given_in(
+    alloc: Global,
+    version: u32,
+    mounts: &[Mount],
+    n: u32,
+    table: &Table,
+) -> Result<Given, KeyFault>
+    requires { length mounts.now ≤ 64 }
+    ensures { Gives result (given_of version mounts.now n (table_view table.now)) }
+{
+    let types = types(alloc, value_at(table, "types"), place(7, n, 3))?;
+    let filter = value_at(table, "filter");
+    let filter = filters_by(alloc, version, filter, place(7, n, 4), mounts)?;
+    Ok(Given { types, filter })
 }
 
 /// The group of number `n`, from 1, of a table that stands behind these.
@@ -329,23 +303,53 @@ pub(crate) fn group_in(
     ensures { Gives result
         (group_of version mounts.now nears.now n before.now (table_view table.now)) }
 {
-    let name = new_group_name(alloc, value_at(table, "name"), place(7, n, 1), before)?;
-    let numbers = heard(
-        alloc,
-        value_at(table, "mounts"),
-        place(7, n, 2),
-        mounts,
-        nears,
-    )?;
-    let types = types(alloc, value_at(table, "types"), place(7, n, 3))?;
-    let filter = value_at(table, "filter");
-    let filter = filters_by(alloc, version, filter, place(7, n, 4), mounts)?;
+    let hearing = hearing_in(alloc, mounts, nears, n, before, table)?;
+    let given = given_in(alloc, version, mounts, n, table)?;
     Ok(Group {
-        name,
-        mounts: numbers,
-        types,
-        filter,
+        name: hearing.name,
+        mounts: hearing.mounts,
+        types: given.types,
+        filter: given.filter,
     })
+}
+
+/// How a rover of an account shows that it is one.
+#[derive(Drop)]
+struct Credentials {
+    user: UserName,
+    password: Text,
+}
+
+#[tactic(auto, unfolding(crate::specs::Entries::credentials_of))]
+fn credentials_in(
+    alloc: Global,
+    n: u32,
+    before: &[Account],
+    table: &Table,
+) -> Result<Credentials, KeyFault>
+    ensures { Gives result (credentials_of n before.now (table_view table.now)) }
+{
+    let user = new_user_name(alloc, value_at(table, "user"), place(8, n, 1), before)?;
+    let password = value_at(table, "password");
+    let password = text(alloc, password, place(8, n, 2), TextKind::Secret)?;
+    Ok(Credentials { user, password })
+}
+
+/// The group of an account, and how many sessions it may have open.
+#[derive(Clone, Copy)]
+struct Membership {
+    group: u32,
+    cap: u32,
+}
+
+#[tactic(auto, unfolding(crate::specs::Entries::membership_of))]
+fn membership_in(groups: &[Group], n: u32, table: &Table) -> Result<Membership, KeyFault>
+    requires { length groups.now ≤ 64 }
+    ensures { Gives result (membership_of groups.now n (table_view table.now)) }
+{
+    let group = group_named(value_at(table, "group"), place(8, n, 3), groups)?;
+    let cap = count(value_at(table, "cap"), place(8, n, 4), 1, 1_000_000)?;
+    Ok(Membership { group, cap })
 }
 
 /// The account of number `n`, from 1, of a table that stands behind these.
@@ -360,16 +364,13 @@ pub(crate) fn account_in(
     requires { length groups.now ≤ 64 }
     ensures { Gives result (account_of groups.now n before.now (table_view table.now)) }
 {
-    let secret = TextKind::Secret;
-    let user = new_user_name(alloc, value_at(table, "user"), place(8, n, 1), before)?;
-    let password = text(alloc, value_at(table, "password"), place(8, n, 2), secret)?;
-    let group = group_named(value_at(table, "group"), place(8, n, 3), groups)?;
-    let cap = count(value_at(table, "cap"), place(8, n, 4), 1, 1_000_000)?;
+    let credentials = credentials_in(alloc, n, before, table)?;
+    let membership = membership_in(groups, n, table)?;
     Ok(Account {
-        user,
-        password,
-        group,
-        cap,
+        user: credentials.user,
+        password: credentials.password,
+        group: membership.group,
+        cap: membership.cap,
     })
 }
 
@@ -397,6 +398,30 @@ fn upstream_name(alloc: Global, value: Option<&Value>, key: Key) -> Result<Mount
     mount_name(alloc, bytes)
 }
 
+/// What a relay pulls, and for which mountpoint.
+#[derive(Drop)]
+struct Pull {
+    mount: u32,
+    address: Text,
+    upstream: MountName,
+}
+
+#[tactic(auto, unfolding(crate::specs::Entries::pull_of))]
+fn pull_in(alloc: Global, mounts: &[Mount], n: u32, table: &Table) -> Result<Pull, KeyFault>
+    requires { length mounts.now ≤ 64 }
+    ensures { Gives result (pull_of mounts.now n (table_view table.now)) }
+{
+    let mount = mount_named(value_at(table, "mount"), place(9, n, 1), mounts)?;
+    let address = value_at(table, "address");
+    let address = text(alloc, address, place(9, n, 2), TextKind::Address)?;
+    let upstream = upstream_name(alloc, value_at(table, "upstream"), place(9, n, 3))?;
+    Ok(Pull {
+        mount,
+        address,
+        upstream,
+    })
+}
+
 /// The relay of number `n`, from 1, of a table.
 #[tactic(auto, unfolding(crate::specs::Entries::relay_of))]
 pub(crate) fn relay_in(
@@ -408,18 +433,15 @@ pub(crate) fn relay_in(
     requires { length mounts.now ≤ 64 }
     ensures { Gives result (relay_of mounts.now n (table_view table.now)) }
 {
-    let mount = mount_named(value_at(table, "mount"), place(9, n, 1), mounts)?;
-    let address = value_at(table, "address");
-    let address = text(alloc, address, place(9, n, 2), TextKind::Address)?;
-    let upstream = upstream_name(alloc, value_at(table, "upstream"), place(9, n, 3))?;
+    let pull = pull_in(alloc, mounts, n, table)?;
     let protocol = count(value_at(table, "protocol"), place(9, n, 4), 1, 2)?;
     let user = user_or_none(alloc, value_at(table, "user"), place(9, n, 5))?;
     let password = value_at(table, "password");
     let password = text_or(alloc, password, place(9, n, 6), TextKind::Secret, b"")?;
     Ok(Relay {
-        mount,
-        address,
-        upstream,
+        mount: pull.mount,
+        address: pull.address,
+        upstream: pull.upstream,
         protocol,
         user,
         password,

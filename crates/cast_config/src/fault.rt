@@ -9,7 +9,7 @@ use std::alloc::AllocError;
 use thiserror::Error;
 
 /// Why bytes are no configuration: the first test of the first key that fails.
-#[derive(Clone, Copy, Debug, PartialEq, Eq, Error)]
+#[derive(Clone, Copy, Debug, Error)]
 pub enum ConfigFault {
     /// The bytes are no TOML document.
     #[error("no TOML document")]

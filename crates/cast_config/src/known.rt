@@ -62,15 +62,11 @@ impl Named for FilterEntry {
 }
 
 /// Whether one of these has the name.
+#[tactic(auto, using(crate::proofs::KnownLemmas::found_among))]
 pub(crate) fn has_name<T: Named>(items: &[T], name: &[u8]) -> bool
     ensures { result ≡ is_among (map T.title items.now) name.now }
 {
-    for item in items {
-        if item.title_bytes() == name {
-            return true;
-        }
-    }
-    false
+    place_named(items, name).is_some()
 }
 
 /// Whether no two of these have one name.

@@ -11,6 +11,7 @@ mod groups;
 mod known;
 pub mod laws;
 mod lists;
+mod mountpoint;
 mod reading;
 mod served;
 
@@ -19,4 +20,6 @@ pub use config_keys::Key;
 pub use document::read_config;
 pub use fault::ConfigFault;
 pub use known::{Named, place_heard, place_named};
-pub use lists::{Accounts, FilterTable, GroupFilters, Groups, Mounts, Nears, Numbers, Relays};
+pub use lists::{
+    Accounts, FilterTable, GroupFilters, Groups, Listed, Mounts, Nears, Numbers, Relays,
+};

@@ -8,8 +8,9 @@ ghost use Rattle.cast_config.specs.Document.{entries, listed, listed_or_none, mo
 ghost use Rattle.toml.specs.View.{items_view};
 
 use crate::config::{Account, Group, Mount, Near, Relay};
-use crate::entries::{account_in, group_in, mount_in, near_in, place, relay_in};
+use crate::entries::{account_in, group_in, near_in, place, relay_in};
 use crate::lists::{Accounts, Groups, Mounts, Nears, Relays};
+use crate::mountpoint::mount_in;
 use config_keys::{Key, KeyFault, tables, tables_or};
 use std::alloc::Global;
 use toml::Value;

@@ -21,10 +21,10 @@ use Rattle.cast_config.specs.declared.config.Anonymous.{Anonymous}
 use Rattle.cast_config.specs.Entries.{top, mount_of, near_of, group_of, account_of, relay_of, anonymous_of}
 use Rattle.cast_config.specs.Names.{some_of}
 use Rattle.cast_config.specs.Served.{all_filters}
-use Rattle.cast_config.specs.Document.{listed, listed_or_none, most_groups, heard_of, parties_of, config_of, IsDocument, IsRead}
+use Rattle.cast_config.specs.Document.{listed, listed_or_none, most_groups, places_of, heard_of, parties_of, settings_of, config_from, config_of, IsDocument, IsRead}
 use Rattle.cast_config.specs.Kept.{KeepsRules}
 use Rattle.cast_config.proofs.EntryKeeps.{IsAnonymous, optional_anonymous}
-use Rattle.cast_config.proofs.KeptLemmas.{keeps_rules, made}
+use Rattle.cast_config.proofs.KeptLemmas.{keeps_rules}
 use Rattle.config_write.specs.Members.{list_data, number}
 use Rattle.config_write.specs.Entries.{mount_tree, near_tree, group_tree, account_tree, relay_tree, mounts_data, nears_data, groups_data, accounts_data, relays_data}
 use Rattle.config_write.specs.Written.{config_tree, WasRead, HasVersion}
@@ -37,6 +37,12 @@ use Rattle.config_write.proofs.ListsAgain.{listed_again, listed_or_none_again}
 -- the types of these parts, which `cast_config` keeps to itself
 abbrev read_type : {A : Type 0} → Read A → Type 0
 read_type {A} read = A
+
+abbrev Settings : Type 0
+Settings = read_type (settings_of no_members)
+
+abbrev Places : Type 0
+Places = read_type (places_of no_members)
 
 abbrev Heard : Type 0
 Heard = read_type (heard_of 2 no_members)
@@ -79,27 +85,50 @@ few c k =
       relays = in_range 0 16 (length c.relay) (omega arith) k.few_relays;
     }
 
+record IsPlaces (p : Places) : Type 0 where
+  pub mount : listed mount_of 1 64 (top 5) (Some (mounts_data p.mount)) ≡ Ok p.mount
+  pub near : listed_or_none (near_of p.mount) (64 - length p.mount) (top 6) (Some (nears_data p.mount p.near)) ≡ Ok
+      p.near
+
+record ArePlaces (p : Places) : Type 0 where
+  pub are : is_within 1 64 (length p.mount) ≡ true → is_within 0 (64 - length p.mount) (length p.near) ≡ true
+      → IsPlaces p
+
+places_are : (ms : Members) (p : Places) → places_of ms ≡ Ok p → ArePlaces p
+unfolding places_of mounts_data nears_data
+places_are ms p e =
+    taken ArePlaces _ _ p e (λ v1 f1 e1.
+    taken ArePlaces _ _ p e1 (λ v2 f2 e2.
+    subst ArePlaces (value_is _ p e2) (record {
+      are = λ mounts nears. record {
+        mount = listed_again (top 5) mount_of mount_of mount_tree mount_again 1 64 1 64 (get_member (codes "mount") ms)
+            v1 f1 mounts;
+        near = listed_or_none_again (top 6) (near_of v1) (near_of v1) (near_tree v1) (near_again v1) (64 - length v1)
+            (64 - length v1) (get_member (codes "near") ms) v2 f2 nears;
+      };
+    })))
+
 record AreHeard (h : Heard) : Type 0 where
   pub are : is_within 1 64 (length h.mount) ≡ true → is_within 0 (64 - length h.mount) (length h.near) ≡ true
       → is_within 1 64 (length h.group) ≡ true → IsHeard h
 
 heard_is : (version : ℕ) (ms : Members) (h : Heard) → heard_of version ms ≡ Ok h → AreHeard h
-unfolding heard_of mounts_data nears_data groups_data
+unfolding heard_of groups_data
 heard_is version ms h e =
     taken AreHeard _ _ h e (λ v1 f1 e1.
     taken AreHeard _ _ h e1 (λ v2 f2 e2.
-    taken AreHeard _ _ h e2 (λ v3 f3 e3.
-    subst AreHeard (value_is _ h e3) (record {
-      are = λ mounts nears groups. record {
-        mount = listed_again (top 5) mount_of mount_of mount_tree mount_again 1 64 1 64 (get_member (codes "mount") ms)
-            v1 f1 mounts;
-        near = listed_or_none_again (top 6) (near_of v1) (near_of v1) (near_tree v1) (near_again v1) (64 - length v1)
-            (64 - length v1) (get_member (codes "near") ms) v2 f2 nears;
-        group = listed_again (top 7) (group_of version v1 v2) (group_of 2 v1 v2) (group_tree v1 v2)
-            (group_again version v1 v2) 1 64 1 (most_groups version) (get_member (codes "group") ms) v3 f3 groups;
-        permits = refl;
-      };
-    }))))
+    subst AreHeard (value_is _ h e2) (record {
+      are = λ mounts nears groups.
+          let places = (places_are ms v1 f1).are mounts nears in
+          record {
+            mount = places.mount;
+            near = places.near;
+            group = listed_again (top 7) (group_of version v1.mount v1.near) (group_of 2 v1.mount v1.near)
+                (group_tree v1.mount v1.near) (group_again version v1.mount v1.near) 1 64 1 (most_groups version)
+                (get_member (codes "group") ms) v2 f2 groups;
+            permits = refl;
+          };
+    })))
 
 record AreParties (mounts : List Mount) (groups : List Group) (p : Parties) : Type 0 where
   pub are : is_within 0 1024 (length p.account) ≡ true → is_within 0 16 (length p.relay) ≡ true
@@ -141,26 +170,40 @@ record IsAgain (c : Config) : Type 0 where
 record Again (c : Config) : Type 0 where
   pub is : KeepsRules 1000000 c → IsAgain c
 
+record AreSettings (s : Settings) : Type 0 where
+  pub workers : count 1 256 (top 2) (number s.workers) ≡ Ok s.workers
+  pub hysteresis : count 0 50 (top 3) (number s.hysteresis) ≡ Ok s.hysteresis
+
+settings_are : (ms : Members) (s : Settings) → settings_of ms ≡ Ok s → AreSettings s
+unfolding settings_of
+settings_are ms s e =
+    taken AreSettings (required (count 1 2) (top 1) (get_member (codes "version") ms)) _ s e (λ v1 f1 e1.
+    taken AreSettings _ _ s e1 (λ v2 f2 e2.
+    taken AreSettings _ _ s e2 (λ v3 f3 e3.
+    subst AreSettings (value_is _ s e3) (record {
+      workers = again_or (count 1 256) (λ n. number n) (count_keeps 1 256) (top 2) 4
+          (get_member (codes "workers") ms) v2 refl f2;
+      hysteresis = again_or (count 0 50) (λ n. number n) (count_keeps 0 50) (top 3) 10
+          (get_member (codes "hysteresis") ms) v3 refl f3;
+    }))))
+
 again_is : (ms : Members) (c : Config) → config_of ms ≡ Ok c → Again c
 unfolding config_of
 again_is ms c e =
-    taken Again (required (count 1 2) (top 1) (get_member (codes "version") ms)) _ c e (λ v1 f1 e1.
-    taken Again _ _ c e1 (λ v2 f2 e2.
+    taken Again _ _ c e (λ v1 f1 e1.
+    taken Again (optional [] records (top 4) (get_member (codes "records") ms)) _ c e1 (λ v2 f2 e2.
     taken Again _ _ c e2 (λ v3 f3 e3.
-    taken Again (optional [] records (top 4) (get_member (codes "records") ms)) _ c e3 (λ v4 f4 e4.
-    taken Again _ _ c e4 (λ v5 f5 e5.
-    taken Again _ _ c e5 (λ v6 f6 e6.
-    subst Again (value_is (made v2 v3 v4 v5 v6) c e6) (record {
+    taken Again _ _ c e3 (λ v4 f4 e4.
+    subst Again (value_is (config_from v1 v2 v3 v4) c e4) (record {
       is = λ k.
-          let are = few (made v2 v3 v4 v5 v6) k in
-          let heard = (heard_is v1 ms v5 f5).are are.mounts are.nears are.groups in
-          let parties = (parties_is v5.mount v5.group ms v6 f6).are are.accounts are.relays in
+          let are = few (config_from v1 v2 v3 v4) k in
+          let settings = settings_are ms v1 f1 in
+          let heard = (heard_is v1.version ms v3 f3).are are.mounts are.nears are.groups in
+          let parties = (parties_is v3.mount v3.group ms v4 f4).are are.accounts are.relays in
           record {
-            workers = again_or (count 1 256) (λ n. number n) (count_keeps 1 256) (top 2) 4
-                (get_member (codes "workers") ms) v2 refl f2;
-            hysteresis = again_or (count 0 50) (λ n. number n) (count_keeps 0 50) (top 3) 10
-                (get_member (codes "hysteresis") ms) v3 refl f3;
-            records = records_read (top 4) v4 k.records k.few_records;
+            workers = settings.workers;
+            hysteresis = settings.hysteresis;
+            records = records_read (top 4) v2 k.records k.few_records;
             mount = heard.mount;
             near = heard.near;
             group = heard.group;
@@ -169,7 +212,7 @@ again_is ms c e =
             relay = parties.relay;
             anonymous = parties.anonymous;
           };
-    })))))))
+    })))))
 
 abbrev permitting : (c : Config) → List (List FilterValue) → Read Config
 permitting c permits = Ok (record c { permits = permits })
@@ -177,7 +220,7 @@ permitting c permits = Ok (record c { permits = permits })
 -- it is read from its keys
 back : (c : Config) (o : Option Anonymous) → IsAgain (record c { anonymous = o })
     → config_of (config_tree (record c { anonymous = o })) ≡ Ok (record c { anonymous = o })
-unfolding config_of heard_of parties_of config_tree
+unfolding config_of settings_of heard_of places_of parties_of config_tree
 back c None h =
     rw (h.workers, h.hysteresis, h.records, h.mount, h.near, h.group, h.account, h.relay) refl
     ∙ ap (permitting (record c { anonymous = None })) (sym h.permits)

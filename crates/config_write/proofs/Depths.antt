@@ -19,7 +19,7 @@ use Rattle.cast_config.specs.declared.config.Relay.{Relay}
 use Rattle.cast_config.specs.declared.config.Anonymous.{Anonymous}
 use Rattle.cast_config.specs.Names.{mount_names, heard_names}
 use Rattle.config_write.specs.Members.{Keys, put, put_keys, list_data, number}
-use Rattle.config_write.specs.Entries.{name_data, types_data, filter_keys, filter_tree, station_keys, record_keys, mount_tree, near_keys, near_tree, group_keys, group_tree, account_keys, account_tree, relay_keys, with_user, relay_tree, mounts_data, nears_data, groups_data, accounts_data, relays_data, anonymous_keys, anonymous_tree}
+use Rattle.config_write.specs.Entries.{name_data, types_data, filter_keys, filter_tree, station_keys, record_keys, mount_tree, near_keys, near_tree, heard_keys, filters_keys, group_tree, account_keys, account_tree, relay_keys, with_user, relay_tree, mounts_data, nears_data, groups_data, accounts_data, relays_data, anonymous_keys, anonymous_tree}
 use Rattle.config_write.specs.Written.{top_keys, list_keys, with_anonymous, config_tree}
 
 -- at most so deep, and each date in it, if there is any, can be written
@@ -152,20 +152,18 @@ filter_shallow names f = all_more 1 (filter_keys names f) no_members (text 1 _, 
 group_shallow : (mounts : List Mount) (nears : List Near) (g : Group) → AreShallow 3 (group_tree mounts nears g)
 unfolding group_tree
 group_shallow mounts nears g =
-    all_more 3 (group_keys mounts nears g) no_members (
-      text 3 g.name,
+    all_more 3 (filters_keys mounts g) (put_keys (heard_keys mounts nears g) no_members) (
+      types_shallow 2 g.types,
       (
-        names_shallow 2 (heard_names mounts nears) g.mounts,
-        (
-          types_shallow 2 g.types,
-          (
-            list 2 (λ f. table (filter_tree (mount_names mounts) f)) (λ f. inner 1 (filter_tree (mount_names mounts) f)
-                (filter_shallow (mount_names mounts) f)) g.filter,
-            tt,
-          ),
-        ),
+        list 2 (λ f. table (filter_tree (mount_names mounts) f)) (λ f. inner 1 (filter_tree (mount_names mounts) f)
+            (filter_shallow (mount_names mounts) f)) g.filter,
+        tt,
       ),
-    ) (none 3)
+    )
+    (all_more 3 (heard_keys mounts nears g) no_members (
+      text 3 g.name,
+      (names_shallow 2 (heard_names mounts nears) g.mounts, tt),
+    ) (none 3))
 
 account_shallow : (groups : List Group) (a : Account) → AreShallow 0 (account_tree groups a)
 unfolding account_tree

@@ -1,9 +1,10 @@
 -- Each entry that was read is read again from what is written of it.
 use Rattle.std.proofs.Common.{◌≡◌, ℕ, ◌≤◌, pos, Bool, true, false, cond, List, [], ◌∷◌, length, map, Option, Some, None, Ok, refl, sym, ap, subst, ◌∙◌}
 use Rattle.std.specs.Prelude.{codes, ◌==◌}
-use Rattle.toml.specs.Data.{Data, string, integer, array, table, Items, no_items, item, Members, get_member}
+use Rattle.toml.specs.Data.{Data, string, integer, array, table, Items, no_items, item, Members, no_members, get_member}
 use Rattle.toml.specs.View.{items_of}
 use Rattle.config_keys.specs.declared.key.Key.{Key}
+use Rattle.config_keys.specs.Answers.{Read}
 use Rattle.config_keys.specs.Rules.{required, optional}
 use Rattle.config_keys.specs.Types.{types}
 use Rattle.config_keys.proofs.KeepLemmas.{value_is, taken}
@@ -15,7 +16,7 @@ use Rattle.cast_config.specs.declared.config.Account.{Account}
 use Rattle.cast_config.specs.declared.config.Relay.{Relay}
 use Rattle.cast_config.specs.declared.config.Anonymous.{Anonymous}
 use Rattle.cast_config.specs.Names.{mount_names, group_names, heard_names, new_name, all_named, filters_at}
-use Rattle.cast_config.specs.Entries.{place, position_of, mount_of, near_of, group_of, account_of, relay_of, anonymous_in}
+use Rattle.cast_config.specs.Entries.{place, position_of, station_of, signals_of, origin_of, mount_of, near_of, hearing_of, given_of, group_of, credentials_of, membership_of, account_of, pull_of, relay_of, anonymous_in}
 use Rattle.cast_config.proofs.NameKeeps.{IsNew}
 use Rattle.cast_config.proofs.ReferenceKeeps.{text_items, IsAllNamed}
 use Rattle.cast_config.proofs.EntryKeeps.{IsMount, mount_is, IsNear, near_is, IsGroup, group_is, IsAccount, account_is, IsRelay, relay_is, IsAnonymous}
@@ -31,7 +32,7 @@ new_again names key s h = rw (h.is, h.new) refl
 -- ---- mountpoints
 
 mount_back : (n : ℕ) (before : List Mount) (m : Mount) → IsMount n before m → mount_of n before (mount_tree m) ≡ Ok m
-unfolding mount_of position_of mount_tree
+unfolding mount_of station_of position_of signals_of origin_of mount_tree
 mount_back n before m h =
     rw (
       new_again _ _ m.name h.name,
@@ -98,25 +99,44 @@ by_version true names key o fs e few =
     (value_is [] fs e) (none_again names key)
 by_version false names key o fs e few = filter_given names key o fs e few
 
+-- the type of this part, which `cast_config` keeps to itself
+abbrev read_type : {A : Type 0} → Read A → Type 0
+read_type {A} read = A
+
+abbrev Given : Type 0
+Given = read_type (given_of 2 [] 1 no_members)
+
+record IsGivenAgain (mounts : List Mount) (n : ℕ) (g : Given) : Type 0 where
+  pub again : length g.filter ≤ 64
+      → filters_at (mount_names mounts) (place 7 n 4) (list_data (λ f. table (filter_tree (mount_names mounts) f))
+      g.filter) ≡ Ok g.filter
+
+given_again : (version : ℕ) (mounts : List Mount) (n : ℕ) (ms : Members) (g : Given) → given_of version mounts n ms ≡
+    Ok g
+    → IsGivenAgain mounts n g
+unfolding given_of
+given_again version mounts n ms g e =
+    taken (IsGivenAgain mounts n) (required types (place 7 n 3) (get_member (codes "types") ms)) _ g e (λ v1 f1 e1.
+    taken (IsGivenAgain mounts n) _ _ g e1 (λ v2 f2 e2.
+    subst (IsGivenAgain mounts n) (value_is _ g e2) (record {
+      again = by_version (version == 1) (mount_names mounts) (place 7 n 4) (get_member (codes "filter") ms) v2 f2;
+    })))
+
 filter_again : (version : ℕ) (mounts : List Mount) (nears : List Near) (n : ℕ) (before : List Group) (ms : Members)
     (g : Group)
     → group_of version mounts nears n before ms ≡ Ok g → IsFilterAgain mounts n g
 unfolding group_of
 filter_again version mounts nears n before ms g e =
-    taken (IsFilterAgain mounts n) (required (new_name (group_names before)) (place 7 n 1)
-    (get_member (codes "name") ms)) _ g e (λ v1 f1 e1.
-    taken (IsFilterAgain mounts n) (required (all_named (heard_names mounts nears) 0 64) (place 7 n 2)
-    (get_member (codes "mounts") ms)) _ g e1 (λ v2 f2 e2.
-    taken (IsFilterAgain mounts n) (required types (place 7 n 3) (get_member (codes "types") ms)) _ g e2 (λ v3 f3 e3.
-    taken (IsFilterAgain mounts n) _ _ g e3 (λ v4 f4 e4.
-    subst (IsFilterAgain mounts n) (value_is _ g e4) (record {
-      again = by_version (version == 1) (mount_names mounts) (place 7 n 4) (get_member (codes "filter") ms) v4 f4;
-    })))))
+    taken (IsFilterAgain mounts n) (hearing_of mounts nears n before ms) _ g e (λ v1 f1 e1.
+    taken (IsFilterAgain mounts n) (given_of version mounts n ms) _ g e1 (λ v2 f2 e2.
+    subst (IsFilterAgain mounts n) (value_is _ g e2) (record {
+      again = (given_again version mounts n ms v2 f2).again;
+    })))
 
 group_back : (version : ℕ) (mounts : List Mount) (nears : List Near) (n : ℕ) (before : List Group) (g : Group)
     → IsGroup version mounts nears n before g → IsFilterAgain mounts n g
     → group_of 2 mounts nears n before (group_tree mounts nears g) ≡ Ok g
-unfolding group_of group_tree
+unfolding group_of hearing_of given_of group_tree
 group_back version mounts nears n before g h filter =
     rw (
       new_again _ _ g.name h.name,
@@ -137,7 +157,7 @@ group_again version mounts nears n before ms g e =
 
 account_back : (groups : List Group) (n : ℕ) (before : List Account) (a : Account) → IsAccount groups n before a
     → account_of groups n before (account_tree groups a) ≡ Ok a
-unfolding account_of account_tree
+unfolding account_of credentials_of membership_of account_tree
 account_back groups n before a h = rw (new_again _ _ a.user h.user, h.password, h.group.again, h.cap) refl
 
 pub account_again : (groups : List Group) (n : ℕ) (before : List Account) (ms : Members) (a : Account)
@@ -146,7 +166,7 @@ account_again groups n before ms a e = account_back groups n before a (account_i
 
 relay_back : (mounts : List Mount) (n : ℕ) (r : Relay) (o : Option (List ℕ)) → IsRelay mounts n (record r { user = o })
     → relay_of mounts n (relay_tree mounts (record r { user = o })) ≡ Ok (record r { user = o })
-unfolding relay_of relay_tree
+unfolding relay_of pull_of relay_tree
 relay_back mounts n r None h = rw (h.mount.again, h.address, h.upstream, h.protocol, h.password) refl
 relay_back mounts n r (Some user) h = rw (h.mount.again, h.address, h.upstream, h.protocol, h.user, h.password) refl
 

@@ -1,7 +1,7 @@
 -- What is written of each entry of a configuration: its keys, in the order of the file's
 -- description. Every key is written, also one whose value is its default; only a user that a relay
 -- has not is left out.
-use Rattle.std.specs.Prelude.{ℕ, codes, List, [], ◌∷◌, get_or, Option, Some, None}
+use Rattle.std.specs.Prelude.{ℕ, codes, List, [], ◌∷◌, ◌++◌, get_or, Option, Some, None}
 use Rattle.toml.specs.Data.{Data, string, integer, table, Members, no_members}
 use Rattle.type_filter.specs.Permitted.{FilterValue, All, Listed}
 use Rattle.cast_config.specs.declared.config.Mount.{Mount}
@@ -49,18 +49,25 @@ station_keys m =
     ∷ (codes "longitude", integer m.at.lon)
     ∷ []
 
-abbrev pub record_keys : Mount → Keys
-record_keys m =
+abbrev pub signal_keys : Mount → Keys
+signal_keys m =
     (codes "identifier", string m.identifier)
     ∷ (codes "details", string m.details)
     ∷ (codes "carrier", string m.carrier)
     ∷ (codes "navigation", string m.navigation)
-    ∷ (codes "network", string m.network)
+    ∷ []
+
+abbrev pub origin_keys : Mount → Keys
+origin_keys m =
+    (codes "network", string m.network)
     ∷ (codes "country", string m.country)
     ∷ (codes "generator", string m.generator)
     ∷ (codes "bitrate", number m.bitrate)
     ∷ (codes "misc", string m.misc)
     ∷ []
+
+abbrev pub record_keys : Mount → Keys
+record_keys m = signal_keys m ++ origin_keys m
 
 unfoldable pub mount_tree : Mount → Members
 mount_tree m = put_keys (record_keys m) (put_keys (station_keys m) no_members)
@@ -74,24 +81,32 @@ near_keys mounts n =
 unfoldable pub near_tree : List Mount → Near → Members
 near_tree mounts n = put_keys (near_keys mounts n) no_members
 
-abbrev pub group_keys : List Mount → List Near → Group → Keys
-group_keys mounts nears g =
+-- a group: what it lists, and which frames it is given
+abbrev pub heard_keys : List Mount → List Near → Group → Keys
+heard_keys mounts nears g =
     (codes "name", string g.name)
     ∷ (codes "mounts", list_data (name_data (heard_names mounts nears)) g.mounts)
-    ∷ (codes "types", types_data g.types)
+    ∷ []
+
+abbrev pub filters_keys : List Mount → Group → Keys
+filters_keys mounts g =
+    (codes "types", types_data g.types)
     ∷ (codes "filter", list_data (λ f. table (filter_tree (mount_names mounts) f)) g.filter)
     ∷ []
 
 unfoldable pub group_tree : List Mount → List Near → Group → Members
-group_tree mounts nears g = put_keys (group_keys mounts nears g) no_members
+group_tree mounts nears g = put_keys (filters_keys mounts g)
+    (put_keys (heard_keys mounts nears g) no_members)
+
+abbrev pub credential_keys : Account → Keys
+credential_keys a = (codes "user", string a.user) ∷ (codes "password", string a.password) ∷ []
+
+abbrev pub member_keys : List Group → Account → Keys
+member_keys groups a =
+    (codes "group", name_data (group_names groups) a.group) ∷ (codes "cap", number a.cap) ∷ []
 
 abbrev pub account_keys : List Group → Account → Keys
-account_keys groups a =
-    (codes "user", string a.user)
-    ∷ (codes "password", string a.password)
-    ∷ (codes "group", name_data (group_names groups) a.group)
-    ∷ (codes "cap", number a.cap)
-    ∷ []
+account_keys groups a = credential_keys a ++ member_keys groups a
 
 unfoldable pub account_tree : List Group → Account → Members
 account_tree groups a = put_keys (account_keys groups a) no_members

@@ -1,8 +1,10 @@
 -- What is written of a configuration: a document of version 2 that says it.
-use Rattle.std.specs.Prelude.{◌≡◌, ℕ, pos, codes, List, [], ◌∷◌, Option, Some, None, Ok}
+use Rattle.std.specs.Prelude.{◌≡◌, ℕ, pos, codes, List, [], ◌∷◌, ◌++◌, Option, Some, None, Ok}
 use Rattle.sourcetable.specs.Record.{line_of}
 use Rattle.toml.specs.Data.{Data, string, integer, table, Members, no_members, get_member}
 use Rattle.cast_config.specs.declared.config.Config.{Config}
+use Rattle.cast_config.specs.declared.config.Mount.{Mount}
+use Rattle.cast_config.specs.declared.config.Near.{Near}
 use Rattle.cast_config.specs.declared.config.Group.{Group}
 use Rattle.cast_config.specs.declared.config.Anonymous.{Anonymous}
 use Rattle.cast_config.specs.Document.{IsDocument, IsRead}
@@ -21,22 +23,33 @@ HasVersion version bytes =
 
 -- ---- its keys
 
-abbrev pub top_keys : Config → Keys
-top_keys c =
+abbrev pub setting_keys : Config → Keys
+setting_keys c =
     (codes "version", number 2)
     ∷ (codes "workers", number c.workers)
     ∷ (codes "hysteresis", number c.hysteresis)
-    ∷ (codes "records", list_data (λ r. string (line_of r)) c.records)
+    ∷ []
+
+abbrev pub top_keys : Config → Keys
+top_keys c =
+    setting_keys c ++ (codes "records", list_data (λ r. string (line_of r)) c.records) ∷ []
+
+abbrev pub place_keys : List Mount → List Near → Keys
+place_keys mounts nears =
+    (codes "mount", mounts_data mounts) ∷ (codes "near", nears_data mounts nears) ∷ []
+
+abbrev pub group_keys : List Mount → List Near → List Group → Keys
+group_keys mounts nears groups = (codes "group", groups_data mounts nears groups) ∷ []
+
+abbrev pub party_keys : Config → Keys
+party_keys c =
+    (codes "account", accounts_data c.group c.account)
+    ∷ (codes "relay", relays_data c.mount c.relay)
     ∷ []
 
 abbrev pub list_keys : Config → Keys
 list_keys c =
-    (codes "mount", mounts_data c.mount)
-    ∷ (codes "near", nears_data c.mount c.near)
-    ∷ (codes "group", groups_data c.mount c.near c.group)
-    ∷ (codes "account", accounts_data c.group c.account)
-    ∷ (codes "relay", relays_data c.mount c.relay)
-    ∷ []
+    place_keys c.mount c.near ++ group_keys c.mount c.near c.group ++ party_keys c
 
 -- and who has no account, if there may be such
 abbrev pub with_anonymous : List Group → Option Anonymous → Members → Members

@@ -1,10 +1,10 @@
 //! The document of a configuration.
 
-ghost use Rattle.std.specs.Prelude.{◌≡◌, ◌++◌, IfOk, IfSome, List, OnErr, OnOk, Ok, length, string_bytes, ℕ};
+ghost use Rattle.std.specs.Prelude.{◌≡◌, ◌++◌, All, IfOk, IfSome, List, OnErr, OnOk, Ok, length, string_bytes, ℕ};
 ghost use Rattle.cast_config.specs.Document.{IsDocument, IsRead};
-ghost use Rattle.cast_config.specs.Kept.{KeepsAnonymous, KeepsRules};
+ghost use Rattle.cast_config.specs.Kept.{KeepsAnonymous, KeepsGroup, KeepsMount, KeepsNear, KeepsRules};
 ghost use Rattle.config_write.specs.Members.{put_keys};
-ghost use Rattle.config_write.specs.Written.{HasVersion, WasRead, config_tree, list_keys, top_keys, with_anonymous};
+ghost use Rattle.config_write.specs.Written.{HasVersion, WasRead, config_tree, group_keys, list_keys, party_keys, place_keys, setting_keys, top_keys, with_anonymous};
 ghost use Rattle.toml.specs.View.{table_view};
 
 use crate::entries::anonymous_table;
@@ -12,21 +12,76 @@ use crate::lists::{
     account_values, group_values, mount_values, near_values, record_values, relay_values,
 };
 use crate::members::{put_list, put_number, put_table};
-use cast_config::{Anonymous, Config, Group};
+use cast_config::{Anonymous, Config, Group, Mount, Near};
 use std::alloc::{AllocError, Global};
 use toml::Table;
 
-/// Sets the version and the keys that stand before the mountpoints.
+/// Sets the version and the other keys that are numbers.
+fn put_settings(alloc: Global, table: &mut Table, config: &Config) -> Result<(), AllocError>
+    ensures { OnOk result (table_view table.new
+        ≡ put_keys (setting_keys config.now) (table_view table.old)) }
+{
+    put_number(alloc, table, "version", 2)?;
+    put_number(alloc, table, "workers", config.workers)?;
+    put_number(alloc, table, "hysteresis", config.hysteresis)
+}
+
+/// Sets the keys that stand before the mountpoints.
 fn put_top(alloc: Global, table: &mut Table, config: &Config) -> Result<(), AllocError>
     requires { KeepsRules 1000000 config.now }
     ensures { OnOk result (table_view table.new
         ≡ put_keys (top_keys config.now) (table_view table.old)) }
 {
+    put_settings(alloc, table, config)?;
     let records = record_values(alloc, config.records.as_slice())?;
-    put_number(alloc, table, "version", 2)?;
-    put_number(alloc, table, "workers", config.workers)?;
-    put_number(alloc, table, "hysteresis", config.hysteresis)?;
     put_list(alloc, table, "records", records)
+}
+
+/// Sets the mountpoints and the near mountpoints.
+fn put_places(
+    alloc: Global,
+    table: &mut Table,
+    mounts: &[Mount],
+    nears: &[Near],
+) -> Result<(), AllocError>
+    requires mounts { All KeepsMount mounts.now }
+    requires nears { All (KeepsNear (length mounts.now)) nears.now }
+    ensures { OnOk result (table_view table.new
+        ≡ put_keys (place_keys mounts.now nears.now) (table_view table.old)) }
+{
+    let values = mount_values(alloc, mounts)?;
+    put_list(alloc, table, "mount", values)?;
+    let values = near_values(alloc, mounts, nears)?;
+    put_list(alloc, table, "near", values)
+}
+
+/// Sets the groups.
+fn put_groups(
+    alloc: Global,
+    table: &mut Table,
+    mounts: &[Mount],
+    nears: &[Near],
+    groups: &[Group],
+) -> Result<(), AllocError>
+    requires { All (KeepsGroup (length mounts.now) (length nears.now)) groups.now }
+    ensures { OnOk result (table_view table.new
+        ≡ put_keys (group_keys mounts.now nears.now groups.now) (table_view table.old)) }
+{
+    let values = group_values(alloc, mounts, nears, groups)?;
+    put_list(alloc, table, "group", values)
+}
+
+/// Sets the accounts and the relays.
+fn put_parties(alloc: Global, table: &mut Table, config: &Config) -> Result<(), AllocError>
+    requires { KeepsRules 1000000 config.now }
+    ensures { OnOk result (table_view table.new
+        ≡ put_keys (party_keys config.now) (table_view table.old)) }
+{
+    let groups = config.group.as_slice();
+    let values = account_values(alloc, groups, config.account.as_slice())?;
+    put_list(alloc, table, "account", values)?;
+    let values = relay_values(alloc, config.mount.as_slice(), config.relay.as_slice())?;
+    put_list(alloc, table, "relay", values)
 }
 
 /// Sets the lists of entries.
@@ -37,19 +92,9 @@ fn put_lists(alloc: Global, table: &mut Table, config: &Config) -> Result<(), Al
 {
     let mounts = config.mount.as_slice();
     let nears = config.near.as_slice();
-    let groups = config.group.as_slice();
-    put_list(alloc, table, "mount", mount_values(alloc, mounts)?)?;
-    put_list(alloc, table, "near", near_values(alloc, mounts, nears)?)?;
-    put_list(
-        alloc,
-        table,
-        "group",
-        group_values(alloc, mounts, nears, groups)?,
-    )?;
-    let accounts = account_values(alloc, groups, config.account.as_slice())?;
-    put_list(alloc, table, "account", accounts)?;
-    let relays = relay_values(alloc, mounts, config.relay.as_slice())?;
-    put_list(alloc, table, "relay", relays)
+    put_places(alloc, table, mounts, nears)?;
+    put_groups(alloc, table, mounts, nears, config.group.as_slice())?;
+    put_parties(alloc, table, config)
 }
 
 /// Sets who has no account, if there may be such.

@@ -1,10 +1,12 @@
 //! The tables of single entries.
 
-ghost use Rattle.std.specs.Prelude.{◌≡◌, ◌<◌, ◌+◌, IfOk, IsTrue, OnOk, length};
-ghost use Rattle.cast_config.specs.Kept.{KeepsAccount, KeepsAnonymous, KeepsGroup, KeepsMount, KeepsNear, KeepsRelay};
+ghost use Rattle.std.specs.Prelude.{◌≡◌, ◌<◌, ◌+◌, All, IfOk, IsTrue, OnOk, length};
+ghost use Rattle.cast_config.specs.Kept.{KeepsAccount, KeepsAnonymous, KeepsGroup, KeepsMount, KeepsNear, KeepsRelay, filtered};
 ghost use Rattle.cast_config.specs.Names.{group_names, heard_names, mount_names};
 ghost use Rattle.cast_text.specs.Name.{is_name};
-ghost use Rattle.config_write.specs.Entries.{account_tree, anonymous_tree, filter_tree, group_tree, mount_tree, name_at, near_tree, record_keys, relay_keys, relay_tree, station_keys, with_user};
+ghost use Rattle.config_keys.specs.Texts.{is_fit};
+ghost use Rattle.config_keys.specs.declared.strings.TextKind.TheVariants.{Secret};
+ghost use Rattle.config_write.specs.Entries.{account_tree, anonymous_tree, credential_keys, member_keys, origin_keys, signal_keys, filter_tree, filters_keys, group_tree, heard_keys, mount_tree, name_at, near_tree, record_keys, relay_keys, relay_tree, station_keys, with_user};
 ghost use Rattle.config_write.specs.Members.{put_keys};
 ghost use Rattle.toml.specs.View.{table_view};
 
@@ -28,21 +30,39 @@ fn put_station(alloc: Global, table: &mut Table, mount: &Mount) -> Result<(), Al
     put_whole(alloc, table, "longitude", mount.at.lon)
 }
 
+/// Sets what the sourcetable says of a mountpoint's place and its frames.
+fn put_signals(alloc: Global, table: &mut Table, mount: &Mount) -> Result<(), AllocError>
+    requires { KeepsMount mount.now }
+    ensures { OnOk result (table_view table.new
+        ≡ put_keys (signal_keys mount.now) (table_view table.old)) }
+{
+    put_text(alloc, table, "identifier", mount.identifier.bytes())?;
+    put_text(alloc, table, "details", mount.details.bytes())?;
+    put_text(alloc, table, "carrier", mount.carrier.bytes())?;
+    put_text(alloc, table, "navigation", mount.navigation.bytes())
+}
+
+/// Sets what the sourcetable says of where its frames come from.
+fn put_origin(alloc: Global, table: &mut Table, mount: &Mount) -> Result<(), AllocError>
+    requires { KeepsMount mount.now }
+    ensures { OnOk result (table_view table.new
+        ≡ put_keys (origin_keys mount.now) (table_view table.old)) }
+{
+    put_text(alloc, table, "network", mount.network.bytes())?;
+    put_text(alloc, table, "country", mount.country.bytes())?;
+    put_text(alloc, table, "generator", mount.generator.bytes())?;
+    put_number(alloc, table, "bitrate", mount.bitrate)?;
+    put_text(alloc, table, "misc", mount.misc.bytes())
+}
+
 /// Sets what the sourcetable says of a mountpoint.
 fn put_record(alloc: Global, table: &mut Table, mount: &Mount) -> Result<(), AllocError>
     requires { KeepsMount mount.now }
     ensures { OnOk result (table_view table.new
         ≡ put_keys (record_keys mount.now) (table_view table.old)) }
 {
-    put_text(alloc, table, "identifier", mount.identifier.bytes())?;
-    put_text(alloc, table, "details", mount.details.bytes())?;
-    put_text(alloc, table, "carrier", mount.carrier.bytes())?;
-    put_text(alloc, table, "navigation", mount.navigation.bytes())?;
-    put_text(alloc, table, "network", mount.network.bytes())?;
-    put_text(alloc, table, "country", mount.country.bytes())?;
-    put_text(alloc, table, "generator", mount.generator.bytes())?;
-    put_number(alloc, table, "bitrate", mount.bitrate)?;
-    put_text(alloc, table, "misc", mount.misc.bytes())
+    put_signals(alloc, table, mount)?;
+    put_origin(alloc, table, mount)
 }
 
 /// The table of a mountpoint.
@@ -70,6 +90,40 @@ pub(crate) fn near_table(alloc: Global, mounts: &[Mount], near: &Near) -> Result
     Ok(table)
 }
 
+/// Sets the name of a group and what it lists.
+fn put_heard(
+    alloc: Global,
+    table: &mut Table,
+    mounts: &[Mount],
+    nears: &[Near],
+    group: &Group,
+) -> Result<(), AllocError>
+    requires { KeepsGroup (length mounts.now) (length nears.now) group.now }
+    ensures { OnOk result (table_view table.new
+        ≡ put_keys (heard_keys mounts.now nears.now group.now) (table_view table.old)) }
+{
+    put_name(alloc, table, "name", group.name.bytes())?;
+    let heard = heard_values(alloc, mounts, nears, group.mounts.as_slice())?;
+    put_list(alloc, table, "mounts", heard)
+}
+
+/// Sets which frames a group is given.
+fn put_filters(
+    alloc: Global,
+    table: &mut Table,
+    mounts: &[Mount],
+    group: &Group,
+) -> Result<(), AllocError>
+    requires { All (λ n. n < length mounts.now) (filtered group.now.filter) }
+    ensures { OnOk result (table_view table.new
+        ≡ put_keys (filters_keys mounts.now group.now) (table_view table.old)) }
+{
+    let types = types_value(alloc, &group.types)?;
+    put(alloc, table, "types", types)?;
+    let filters = filter_values(alloc, mounts, group.filter.as_slice())?;
+    put_list(alloc, table, "filter", filters)
+}
+
 /// The table of a group.
 #[tactic(auto, unfolding(crate::specs::Entries::group_tree))]
 pub(crate) fn group_table(
@@ -81,14 +135,9 @@ pub(crate) fn group_table(
     requires { KeepsGroup (length mounts.now) (length nears.now) group.now }
     ensures { IfOk result (λ t. table_view t ≡ group_tree mounts.now nears.now group.now) }
 {
-    let heard = heard_values(alloc, mounts, nears, group.mounts.as_slice())?;
-    let types = types_value(alloc, &group.types)?;
-    let filters = filter_values(alloc, mounts, group.filter.as_slice())?;
     let mut table = Table::new(alloc);
-    put_name(alloc, &mut table, "name", group.name.bytes())?;
-    put_list(alloc, &mut table, "mounts", heard)?;
-    put(alloc, &mut table, "types", types)?;
-    put_list(alloc, &mut table, "filter", filters)?;
+    put_heard(alloc, &mut table, mounts, nears, group)?;
+    put_filters(alloc, &mut table, mounts, group)?;
     Ok(table)
 }
 
@@ -125,6 +174,32 @@ fn group_name(groups: &[Group], n: u32) -> &[u8]
     groups[n as usize].name.bytes()
 }
 
+/// Sets the user and the password of an account.
+fn put_credentials(alloc: Global, table: &mut Table, account: &Account) -> Result<(), AllocError>
+    requires user { IsTrue (is_name account.now.user) }
+    requires password { IsTrue (is_fit Secret account.now.password) }
+    ensures { OnOk result (table_view table.new
+        ≡ put_keys (credential_keys account.now) (table_view table.old)) }
+{
+    put_name(alloc, table, "user", account.user.bytes())?;
+    put_text(alloc, table, "password", account.password.bytes())
+}
+
+/// Sets the group and the cap of an account.
+fn put_membership(
+    alloc: Global,
+    table: &mut Table,
+    groups: &[Group],
+    account: &Account,
+) -> Result<(), AllocError>
+    requires { account.now.group < length groups.now }
+    ensures { OnOk result (table_view table.new
+        ≡ put_keys (member_keys groups.now account.now) (table_view table.old)) }
+{
+    put_name(alloc, table, "group", group_name(groups, account.group))?;
+    put_number(alloc, table, "cap", account.cap)
+}
+
 /// The table of an account.
 #[tactic(auto, unfolding(crate::specs::Entries::account_tree))]
 pub(crate) fn account_table(
@@ -136,15 +211,8 @@ pub(crate) fn account_table(
     ensures { IfOk result (λ t. table_view t ≡ account_tree groups.now account.now) }
 {
     let mut table = Table::new(alloc);
-    put_name(alloc, &mut table, "user", account.user.bytes())?;
-    put_text(alloc, &mut table, "password", account.password.bytes())?;
-    put_name(
-        alloc,
-        &mut table,
-        "group",
-        group_name(groups, account.group),
-    )?;
-    put_number(alloc, &mut table, "cap", account.cap)?;
+    put_credentials(alloc, &mut table, account)?;
+    put_membership(alloc, &mut table, groups, account)?;
     Ok(table)
 }
 

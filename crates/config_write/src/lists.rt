@@ -5,8 +5,8 @@ ghost use Rattle.std.specs.Str.{is_utf8};
 ghost use Rattle.sourcetable.specs.Record.{letters, line_of};
 ghost use Rattle.cast_config.specs.Kept.{KeepsAccount, KeepsGroup, KeepsMount, KeepsNear, KeepsRelay, filtered};
 ghost use Rattle.cast_config.specs.Names.{heard_names, mount_names};
-ghost use Rattle.config_write.specs.Entries.{accounts_data, filter_tree, groups_data, mounts_data, name_data, nears_data, relays_data, types_data};
-ghost use Rattle.config_write.specs.Members.{list_data, number};
+ghost use Rattle.config_write.specs.Entries.{accounts_data, filter_keys, filter_tree, groups_data, mounts_data, name_data, nears_data, relays_data, types_data};
+ghost use Rattle.config_write.specs.Members.{list_data, number, put_keys};
 ghost use Rattle.toml.specs.Data.{array, string, table};
 ghost use Rattle.toml.specs.View.{items_view, table_view, view};
 
@@ -80,15 +80,29 @@ pub(crate) fn heard_values(
     Ok(values)
 }
 
+/// Sets the mountpoint of a filter and its message numbers.
+fn put_filter(
+    alloc: Global,
+    table: &mut Table,
+    mounts: &[Mount],
+    filter: &GroupFilter,
+) -> Result<(), AllocError>
+    requires { filter.now.mount < length mounts.now }
+    ensures { OnOk result (table_view table.new
+        ≡ put_keys (filter_keys (mount_names mounts.now) filter.now) (table_view table.old)) }
+{
+    put_name(alloc, table, "mount", mount_name(mounts, filter.mount))?;
+    let types = types_value(alloc, &filter.types)?;
+    put(alloc, table, "types", types)
+}
+
 /// The table of a filter for one mountpoint.
 fn filter_table(alloc: Global, mounts: &[Mount], filter: &GroupFilter) -> Result<Table, AllocError>
     requires { filter.now.mount < length mounts.now }
     ensures { IfOk result (λ t. table_view t ≡ filter_tree (mount_names mounts.now) filter.now) }
 {
-    let types = types_value(alloc, &filter.types)?;
     let mut table = Table::new(alloc);
-    put_name(alloc, &mut table, "mount", mount_name(mounts, filter.mount))?;
-    put(alloc, &mut table, "types", types)?;
+    put_filter(alloc, &mut table, mounts, filter)?;
     Ok(table)
 }
 
