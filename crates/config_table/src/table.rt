@@ -1,7 +1,8 @@
 //! The sourcetable of a configuration.
 
-ghost use Rattle.std.specs.Prelude.{◌≡◌, ◌≤◌, ◌+◌, ◌++◌, ◌∷◌, [], length, slice_get, option_map, IfOk, OnOk};
+ghost use Rattle.std.specs.Prelude.{◌≡◌, ◌≤◌, ◌+◌, ◌++◌, ◌∷◌, [], codes, length, slice_get, option_map, IfOk, OnOk};
 ghost use Rattle.std.specs.Fmt.{decimal};
+ghost use Rattle.config_table.specs.Degrees.{degrees};
 ghost use Rattle.config_table.specs.Table.{authentication, back_fields, flag, front_fields, is_open, mount_at, mount_record, mount_records, near_record, near_records, str_record, table_records};
 
 use crate::degrees::degrees;
@@ -52,6 +53,19 @@ fn push_field(alloc: Global, fields: &mut Vec<Field>, text: &[u8]) -> Result<(),
     Ok(())
 }
 
+/// Appends what a line says of the frames and of who sends them.
+fn push_frames(alloc: Global, fields: &mut Vec<Field>, mount: &Mount) -> Result<(), AllocError>
+    ensures { OnOk result (fields.new.items ≡ fields.old.items
+        ++ mount.now.details ∷ mount.now.carrier ∷ mount.now.navigation ∷ mount.now.network
+        ∷ mount.now.country ∷ []) }
+{
+    push_field(alloc, fields, mount.details.bytes())?;
+    push_field(alloc, fields, mount.carrier.bytes())?;
+    push_field(alloc, fields, mount.navigation.bytes())?;
+    push_field(alloc, fields, mount.network.bytes())?;
+    push_field(alloc, fields, mount.country.bytes())
+}
+
 /// What a line has in front of the position.
 fn front_fields(
     alloc: Global,
@@ -65,12 +79,49 @@ fn front_fields(
     push_field(alloc, &mut fields, name)?;
     push_field(alloc, &mut fields, identifier)?;
     push_field(alloc, &mut fields, b"RTCM 3.3")?;
-    push_field(alloc, &mut fields, mount.details.bytes())?;
-    push_field(alloc, &mut fields, mount.carrier.bytes())?;
-    push_field(alloc, &mut fields, mount.navigation.bytes())?;
-    push_field(alloc, &mut fields, mount.network.bytes())?;
-    push_field(alloc, &mut fields, mount.country.bytes())?;
+    push_frames(alloc, &mut fields, mount)?;
     Ok(fields)
+}
+
+/// Appends a number of units of 10^-7 degree.
+fn push_degrees(alloc: Global, fields: &mut Vec<Field>, angle: i64) -> Result<(), AllocError>
+    ensures { OnOk result (fields.new.items ≡ fields.old.items ++ degrees angle ∷ []) }
+{
+    let text = degrees(alloc, angle)?;
+    push_field(alloc, fields, &text)
+}
+
+/// Appends what is known of how the frames of a mountpoint are made and sent.
+fn push_making(
+    alloc: Global,
+    fields: &mut Vec<Field>,
+    near: bool,
+    mount: &Mount,
+) -> Result<(), AllocError>
+    ensures { OnOk result (fields.new.items ≡ fields.old.items
+        ++ flag near ∷ flag near ∷ mount.now.generator ∷ codes "none" ∷ []) }
+{
+    push_field(alloc, fields, flag(near))?;
+    push_field(alloc, fields, flag(near))?;
+    push_field(alloc, fields, mount.generator.bytes())?;
+    push_field(alloc, fields, b"none")
+}
+
+/// Appends what a line has behind that.
+fn push_end(
+    alloc: Global,
+    fields: &mut Vec<Field>,
+    is_open: bool,
+    mount: &Mount,
+) -> Result<(), AllocError>
+    ensures { OnOk result (fields.new.items ≡ fields.old.items
+        ++ authentication is_open ∷ codes "N" ∷ decimal mount.now.bitrate ∷ mount.now.misc ∷ []) }
+{
+    push_field(alloc, fields, authentication(is_open))?;
+    push_field(alloc, fields, b"N")?;
+    let bitrate = decimal(alloc, mount.bitrate)?;
+    push_field(alloc, fields, &bitrate)?;
+    push_field(alloc, fields, mount.misc.bytes())
 }
 
 /// What a line has from the position on.
@@ -82,20 +133,11 @@ fn back_fields(
 ) -> Result<Vec<Field>, AllocError>
     ensures { IfOk result (λ v. v.items ≡ back_fields near is_open mount.now) }
 {
-    let lat = degrees(alloc, mount.at.lat)?;
-    let lon = degrees(alloc, mount.at.lon)?;
-    let bitrate = decimal(alloc, mount.bitrate)?;
     let mut fields = Vec::with_capacity(alloc, 10)?;
-    push_field(alloc, &mut fields, &lat)?;
-    push_field(alloc, &mut fields, &lon)?;
-    push_field(alloc, &mut fields, flag(near))?;
-    push_field(alloc, &mut fields, flag(near))?;
-    push_field(alloc, &mut fields, mount.generator.bytes())?;
-    push_field(alloc, &mut fields, b"none")?;
-    push_field(alloc, &mut fields, authentication(is_open))?;
-    push_field(alloc, &mut fields, b"N")?;
-    push_field(alloc, &mut fields, &bitrate)?;
-    push_field(alloc, &mut fields, mount.misc.bytes())?;
+    push_degrees(alloc, &mut fields, mount.at.lat)?;
+    push_degrees(alloc, &mut fields, mount.at.lon)?;
+    push_making(alloc, &mut fields, near, mount)?;
+    push_end(alloc, &mut fields, is_open, mount)?;
     Ok(fields)
 }
 
