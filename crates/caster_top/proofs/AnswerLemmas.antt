@@ -12,6 +12,8 @@ use Rattle.session_script.specs.declared.ScriptFault.TheVariants as faults
 use Rattle.session_script.specs.Script.{script_of}
 use Rattle.cast_io.specs.Pieces.{Loses}
 use Rattle.cast_io.specs.Stores.{IsOpen}
+use Rattle.cast_io.specs.declared.reading.ReadAllFault.{ReadAllFault}
+use Rattle.cast_io.specs.declared.reading.ReadAllFault.TheVariants as causes
 use Rattle.cast_config.specs.declared.config.Config.{Config}
 use Rattle.cast_config.specs.declared.fault.ConfigFault.{ConfigFault}
 use Rattle.cast_config.specs.declared.fault.ConfigFault.TheVariants as configs
@@ -27,7 +29,7 @@ use Rattle.caster_top.specs.Command.{Form, bare, over, replay, made, AreBare, Ar
 use Rattle.caster_top.specs.Reading.{config_in}
 use Rattle.caster_top.specs.Outcome.{Exit, Ending, exactly, EndsSo, Came, usage_exit, long_exit, read_fault_exit, memory_exit, whole_exit, session_in, exit_of_config_fault, ending_of_script, ending_of_config, ending_of_read, ending_of_bytes, ending_of, outcome}
 use Rattle.caster_top.specs.Told.{Files, Tells, Holds, IsConfigAt, HasCome, IsOutcome}
-use Rattle.caster_top.specs.Answers.{exit_of, GivesEnd, IsGiven, IsInputEnd, IsInputAnswer, IsFileEnd, IsFileAnswer, IsRefused, IsRefusedAt, IsRefusal, IsSessionEnd, IsSessionAnswer, IsReplayEnd, IsReplayAnswer, IsAnswer}
+use Rattle.caster_top.specs.Answers.{answer_of_fault, exit_of, GivesEnd, IsGiven, IsInputEnd, IsInputAnswer, IsFileEnd, IsFileAnswer, IsRefused, IsRefusedAt, IsRefusal, IsSessionEnd, IsSessionAnswer, IsReplayEnd, IsReplayAnswer, IsAnswer}
 use Rattle.caster_top.proofs.ReadingLemmas.{config_in-ok, config_in-fault}
 
 -- ---- answers
@@ -330,3 +332,40 @@ made_answer words left files of_input of_store seed frames rovers answer h are i
     (λ memory. (made seed frames rovers, are)) (λ none. absurd none)
     (λ end ends. outcome_of_read words left files (Some (made seed frames rovers)) nothing_came end h tt ends)
     answer is
+
+-- ---- what could not be read to its end
+
+abbrev is_long : List ℕ → Type 0
+is_long bytes = 8388608 < length bytes
+
+pub unread_input : (left new : Option (List ℕ)) (capacity : ℕ) (fault : Type 0) (cause : ReadAllFault)
+    → (cause ≡ causes.Long → Loses is_long left new) → (cause ≡ causes.Failed → fault)
+    → IsInputAnswer capacity left fault (answer_of_fault cause)
+unread_input left new capacity fault causes.Failed long failed = failed refl
+unread_input left new capacity fault causes.Long long failed = long_input left new capacity fault (long refl)
+unread_input left new capacity fault causes.Memory long failed = tt
+
+pub unread_session : (start : Start) (c : Config) (path : List ℕ) (files : Files) (fault : Type 0) (cause : ReadAllFault)
+    → (cause ≡ causes.Long → (bytes : List ℕ) × Holds files path bytes × is_long bytes)
+    → (cause ≡ causes.Failed → fault) → IsSessionAnswer start c path files fault (answer_of_fault cause)
+unread_session start c path files fault causes.Failed long failed = failed refl
+unread_session start c path files fault causes.Long long failed = long_session start c path files fault (long refl)
+unread_session start c path files fault causes.Memory long failed = tt
+
+long_refused : (path : List ℕ) (files : Files) → (bytes : List ℕ) × Holds files path bytes × is_long bytes
+    → IsRefusedAt path files long_exit
+long_refused path files is = (
+  is.0,
+  is.1,
+  record {
+    none = λ c inside. absurd (omega (arith, is.2, inside.0));
+    ends = λ next. subst (λ (e : Ending). EndsSo e long_exit) (sym (ending_of_bytes-long next is.0 is.2)) refl;
+  },
+)
+
+pub unread_config : (path : List ℕ) (files : Files) (fault : Type 0) (cause : ReadAllFault)
+    → (cause ≡ causes.Long → (bytes : List ℕ) × Holds files path bytes × is_long bytes)
+    → (cause ≡ causes.Failed → fault) → IsRefusal path files fault (answer_of_fault cause)
+unread_config path files fault causes.Failed long failed = failed refl
+unread_config path files fault causes.Long long failed = long_refused path files (long refl)
+unread_config path files fault causes.Memory long failed = tt

@@ -1,5 +1,5 @@
 -- What was asked for.
-use Rattle.std.proofs.Common.{◌≡◌, ℕ, List, [], ◌∷◌, ◌++◌, Option, Some, refl, ap, sym, subst, ◌∙◌, arith, append_assoc, inl, inr}
+use Rattle.std.proofs.Common.{◌≡◌, ℕ, List, [], ◌∷◌, ◌++◌, Option, Some, refl, ap, sym, subst, ◌∙◌, append_assoc, inl, inr}
 use Rattle.cast_io.specs.Told.{Grew}
 use Rattle.cast_config.specs.declared.config.Config.{Config}
 use Rattle.caster_top.specs.declared.command.Aim.{Aim}

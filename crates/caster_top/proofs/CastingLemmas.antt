@@ -24,7 +24,7 @@ use Rattle.caster_top.specs.Outcome.{Exit, exactly, EndsSo, Came, whole_exit, us
 use Rattle.caster_top.specs.Told.{Files, IsConfigAt, IsConfigIn, IsAsked, IsOutcome, HaveCome}
 use Rattle.caster_top.specs.Answers.{exit_of, IsRefused, IsRefusedAt, IsAnswer, Writes}
 use Rattle.caster_top.specs.Recording.{HasRecorded}
-use Rattle.caster_top.specs.Casting.{CameTo, a_text, no_network, no_memory, HasCast, GivesCame, IsCastingAnswer, CastEnd, RefusedEnd, CastingEnd, HasCasting, IsUnserved}
+use Rattle.caster_top.specs.Casting.{CameTo, a_text, no_network, no_memory, HasCast, GivesCame, GivesServed, IsCastingAnswer, CastEnd, RefusedEnd, CastingEnd, HasCasting, IsUnserved}
 use Rattle.caster_top.proofs.ReadingLemmas.{config_in-ok}
 use Rattle.caster_top.proofs.WordLemmas.{form_of-form, form-form_of}
 use Rattle.caster_top.proofs.AnswerLemmas.{given_such, given_end, outcome_of_read, config_came, at_end}
@@ -308,6 +308,16 @@ closed_sizes c addr limit before after (Ok same) closed h served =
       ap (λ (x : Closed). length x.accounts) (sym equal ∙ is) ∙ sums_long 1 whole.histories c.account,
     )
 closed_sizes c addr limit before after (Err fault) closed h served = absurd cc
+
+-- what a caster that serves came to, and its answer
+pub cast_served : (c : Config) (addr : List ℕ) (limit : ℕ) (before after : StreetTold)
+    (served : Result Closed ServeFault) (answer : Answer) → HasServed c addr limit before after served
+    → GivesServed c served answer
+    → (came_to : CameTo) × HasCast Serve c addr limit before after came_to × GivesCame came_to answer
+cast_served c addr limit before after (Ok closed) answer has given =
+    (a_text (closed_text c closed), (closed, has, refl), given)
+cast_served c addr limit before after (Err faults.Network) answer has given = (no_network, has, given)
+cast_served c addr limit before after (Err faults.Memory) answer has given = (no_memory, has, given)
 
 -- with a configuration and no fault of the outside it is 0, or 7
 refused_not : (files : Files) (config : List ℕ) (list : List (List ℕ × List ℕ)) (bytes : List ℕ) (c : Config)

@@ -11,3 +11,5 @@ pub mod ClauseLemmas
 pub mod FetchClauseLemmas
 pub mod PieceLemmas
 mod CastingLemmas
+pub mod OfflineLemmas
+pub mod RunLemmas

@@ -2,17 +2,20 @@
 use Rattle.std.specs.Prelude.{◌≡◌, ℕ, ◌⊎◌, List, codes, Option, ⊤}
 use Rattle.session_script.specs.declared.ScriptKind.TheVariants.{Bare}
 use Rattle.session_script.specs.Script.{script_of}
+use Rattle.cast_io.specs.declared.reading.ReadAllFault.{ReadAllFault}
+use Rattle.cast_io.specs.declared.reading.ReadAllFault.TheVariants as causes
 use Rattle.cast_io.specs.Causes.{Rose}
 use Rattle.cast_config.specs.declared.config.Config.{Config}
 use Rattle.cast_config.specs.Bare as settings
 use Rattle.cast_io.specs.Pieces.{AppendsPrefix}
+use Rattle.run_texts.specs.Texts.{made_text}
 use Rattle.caster_top.specs.declared.answers.Answer.{Answer}
 use Rattle.caster_top.specs.declared.answers.Answer.TheVariants.{Done, Valid, NoConfig, NoSession, Usage, Long, ReadFault, NetworkFault, Memory}
 use Rattle.caster_top.specs.declared.command.Aim.{Aim}
 use Rattle.caster_top.specs.declared.command.Start.{Start}
 use Rattle.caster_top.specs.declared.command.Start.TheVariants.{Cold}
-use Rattle.caster_top.specs.Command.{replay}
-use Rattle.caster_top.specs.Outcome.{Exit, Ending, EndsSo, Came, ending_of_bytes, ending_of_config, ending_of_form, ending_of_script, session_in, one_line, whole_exit, usage_exit, long_exit, read_fault_exit, network_exit, memory_exit}
+use Rattle.caster_top.specs.Command.{Form, bare, over, replay, made, casting, fetching}
+use Rattle.caster_top.specs.Outcome.{Exit, Ending, exactly, EndsSo, Came, ending_of_bytes, ending_of_config, ending_of_form, ending_of_script, session_in, one_line, whole_exit, usage_exit, long_exit, read_fault_exit, network_exit, memory_exit}
 use Rattle.caster_top.specs.Told.{Files, Tells, Holds, IsConfigIn, IsOutcome, EndsWith, HaveForm, HaveFault}
 
 -- what the program ends with after this answer, where no write fails
@@ -26,6 +29,12 @@ exit_of Long = long_exit
 exit_of ReadFault = read_fault_exit
 exit_of NetworkFault = network_exit
 exit_of Memory = memory_exit
+
+-- the answer where an input or a file could not be read to its end
+abbrev pub answer_of_fault : ReadAllFault → Answer
+answer_of_fault causes.Failed = ReadFault
+answer_of_fault causes.Long = Long
+answer_of_fault causes.Memory = Memory
 
 -- the answer is such an end of the program; want of memory and a fault of reading have their causes
 abbrev pub IsGiven : Type 0 → Type 0 → (Exit → Type 0) → Answer → Type 0
@@ -84,6 +93,19 @@ IsReplayEnd start config session files end = (came : Came)
 abbrev pub IsReplayAnswer : Start → List ℕ → List ℕ → Files → Type 0 → Answer → Type 0
 IsReplayAnswer start config session files fault answer =
     IsGiven ⊤ fault (IsReplayEnd start config session files) answer
+
+-- the answer to a command of this form that files and input decide alone
+abbrev pub IsOfflineAnswer : Form → Option (List ℕ) → Files → Type 0 → Type 0 → Answer → Type 0
+IsOfflineAnswer (bare capacity) left files of_input of_store answer =
+    IsInputAnswer capacity left of_input answer
+IsOfflineAnswer (over aim path) left files of_input of_store answer =
+    IsFileAnswer aim path files of_store answer
+IsOfflineAnswer (replay start config session) left files of_input of_store answer =
+    IsReplayAnswer start config session files of_store answer
+IsOfflineAnswer (made seed frames rovers) left files of_input of_store answer =
+    GivesEnd (exactly (whole_exit (made_text seed frames rovers))) answer
+IsOfflineAnswer (casting task config addr limit) left files of_input of_store answer = ⊥
+IsOfflineAnswer (fetching frames targets) left files of_input of_store answer = ⊥
 
 -- the answer to these words, this input and these files: want of memory, a fault of reading that
 -- was counted, or the outcome

@@ -1,6 +1,6 @@
 -- What the program ends with that is to be a caster, one that serves or one that records, and what
 -- the street tells of it.
-use Rattle.std.specs.Prelude.{◌≡◌, ℕ, ◌⊎◌, List, Option, Ok, Err}
+use Rattle.std.specs.Prelude.{◌≡◌, ℕ, ◌⊎◌, List, Option, Result, Ok, Err}
 use Rattle.cast_io.specs.Causes.{Rose}
 use Rattle.cast_io.specs.Told.{StreetTold}
 use Rattle.cast_config.specs.declared.config.Config.{Config}
@@ -9,6 +9,7 @@ use Rattle.session_script.specs.Writing.{script_text}
 use Rattle.session_core.specs.declared.report.Closed.{Closed}
 use Rattle.session_core.specs.Text.{closed_text}
 use Rattle.caster_serve.specs.Caster.{HasServed}
+use Rattle.caster_serve.specs.declared.whole.ServeFault.{ServeFault}
 use Rattle.caster_serve.specs.declared.whole.ServeFault.TheVariants as faults
 use Rattle.caster_top.specs.declared.answers.Answer.{Answer}
 use Rattle.caster_top.specs.declared.answers.Answer.TheVariants.{NetworkFault, Memory}
@@ -49,6 +50,12 @@ abbrev pub GivesCame : CameTo → Answer → Type 0
 GivesCame (a_text text) answer = GivesEnd (exactly (whole_exit text)) answer
 GivesCame no_network answer = answer ≡ NetworkFault
 GivesCame no_memory answer = answer ≡ Memory
+
+-- the answer where a caster that serves over this configuration came to this
+abbrev pub GivesServed : Config → Result Closed ServeFault → Answer → Type 0
+GivesServed c (Ok closed) answer = GivesEnd (exactly (whole_exit (closed_text c closed))) answer
+GivesServed c (Err faults.Network) answer = answer ≡ NetworkFault
+GivesServed c (Err faults.Memory) answer = answer ≡ Memory
 
 -- there was a caster over the configuration in the file of this path, and this is the answer
 pub record HasAnswered (task : Task) (files : Files) (config addr : List ℕ) (limit : ℕ)

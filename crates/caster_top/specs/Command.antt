@@ -1,5 +1,5 @@
 -- The words of the command line. They have no program name.
-use Rattle.std.specs.Prelude.{◌≡◌, ◌≢◌, ℕ, ◌-◌, ◌^◌, ◌<◌, ◌≤◌, ◌==◌, nat_le, not, ◌&&◌, ◌||◌, if◌then◌else◌, Bool, true, false, IsTrue, List, [], ◌∷◌, length, map, codes, Option, Some, None, IfSome, option_map, String, string_bytes}
+use Rattle.std.specs.Prelude.{◌≡◌, ◌≢◌, ℕ, ◌-◌, ◌^◌, ◌<◌, ◌≤◌, ◌==◌, nat_le, not, ◌&&◌, ◌||◌, if◌then◌else◌, Bool, true, false, IsTrue, List, [], ◌∷◌, length, map, codes, Option, Some, None, IfSome, option_map, String, string_bytes, ⊤}
 use Rattle.std.specs.List.{All, flat_map, list_all}
 use Rattle.std.specs.Global.{Global}
 use Rattle.std.specs.Str.{bytes_eq}
@@ -16,6 +16,9 @@ use Rattle.caster_top.specs.declared.command.Task.TheVariants.{Serve, Record}
 use Rattle.caster_top.specs.declared.command.Command.{Command}
 use Rattle.caster_top.specs.declared.fetch_words.Fetch.{Fetch}
 use Rattle.caster_top.specs.declared.command.Command.TheVariants as commands
+use Rattle.caster_top.specs.declared.command.Casting.{Casting}
+use Rattle.caster_top.specs.declared.command.Offline.{Offline}
+use Rattle.caster_top.specs.declared.command.Offline.TheVariants as offline
 
 -- the bytes of each word
 abbrev pub texts : List (String Global) → List (List ℕ)
@@ -180,6 +183,24 @@ NameNoFile words =
     × ((start : Start) (config session : List ℕ) → ArePlayed start words config session → ⊥)
     × ((task : Task) (config addr : List ℕ) (limit : ℕ)
     → AreCasting task words config addr limit → ⊥)
+
+-- the same of the words' form
+abbrev pub ReadsNoInput : Form → Type 0
+ReadsNoInput (bare capacity) = ⊥
+ReadsNoInput form = ⊤
+
+abbrev pub NamesNoFile : Form → Type 0
+NamesNoFile (over aim config) = ⊥
+NamesNoFile (replay start config session) = ⊥
+NamesNoFile (casting task config addr limit) = ⊥
+NamesNoFile form = ⊤
+
+-- the numbers of the form are within their limits
+abbrev pub IsWithin : Form → Type 0
+IsWithin (bare capacity) = (1 ≤ capacity) × (capacity ≤ 4096)
+IsWithin (made seed frames rovers) =
+    (1 ≤ frames) × (frames ≤ 10000) × (1 ≤ rovers) × (rovers ≤ 64)
+IsWithin form = ⊤
 
 -- the words ask for no caster
 abbrev pub CastNothing : List (List ℕ) → Type 0
@@ -346,13 +367,19 @@ files_of (Some (made seed frames rovers)) = []
 files_of (Some (casting task config addr limit)) = config ∷ []
 files_of (Some (fetching frames targets)) = []
 
--- the command that the code has read
+-- the command that the code has read: one that files and input decide alone, a caster, or any
+abbrev pub offline_form : Offline → Form
+offline_form (offline.Bare capacity) = bare capacity
+offline_form (offline.Over aim config) = over aim config.now
+offline_form (offline.Replay start config session) = replay start config.now session.now
+offline_form (offline.Make seed frames rovers) = made seed frames rovers
+
+abbrev pub cast_form : Casting → Form
+cast_form cast = casting cast.task cast.config.now cast.addr.now cast.limit
+
 abbrev pub form : Command → Form
-form (commands.Bare capacity) = bare capacity
-form (commands.Over aim config) = over aim config.now
-form (commands.Replay start config session) = replay start config.now session.now
-form (commands.Make seed frames rovers) = made seed frames rovers
-form (commands.Cast task config addr limit) = casting task config.now addr.now limit
+form (commands.Offline command) = offline_form command
+form (commands.Cast cast) = cast_form cast
 
 -- and the fetch
 abbrev pub fetch_form : Fetch → Form

@@ -6,3 +6,4 @@ pub mod Answers
 pub mod Casting
 pub mod Recording
 pub mod Fetching
+pub mod Running

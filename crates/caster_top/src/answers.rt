@@ -3,25 +3,25 @@ ghost use Rattle.std.specs.Prelude.{◌≡◌, ◌≤◌, ◌+◌, ◌*◌, ℕ,
 ghost use Rattle.cast_io.specs.Causes.{Rose};
 ghost use Rattle.cast_io.specs.Pieces.{Loses};
 ghost use Rattle.caster_top.specs.declared.command.Task.{Task};
-ghost use Rattle.caster_top.specs.Command.{AreCasting, CastNothing, FetchNothing, NameNoFile, ReadNoInput, files_of, form_of, texts};
+ghost use Rattle.caster_top.specs.Command.{AreCasting, CastNothing, FetchNothing, IsWithin, NameNoFile, NamesNoFile, ReadNoInput, ReadsNoInput, files_of, form_of, offline_form, texts};
 ghost use Rattle.caster_top.specs.Outcome.{exactly, whole_exit};
 ghost use Rattle.caster_top.specs.Told.{IsAsked};
-ghost use Rattle.caster_top.specs.Answers.{exit_of, IsAnswer, GivesEnd};
+ghost use Rattle.caster_top.specs.Answers.{answer_of_fault, exit_of, IsAnswer, IsOfflineAnswer, GivesEnd};
 ghost use Rattle.caster_top.specs.Casting.{IsCastingAnswer};
 ghost use Rattle.run_texts.specs.Texts.{made_text};
 
 use crate::casting_answers::answer_to_cast;
-use crate::command::{Command, command_of};
+use crate::command::{Command, Offline, command_of};
 use crate::config_answers::answer_over;
 use crate::session_answers::{answer_to_input, answer_to_replay};
-use cast_io::{Source, Store, Street};
+use cast_io::{ReadAllFault, Source, Store, Street};
 use run_texts::made_text;
 use std::alloc::{AllocError, Global};
 use std::sync::Wait;
 use std::thread::Threads;
 
 /// What the program is to write, and with which status it is to end.
-#[derive(Debug, Drop)]
+#[derive(Drop)]
 pub enum Answer {
     /// What the command writes.
     Done(Vec<u8>),
@@ -44,6 +44,17 @@ pub enum Answer {
 }
 
 impl Answer {
+    /// The answer where an input or a file could not be read to its end.
+    pub fn unread(fault: ReadAllFault) -> Self
+        ensures { result ≡ answer_of_fault fault }
+    {
+        match fault {
+            ReadAllFault::Failed => Answer::ReadFault,
+            ReadAllFault::Long => Answer::Long,
+            ReadAllFault::Memory => Answer::Memory,
+        }
+    }
+
     /// The status that the program ends with where the text is written.
     pub fn status(&self) -> u8
         ensures { result ≡ (exit_of self.now).status }
@@ -117,30 +128,57 @@ where
 {
     match command_of(words) {
         None => Answer::Usage,
-        Some(Command::Bare(capacity)) => answer_to_input(alloc, capacity, input),
-        Some(Command::Over(aim, path)) => answer_over(alloc, aim, path, store),
-        Some(
-            Command::Replay {
-                start,
-                config,
-                session,
-            },
-        ) => answer_to_replay(alloc, start, config, session, store),
-        Some(
-            Command::Make {
-                seed,
-                frames,
-                rovers,
-            },
-        ) => answer_to_make(alloc, seed, frames, rovers),
-        Some(
-            Command::Cast {
-                task,
-                config,
-                addr,
-                limit,
-            },
-        ) => answer_to_cast(rt, alloc, task, config, addr, limit, store, street),
+        Some(Command::Offline(command)) => answer_offline(alloc, command, store, input),
+        Some(Command::Cast(cast)) => answer_to_cast(
+            rt,
+            alloc,
+            cast.task,
+            cast.config,
+            cast.addr,
+            cast.limit,
+            store,
+            street,
+        ),
+    }
+}
+
+// The answer to this command. The input is read only for a bare session, and the store is asked
+// only for the files that the command names.
+fn answer_offline<S: Store, I: Source>(
+    alloc: Global,
+    command: Offline<'_>,
+    store: &mut S,
+    input: &mut I,
+) -> Answer
+    requires { IsWithin (offline_form command) }
+    ensures answer { IsOfflineAnswer (offline_form command.entry) (I.left input.old)
+        (S.store store.old).files (Rose (I.faults input.old) (I.faults input.new))
+        (Rose (S.faults store.old) (S.faults store.new)) result }
+    ensures input_later { I.faults input.old ≤ I.faults input.new }
+    ensures store_later { S.faults store.old ≤ S.faults store.new }
+    ensures unread { ReadsNoInput (offline_form command.entry) → input.new ≡ input.old }
+    ensures unasked { NamesNoFile (offline_form command.entry) → store.new ≡ store.old }
+    ensures reads { Loses (λ came. I.reads input.new ≤ I.reads input.old + length came + 1)
+        (I.left input.old) (I.left input.new) }
+    ensures asked { IsAsked (Some (offline_form command.entry)) (S.store store.old).files
+        (S.store store.old).asked (S.store store.new).asked }
+    ensures files { (S.store store.new).files ≡ (S.store store.old).files }
+    ensures few { S.reads store.new
+        ≤ S.reads store.old + 8388610 * length (files_of (Some (offline_form command.entry))) }
+{
+    match command {
+        Offline::Bare(capacity) => answer_to_input(alloc, capacity, input),
+        Offline::Over(aim, path) => answer_over(alloc, aim, path, store),
+        Offline::Replay {
+            start,
+            config,
+            session,
+        } => answer_to_replay(alloc, start, config, session, store),
+        Offline::Make {
+            seed,
+            frames,
+            rovers,
+        } => answer_to_make(alloc, seed, frames, rovers),
     }
 }
 

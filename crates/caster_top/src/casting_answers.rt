@@ -1,5 +1,6 @@
 //! What is decided by a caster, one that serves or one that records.
 ghost use Rattle.std.specs.Prelude.{◌≡◌, ◌≤◌, ◌+◌, ◌∷◌, [], length};
+ghost use Rattle.std.specs.Result.{ForOk};
 ghost use Rattle.cast_io.specs.Causes.{Rose};
 ghost use Rattle.cast_io.specs.Told.{Grew};
 ghost use Rattle.cast_config.specs.Kept.{KeepsRules};
@@ -9,7 +10,7 @@ ghost use Rattle.caster_top.specs.declared.command.Task.TheVariants.{Record, Ser
 ghost use Rattle.caster_top.specs.Command.{most_of};
 ghost use Rattle.caster_top.specs.Outcome.{exactly, whole_exit};
 ghost use Rattle.caster_top.specs.Answers.{GivesEnd};
-ghost use Rattle.caster_top.specs.Casting.{CameTo, GivesCame, HasCast, IsCastingAnswer};
+ghost use Rattle.caster_top.specs.Casting.{CameTo, GivesCame, GivesServed, HasCast, IsCastingAnswer};
 
 use crate::answers::Answer;
 use crate::command::Task;
@@ -100,14 +101,24 @@ where
         × GivesCame came_to result }
     ensures later { (N.told street.old).faults ≤ (N.told street.new).faults }
 {
-    match serve(rt, alloc, config, addr, u64::from(limit), street) {
+    let served = serve(rt, alloc, config, addr, u64::from(limit), street);
+    answer_to_served(alloc, config, served)
+}
+
+// The answer to what a caster that serves over this configuration came to.
+fn answer_to_served(alloc: Global, config: &Config, served: Result<Closed, ServeFault>) -> Answer
+    requires { ForOk served (λ closed. (length closed.mounts ≡ length config.now.mount)
+        × (length closed.accounts ≡ length config.now.account)) }
+    ensures { GivesServed config.now served result }
+{
+    match served {
         Ok(closed) => answer_to_closed(alloc, config, &closed),
         Err(ServeFault::Network) => Answer::NetworkFault,
         Err(ServeFault::Memory) => Answer::Memory,
     }
 }
 
-// The answer to what a caster over this configuration came to.
+// The answer to the totals of a caster over this configuration.
 fn answer_to_closed(alloc: Global, config: &Config, closed: &Closed) -> Answer
     requires mounts { length closed.now.mounts ≡ length config.now.mount }
     requires accounts { length closed.now.accounts ≡ length config.now.account }

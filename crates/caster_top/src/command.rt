@@ -23,7 +23,7 @@ const MOST_RECORDED: u32 = 256;
 const LONGEST_PATH: usize = 255;
 
 /// What is done with a configuration.
-#[derive(Clone, Copy, Debug, PartialEq, Eq)]
+#[derive(Clone, Copy)]
 pub enum Aim {
     /// Its rules are tested.
     Check,
@@ -34,7 +34,7 @@ pub enum Aim {
 }
 
 /// How rovers start in a session.
-#[derive(Clone, Copy, Debug, PartialEq, Eq)]
+#[derive(Clone, Copy)]
 pub enum Start {
     /// With the frames that come from then on.
     Cold,
@@ -44,7 +44,7 @@ pub enum Start {
 }
 
 /// What a caster does with its connections.
-#[derive(Clone, Copy, Debug, PartialEq, Eq)]
+#[derive(Clone, Copy)]
 pub enum Task {
     /// Its workers serve them side by side.
     Serve,
@@ -64,9 +64,9 @@ impl Task {
     }
 }
 
-/// What the words ask for that is decided before any of it is written.
-#[derive(Clone, Copy, Debug)]
-pub enum Command<'a> {
+/// A command that files and input decide alone.
+#[derive(Clone, Copy)]
+pub enum Offline<'a> {
     /// A script from the input is run over a ring of so many frames.
     Bare(u32),
     /// This is done with the configuration in the file of this path.
@@ -89,17 +89,28 @@ pub enum Command<'a> {
         /// How many rovers it has.
         rovers: u32,
     },
-    /// There is a caster over the configuration in the file of this path.
-    Cast {
-        /// What it does with its connections.
-        task: Task,
-        /// The configuration's path.
-        config: &'a str,
-        /// The address that it listens at.
-        addr: &'a str,
-        /// How many connections each worker serves, or how many are recorded.
-        limit: u32,
-    },
+}
+
+/// A caster over the configuration in a file.
+#[derive(Clone, Copy)]
+pub struct Casting<'a> {
+    /// What it does with its connections.
+    pub task: Task,
+    /// The configuration's path.
+    pub config: &'a str,
+    /// The address that it listens at.
+    pub addr: &'a str,
+    /// How many connections each worker serves, or how many are recorded.
+    pub limit: u32,
+}
+
+/// What the words ask for that is decided before any of it is written.
+#[derive(Clone, Copy)]
+pub enum Command<'a> {
+    /// Something that needs no street.
+    Offline(Offline<'a>),
+    /// A caster.
+    Cast(Casting<'a>),
 }
 
 /// The command that the words are, which ask for no fetch, and None where they are of no form.
@@ -145,7 +156,7 @@ fn command_of_two<'a>(name: &str, word: &'a str) -> Option<Command<'a>>
 {
     if name == "bare" {
         return match number_within(LARGEST_RING, word) {
-            Some(capacity) => Some(Command::Bare(capacity)),
+            Some(capacity) => Some(Command::Offline(Offline::Bare(capacity))),
             None => None,
         };
     }
@@ -153,7 +164,7 @@ fn command_of_two<'a>(name: &str, word: &'a str) -> Option<Command<'a>>
         return None;
     }
     match aim_of(name) {
-        Some(aim) => Some(Command::Over(aim, word)),
+        Some(aim) => Some(Command::Offline(Offline::Over(aim, word))),
         None => None,
     }
 }
@@ -166,11 +177,11 @@ fn command_of_three<'a>(name: &str, first: &'a str, second: &'a str) -> Option<C
         return None;
     }
     match start_of(name) {
-        Some(start) => Some(Command::Replay {
+        Some(start) => Some(Command::Offline(Offline::Replay {
             start,
             config: first,
             session: second,
-        }),
+        })),
         None => None,
     }
 }
@@ -210,11 +221,11 @@ fn make_of<'a>(seed: &str, frames: &str, rovers: &str) -> Option<Command<'a>>
     let Some(rovers) = number_within(MOST_ROVERS, rovers) else {
         return None;
     };
-    Some(Command::Make {
+    Some(Command::Offline(Offline::Make {
         seed,
         frames,
         rovers,
-    })
+    }))
 }
 
 // The caster of this task over this configuration at this address, with this limit.
@@ -222,12 +233,12 @@ fn caster_of<'a>(task: Task, config: &'a str, addr: &'a str, limit: &str) -> Opt
     ensures { option_map form result ≡ casting_form (Some task) config.now addr.now limit.now }
 {
     match number_within(task.most(), limit) {
-        Some(limit) => Some(Command::Cast {
+        Some(limit) => Some(Command::Cast(Casting {
             task,
             config,
             addr,
             limit,
-        }),
+        })),
         None => None,
     }
 }

@@ -56,9 +56,7 @@ pub fn config_at<S: Store>(alloc: Global, path: &str, store: &mut S) -> Result<C
 {
     match read_file(alloc, path, store) {
         Ok(bytes) => config_of(alloc, &bytes),
-        Err(ReadAllFault::Failed) => Err(Answer::ReadFault),
-        Err(ReadAllFault::Long) => Err(Answer::Long),
-        Err(ReadAllFault::Memory) => Err(Answer::Memory),
+        Err(fault) => Err(Answer::unread(fault)),
     }
 }
 

@@ -8,24 +8,8 @@ mod command;
 mod config_answers;
 mod fetch_words;
 mod fetching;
-#[cfg(test)]
-mod fetching_tests;
-#[cfg(test)]
-mod memory_tests;
 mod recording;
-#[cfg(test)]
-mod recording_tests;
 mod session_answers;
-#[cfg(test)]
-mod session_tests;
-#[cfg(test)]
-mod tests;
 mod top;
-#[cfg(test)]
-mod trial;
-#[cfg(test)]
-mod warm_tests;
-#[cfg(test)]
-mod worked_lines;
 
 pub use top::{caster, refuse_for_memory};

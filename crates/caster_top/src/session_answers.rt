@@ -18,7 +18,7 @@ use crate::answers::Answer;
 use crate::command::Start;
 use crate::config_answers::{config_at, read_file};
 use cast_config::Config;
-use cast_io::{ReadAllFault, Source, Store, read_all};
+use cast_io::{Source, Store, read_all};
 use run_texts::{run_text, warm_text};
 use session_script::{Event, ScriptFault, ScriptKind, parse};
 use std::alloc::{AllocError, Global};
@@ -37,9 +37,7 @@ pub fn answer_to_input<I: Source>(alloc: Global, capacity: u32, input: &mut I) -
 {
     match read_all(alloc, input, LONGEST_SCRIPT) {
         Ok(bytes) => answer_to_bare(alloc, capacity, &bytes),
-        Err(ReadAllFault::Failed) => Answer::ReadFault,
-        Err(ReadAllFault::Long) => Answer::Long,
-        Err(ReadAllFault::Memory) => Answer::Memory,
+        Err(fault) => Answer::unread(fault),
     }
 }
 
@@ -85,9 +83,7 @@ fn answer_to_session<S: Store>(
 {
     match read_file(alloc, path, store) {
         Ok(bytes) => answer_to_script(alloc, start, config, kind_for(config), &bytes),
-        Err(ReadAllFault::Failed) => Answer::ReadFault,
-        Err(ReadAllFault::Long) => Answer::Long,
-        Err(ReadAllFault::Memory) => Answer::Memory,
+        Err(fault) => Answer::unread(fault),
     }
 }
 

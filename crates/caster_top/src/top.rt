@@ -20,13 +20,14 @@ ghost use Rattle.config_write.specs.Written.{HasVersion};
 ghost use Rattle.caster_top.specs.declared.command.Aim.{Aim};
 ghost use Rattle.caster_top.specs.declared.command.Aim.TheVariants.{Check, Table, Migrate};
 ghost use Rattle.caster_top.specs.declared.command.Task.{Task};
-ghost use Rattle.caster_top.specs.Command.{AreBare, AreCasting, AreFetch, AreMake, AreOver, AreOfNoForm, AreRecord, AreReplay, AreServe, AreWarm, AskNoStreet, NameNoFile, ReadNoInput, WriteAtEnd, files_of, form_of, texts};
+ghost use Rattle.caster_top.specs.Command.{AreBare, AreCasting, AreFetch, AreMake, AreOver, AreOfNoForm, AreRecord, AreReplay, AreServe, AreWarm, AskNoStreet, CastNothing, FetchNothing, NameNoFile, ReadNoInput, WriteAtEnd, files_of, form_of, texts};
 ghost use Rattle.caster_top.specs.Outcome.{memory_exit, network_exit, one_line, read_fault_exit, session_in};
 ghost use Rattle.caster_top.specs.Told.{FollowsOutcome, HaveCome, HaveFault, IsAsked, IsConfigAt, IsFaultyConfig, IsFaultyScript, IsSessionAt, IsStatus, IsTooLong, IsWhole, WritesPart};
 ghost use Rattle.caster_top.specs.Answers.{exit_of, Writes};
 ghost use Rattle.caster_top.specs.Casting.{HasCast, HasCasting, IsUnserved, no_network};
 ghost use Rattle.caster_top.specs.Recording.{HasRecorded};
 ghost use Rattle.caster_top.specs.Fetching.{HasFetched, HasFetching};
+ghost use Rattle.caster_top.specs.Running.{EndsByAnswer, HasRun};
 ghost use Rattle.ntrip_fetch.specs.Tries.{HasStopped};
 ghost use Rattle.ntrip_fetch.specs.declared.left.FetchFault.TheVariants as faults;
 ghost use Rattle.ntrip_fetch.specs.declared.target.Target.{Target};
@@ -284,11 +285,86 @@ where
         (Rose (S.faults store.old) (S.faults store.new))
         (O.taken out.old) (O.taken out.new) }
 {
-    if let Some(fetch) = fetch_in(words) {
-        return fetch_frames(rt, alloc, fetch.frames, fetch.targets, street, out);
+    run_words(rt, alloc, words, store, input, out, street)
+}
+
+// The same, and how the run of the words ended.
+fn run_words<R: Threads + Wait + Sync, S: Store, I: Source, O: Sink, N: Street>(
+    rt: &R,
+    alloc: Global,
+    words: &[String],
+    store: &mut S,
+    input: &mut I,
+    out: &mut O,
+    street: &mut N,
+) -> u8
+where
+    N::Door: Send,
+    N::Link: Send,
+    ensures run { HasRun (texts words.now) (I.left input.old) (S.store store.old).files
+        (Rose (I.faults input.old) (I.faults input.new))
+        (Rose (S.faults store.old) (S.faults store.new))
+        (N.told street.old) (N.told street.new) (O.taken out.old) (O.taken out.new)
+        (O.faults out.old) (O.faults out.new) result }
+    ensures unharmed { result ≢ 5 → O.faults out.new ≡ O.faults out.old }
+    ensures street_faults { (N.told street.old).faults ≤ (N.told street.new).faults }
+    ensures store_faults { S.faults store.old ≤ S.faults store.new }
+    ensures input_faults { I.faults input.old ≤ I.faults input.new }
+    ensures out_faults { O.faults out.old ≤ O.faults out.new }
+    ensures unread { ReadNoInput (texts words.now) → input.new ≡ input.old }
+    ensures reads { Loses (λ came. I.reads input.new ≤ I.reads input.old + length came + 1)
+        (I.left input.old) (I.left input.new) }
+    ensures unasked { NameNoFile (texts words.now) → store.new ≡ store.old }
+    ensures asked { IsAsked (form_of (texts words.now)) (S.store store.old).files
+        (S.store store.old).asked (S.store store.new).asked }
+    ensures files { (S.store store.new).files ≡ (S.store store.old).files }
+    ensures few { S.reads store.new
+        ≤ S.reads store.old + 8388610 * length (files_of (form_of (texts words.now))) }
+    ensures alone { AskNoStreet (texts words.now) → street.new ≡ street.old }
+{
+    match fetch_in(words) {
+        Some(fetch) => fetch_frames(rt, alloc, fetch.frames, fetch.targets, street, out),
+        None => answer_words(rt, alloc, words, store, input, out, street),
     }
+}
+
+// The same for words that ask for no fetch.
+fn answer_words<R: Threads + Wait + Sync, S: Store, I: Source, O: Sink, N: Street>(
+    rt: &R,
+    alloc: Global,
+    words: &[String],
+    store: &mut S,
+    input: &mut I,
+    out: &mut O,
+    street: &mut N,
+) -> u8
+where
+    N::Door: Send,
+    N::Link: Send,
+    requires { FetchNothing (texts words.now) }
+    ensures run { EndsByAnswer (texts words.now) (I.left input.old) (S.store store.old).files
+        (Rose (I.faults input.old) (I.faults input.new))
+        (Rose (S.faults store.old) (S.faults store.new))
+        (N.told street.old) (N.told street.new) (O.taken out.old) (O.taken out.new)
+        (O.faults out.old) (O.faults out.new) result }
+    ensures unharmed { result ≢ 5 → O.faults out.new ≡ O.faults out.old }
+    ensures street_faults { (N.told street.old).faults ≤ (N.told street.new).faults }
+    ensures store_faults { S.faults store.old ≤ S.faults store.new }
+    ensures input_faults { I.faults input.old ≤ I.faults input.new }
+    ensures out_faults { O.faults out.old ≤ O.faults out.new }
+    ensures unread { ReadNoInput (texts words.now) → input.new ≡ input.old }
+    ensures reads { Loses (λ came. I.reads input.new ≤ I.reads input.old + length came + 1)
+        (I.left input.old) (I.left input.new) }
+    ensures unasked { NameNoFile (texts words.now) → store.new ≡ store.old }
+    ensures asked { IsAsked (form_of (texts words.now)) (S.store store.old).files
+        (S.store store.old).asked (S.store store.new).asked }
+    ensures files { (S.store store.new).files ≡ (S.store store.old).files }
+    ensures few { S.reads store.new
+        ≤ S.reads store.old + 8388610 * length (files_of (form_of (texts words.now))) }
+    ensures alone { CastNothing (texts words.now) → street.new ≡ street.old }
+{
     let answer = answer_to(rt, alloc, words, store, input, street);
-    write_answer(&answer, out)
+    end_with(answer, out)
 }
 
 /// Says that there was no memory for the words themselves, and answers the status.
@@ -297,6 +373,16 @@ pub fn refuse_for_memory<O: Sink>(out: &mut O) -> u8
         (O.faults out.old) (O.faults out.new) result }
 {
     write_answer(&Answer::Memory, out)
+}
+
+// Writes the text of the answer, which is let go, and gives its status, or that of a failed write.
+fn end_with<O: Sink>(answer: Answer, out: &mut O) -> u8
+    ensures writes { Writes (exit_of answer) (O.taken out.old) (O.taken out.new)
+        (O.faults out.old) (O.faults out.new) result }
+    ensures later { O.faults out.old ≤ O.faults out.new }
+    ensures unharmed { result ≢ 5 → O.faults out.new ≡ O.faults out.old }
+{
+    write_answer(&answer, out)
 }
 
 // Writes the answer's text and gives its status, or that of a failed write.

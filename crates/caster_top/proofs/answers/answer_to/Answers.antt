@@ -1,43 +1,55 @@
 -- Each answer is the outcome of the words and of what came, or has its cause.
-use Rattle.std.proofs.Common.{sym}
-use Rattle.caster_top.proofs.AnswerLemmas.{usage_is_outcome, input_answer, file_answer, files_answer, made_answer}
-use Rattle.caster_top.proofs.AskedLemmas.{over_asked}
-use Rattle.caster_top.specs.Command.{texts, casting}
+use Rattle.std.proofs.Common.{sym, subst, ◌+◌, ◌*◌, ◌≤◌, length, Option}
+use Rattle.caster_top.proofs.AnswerLemmas.{usage_is_outcome}
+use Rattle.caster_top.proofs.AskedLemmas.{asked_so}
+use Rattle.caster_top.proofs.OfflineLemmas.{within_limits, reads_nothing, names_nothing, offline_answer, offline_alone}
+use Rattle.caster_top.specs.Command.{Form, texts, casting, files_of}
 use Rattle.caster_top.proofs.CastingLemmas.{casting_answer, casting_asked, casting_read}
 use Rattle.caster_top.proofs.answers.answer_to.Goals as goal
 
 pub returns-in-None-clause-answer : goal.returns-in-None-clause-answer
 returns-in-None-clause-answer g c = usage_is_outcome _ _ _ (sym c.in-None.ensures.command)
 
-pub returns-in-Some-Bare-clause-answer : goal.returns-in-Some-Bare-clause-answer
-returns-in-Some-Bare-clause-answer g c =
-    input_answer _ _ _ _ _ _ c.answer_to_input.result
-    (sym (rw c.in-Some-Bare.field-0-is at c.in-Some-Bare.ensures.command))
-    (rw c.in-Some-Bare.field-0-is at c.in-Some-Bare.ensures.form) c.answer_to_input.ensures.answer
+pub returns-in-None-clause-casting : goal.returns-in-None-clause-casting
+returns-in-None-clause-casting g c task config addr limit are =
+    absurd (c.in-None.ensures.none (casting task config addr limit) are)
 
-pub returns-in-Some-Over-clause-answer : goal.returns-in-Some-Over-clause-answer
-returns-in-Some-Over-clause-answer g c =
-    file_answer _ _ _ _ _ _ _ c.answer_over.result
-    (sym (rw c.in-Some-Over.field-0-is at c.in-Some-Over.ensures.command))
-    (rw c.in-Some-Over.field-0-is at c.in-Some-Over.ensures.form) c.answer_over.ensures.answer
+pub answer_offline-requires : goal.answer_offline-requires
+answer_offline-requires g c =
+    within_limits (texts c.args.words.now) _ (rw c.in-Some-Offline.field-0-is at c.in-Some-Offline.ensures.form)
 
-pub returns-in-Some-Over-clause-asked : goal.returns-in-Some-Over-clause-asked
-returns-in-Some-Over-clause-asked g c =
-    over_asked (texts c.args.words.now) c.in-Some-Over.aim c.in-Some-Over.path.now
-    (g.S.Source.store c.args.store.now).files _ _
-    (sym (rw c.in-Some-Over.field-0-is at c.in-Some-Over.ensures.command)) c.answer_over.ensures.asked
+pub returns-in-Some-Offline-clause-answer : goal.returns-in-Some-Offline-clause-answer
+returns-in-Some-Offline-clause-answer g c =
+    offline_answer (texts c.args.words.now) _ _ _ _ _ c.answer_offline.result
+    (sym (rw c.in-Some-Offline.field-0-is at c.in-Some-Offline.ensures.command))
+    (rw c.in-Some-Offline.field-0-is at c.in-Some-Offline.ensures.form) c.answer_offline.ensures.answer
 
-pub returns-in-Some-Replay-clause-answer : goal.returns-in-Some-Replay-clause-answer
-returns-in-Some-Replay-clause-answer g c =
-    files_answer _ _ _ _ _ _ _ _ c.answer_to_replay.result
-    (sym (rw c.in-Some-Replay.field-0-is at c.in-Some-Replay.ensures.command))
-    (rw c.in-Some-Replay.field-0-is at c.in-Some-Replay.ensures.form) c.answer_to_replay.ensures.answer
+pub returns-in-Some-Offline-clause-unread : goal.returns-in-Some-Offline-clause-unread
+returns-in-Some-Offline-clause-unread g c none =
+    c.answer_offline.ensures.unread
+    (reads_nothing (texts c.args.words.now) _ (rw c.in-Some-Offline.field-0-is at c.in-Some-Offline.ensures.form) none)
 
-pub returns-in-Some-Make-clause-answer : goal.returns-in-Some-Make-clause-answer
-returns-in-Some-Make-clause-answer g c =
-    made_answer _ _ _ _ _ _ _ _ c.answer_to_make.result
-    (sym (rw c.in-Some-Make.field-0-is at c.in-Some-Make.ensures.command))
-    (rw c.in-Some-Make.field-0-is at c.in-Some-Make.ensures.form) c.answer_to_make.ensures
+pub returns-in-Some-Offline-clause-unasked : goal.returns-in-Some-Offline-clause-unasked
+returns-in-Some-Offline-clause-unasked g c none =
+    c.answer_offline.ensures.unasked
+    (names_nothing (texts c.args.words.now) _ (rw c.in-Some-Offline.field-0-is at c.in-Some-Offline.ensures.form) none)
+
+pub returns-in-Some-Offline-clause-asked : goal.returns-in-Some-Offline-clause-asked
+returns-in-Some-Offline-clause-asked g c =
+    asked_so (texts c.args.words.now) _ _ _ _
+    (sym (rw c.in-Some-Offline.field-0-is at c.in-Some-Offline.ensures.command)) c.answer_offline.ensures.asked
+
+pub returns-in-Some-Offline-clause-few : goal.returns-in-Some-Offline-clause-few
+returns-in-Some-Offline-clause-few g c =
+    let S = g.S.Source in
+    subst (λ (form : Option Form). S.reads c.answer_offline.new.store
+    ≤ S.reads c.args.store.now + 8388610 * length (files_of form))
+    (rw c.in-Some-Offline.field-0-is at c.in-Some-Offline.ensures.command) c.answer_offline.ensures.few
+
+pub returns-in-Some-Offline-clause-casting : goal.returns-in-Some-Offline-clause-casting
+returns-in-Some-Offline-clause-casting g c task config addr limit are =
+    offline_alone (texts c.args.words.now) _ task config addr limit
+    (sym (rw c.in-Some-Offline.field-0-is at c.in-Some-Offline.ensures.command)) are
 
 pub returns-in-Some-Cast-clause-answer : goal.returns-in-Some-Cast-clause-answer
 returns-in-Some-Cast-clause-answer g c =
@@ -45,14 +57,10 @@ returns-in-Some-Cast-clause-answer g c =
     (sym (rw c.in-Some-Cast.field-0-is at c.in-Some-Cast.ensures.command))
     (rw c.in-Some-Cast.field-0-is at c.in-Some-Cast.ensures.form) c.answer_to_cast.ensures.casting
 
-pub returns-in-None-clause-casting : goal.returns-in-None-clause-casting
-returns-in-None-clause-casting g c task config addr limit are =
-    absurd (c.in-None.ensures.none (casting task config addr limit) are)
-
 pub returns-in-Some-Cast-clause-asked : goal.returns-in-Some-Cast-clause-asked
 returns-in-Some-Cast-clause-asked g c =
-    casting_asked (texts c.args.words.now) c.in-Some-Cast.task c.in-Some-Cast.config.now c.in-Some-Cast.addr.now
-    c.in-Some-Cast.limit (g.S.Source.store c.args.store.now).files _ _
+    casting_asked (texts c.args.words.now) c.in-Some-Cast.cast.task c.in-Some-Cast.cast.config.now
+    c.in-Some-Cast.cast.addr.now c.in-Some-Cast.cast.limit (g.S.Source.store c.args.store.now).files _ _
     (sym (rw c.in-Some-Cast.field-0-is at c.in-Some-Cast.ensures.command)) c.answer_to_cast.ensures.asked
 
 pub returns-in-Some-Cast-clause-casting : goal.returns-in-Some-Cast-clause-casting

@@ -1,6 +1,6 @@
 -- Each answer is the end of a bare session over the bytes that came, or has its cause.
 use Rattle.cast_io.specs.Causes.{Rose}
-use Rattle.caster_top.proofs.AnswerLemmas.{long_input, script_answer}
+use Rattle.caster_top.proofs.AnswerLemmas.{script_answer, unread_input}
 use Rattle.caster_top.proofs.session_answers.answer_to_input.Goals as goal
 
 pub returns-in-Ok-clause-answer : goal.returns-in-Ok-clause-answer
@@ -8,8 +8,9 @@ returns-in-Ok-clause-answer g c =
     script_answer _ _ _ c.in-Ok.bytes.items _ _ c.in-Ok.ensures.whole c.in-Ok.ensures.ended
     (rw c.deref.ensures.value at c.answer_to_bare.ensures)
 
-pub returns-in-Err-Long-clause-answer : goal.returns-in-Err-Long-clause-answer
-returns-in-Err-Long-clause-answer g c =
+pub returns-in-Err-clause-answer : goal.returns-in-Err-clause-answer
+returns-in-Err-clause-answer g c =
     let source = g.I.Source in
-    long_input _ _ _ (Rose (source.faults c.args.input.now) (source.faults c.read_all.new.source))
-    (c.read_all.ensures.long (cc))
+    rw c.unread.ensures (unread_input _ _ _ (Rose (source.faults c.args.input.now)
+    (source.faults c.read_all.new.source)) c.in-Err.fault (λ e. c.in-Err.ensures.long (cc))
+    (λ e. c.in-Err.ensures.cause (cc)))

@@ -1,11 +1,11 @@
--- What came of a file that is too long is no session.
+-- What came of a file that could not be read to its end is no session.
 use Rattle.cast_io.specs.Causes.{Rose}
-use Rattle.caster_top.proofs.AnswerLemmas.{long_session}
+use Rattle.caster_top.proofs.AnswerLemmas.{unread_session}
 use Rattle.caster_top.proofs.session_answers.answer_to_session.Goals as goal
 
-pub returns-in-Err-Long-clause-answer : goal.returns-in-Err-Long-clause-answer
-returns-in-Err-Long-clause-answer g c =
+pub returns-in-Err-clause-answer : goal.returns-in-Err-clause-answer
+returns-in-Err-clause-answer g c =
     let source = g.S.Source in
-    long_session c.args.start c.args.config.now _ _ (Rose (source.faults c.args.store.now)
-    (source.faults c.read_file.new.store))
-    (c.read_file.ensures.long (cc))
+    rw c.unread.ensures (unread_session c.args.start c.args.config.now _ _ (Rose (source.faults c.args.store.now)
+    (source.faults c.read_file.new.store)) c.in-Err.fault (λ e. c.in-Err.ensures.long (cc))
+    (λ e. c.in-Err.ensures.failed (cc)))

@@ -2,10 +2,7 @@
 use Rattle.std.proofs.Common.{IsTrue}
 use Rattle.std.specs.List.{list_all}
 use Rattle.cast_io.specs.FakeLinks.{has_bytes}
-use Rattle.caster_top.proofs.trial.link_of.Given as goal
-
-abbrev pub invariant-loop-part : goal.invariant-loop-part
-invariant-loop-part l = IsTrue (list_all has_bytes l.steps.items)
+use Rattle.caster_cases.proofs.links.push_idle.Given as goal
 
 abbrev pub invariant-loop : goal.invariant-loop
 invariant-loop l = IsTrue (list_all has_bytes l.steps.items)

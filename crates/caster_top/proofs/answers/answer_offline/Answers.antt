@@ -1,0 +1,7 @@
+-- One file was asked for.
+use Rattle.std.proofs.Common.{[], ◌∷◌, refl}
+use Rattle.caster_top.proofs.answers.answer_offline.Goals as goal
+
+pub returns-in-Over-clause-asked : goal.returns-in-Over-clause-asked
+returns-in-Over-clause-asked g c =
+    rw c.in-Over.is (c.in-Over.path.now ∷ [], refl, c.answer_over.ensures.asked)

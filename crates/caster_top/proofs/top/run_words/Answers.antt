@@ -1,0 +1,23 @@
+-- The run ended as a fetch, or with the answer that was written.
+use Rattle.std.proofs.Common.{inl, inr}
+use Rattle.caster_top.proofs.FetchClauseLemmas.{fetch_asked}
+use Rattle.caster_top.proofs.top.run_words.Goals as goal
+
+pub returns-in-Some-clause-run : goal.returns-in-Some-clause-run
+returns-in-Some-clause-run g c = record {
+  ends = inr (record {
+    frames = c.in-Some.fetch.frames;
+    targets = _;
+    are = c.in-Some.ensures.fetch;
+    fetching = c.fetch_frames.ensures.fetching;
+  });
+}
+
+pub returns-in-Some-clause-asked : goal.returns-in-Some-clause-asked
+returns-in-Some-clause-asked g c = fetch_asked _ _ _ _ _ c.in-Some.ensures.fetch
+
+pub returns-in-Some-clause-alone : goal.returns-in-Some-clause-alone
+returns-in-Some-clause-alone g c nothing = absurd (nothing.1 _ _ c.in-Some.ensures.fetch)
+
+pub returns-in-None-clause-run : goal.returns-in-None-clause-run
+returns-in-None-clause-run g c = record { ends = inl c.answer_words.ensures.run }
