@@ -19,7 +19,7 @@ loop-init g c = record {
 pub returns-then-given-ge-MOST-clause-received : goal.returns-then-given-ge-MOST-clause-received
 returns-then-given-ge-MOST-clause-received g c =
     runs_out c.args.most _ _ _ _ c.loop.stage c.loop.frames c.loop.given c.requires.some c.loop.invariant.receiving
-    c.if-given-ge-MOST.true
+    (omega (arith, c.if-given-ge-MOST.true))
 
 pub hear-requires-clause-received : goal.hear-requires-clause-received
 hear-requires-clause-received g c =
