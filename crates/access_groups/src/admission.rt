@@ -5,6 +5,7 @@ ghost use Rattle.access_groups.specs.Admission.{Gives, hears, is_near, bases_of,
 
 use crate::numbers::Bases;
 use crate::party::{Party, party_of};
+use crate::password::is_password;
 use cast_config::{Config, place_heard, place_named};
 use cast_text::MountName;
 use ntrip_head::Auth;
@@ -12,7 +13,7 @@ use std::alloc::{AllocError, Global};
 use thiserror::Error;
 
 /// What a rover is given.
-#[derive(Debug, Drop)]
+#[derive(Drop)]
 pub struct Admission {
     /// The number of its account: named accounts are numbered from 1, 0 is that of all who give no
     /// credentials.
@@ -27,7 +28,7 @@ pub struct Admission {
 }
 
 /// Why a rover is given nothing. The rules are tried in this order, but for `Memory`.
-#[derive(Clone, Copy, Debug, PartialEq, Eq, Error)]
+#[derive(Clone, Copy, Debug, Error)]
 pub enum Denial {
     /// The name is that of no mountpoint and of no near mountpoint.
     #[error("no such mountpoint")]
@@ -55,7 +56,7 @@ pub enum Denial {
 }
 
 /// Why a source may not feed a mountpoint. The rules are tried in this order.
-#[derive(Clone, Copy, Debug, PartialEq, Eq, Error)]
+#[derive(Clone, Copy, Debug, Error)]
 pub enum SourceDenial {
     /// The name is that of no mountpoint.
     #[error("no such mountpoint")]
@@ -178,7 +179,7 @@ pub fn admit_source(
     match place_named(mounts, mount.bytes()) {
         None => Err(SourceDenial::NoMount),
         Some(place) => {
-            if mounts[place].password.bytes() == password {
+            if is_password(mounts[place].password.bytes(), password) {
                 Ok(place as u32)
             } else {
                 Err(SourceDenial::Password)

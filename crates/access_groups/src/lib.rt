@@ -5,6 +5,7 @@
 mod admission;
 mod numbers;
 mod party;
+mod password;
 
 pub use admission::{Admission, Denial, SourceDenial, admit, admit_source};
 pub use numbers::Bases;

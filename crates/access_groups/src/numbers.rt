@@ -6,7 +6,7 @@ use std::marker::Model;
 
 /// The numbers of the mountpoints that a rover may be given. Contracts see the list of them. It is
 /// made from a `Vec` and gives it back without taking memory.
-#[derive(Debug, Drop)]
+#[derive(Drop)]
 pub struct Bases {
     items: Vec<u32>,
 }

@@ -4,12 +4,13 @@ ghost use Rattle.std.specs.Prelude.{◌≡◌, ◌≤◌, length};
 ghost use Rattle.access_groups.specs.Admission.{anonymous_party, named_party, party_of};
 
 use crate::admission::Denial;
+use crate::password::is_password;
 use cast_config::{Account, Anonymous, Config, place_named};
 use ntrip_head::Auth;
 
 /// An account and its group, by their numbers. Named accounts are numbered from 1; 0 is the account
 /// of all who give no credentials.
-#[derive(Clone, Copy, Debug, PartialEq, Eq)]
+#[derive(Clone, Copy)]
 pub(crate) struct Party {
     pub(crate) account: u32,
     pub(crate) group: u32,
@@ -36,7 +37,7 @@ fn named_party(accounts: &[Account], user: &[u8], password: &[u8]) -> Result<Par
         Some(place) => {
             let number = place as u32 + 1;
             let account = &accounts[place];
-            if account.password.bytes() == password {
+            if is_password(account.password.bytes(), password) {
                 Ok(Party {
                     account: number,
                     group: account.group,

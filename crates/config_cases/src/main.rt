@@ -1,25 +1,28 @@
-//! Reads configurations from the standard input, and prints a line for each: `ok`, or the line of
-//! its fault.
+//! Reads configurations from the standard input, and prints what they say.
 //!
-//! A line that begins with `== ` stands in front of each document. What else it says is for the
-//! reader: the line that is to be printed. In a document a line `*N TEXT` stands for N copies of
-//! the text, in which `#` is the number of the copy, from 0, and `|` ends a line.
+//! A line that begins with `== ` stands in front of each case. In a document a line `*N TEXT` stands
+//! for N copies of the text, in which `#` is the number of the copy, from 0, and `|` ends a line.
+//!
+//! Of a document alone one line is printed: `ok`, or the line of its fault. What the line in front
+//! of it says is for the reader: the line that is to be printed.
+//!
+//! A line that begins with `? ` asks something of the document below the questions; where there is
+//! none, of the document of the case before, as `? again` left it. The line in front of such a case
+//! is printed, and then the answers.
 #![tactic(auto)]
 
-#[cfg(test)]
-mod access_tests;
-#[cfg(test)]
-mod table_tests;
-#[cfg(test)]
+mod admissions;
+mod asking;
 mod values;
-#[cfg(test)]
-mod write_tests;
 
-use cast_config::read_config;
+use asking::{ask, push_read};
 use cast_text::push_decimal;
 use std::alloc::{AllocError, Global};
 use std::io;
 use std::io::Write;
+
+/// What a question begins with.
+const QUESTION: &str = "? ";
 
 /// Appends the text as the copy of this number.
 fn push_copy(out: &mut Vec<u8>, text: &str, number: u32) -> Result<(), AllocError> {
@@ -33,8 +36,12 @@ fn push_copy(out: &mut Vec<u8>, text: &str, number: u32) -> Result<(), AllocErro
     Ok(())
 }
 
-/// Appends what the line stands for. A number that cannot be read stands for no copy.
+/// Appends what the line stands for: a question for nothing, and a number that cannot be read for no
+/// copy.
 fn push_line(out: &mut Vec<u8>, line: &str) -> Result<(), AllocError> {
+    if line.starts_with(QUESTION) {
+        return Ok(());
+    }
     let Some((count, text)) = line.strip_prefix('*').and_then(|line| line.split_once(' ')) else {
         return out.extend_from_slice(line.as_bytes());
     };
@@ -45,7 +52,7 @@ fn push_line(out: &mut Vec<u8>, line: &str) -> Result<(), AllocError> {
 }
 
 /// The document that these lines stand for.
-fn document(alloc: Global, lines: &str) -> Result<Vec<u8>, AllocError> {
+fn document_of(alloc: Global, lines: &str) -> Result<Vec<u8>, AllocError> {
     let mut document = Vec::new(alloc);
     for line in lines.split_inclusive('\n') {
         push_line(&mut document, line)?;
@@ -53,23 +60,50 @@ fn document(alloc: Global, lines: &str) -> Result<Vec<u8>, AllocError> {
     Ok(document)
 }
 
-/// What is printed of a document.
-fn answer(alloc: Global, document: &[u8]) -> Result<Vec<u8>, AllocError> {
-    let mut line = Vec::new(alloc);
-    match read_config(alloc, document) {
-        Ok(_) => line.extend_from_slice(b"ok\n")?,
-        Err(fault) => fault.push_line(&mut line)?,
+/// Appends the answers to the questions among these lines.
+fn push_answers(
+    alloc: Global,
+    out: &mut Vec<u8>,
+    document: &mut Vec<u8>,
+    lines: &str,
+) -> Result<(), AllocError> {
+    for line in lines.split('\n') {
+        if let Some(question) = line.strip_prefix(QUESTION) {
+            ask(alloc, out, document, question)?;
+        }
     }
-    Ok(line)
+    Ok(())
+}
+
+/// Appends what is printed of a case. The document stays for the questions of the cases below.
+fn push_case(
+    alloc: Global,
+    out: &mut Vec<u8>,
+    document: &mut Vec<u8>,
+    case: &str,
+) -> Result<(), AllocError> {
+    let (heading, lines) = case.split_once('\n').unwrap_or((case, ""));
+    let text = document_of(alloc, lines)?;
+    if !lines.starts_with(QUESTION) {
+        return push_read(alloc, out, &text);
+    }
+    if !text.is_empty() {
+        *document = text;
+    }
+    out.extend_from_slice(b"== ")?;
+    out.extend_from_slice(heading.as_bytes())?;
+    out.push(b'\n')?;
+    push_answers(alloc, out, document, lines)
 }
 
 fn main(rt: HostRuntime) -> io::Result<()> {
     let input = io::read_to_string(rt.alloc(), rt.reader())?;
+    let mut document = Vec::new(rt.alloc());
     let mut out = io::writer(&rt);
     for case in input.split("\n== ").skip(1) {
-        let lines = case.split_once('\n').map_or("", |(_, lines)| lines);
-        let document = document(rt.alloc(), lines)?;
-        out.write_all(&answer(rt.alloc(), &document)?)?;
+        let mut text = Vec::new(rt.alloc());
+        push_case(rt.alloc(), &mut text, &mut document, case)?;
+        out.write_all(&text)?;
     }
     Ok(())
 }

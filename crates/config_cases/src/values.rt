@@ -1,246 +1,205 @@
-//! Values of documents that are read. What is expected is written by hand from the documents.
+//! What a configuration holds, as lines: a line each for the numbers, for the sizes of the lists
+//! and for the anonymous, and a line for each entry of a list. The values stand in the order of the
+//! file's description, with a `;` behind each but the last.
 
-ghost use Rattle.cast_config.specs.Served.{GivesItsFilters};
-ghost use Rattle.std.specs.Prelude.{IfOk};
+use cast_config::{Account, Anonymous, Config, Group, GroupFilter, Mount, Near, Relay};
+use cast_text::push_decimal;
+use std::alloc::AllocError;
+use type_filter::Filter;
 
-use cast_config::{Config, Mount, read_config};
-use gga_read::Position;
-use std::alloc::Global;
-use std::process::Abort;
-use std::test::Fail;
-
-const EXAMPLE: &[u8] = b"version = 1
-workers = 3
-hysteresis = 10
-
-[[mount]]
-name = \"ALPHA\"
-password = \"sesame\"
-ring = 4
-latitude = 481173000
-longitude = 115166666
-
-[[mount]]
-name = \"BRAVO\"
-password = \"sesame\"
-ring = 4
-latitude = 482000000
-longitude = 115166666
-
-[[near]]
-name = \"NEAR\"
-bases = [\"ALPHA\", \"BRAVO\"]
-
-[[group]]
-name = \"field\"
-mounts = [\"ALPHA\", \"BRAVO\", \"NEAR\"]
-types = \"all\"
-
-[[group]]
-name = \"survey\"
-mounts = [\"BRAVO\"]
-types = [1005]
-
-[[account]]
-user = \"rover1\"
-password = \"secret\"
-group = \"field\"
-cap = 1
-
-[[account]]
-user = \"rover2\"
-password = \"secret2\"
-group = \"survey\"
-cap = 8
-
-[[relay]]
-mount = \"ALPHA\"
-address = \"127.0.0.1:2101\"
-upstream = \"UP\"
-protocol = 1
-";
-
-/// The keys that have to be there.
-const LEAST: &[u8] = b"version = 2
-[[mount]]
-name = \"M0\"
-password = \"\"
-ring = 4
-latitude = 0
-longitude = 0
-[[group]]
-name = \"G0\"
-types = \"all\"
-mounts = []
-[[relay]]
-mount = \"M0\"
-address = \"a\"
-upstream = \"U\"
-protocol = 1
-";
-
-/// Two mountpoints, and a group with another filter for the second one.
-const FILTERED: &[u8] = b"
-[[mount]]
-name = \"A\"
-password = \"\"
-ring = 1
-latitude = 0
-longitude = 0
-[[mount]]
-name = \"B\"
-password = \"\"
-ring = 1
-latitude = 0
-longitude = 0
-[[group]]
-name = \"f\"
-mounts = [\"A\", \"B\"]
-types = [1077, 1005, 1077]
-[[group.filter]]
-mount = \"B\"
-types = [1006]
-";
-
-fn expect(rt: &impl Abort, holds: bool) {
-    assert!(rt; holds);
+/// Appends the word and the number.
+fn push_count(out: &mut Vec<u8>, word: &[u8], count: usize) -> Result<(), AllocError> {
+    out.extend_from_slice(word)?;
+    push_decimal(out, count as u128)
 }
 
-fn expect_bytes(rt: &impl Abort, bytes: &[u8], wanted: &[u8]) {
-    assert_eq!(rt; bytes, wanted);
+/// Appends the text and what ends a value.
+fn push_text(out: &mut Vec<u8>, text: &[u8]) -> Result<(), AllocError> {
+    out.extend_from_slice(text)?;
+    out.push(b';')?;
+    Ok(())
 }
 
-fn expect_numbers(rt: &impl Abort, numbers: &[u32], wanted: &[u32]) {
-    assert_eq!(rt; numbers, wanted);
+/// Appends the number and what ends a value.
+fn push_number(out: &mut Vec<u8>, number: u32) -> Result<(), AllocError> {
+    push_decimal(out, u128::from(number))?;
+    out.push(b';')?;
+    Ok(())
 }
 
-/// The one or the two of a list.
-fn both<T>(list: &[T]) -> Result<(&T, &T), Fail> {
-    match list {
-        [first, second] => Ok((first, second)),
-        _ => Err(Fail::new("not two")),
+/// Appends the number with its sign and what ends a value.
+fn push_whole(out: &mut Vec<u8>, number: i64) -> Result<(), AllocError> {
+    if number < 0 {
+        out.push(b'-')?;
     }
+    push_decimal(out, u128::from(number.unsigned_abs()))?;
+    out.push(b';')?;
+    Ok(())
 }
 
-fn only<T>(list: &[T]) -> Result<&T, Fail> {
-    match list {
-        [first] => Ok(first),
-        _ => Err(Fail::new("not one")),
+/// Appends the numbers, with a space in front of each.
+pub(crate) fn push_numbers(out: &mut Vec<u8>, numbers: &[u32]) -> Result<(), AllocError> {
+    for number in numbers {
+        out.push(b' ')?;
+        push_decimal(out, u128::from(*number))?;
     }
+    Ok(())
 }
 
-#[test]
-fn the_example_names_its_mountpoints(rt: HostRuntime) -> Result<(), Fail> {
-    let config = read_config(rt.alloc(), EXAMPLE)?;
-    expect(&rt, config.workers == 3 && config.hysteresis == 10);
-    let (alpha, bravo) = both(config.mount.as_slice())?;
-    expect_bytes(&rt, alpha.name.bytes(), b"ALPHA");
-    let at = Position {
-        lat: 481_173_000,
-        lon: 115_166_666,
+/// Appends the message numbers, with a space in front of each, or `all`.
+pub(crate) fn push_types(out: &mut Vec<u8>, types: &Filter) -> Result<(), AllocError> {
+    let Some(numbers) = types.numbers() else {
+        return out.extend_from_slice(b" all");
     };
-    expect(&rt, alpha.at == at);
-    expect_bytes(&rt, bravo.name.bytes(), b"BRAVO");
-    expect_bytes(&rt, bravo.password.bytes(), b"sesame");
-    expect_numbers(&rt, only(config.near.as_slice())?.bases.as_slice(), &[0, 1]);
-    Ok(())
-}
-
-#[test]
-fn the_example_names_its_relay(rt: HostRuntime) -> Result<(), Fail> {
-    let config = read_config(rt.alloc(), EXAMPLE)?;
-    let relay = only(config.relay.as_slice())?;
-    expect(&rt, relay.mount == 0 && relay.protocol == 1);
-    expect_bytes(&rt, relay.address.bytes(), b"127.0.0.1:2101");
-    Ok(())
-}
-
-#[test]
-fn the_example_names_its_groups(rt: HostRuntime) -> Result<(), Fail> {
-    let config = read_config(rt.alloc(), EXAMPLE)?;
-    let (field, survey) = both(config.group.as_slice())?;
-    expect_numbers(&rt, field.mounts.as_slice(), &[0, 1, 2]);
-    expect(&rt, field.types.numbers().is_none());
-    expect_numbers(&rt, survey.mounts.as_slice(), &[1]);
-    expect(&rt, survey.types.numbers() == Some([1005].as_slice()));
-    Ok(())
-}
-
-#[test]
-fn the_example_names_its_accounts(rt: HostRuntime) -> Result<(), Fail> {
-    let config = read_config(rt.alloc(), EXAMPLE)?;
-    let (first, second) = both(config.account.as_slice())?;
-    expect(&rt, first.group == 0 && first.cap == 1);
-    expect(&rt, second.group == 1 && second.cap == 8);
-    expect_bytes(&rt, second.password.bytes(), b"secret2");
-    Ok(())
-}
-
-fn expect_bare_mount(rt: &impl Abort, mount: &Mount) {
-    expect_bytes(rt, mount.identifier.bytes(), b"M0");
-    expect_bytes(rt, mount.carrier.bytes(), b"2");
-    expect_bytes(rt, mount.navigation.bytes(), b"GPS");
-    expect_bytes(rt, mount.details.bytes(), b"");
-    expect_bytes(rt, mount.network.bytes(), b"");
-    expect_bytes(rt, mount.country.bytes(), b"");
-    expect_bytes(rt, mount.generator.bytes(), b"");
-    expect_bytes(rt, mount.misc.bytes(), b"");
-    expect(rt, mount.bitrate == 0);
-}
-
-#[test]
-fn keys_that_are_not_there_have_their_defaults(rt: HostRuntime) -> Result<(), Fail> {
-    let config = read_config(rt.alloc(), LEAST)?;
-    expect(&rt, config.workers == 4 && config.hysteresis == 10);
-    expect(&rt, config.records.as_slice().is_empty());
-    expect(&rt, config.near.as_slice().is_empty());
-    expect(&rt, config.account.as_slice().is_empty());
-    expect(&rt, config.anonymous.is_none());
-    expect_bare_mount(&rt, only(config.mount.as_slice())?);
-    Ok(())
-}
-
-#[test]
-fn keys_of_groups_and_relays_have_their_defaults(rt: HostRuntime) -> Result<(), Fail> {
-    let config = read_config(rt.alloc(), LEAST)?;
-    let group = only(config.group.as_slice())?;
-    expect(&rt, group.filter.as_slice().is_empty());
-    expect(&rt, group.types.numbers().is_none());
-    let relay = only(config.relay.as_slice())?;
-    expect(&rt, relay.user.is_none());
-    expect_bytes(&rt, relay.password.bytes(), b"");
-    Ok(())
-}
-
-/// The numbers of the first group's filter at a mountpoint.
-fn numbers_at(config: &Config, m: u32) -> Option<&[u16]>
-    requires { GivesItsFilters config.now }
-{
-    if config.mount.as_slice().len() <= m as usize {
-        return None;
+    for number in numbers {
+        out.push(b' ')?;
+        push_decimal(out, u128::from(*number))?;
     }
-    let filters = config.filters(m);
-    if filters.len() == 0 {
-        return None;
-    }
-    filters.get(0).numbers()
-}
-
-/// The mountpoints and the group of `FILTERED`, under this version.
-fn filtered(alloc: Global, version: &[u8]) -> Result<Config, Fail>
-    ensures { IfOk result GivesItsFilters }
-{
-    let mut file = Vec::from_slice(alloc, version)?;
-    file.extend_from_slice(FILTERED)?;
-    Ok(read_config(alloc, &file)?)
-}
-
-#[test]
-fn filters_are_those_of_version_two(rt: HostRuntime) -> Result<(), Fail> {
-    let second = filtered(rt.alloc(), b"version = 2")?;
-    expect(&rt, numbers_at(&second, 0) == Some([1005, 1077].as_slice()));
-    expect(&rt, numbers_at(&second, 1) == Some([1006].as_slice()));
-    let first = filtered(rt.alloc(), b"version = 1")?;
-    expect(&rt, numbers_at(&first, 1) == Some([1005, 1077].as_slice()));
     Ok(())
+}
+
+/// The numbers that are no list.
+fn push_settings(out: &mut Vec<u8>, config: &Config) -> Result<(), AllocError> {
+    push_count(out, b"workers ", config.workers as usize)?;
+    push_count(out, b" hysteresis ", config.hysteresis as usize)?;
+    out.push(b'\n')?;
+    Ok(())
+}
+
+/// How many entries each list has.
+fn push_sizes(out: &mut Vec<u8>, config: &Config) -> Result<(), AllocError> {
+    push_count(out, b"records ", config.records.as_slice().len())?;
+    push_count(out, b" mounts ", config.mount.as_slice().len())?;
+    push_count(out, b" nears ", config.near.as_slice().len())?;
+    push_count(out, b" groups ", config.group.as_slice().len())?;
+    push_count(out, b" accounts ", config.account.as_slice().len())?;
+    push_count(out, b" relays ", config.relay.as_slice().len())?;
+    out.push(b'\n')?;
+    Ok(())
+}
+
+fn push_station(out: &mut Vec<u8>, mount: &Mount) -> Result<(), AllocError> {
+    push_text(out, mount.name.bytes())?;
+    push_text(out, mount.password.bytes())?;
+    push_number(out, mount.ring)?;
+    push_whole(out, mount.at.lat)?;
+    push_whole(out, mount.at.lon)
+}
+
+fn push_signals(out: &mut Vec<u8>, mount: &Mount) -> Result<(), AllocError> {
+    push_text(out, mount.identifier.bytes())?;
+    push_text(out, mount.details.bytes())?;
+    push_text(out, mount.carrier.bytes())?;
+    push_text(out, mount.navigation.bytes())
+}
+
+fn push_origin(out: &mut Vec<u8>, mount: &Mount) -> Result<(), AllocError> {
+    push_text(out, mount.network.bytes())?;
+    push_text(out, mount.country.bytes())?;
+    push_text(out, mount.generator.bytes())?;
+    push_number(out, mount.bitrate)?;
+    out.extend_from_slice(mount.misc.bytes())
+}
+
+fn push_mounts(out: &mut Vec<u8>, mounts: &[Mount]) -> Result<(), AllocError> {
+    for mount in mounts {
+        out.extend_from_slice(b"mount ")?;
+        push_station(out, mount)?;
+        push_signals(out, mount)?;
+        push_origin(out, mount)?;
+        out.push(b'\n')?;
+    }
+    Ok(())
+}
+
+fn push_nears(out: &mut Vec<u8>, nears: &[Near]) -> Result<(), AllocError> {
+    for near in nears {
+        out.extend_from_slice(b"near ")?;
+        push_text(out, near.name.bytes())?;
+        push_numbers(out, near.bases.as_slice())?;
+        out.push(b'\n')?;
+    }
+    Ok(())
+}
+
+/// A filter for one mountpoint: the number of the mountpoint, and the message numbers.
+fn push_filters(out: &mut Vec<u8>, filters: &[GroupFilter]) -> Result<(), AllocError> {
+    for filter in filters {
+        push_count(out, b"; ", filter.mount as usize)?;
+        push_types(out, &filter.types)?;
+    }
+    Ok(())
+}
+
+fn push_groups(out: &mut Vec<u8>, groups: &[Group]) -> Result<(), AllocError> {
+    for group in groups {
+        out.extend_from_slice(b"group ")?;
+        push_text(out, group.name.bytes())?;
+        push_numbers(out, group.mounts.as_slice())?;
+        out.push(b';')?;
+        push_types(out, &group.types)?;
+        push_filters(out, group.filter.as_slice())?;
+        out.push(b'\n')?;
+    }
+    Ok(())
+}
+
+fn push_accounts(out: &mut Vec<u8>, accounts: &[Account]) -> Result<(), AllocError> {
+    for account in accounts {
+        out.extend_from_slice(b"account ")?;
+        push_text(out, account.user.bytes())?;
+        push_text(out, account.password.bytes())?;
+        push_number(out, account.group)?;
+        push_count(out, b"", account.cap as usize)?;
+        out.push(b'\n')?;
+    }
+    Ok(())
+}
+
+/// The user and the password of a relay.
+fn push_credentials(out: &mut Vec<u8>, relay: &Relay) -> Result<(), AllocError> {
+    match &relay.user {
+        Some(user) => push_text(out, user.bytes())?,
+        None => push_text(out, b"no user")?,
+    }
+    out.extend_from_slice(relay.password.bytes())
+}
+
+fn push_relays(out: &mut Vec<u8>, relays: &[Relay]) -> Result<(), AllocError> {
+    for relay in relays {
+        push_count(out, b"relay ", relay.mount as usize)?;
+        out.push(b';')?;
+        push_text(out, relay.address.bytes())?;
+        push_text(out, relay.upstream.bytes())?;
+        push_number(out, relay.protocol)?;
+        push_credentials(out, relay)?;
+        out.push(b'\n')?;
+    }
+    Ok(())
+}
+
+/// The group of who gives no credentials, and how many of these there may be.
+fn push_anonymous(out: &mut Vec<u8>, anonymous: Option<Anonymous>) -> Result<(), AllocError> {
+    let Some(anonymous) = anonymous else {
+        return out.extend_from_slice(b"no anonymous\n");
+    };
+    push_count(out, b"anonymous ", anonymous.group as usize)?;
+    push_count(out, b";", anonymous.cap as usize)?;
+    out.push(b'\n')?;
+    Ok(())
+}
+
+/// Appends the lines of this part of the configuration.
+pub(crate) fn push_part(out: &mut Vec<u8>, config: &Config, part: &str) -> Result<(), AllocError> {
+    match part {
+        "settings" => push_settings(out, config),
+        "sizes" => push_sizes(out, config),
+        "mounts" => push_mounts(out, config.mount.as_slice()),
+        "nears" => push_nears(out, config.near.as_slice()),
+        "groups" => push_groups(out, config.group.as_slice()),
+        "accounts" => push_accounts(out, config.account.as_slice()),
+        "relays" => push_relays(out, config.relay.as_slice()),
+        "anonymous" => push_anonymous(out, config.anonymous),
+        _ => out.extend_from_slice(b"no such question\n"),
+    }
 }
