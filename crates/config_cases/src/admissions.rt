@@ -2,9 +2,9 @@
 
 ghost use Rattle.std.specs.Prelude.{◌≤◌, ◌+◌, length};
 
-use crate::values::push_numbers;
-use access_groups::{Admission, Denial, SourceDenial, admit, admit_source};
-use cast_config::{Config, read_config};
+use crate::values::{push_count, push_last, push_numbers};
+use access_groups::{Admission, Bases, Denial, SourceDenial, admit, admit_source};
+use cast_config::Config;
 use cast_text::{MountName, Text, push_decimal};
 use ntrip_head::Auth;
 use std::alloc::{AllocError, Global};
@@ -32,47 +32,36 @@ fn credentials(alloc: Global, words: &str) -> Option<(Auth, &str)> {
     }
 }
 
-/// The words and the number.
-fn push_line(out: &mut Vec<u8>, words: &[u8], number: u32) -> Result<(), AllocError> {
-    out.extend_from_slice(words)?;
-    push_decimal(out, u128::from(number))?;
-    out.push(b'\n')?;
-    Ok(())
+/// How many bases there are, and which.
+fn push_bases(out: &mut Vec<u8>, bases: Bases) -> Result<(), AllocError> {
+    out.extend_from_slice(b" bases ")?;
+    push_decimal(out, bases.as_slice().len() as u128)?;
+    out.extend_from_slice(b":")?;
+    push_numbers(out, &bases.into_vec())?;
+    out.extend_from_slice(b"\n")
 }
 
 /// The account and the group, whether it is near, and the bases.
 fn push_admission(out: &mut Vec<u8>, admission: Admission) -> Result<(), AllocError> {
-    out.extend_from_slice(b"account ")?;
-    push_decimal(out, u128::from(admission.account))?;
-    out.extend_from_slice(b" group ")?;
-    push_decimal(out, u128::from(admission.group))?;
+    push_count(out, b"account ", admission.account)?;
+    push_count(out, b" group ", admission.group)?;
     let place: &[u8] = if admission.near { b" near" } else { b" itself" };
     out.extend_from_slice(place)?;
-    push_bases(out, admission)
-}
-
-/// How many bases there are, and which.
-fn push_bases(out: &mut Vec<u8>, admission: Admission) -> Result<(), AllocError> {
-    out.extend_from_slice(b" bases ")?;
-    push_decimal(out, admission.bases.as_slice().len() as u128)?;
-    out.push(b':')?;
-    push_numbers(out, &admission.bases.into_vec())?;
-    out.push(b'\n')?;
-    Ok(())
+    push_bases(out, admission.bases)
 }
 
 fn push_denial(out: &mut Vec<u8>, denial: Denial) -> Result<(), AllocError> {
     match denial {
         Denial::NoMount => out.extend_from_slice(b"no mountpoint\n"),
         Denial::NoAccount => out.extend_from_slice(b"no account\n"),
-        Denial::Password { account } => push_line(out, b"not the password of account ", account),
-        Denial::Group { group } => push_line(out, b"not of group ", group),
+        Denial::Password { account } => push_last(out, b"not the password of account ", account),
+        Denial::Group { group } => push_last(out, b"not of group ", group),
         Denial::Memory => Err(AllocError),
     }
 }
 
 /// What a rover with these credentials is answered that asks for this mountpoint.
-fn push_answer(
+pub(crate) fn push_rover(
     alloc: Global,
     out: &mut Vec<u8>,
     config: &Config,
@@ -93,19 +82,6 @@ fn push_answer(
     }
 }
 
-/// What a rover is answered over the configuration of this document.
-pub(crate) fn push_rover(
-    alloc: Global,
-    out: &mut Vec<u8>,
-    document: &[u8],
-    words: &str,
-) -> Result<(), AllocError> {
-    match read_config(alloc, document) {
-        Ok(config) => push_answer(alloc, out, &config, words),
-        Err(fault) => fault.push_line(out),
-    }
-}
-
 /// What a rover is answered over the smallest configuration.
 pub(crate) fn push_bare_rover(
     alloc: Global,
@@ -113,31 +89,29 @@ pub(crate) fn push_bare_rover(
     words: &str,
 ) -> Result<(), AllocError> {
     let config = Config::bare(alloc, 4)?;
-    push_answer(alloc, out, &config, words)
+    push_rover(alloc, out, &config, words)
 }
 
 fn push_feeding(out: &mut Vec<u8>, answer: Result<u32, SourceDenial>) -> Result<(), AllocError> {
     match answer {
-        Ok(mount) => push_line(out, b"feeds mountpoint ", mount),
+        Ok(mount) => push_last(out, b"feeds mountpoint ", mount),
         Err(SourceDenial::NoMount) => out.extend_from_slice(b"no mountpoint\n"),
         Err(SourceDenial::Password) => out.extend_from_slice(b"not the password\n"),
     }
 }
 
-/// What a source is answered over the configuration of this document: the words are the mountpoint
-/// and the password.
+/// What a source is answered: the words are the mountpoint and the password.
 pub(crate) fn push_source(
     alloc: Global,
     out: &mut Vec<u8>,
-    document: &[u8],
+    config: &Config,
     words: &str,
-) -> Result<(), AllocError> {
+) -> Result<(), AllocError>
+    requires { length config.now.mount ≤ 64 }
+{
     let (mount, password) = first_word(words);
-    let Ok(mount) = MountName::new(alloc, mount.as_bytes()) else {
-        return out.extend_from_slice(b"no name\n");
-    };
-    match read_config(alloc, document) {
-        Ok(config) => push_feeding(out, admit_source(&config, &mount, password.as_bytes())),
-        Err(fault) => fault.push_line(out),
+    match MountName::new(alloc, mount.as_bytes()) {
+        Ok(mount) => push_feeding(out, admit_source(config, &mount, password.as_bytes())),
+        Err(_) => out.extend_from_slice(b"no name\n"),
     }
 }

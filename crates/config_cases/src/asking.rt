@@ -1,6 +1,7 @@
 //! What is asked of a document.
 
 ghost use Rattle.std.specs.Prelude.{◌≤◌, ◌+◌, length};
+ghost use Rattle.cast_config.specs.Kept.{KeepsRules};
 ghost use Rattle.cast_config.specs.Served.{GivesItsFilters};
 
 use crate::admissions::{push_bare_rover, push_rover, push_source};
@@ -12,18 +13,6 @@ use config_write::write_config;
 use sourcetable::write_table;
 use std::alloc::{AllocError, Global};
 use type_filter::Filters;
-
-/// What is printed of a document: `ok`, or the line of its fault.
-pub(crate) fn push_read(
-    alloc: Global,
-    out: &mut Vec<u8>,
-    document: &[u8],
-) -> Result<(), AllocError> {
-    match read_config(alloc, document) {
-        Ok(_) => out.extend_from_slice(b"ok\n"),
-        Err(fault) => fault.push_line(out),
-    }
-}
 
 /// The document that is written of the configuration of this one, behind the line `# before`.
 fn written(alloc: Global, document: &[u8]) -> Result<Vec<u8>, AllocError> {
@@ -60,13 +49,6 @@ fn push_table(alloc: Global, out: &mut Vec<u8>, config: &Config) -> Result<(), A
     out.extend_from_slice(&text)
 }
 
-fn push_table_of(alloc: Global, out: &mut Vec<u8>, document: &[u8]) -> Result<(), AllocError> {
-    match read_config(alloc, document) {
-        Ok(config) => push_table(alloc, out, &config),
-        Err(fault) => fault.push_line(out),
-    }
-}
-
 fn push_bare_table(alloc: Global, out: &mut Vec<u8>) -> Result<(), AllocError> {
     let config = Config::bare(alloc, 4)?;
     push_table(alloc, out, &config)
@@ -95,23 +77,42 @@ fn push_first(out: &mut Vec<u8>, filters: &Filters) -> Result<(), AllocError> {
     Ok(())
 }
 
-fn push_given_of(alloc: Global, out: &mut Vec<u8>, document: &[u8]) -> Result<(), AllocError> {
+/// Answers what is asked of the configuration.
+fn push_answer(
+    alloc: Global,
+    out: &mut Vec<u8>,
+    config: &Config,
+    question: &str,
+) -> Result<(), AllocError>
+    requires { KeepsRules 1000000 config.now }
+{
+    let (word, words) = question.split_once(' ').unwrap_or((question, ""));
+    match word {
+        "read" => out.extend_from_slice(b"ok\n"),
+        "table" => push_table(alloc, out, config),
+        "given" => push_given(out, config),
+        "rover" => push_rover(alloc, out, config, words),
+        "source" => push_source(alloc, out, config, words),
+        part => push_part(out, config, part),
+    }
+}
+
+/// Answers what is asked of the document: `read` is what is printed of a document alone.
+pub(crate) fn push_asked(
+    alloc: Global,
+    out: &mut Vec<u8>,
+    document: &[u8],
+    question: &str,
+) -> Result<(), AllocError> {
     match read_config(alloc, document) {
-        Ok(config) => push_given(out, &config),
+        Ok(config) => push_answer(alloc, out, &config, question),
         Err(fault) => fault.push_line(out),
     }
 }
 
-fn push_part_of(
-    alloc: Global,
-    out: &mut Vec<u8>,
-    document: &[u8],
-    part: &str,
-) -> Result<(), AllocError> {
-    match read_config(alloc, document) {
-        Ok(config) => push_part(out, &config, part),
-        Err(fault) => fault.push_line(out),
-    }
+fn write_again(alloc: Global, document: &mut Vec<u8>) -> Result<(), AllocError> {
+    *document = written(alloc, document)?;
+    Ok(())
 }
 
 /// Answers a question. `again` is none: what is asked below it is asked of the document that is
@@ -122,18 +123,13 @@ pub(crate) fn ask(
     document: &mut Vec<u8>,
     question: &str,
 ) -> Result<(), AllocError> {
-    let (word, words) = question.split_once(' ').unwrap_or((question, ""));
-    match word {
-        "again" => *document = written(alloc, document)?,
-        "read" => push_read(alloc, out, document)?,
-        "lines" => push_some_lines(out, document)?,
-        "table" => push_table_of(alloc, out, document)?,
-        "bare-table" => push_bare_table(alloc, out)?,
-        "given" => push_given_of(alloc, out, document)?,
-        "rover" => push_rover(alloc, out, document, words)?,
-        "bare-rover" => push_bare_rover(alloc, out, words)?,
-        "source" => push_source(alloc, out, document, words)?,
-        part => push_part_of(alloc, out, document, part)?,
+    match question {
+        "again" => write_again(alloc, document),
+        "lines" => push_some_lines(out, document),
+        "bare-table" => push_bare_table(alloc, out),
+        asked => match asked.strip_prefix("bare-rover ") {
+            Some(words) => push_bare_rover(alloc, out, words),
+            None => push_asked(alloc, out, document, asked),
+        },
     }
-    Ok(())
 }

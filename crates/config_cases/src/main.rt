@@ -15,7 +15,7 @@ mod admissions;
 mod asking;
 mod values;
 
-use asking::{ask, push_read};
+use asking::{ask, push_asked};
 use cast_text::push_decimal;
 use std::alloc::{AllocError, Global};
 use std::io;
@@ -75,6 +75,13 @@ fn push_answers(
     Ok(())
 }
 
+/// Appends the line in front of a case.
+fn push_heading(out: &mut Vec<u8>, heading: &str) -> Result<(), AllocError> {
+    out.extend_from_slice(b"== ")?;
+    out.extend_from_slice(heading.as_bytes())?;
+    out.extend_from_slice(b"\n")
+}
+
 /// Appends what is printed of a case. The document stays for the questions of the cases below.
 fn push_case(
     alloc: Global,
@@ -85,25 +92,27 @@ fn push_case(
     let (heading, lines) = case.split_once('\n').unwrap_or((case, ""));
     let text = document_of(alloc, lines)?;
     if !lines.starts_with(QUESTION) {
-        return push_read(alloc, out, &text);
+        return push_asked(alloc, out, &text, "read");
     }
     if !text.is_empty() {
         *document = text;
     }
-    out.extend_from_slice(b"== ")?;
-    out.extend_from_slice(heading.as_bytes())?;
-    out.push(b'\n')?;
+    push_heading(out, heading)?;
     push_answers(alloc, out, document, lines)
+}
+
+/// What is printed of all cases.
+fn answers(alloc: Global, input: &str) -> Result<Vec<u8>, AllocError> {
+    let mut document = Vec::new(alloc);
+    let mut out = Vec::new(alloc);
+    for case in input.split("\n== ").skip(1) {
+        push_case(alloc, &mut out, &mut document, case)?;
+    }
+    Ok(out)
 }
 
 fn main(rt: HostRuntime) -> io::Result<()> {
     let input = io::read_to_string(rt.alloc(), rt.reader())?;
-    let mut document = Vec::new(rt.alloc());
-    let mut out = io::writer(&rt);
-    for case in input.split("\n== ").skip(1) {
-        let mut text = Vec::new(rt.alloc());
-        push_case(rt.alloc(), &mut text, &mut document, case)?;
-        out.write_all(&text)?;
-    }
-    Ok(())
+    let out = answers(rt.alloc(), &input)?;
+    io::writer(&rt).write_all(&out)
 }
