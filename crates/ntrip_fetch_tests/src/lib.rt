@@ -10,4 +10,6 @@ mod fetch_tests;
 #[cfg(test)]
 mod link_tests;
 #[cfg(test)]
+mod runs;
+#[cfg(test)]
 mod sink_tests;
