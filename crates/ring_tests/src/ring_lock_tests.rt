@@ -4,7 +4,6 @@ ghost use Rattle.turn_log.specs.Turn.{SamePlace};
 ghost use Rattle.turn_log.specs.Lock.{turn_value, pass_number, IsPassOf};
 ghost use Rattle.mount_ring.specs.Kept.{ring_shape};
 
-use crate::frames::FRAME_A;
 use crate::locks::open_two;
 use mount_ring::{Cursor, Outbox, ReadReport, Ring, RingAnswer, RingCall};
 use rtcm_frame::Frame;
@@ -13,6 +12,9 @@ use std::sync::Wait;
 use std::test::Fail;
 use turn_log::{Pass, Turn, Turns};
 use type_filter::{Filter, Filters};
+
+// A frame whose payload is the number 1005 alone.
+const FRAME: [u8; 8] = [0xD3, 0x00, 0x02, 0x3E, 0xD0, 0xA4, 0xE0, 0x00];
 
 /// Claims, joins, publishes a frame and reads, at any place.
 fn read_own_back<T: Turns<Ring>>(
@@ -82,7 +84,7 @@ fn told_at_a_lock<R: Wait + Sync>(
 
 #[test]
 fn a_pass_reads_its_own_frame_and_tells_another(rt: HostRuntime) -> Result<(), Fail> {
-    let frame = Frame::of(&FRAME_A).ok_or("no frame")?;
+    let frame = Frame::of(&FRAME).ok_or("no frame")?;
     let mut out = Outbox::new();
     let (report, cursor) = told_at_a_lock(&rt, rt.alloc(), frame, &mut out)?;
     assert_eq!(rt; out.frames(), [frame].as_slice());

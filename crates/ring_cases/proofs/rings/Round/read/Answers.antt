@@ -2,7 +2,7 @@ use Rattle.turn_log.specs.Desks.{desk_seen}
 use Rattle.std.proofs.Common.{◌∙◌, sym}
 use Rattle.mount_ring.specs.Kept.{ring_shape}
 use Rattle.mount_ring.proofs.RoundLemmas.{held_read, read_read, held_refused, read_refused}
-use Rattle.ring_tests.proofs.reading_tests.Round.read.Goals as goal
+use Rattle.ring_cases.proofs.rings.Round.read.Goals as goal
 
 pub invariant_of-self : goal.invariant_of-self
 invariant_of-self c = record {

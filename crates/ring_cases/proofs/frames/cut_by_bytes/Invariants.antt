@@ -1,7 +1,7 @@
 use Rattle.std.proofs.Common.{◌+◌, length, take}
 use Rattle.rtcm_frame.specs.Cut.{IsWaiting, cut}
 use Rattle.rtcm_frame.specs.Pending.{Gave}
-use Rattle.ring_tests.proofs.frame_tests.cut_by_bytes.Given as goal
+use Rattle.ring_cases.proofs.frames.cut_by_bytes.Given as goal
 
 abbrev pub invariant-loop-byte : goal.invariant-loop-byte
 invariant-loop-byte l = record {

@@ -1,7 +1,7 @@
 use Rattle.turn_log.specs.Desks.{desk_seen}
 use Rattle.mount_ring.proofs.RoundLemmas.{IsHeld, MayRead, round_published}
 use Rattle.mount_ring.specs.Kept.{ring_shape}
-use Rattle.ring_tests.proofs.reading_tests.Round.publish.Goals as goal
+use Rattle.ring_cases.proofs.rings.Round.publish.Goals as goal
 
 pub invariant_of-self : goal.invariant_of-self
 invariant_of-self c =

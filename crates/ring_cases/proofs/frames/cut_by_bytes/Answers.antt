@@ -1,7 +1,7 @@
 use Rattle.std.proofs.Common.{ℕ, List, sym, subst}
 use Rattle.std.proofs.lemmas.List.{take_more}
 use Rattle.rtcm_frame.specs.Pending.{Gave}
-use Rattle.ring_tests.proofs.frame_tests.cut_by_bytes.Goals as goal
+use Rattle.ring_cases.proofs.frames.cut_by_bytes.Goals as goal
 
 pub loop-frame-init : goal.loop-frame-init
 loop-frame-init c =

@@ -1,7 +1,7 @@
 use Rattle.std.proofs.Common.{ℕ, List, subst}
 use Rattle.rtcm_frame.specs.Pending.{Gave}
 use Rattle.rtcm_frame.proofs.PendingLemmas.{fed_front}
-use Rattle.ring_tests.proofs.frame_tests.cut_by_blocks.Goals as goal
+use Rattle.ring_cases.proofs.frames.cut_by_blocks.Goals as goal
 
 pub loop-frame-init : goal.loop-frame-init
 loop-frame-init c =
