@@ -48,7 +48,7 @@ cast_answer : (words : List (List ℕ)) (left : Option (List ℕ)) (files : File
     (task : Task) (config addr : List ℕ) (limit : ℕ) (before after : StreetTold) (c : Config) (came_to : CameTo)
     (answer : Answer) → form_of words ≡ Some (casting task config addr limit)
     → AreCasting task words config addr limit → IsConfigAt files config c
-    → HasCast task c addr limit before after came_to → GivesCame came_to answer
+    → HasCast task c addr limit before after came_to → GivesCame task came_to answer
     → IsAnswer words left files of_input of_store answer
 cast_answer words left files of_input of_store task config addr limit before after c (a_text text) answer h are is cast
     given =
@@ -120,12 +120,13 @@ casting_asked words task config addr limit files old new h grew =
 
 -- ---- how it ends
 
-cast_end : (came_to : CameTo) (answer : Answer) → GivesCame came_to answer → CastEnd came_to (exit_of answer)
-cast_end (a_text text) answer given =
-    given_end (EndsSo (exactly (whole_exit text))) (CastEnd (a_text text)) (λ memory. inr refl) (λ none. absurd none)
-    (λ end is. inl is) answer given
-cast_end no_network answer given = ap exit_of given
-cast_end no_memory answer given = ap exit_of given
+cast_end : (task : Task) (came_to : CameTo) (answer : Answer) → GivesCame task came_to answer
+    → CastEnd task came_to (exit_of answer)
+cast_end task (a_text text) answer given =
+    given_end (EndsSo (exactly (whole_exit text))) (CastEnd task (a_text text)) (λ memory. inr (memory, refl))
+    (λ none. absurd none) (λ end is. inl is) answer given
+cast_end task no_network answer given = ap exit_of given
+cast_end task no_memory answer given = ap exit_of given
 
 casting_end : (task : Task) (files : Files) (config addr : List ℕ) (limit : ℕ) (before after : StreetTold)
     (fault : Type 0) (answer : Answer) → IsCastingAnswer task files config addr limit before after fault answer
@@ -141,7 +142,7 @@ casting_end task files config addr limit before after fault answer (inr has) = i
   came_to = has.came_to;
   config_is = has.config_is;
   cast = has.cast;
-  ends = cast_end has.came_to answer has.given;
+  ends = cast_end task has.came_to answer has.given;
 })
 
 pub casting_written : (task : Task) (files : Files) (config addr : List ℕ) (limit : ℕ) (before after : StreetTold)
@@ -181,28 +182,28 @@ refused_status config files fault end (inr (inl (counted, is))) =
 refused_status config files fault end (inr (inr is)) = refused_bytes is.0 end is.2
 
 -- with 0 the caster came to a text
-came_at : (came_to : CameTo) (end : Exit) → CastEnd came_to end → end.status ≡ 0
+came_at : (task : Task) (came_to : CameTo) (end : Exit) → CastEnd task came_to end → end.status ≡ 0
     → (text : List ℕ) × (came_to ≡ a_text text) × (end.text ≡ text)
-came_at (a_text text) end (inl is) zero = (text, refl, ap (λ (x : Exit). x.text) is)
-came_at (a_text text) end (inr memory) zero = absurd (omega (arith, zero, ap (λ (x : Exit). x.status) memory))
-came_at no_network end is zero = absurd (omega (arith, zero, ap (λ (x : Exit). x.status) is))
-came_at no_memory end is zero = absurd (omega (arith, zero, ap (λ (x : Exit). x.status) is))
+came_at task (a_text text) end (inl is) zero = (text, refl, ap (λ (x : Exit). x.text) is)
+came_at task (a_text text) end (inr (may, memory)) zero = absurd (omega (arith, zero, ap (λ (x : Exit). x.status) memory))
+came_at task no_network end is zero = absurd (omega (arith, zero, ap (λ (x : Exit). x.status) is))
+came_at task no_memory end is zero = absurd (omega (arith, zero, ap (λ (x : Exit). x.status) is))
 
 -- with 6 its network failed
-lost_at : (came_to : CameTo) (end : Exit) → CastEnd came_to end → end.status ≡ 6
+lost_at : (task : Task) (came_to : CameTo) (end : Exit) → CastEnd task came_to end → end.status ≡ 6
     → (came_to ≡ no_network) × (end ≡ network_exit)
-lost_at (a_text text) end (inl is) six = absurd (omega (arith, six, ap (λ (x : Exit). x.status) is))
-lost_at (a_text text) end (inr memory) six = absurd (omega (arith, six, ap (λ (x : Exit). x.status) memory))
-lost_at no_network end is six = (refl, is)
-lost_at no_memory end is six = absurd (omega (arith, six, ap (λ (x : Exit). x.status) is))
+lost_at task (a_text text) end (inl is) six = absurd (omega (arith, six, ap (λ (x : Exit). x.status) is))
+lost_at task (a_text text) end (inr (may, memory)) six = absurd (omega (arith, six, ap (λ (x : Exit). x.status) memory))
+lost_at task no_network end is six = (refl, is)
+lost_at task no_memory end is six = absurd (omega (arith, six, ap (λ (x : Exit). x.status) is))
 
 -- the status is 0, 6 or 7, and 6 only where the network failed
-kept_at : (came_to : CameTo) (end : Exit) → CastEnd came_to end
+kept_at : (task : Task) (came_to : CameTo) (end : Exit) → CastEnd task came_to end
     → (end.status ≡ 0) ⊎ ((end.status ≡ 7) ⊎ ((end.status ≡ 6) × (came_to ≡ no_network)))
-kept_at (a_text text) end (inl is) = inl (ap (λ (x : Exit). x.status) is)
-kept_at (a_text text) end (inr memory) = inr (inl (ap (λ (x : Exit). x.status) memory))
-kept_at no_network end is = inr (inr (ap (λ (x : Exit). x.status) is, refl))
-kept_at no_memory end is = inr (inl (ap (λ (x : Exit). x.status) is))
+kept_at task (a_text text) end (inl is) = inl (ap (λ (x : Exit). x.status) is)
+kept_at task (a_text text) end (inr (may, memory)) = inr (inl (ap (λ (x : Exit). x.status) memory))
+kept_at task no_network end is = inr (inr (ap (λ (x : Exit). x.status) is, refl))
+kept_at task no_memory end is = inr (inl (ap (λ (x : Exit). x.status) is))
 
 -- what a run with status 0 says of a caster of this task
 abbrev HasRun : Task → Files → List ℕ → List ℕ → ℕ → StreetTold → StreetTold → Option (List ℕ) → Option (List ℕ)
@@ -223,7 +224,7 @@ whole_run task files config addr limit before after fault old new first now stat
       whole_written end (inl (same, refused)) (inl written) =
           absurd ((refused_status config files fault end refused).0 (sym written.0 ∙ zero))
       whole_written end (inr has) (inl written) =
-          let came = came_at has.came_to end has.ends (sym written.0 ∙ zero) in (
+          let came = came_at task has.came_to end has.ends (sym written.0 ∙ zero) in (
             has.c,
             came.0,
             has.config_is,
@@ -274,7 +275,7 @@ lost_run task files config addr limit before after fault old new first now statu
       lost_written end (inl (same, refused)) (inl written) =
           absurd ((refused_status config files fault end refused).1 (sym written.0 ∙ six))
       lost_written end (inr has) (inl written) =
-          let lost = lost_at has.came_to end has.ends (sym written.0 ∙ six) in (
+          let lost = lost_at task has.came_to end has.ends (sym written.0 ∙ six) in (
             has.c,
             has.config_is,
             subst (λ (x : CameTo). HasCast task has.c addr limit before after x) lost.0 has.cast,
@@ -313,7 +314,7 @@ closed_sizes c addr limit before after (Err fault) closed h served = absurd cc
 pub cast_served : (c : Config) (addr : List ℕ) (limit : ℕ) (before after : StreetTold)
     (served : Result Closed ServeFault) (answer : Answer) → HasServed c addr limit before after served
     → GivesServed c served answer
-    → (came_to : CameTo) × HasCast Serve c addr limit before after came_to × GivesCame came_to answer
+    → (came_to : CameTo) × HasCast Serve c addr limit before after came_to × GivesCame Serve came_to answer
 cast_served c addr limit before after (Ok closed) answer has given =
     (a_text (closed_text c closed), (closed, has, refl), given)
 cast_served c addr limit before after (Err faults.Network) answer has given = (no_network, has, given)
@@ -347,7 +348,7 @@ complete_run task files config addr limit before after fault old new first now s
       complete_written end ends (inr torn) = absurd (write torn.1)
       complete_written end (inl (same, refused)) (inl written) =
           inl (written.0 ∙ refused_not files config list bytes c fault end told content short is calm refused)
-      complete_written end (inr has) (inl written) = elim (kept_at has.came_to end has.ends) [
+      complete_written end (inr has) (inl written) = elim (kept_at task has.came_to end has.ends) [
         | inl zero ↦ inr (written.0 ∙ zero)
         | inr (inl seven) ↦ inl (written.0 ∙ seven)
         | inr (inr (six, network)) ↦
@@ -386,7 +387,7 @@ unserved_end task files config addr limit before after fault old new first now s
 unserved_end task files config addr limit before after fault old new first now status end is (inl (same, refused))
     (inl written) = same
 unserved_end task files config addr limit before after fault old new first now status end is (inr has) (inl written) =
-    absurd (unserved_not status is (elim (kept_at has.came_to end has.ends) [
+    absurd (unserved_not status is (elim (kept_at task has.came_to end has.ends) [
       | inl zero ↦ inl (written.0 ∙ zero)
       | inr (inl seven) ↦ inr (inl (written.0 ∙ seven))
       | inr (inr (six, network)) ↦ inr (inr (written.0 ∙ six))

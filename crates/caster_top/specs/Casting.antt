@@ -1,6 +1,6 @@
 -- What the program ends with that is to be a caster, one that serves or one that records, and what
 -- the street tells of it.
-use Rattle.std.specs.Prelude.{◌≡◌, ℕ, ◌⊎◌, List, Option, Result, Ok, Err}
+use Rattle.std.specs.Prelude.{◌≡◌, ℕ, ◌⊎◌, List, Option, Result, Ok, Err, ⊤}
 use Rattle.cast_io.specs.Causes.{Rose}
 use Rattle.cast_io.specs.Told.{StreetTold}
 use Rattle.cast_config.specs.declared.config.Config.{Config}
@@ -15,9 +15,9 @@ use Rattle.caster_top.specs.declared.answers.Answer.{Answer}
 use Rattle.caster_top.specs.declared.answers.Answer.TheVariants.{NetworkFault, Memory}
 use Rattle.caster_top.specs.declared.command.Task.{Task}
 use Rattle.caster_top.specs.declared.command.Task.TheVariants.{Serve, Record}
-use Rattle.caster_top.specs.Outcome.{Exit, exactly, whole_exit, read_fault_exit, network_exit, memory_exit}
+use Rattle.caster_top.specs.Outcome.{Exit, EndsSo, exactly, whole_exit, read_fault_exit, network_exit, memory_exit}
 use Rattle.caster_top.specs.Told.{Files, IsConfigAt}
-use Rattle.caster_top.specs.Answers.{GivesEnd, IsRefusedAt, IsRefusal, Writes}
+use Rattle.caster_top.specs.Answers.{IsGiven, IsRefusedAt, IsRefusal, Writes}
 use Rattle.caster_top.specs.Recording.{HasRecorded, HasNotRecorded}
 
 -- ---- what it came to
@@ -45,15 +45,23 @@ HasCast Record c addr limit before after no_memory = HasNotRecorded addr before 
 
 -- ---- before anything is written
 
--- the answer where a caster came to this
-abbrev pub GivesCame : CameTo → Answer → Type 0
-GivesCame (a_text text) answer = GivesEnd (exactly (whole_exit text)) answer
-GivesCame no_network answer = answer ≡ NetworkFault
-GivesCame no_memory answer = answer ≡ Memory
+-- whether memory may be lacking for the text of what it came to: one that serves takes the room for
+-- its totals before it starts
+abbrev pub MayLackRoom : Task → Type 0
+MayLackRoom Serve = ⊥
+MayLackRoom Record = ⊤
+
+-- the answer where a caster of this task came to this
+abbrev pub GivesCame : Task → CameTo → Answer → Type 0
+GivesCame task (a_text text) answer =
+    IsGiven (MayLackRoom task) ⊥ (EndsSo (exactly (whole_exit text))) answer
+GivesCame task no_network answer = answer ≡ NetworkFault
+GivesCame task no_memory answer = answer ≡ Memory
 
 -- the answer where a caster that serves over this configuration came to this
 abbrev pub GivesServed : Config → Result Closed ServeFault → Answer → Type 0
-GivesServed c (Ok closed) answer = GivesEnd (exactly (whole_exit (closed_text c closed))) answer
+GivesServed c (Ok closed) answer =
+    IsGiven ⊥ ⊥ (EndsSo (exactly (whole_exit (closed_text c closed)))) answer
 GivesServed c (Err faults.Network) answer = answer ≡ NetworkFault
 GivesServed c (Err faults.Memory) answer = answer ≡ Memory
 
@@ -64,7 +72,7 @@ pub record HasAnswered (task : Task) (files : Files) (config addr : List ℕ) (l
   pub came_to : CameTo
   pub config_is : IsConfigAt files config c
   pub cast : HasCast task c addr limit before after came_to
-  pub given : GivesCame came_to answer
+  pub given : GivesCame task came_to answer
 
 -- so it was, or the street was left alone, since there is no configuration to be had
 abbrev pub IsCastingAnswer : Task → Files → List ℕ → List ℕ → ℕ → StreetTold → StreetTold → Type 0
@@ -75,12 +83,13 @@ IsCastingAnswer task files config addr limit before after fault answer =
 
 -- ---- and with it
 
--- what the program ends with where a caster came to this, unless a write fails: want of memory can
--- come where the text is made, too
-abbrev pub CastEnd : CameTo → Exit → Type 0
-CastEnd (a_text text) end = (end ≡ whole_exit text) ⊎ (end ≡ memory_exit)
-CastEnd no_network end = end ≡ network_exit
-CastEnd no_memory end = end ≡ memory_exit
+-- What the program ends with where a caster of this task came to this, unless a write fails. Of one
+-- that records, want of memory can come where the script is made, too.
+abbrev pub CastEnd : Task → CameTo → Exit → Type 0
+CastEnd task (a_text text) end =
+    (end ≡ whole_exit text) ⊎ (MayLackRoom task × (end ≡ memory_exit))
+CastEnd task no_network end = end ≡ network_exit
+CastEnd task no_memory end = end ≡ memory_exit
 
 -- what it ends with where there is no configuration to be had
 abbrev pub RefusedEnd : List ℕ → Files → Type 0 → Exit → Type 0
@@ -94,7 +103,7 @@ pub record HasEnded (task : Task) (files : Files) (config addr : List ℕ) (limi
   pub came_to : CameTo
   pub config_is : IsConfigAt files config c
   pub cast : HasCast task c addr limit before after came_to
-  pub ends : CastEnd came_to end
+  pub ends : CastEnd task came_to end
 
 -- so it ends, or with the street left alone
 abbrev pub CastingEnd : Task → Files → List ℕ → List ℕ → ℕ → StreetTold → StreetTold → Type 0

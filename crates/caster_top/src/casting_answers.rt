@@ -1,15 +1,16 @@
 //! What is decided by a caster, one that serves or one that records.
-ghost use Rattle.std.specs.Prelude.{◌≡◌, ◌≤◌, ◌+◌, ◌∷◌, [], length};
+ghost use Rattle.std.specs.Prelude.{◌≡◌, ◌≤◌, ◌+◌, ◌∷◌, [], length, vec_capacity};
 ghost use Rattle.std.specs.Result.{ForOk};
 ghost use Rattle.cast_io.specs.Causes.{Rose};
 ghost use Rattle.cast_io.specs.Told.{Grew};
 ghost use Rattle.cast_config.specs.Kept.{KeepsRules};
+ghost use Rattle.session_core.specs.Room.{closed_room};
 ghost use Rattle.session_core.specs.Text.{closed_text};
 ghost use Rattle.session_script.specs.Writing.{script_text};
 ghost use Rattle.caster_top.specs.declared.command.Task.TheVariants.{Record, Serve};
 ghost use Rattle.caster_top.specs.Command.{most_of};
-ghost use Rattle.caster_top.specs.Outcome.{exactly, whole_exit};
-ghost use Rattle.caster_top.specs.Answers.{GivesEnd};
+ghost use Rattle.caster_top.specs.Outcome.{EndsSo, exactly, whole_exit};
+ghost use Rattle.caster_top.specs.Answers.{GivesEnd, IsGiven};
 ghost use Rattle.caster_top.specs.Casting.{CameTo, GivesCame, GivesServed, HasCast, IsCastingAnswer};
 
 use crate::answers::Answer;
@@ -20,7 +21,7 @@ use cast_config::Config;
 use cast_io::{Store, Street};
 use caster_record::RecorderFault;
 use caster_serve::{ServeFault, serve};
-use session_core::{Closed, closed_text};
+use session_core::{Closed, closed_text, room_for_closed};
 use session_script::{Event, script_text};
 use std::alloc::{AllocError, Global};
 use std::sync::Wait;
@@ -74,7 +75,7 @@ where
     requires limit { (1 ≤ limit) × (limit ≤ most_of task) }
     ensures cast { (came_to : CameTo)
         × HasCast task config.now addr.now limit (N.told street.old) (N.told street.new) came_to
-        × GivesCame came_to result }
+        × GivesCame task came_to result }
     ensures later { (N.told street.old).faults ≤ (N.told street.new).faults }
 {
     match task {
@@ -98,37 +99,43 @@ where
     requires { KeepsRules 1000000 config.now }
     ensures cast { (came_to : CameTo)
         × HasCast Serve config.now addr.now limit (N.told street.old) (N.told street.new) came_to
-        × GivesCame came_to result }
+        × GivesCame Serve came_to result }
     ensures later { (N.told street.old).faults ≤ (N.told street.new).faults }
 {
+    let Ok(room) = room_for_closed(alloc, config) else {
+        return Answer::Memory;
+    };
     let served = serve(rt, alloc, config, addr, u64::from(limit), street);
-    answer_to_served(alloc, config, served)
+    answer_to_served(config, served, room)
 }
 
-// The answer to what a caster that serves over this configuration came to.
-fn answer_to_served(alloc: Global, config: &Config, served: Result<Closed, ServeFault>) -> Answer
-    requires { ForOk served (λ closed. (length closed.mounts ≡ length config.now.mount)
+// The answer to what a caster that serves over this configuration came to, in the room that was made
+// for its totals.
+fn answer_to_served(config: &Config, served: Result<Closed, ServeFault>, room: Vec<u8>) -> Answer
+    requires sizes { ForOk served (λ closed. (length closed.mounts ≡ length config.now.mount)
         × (length closed.accounts ≡ length config.now.account)) }
+    requires empty { room.items ≡ [] }
+    requires room { closed_room config.now ≤ vec_capacity room }
     ensures { GivesServed config.now served result }
 {
     match served {
-        Ok(closed) => answer_to_closed(alloc, config, &closed),
+        Ok(closed) => answer_to_closed(config, &closed, room),
         Err(ServeFault::Network) => Answer::NetworkFault,
         Err(ServeFault::Memory) => Answer::Memory,
     }
 }
 
 // The answer to the totals of a caster over this configuration.
-fn answer_to_closed(alloc: Global, config: &Config, closed: &Closed) -> Answer
+fn answer_to_closed(config: &Config, closed: &Closed, mut text: Vec<u8>) -> Answer
     requires mounts { length closed.now.mounts ≡ length config.now.mount }
     requires accounts { length closed.now.accounts ≡ length config.now.account }
-    ensures { GivesEnd (exactly (whole_exit (closed_text config.now closed.now))) result }
+    requires empty { text.items ≡ [] }
+    requires room { closed_room config.now ≤ vec_capacity text }
+    ensures { IsGiven ⊥ ⊥ (EndsSo (exactly (whole_exit (closed_text config.now closed.now))))
+        result }
 {
-    let mut text = Vec::new(alloc);
-    match closed_text(config, closed, &mut text) {
-        Ok(()) => Answer::Done(text),
-        Err(AllocError) => Answer::Memory,
-    }
+    closed_text(config, closed, &mut text).unwrap();
+    Answer::Done(text)
 }
 
 // The answer to a caster that records.
@@ -144,7 +151,7 @@ fn answer_to_recorder<R: Wait, N: Street>(
     requires limit { (1 ≤ limit) × (limit ≤ 256) }
     ensures cast { (came_to : CameTo)
         × HasCast Record config.now addr.now limit (N.told street.old) (N.told street.new) came_to
-        × GivesCame came_to result }
+        × GivesCame Record came_to result }
     ensures later { (N.told street.old).faults ≤ (N.told street.new).faults }
 {
     match record_at(rt, alloc, config, addr, limit, street) {
