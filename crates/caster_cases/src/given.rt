@@ -1,7 +1,32 @@
 //! What a call is given: its words, its files and its input, and what fails.
+use crate::links::street_of;
+use crate::numbers::number;
 use crate::parts::Case;
-use cast_io::{ByteString, MemSource, MemStore};
+use cast_io::{ByteString, MemSink, MemSource, MemStore, MemStreet};
 use std::alloc::{AllocError, Global};
+
+/// What a call is given in memory.
+#[derive(Drop)]
+pub struct Given {
+    /// The files.
+    pub store: MemStore,
+    /// The input.
+    pub input: MemSource,
+    /// The output.
+    pub out: MemSink,
+    /// The street.
+    pub street: MemStreet,
+}
+
+/// What a call of the case is given, of which these fail.
+pub fn given_of(alloc: Global, case: &Case<'_>, fails: &Fails) -> Result<Given, AllocError> {
+    Ok(Given {
+        store: store_of(alloc, case, fails.call)?,
+        input: source_of(alloc, case, fails.read)?,
+        out: MemSink::torn(alloc, vec![in alloc; fails.write]?),
+        street: street_of(alloc, case)?,
+    })
+}
 
 /// What fails in a call, each by its number from 1; 0 is none.
 #[derive(Drop)]
@@ -14,25 +39,12 @@ pub struct Fails {
     pub write: (u64, u64),
 }
 
-const NOTHING: Fails = Fails {
+/// Nothing fails.
+pub const NOTHING: Fails = Fails {
     read: 0,
     call: 0,
     write: (0, 0),
 };
-
-/// The number that this text is; any other text stands for the largest.
-pub fn number(text: &str) -> u64 {
-    text.parse::<u64>().unwrap_or(u64::MAX)
-}
-
-/// The numbers in this text.
-pub fn numbers(alloc: Global, text: &str) -> Result<Vec<u64>, AllocError> {
-    let mut all = Vec::new(alloc);
-    for word in text.split_whitespace() {
-        all.push(number(word))?;
-    }
-    Ok(all)
-}
 
 /// What fails in each call of the case.
 pub fn fails_of(alloc: Global, case: &Case<'_>) -> Result<Vec<Fails>, AllocError> {
@@ -97,17 +109,24 @@ fn word_of(alloc: Global, word: &str) -> Result<String, AllocError> {
     word.replace(alloc, "\\r", "\r")
 }
 
-/// The files of the case: `a`, `s` and another `a`; none where it names none. The call of the store
-/// of this number fails.
-pub fn store_of(alloc: Global, case: &Case<'_>, call: u64) -> Result<MemStore, AllocError> {
+/// The store of the case. The call of this number fails.
+fn store_of(alloc: Global, case: &Case<'_>, call: u64) -> Result<MemStore, AllocError> {
+    let files = files_of(alloc, case)?;
+    Ok(MemStore::new(alloc, files, vec![in alloc; call]?))
+}
+
+/// The files of the case, `a` and `s`, and behind them another `a`; none where it has none.
+fn files_of(alloc: Global, case: &Case<'_>) -> Result<Vec<(ByteString, ByteString)>, AllocError> {
     let mut files = Vec::new(alloc);
-    if let Some(content) = case.content(alloc, "a")? {
-        push_file(alloc, &mut files, "a", content)?;
-        let session = case.content(alloc, "s")?.unwrap_or(Vec::new(alloc));
-        push_file(alloc, &mut files, "s", session)?;
+    for word in ["a", "s"] {
+        if let Some(content) = case.content(alloc, word)? {
+            push_file(alloc, &mut files, word, content)?;
+        }
+    }
+    if !files.is_empty() {
         push_file(alloc, &mut files, "a", b"=".to_vec(alloc)?)?;
     }
-    Ok(MemStore::new(alloc, files, vec![in alloc; call]?))
+    Ok(files)
 }
 
 /// Appends a file of this path.
@@ -123,7 +142,7 @@ fn push_file(
 }
 
 /// The input of the case, whose read of this number fails.
-pub fn source_of(alloc: Global, case: &Case<'_>, read: u64) -> Result<MemSource, AllocError> {
+fn source_of(alloc: Global, case: &Case<'_>, read: u64) -> Result<MemSource, AllocError> {
     let bytes = case.content(alloc, "input")?.unwrap_or(Vec::new(alloc));
     Ok(MemSource::new(bytes, vec![in alloc; read]?))
 }

@@ -4,7 +4,7 @@ ghost use Rattle.std.specs.List.{list_all};
 ghost use Rattle.cast_io.specs.FakeLinks.{has_bytes, is_new_link};
 ghost use Rattle.cast_io.specs.FakeDoors.{is_new_arrival, is_new_door};
 
-use crate::given::{number, numbers};
+use crate::numbers::{number, numbers};
 use crate::parts::Case;
 use cast_io::{ByteString, LinkStep, MemDoor, MemLink, MemStreet};
 use std::alloc::{AllocError, Global};

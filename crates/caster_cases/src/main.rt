@@ -13,7 +13,7 @@
 //! | Line | What it says |
 //! |---|---|
 //! | `words WORD..` | one call; `''` is a word without bytes, and `\r` in a word is CR |
-//! | `a PART..` | the file `a`; with it come a file `s` and, behind both, another `a` |
+//! | `a PART..` | the file `a`; behind it and the file `s` there is another `a` |
 //! | `s PART..` | the file `s` |
 //! | `input PART..` | the input |
 //! | `read N`, `write N M` | this read of the input, and this write after M bytes, or `all`, fail |
@@ -26,6 +26,7 @@
 //! | `against PART..` | how the text compares to these parts is printed |
 //! | `among PAIR, PAIR..` | and `#` in them stands for one of these pairs of numbers |
 //! | `faults` | the counts of the street's faults are printed |
+//! | `plain` | one call, of which nothing is printed but what needs no memory |
 //!
 //! In a link a part is what its peer sends at once, `.N` is N times nothing, and `!N:M` says that
 //! this write to it fails after M bytes. Behind the lines the lines of a file, of the input or of
@@ -39,14 +40,15 @@
 
 mod given;
 mod links;
+mod numbers;
 mod parts;
+mod plain;
 mod telling;
 
-use cast_io::MemSink;
 use caster_top::caster;
-use given::{Fails, fails_of, source_of, store_of, words_of};
-use links::street_of;
+use given::{Fails, Given, fails_of, given_of, words_of};
 use parts::{Case, case_of};
+use plain::tell;
 use std::alloc::{AllocError, Global};
 use std::io;
 use std::io::Write;
@@ -54,7 +56,7 @@ use std::sync::Wait;
 use std::thread::Threads;
 use telling::{Came, came_of, push_came};
 
-/// What comes of these words.
+/// What comes of these words, of which these calls fail.
 fn run<R: Threads + Wait + Sync>(
     rt: &R,
     alloc: Global,
@@ -62,20 +64,27 @@ fn run<R: Threads + Wait + Sync>(
     words: &[String],
     fails: &Fails,
 ) -> Result<Came, AllocError> {
-    let mut store = store_of(alloc, case, fails.call)?;
-    let mut input = source_of(alloc, case, fails.read)?;
-    let mut street = street_of(alloc, case)?;
-    let mut out = MemSink::torn(alloc, vec![in alloc; fails.write]?);
-    let status = caster(
+    let mut given = given_of(alloc, case, fails)?;
+    let status = status_of(rt, alloc, words, &mut given);
+    came_of(alloc, status, &given)
+}
+
+/// The status that the caster ends with.
+fn status_of<R: Threads + Wait + Sync>(
+    rt: &R,
+    alloc: Global,
+    words: &[String],
+    given: &mut Given,
+) -> u8 {
+    caster(
         rt,
         alloc,
         words,
-        &mut store,
-        &mut input,
-        &mut out,
-        &mut street,
-    );
-    came_of(alloc, status, &out, &store, &street)
+        &mut given.store,
+        &mut given.input,
+        &mut given.out,
+        &mut given.street,
+    )
 }
 
 /// Appends what comes of these words, with each failure in turn, and gives the last text.
@@ -111,15 +120,31 @@ fn push_case<R: Threads + Wait + Sync>(
     Ok(text)
 }
 
+/// Appends the name of the case and what comes of its calls, and gives the last text where it is to
+/// be kept.
+fn push_block<R: Threads + Wait + Sync>(
+    rt: &R,
+    alloc: Global,
+    case: &Case<'_>,
+    out: &mut Vec<u8>,
+) -> Result<Option<Vec<u8>>, AllocError> {
+    for text in ["== ", case.name, "\n"] {
+        out.extend_from_slice(text.as_bytes())?;
+    }
+    let text = push_case(rt, alloc, case, out)?;
+    Ok(if case.keeps() { Some(text) } else { None })
+}
+
 fn main(rt: HostRuntime) -> io::Result<()> {
     let all = io::read_to_string(rt.alloc(), rt.reader())?;
     let mut out = io::writer(&rt);
     let mut kept = Vec::new(rt.alloc());
     for block in all.split("\n== call ").skip(1) {
+        let mut told = Vec::new(rt.alloc());
         let case = case_of(&all, block, &kept);
-        let mut told = format!(in rt.alloc(); "== {}\n", case.name)?.into_bytes();
-        let text = push_case(&rt, rt.alloc(), &case, &mut told)?;
-        if case.keeps() {
+        if case.setting("plain").is_some() {
+            tell(&rt, rt.alloc(), &case)?;
+        } else if let Some(text) = push_block(&rt, rt.alloc(), &case, &mut told)? {
             kept = text;
         }
         out.write_all(&told)?;

@@ -115,18 +115,23 @@ fn push_line(alloc: Global, out: &mut Vec<u8>, line: &str) -> Result<(), AllocEr
         .strip_prefix("text ")
         .and_then(|line| line.split_once(' '));
     match (entry, line.strip_prefix("sent ")) {
-        (Some((number, text)), _) => {
-            out.extend_from_slice(b"in ")?;
-            out.extend_from_slice(number.as_bytes())?;
-            out.push(b' ')?;
-            push_digits(alloc, out, text)?;
-        }
-        (None, Some(text)) => {
-            out.extend_from_slice(b"bytes ")?;
-            push_digits(alloc, out, text)?;
-        }
-        (None, None) => out.extend_from_slice(line.as_bytes())?,
+        (Some((number, text)), _) => push_coded(alloc, out, ["in ", number, " "], text),
+        (None, Some(text)) => push_coded(alloc, out, ["bytes ", "", ""], text),
+        (None, None) => push_coded(alloc, out, [line, "", ""], ""),
     }
+}
+
+/// Appends a line of these words, with the digits of the bytes that this text stands for.
+fn push_coded(
+    alloc: Global,
+    out: &mut Vec<u8>,
+    words: [&str; 3],
+    text: &str,
+) -> Result<(), AllocError> {
+    for word in words {
+        out.extend_from_slice(word.as_bytes())?;
+    }
+    push_digits(alloc, out, text)?;
     out.push(b'\n')?;
     Ok(())
 }

@@ -1,6 +1,7 @@
 //! What is printed of a call.
+use crate::given::Given;
 use crate::parts::Case;
-use cast_io::{Asked, MemSink, MemStore, MemStreet};
+use cast_io::{Asked, MemStore, MemStreet};
 use std::alloc::{AllocError, Global};
 
 /// What came of a call.
@@ -17,22 +18,16 @@ pub struct Came {
     pub faults: (u64, u64),
 }
 
-/// What came of a call, by what it left.
-pub fn came_of(
-    alloc: Global,
-    status: u8,
-    out: &MemSink,
-    store: &MemStore,
-    street: &MemStreet,
-) -> Result<Came, AllocError> {
+/// What came of a call that ended with this status, by what it was given.
+pub fn came_of(alloc: Global, status: u8, given: &Given) -> Result<Came, AllocError> {
     let mut asked = Vec::new(alloc);
-    push_files(&mut asked, store)?;
-    push_street(alloc, &mut asked, street)?;
+    push_files(&mut asked, &given.store)?;
+    push_street(alloc, &mut asked, &given.street)?;
     Ok(Came {
         status,
-        text: out.bytes().to_vec(alloc)?,
+        text: given.out.bytes().to_vec(alloc)?,
         asked,
-        faults: (street.faults(), street.link_faults()),
+        faults: (given.street.faults(), given.street.link_faults()),
     })
 }
 
