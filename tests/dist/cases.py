@@ -108,7 +108,7 @@ def installed():
     """The line of docs/OPERATING.md installs six files, and the program runs from there."""
     line, = re.findall(r'^    (install -D .*DESTDIR.*)$', text_of('docs/OPERATING.md'), re.M)
     folder = os.path.join(WORK, 'root')
-    built = 'crates/caster_main/out/caster_main'
+    built = 'dist/caster-x86_64-linux'
     if not os.path.exists(built):
         line = replaced(line, [(built, os.environ['CASTER'])])
     passes('sh', '-euc', line, env=dict(os.environ, DESTDIR=folder))
