@@ -33,16 +33,33 @@ fn say_came(out: &mut Vec<u8>, k: u32, bytes: &[u8]) -> Result<(), AllocError> {
     put(out, ")")
 }
 
+/// An event of one number or two.
+fn say_numbers(
+    out: &mut Vec<u8>,
+    kind: &str,
+    k: u32,
+    other: Option<u32>,
+) -> Result<(), AllocError> {
+    put(out, kind)?;
+    say(out, &k)?;
+    if let Some(number) = other {
+        put(out, ", ")?;
+        say(out, &number)?;
+    }
+    put(out, ")")
+}
+
 /// An event, behind a space.
 fn say_event(out: &mut Vec<u8>, event: &Event) -> Result<(), AllocError> {
     match event {
         Event::Source(k, mount) => say_opened(out, " Source(", *k, mount.bytes()),
         Event::Rover(k, mount) => say_opened(out, " Rover(", *k, mount.bytes()),
         Event::In(k, text) => say_came(out, *k, text.bytes()),
-        other => {
-            put(out, " ")?;
-            say(out, other)
-        }
+        Event::Open(k) => say_numbers(out, " Open(", *k, None),
+        Event::Relay(k, relay) => say_numbers(out, " Relay(", *k, Some(*relay)),
+        Event::Turn(k, budget) => say_numbers(out, " Turn(", *k, Some(*budget)),
+        Event::Break(k) => say_numbers(out, " Break(", *k, None),
+        Event::End(k) => say_numbers(out, " End(", *k, None),
     }
 }
 
