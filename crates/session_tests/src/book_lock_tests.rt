@@ -4,7 +4,7 @@ ghost use Rattle.caster_accounts.specs.Kept.{caps_of};
 ghost use Rattle.turn_log.specs.Turn.{SamePlace};
 ghost use Rattle.turn_log.specs.Lock.{turn_passes, turn_value, pass_number, IsPassOf};
 
-use caster_accounts::{Book, BookAnswer, BookCall};
+use caster_accounts::{Book, BookAnswer, BookCall, Sum};
 use std::alloc::{AllocError, Global};
 use std::sync::Wait;
 use std::test::Fail;
@@ -116,16 +116,22 @@ fn close_two<V: Played + Drop>(
     Ok(turn.close(passes))
 }
 
+// What 500 sessions of each of two threads add up to.
+fn sum_of_both<R: Threads + Wait + Sync>(alloc: Global, rt: &R) -> Result<Sum, Fail> {
+    let book = Book::new(alloc, &[2])?;
+    let (turn, first, second) = open_two(alloc, book)?;
+    let (first, second) = visit_both(&turn, rt, first, second);
+    Ok(close_two(alloc, turn, first, second)?.total(0))
+}
+
 #[test]
 fn two_threads_add_up_a_thousand_turns_each(rt: HostRuntime) -> Result<(), Fail> {
-    let book = Book::new(rt.alloc(), &[2])?;
-    let (turn, first, second) = open_two(rt.alloc(), book)?;
-    let (first, second) = visit_both(&turn, &rt, first, second);
-    let book = close_two(rt.alloc(), turn, first, second)?;
     // 500 sessions of 3 frames and 500 of 5, each with one overrun.
-    let sum = book.total(0);
-    assert_eq!(rt; sum.sessions, 1000);
-    assert_eq!(rt; sum.sent, 4000);
-    assert_eq!(rt; sum.overrun, 1000);
+    let sum = Sum {
+        sessions: 1000,
+        sent: 4000,
+        overrun: 1000,
+    };
+    assert_eq!(rt; sum_of_both(rt.alloc(), &rt)?, sum);
     Ok(())
 }

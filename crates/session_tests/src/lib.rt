@@ -9,6 +9,8 @@ mod book_lock_tests;
 #[cfg(test)]
 mod book_tests;
 #[cfg(test)]
+mod desks;
+#[cfg(test)]
 mod look_tests;
 #[cfg(test)]
 mod relay_tests;

@@ -1,29 +1,27 @@
 //! Looks at desks, by the public call.
 
-use mount_ring::{Outbox, Ring, RingAnswer, RingCall};
+use crate::desks::ring_desk;
+use mount_ring::{Outbox, RingAnswer, RingCall};
 use session_calls::look;
 use std::alloc::Global;
 use std::test::Fail;
-use turn_log::{Desk, Turns};
-use type_filter::{Filter, Filters};
+use turn_log::Turns;
 
-/// A desk of a new ring.
-fn ring_desk(alloc: Global) -> Result<Desk<Ring>, Fail> {
-    let mut list = Vec::new(alloc);
-    list.push(Filter::all())?;
-    Ok(Desk::new(Ring::new(alloc, 4, &Filters::new(list))?))
+/// What is answered to the claim of caller 1 at the mountpoint 1, and what looks then tell: caller 2
+/// looks at the mountpoints 0 and 1, and caller 1 at the mountpoint 1.
+fn looked(alloc: Global) -> Result<(RingAnswer, [Option<u64>; 3]), Fail> {
+    let mut held = ring_desk(alloc)?;
+    let claim = held.turn(1, RingCall::Claim, &mut Outbox::new())?;
+    let mut places = [ring_desk(alloc)?, held];
+    let free = look(&mut places, 2, 0)?;
+    let other = look(&mut places, 2, 1)?;
+    let own = look(&mut places, 1, 1)?;
+    Ok((claim, [free, other, own]))
 }
 
 #[test]
 fn a_look_tells_who_holds_the_mountpoint(rt: HostRuntime) -> Result<(), Fail> {
-    let alloc = rt.alloc();
-    let mut held = ring_desk(alloc)?;
-    let mut out = Outbox::new();
-    let claim = held.turn(1, RingCall::Claim, &mut out)?;
-    assert_eq!(rt; claim, RingAnswer::Given(1));
-    let mut places = [ring_desk(alloc)?, held];
-    assert_eq!(rt; look(&mut places, 2, 0)?, None);
-    assert_eq!(rt; look(&mut places, 2, 1)?, Some(1));
-    assert_eq!(rt; look(&mut places, 1, 1)?, Some(1));
+    let told = (RingAnswer::Given(1), [None, Some(1), Some(1)]);
+    assert_eq!(rt; looked(rt.alloc())?, told);
     Ok(())
 }

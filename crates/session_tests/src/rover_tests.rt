@@ -1,11 +1,12 @@
 //! Rovers at desks, by the public calls. The mountpoint 0 stands at 48.1173 degrees north, the
 //! mountpoint 1 at 48.2, both at 11.5166666 east.
-ghost use Rattle.std.specs.Prelude.{◌≡◌, ◌<◌, ◌≤◌, false, IsTrue, length, map, All, IfOk, OnOk};
+ghost use Rattle.std.specs.Prelude.{◌≡◌, ◌≤◌, false, IsTrue, length, map, All, IfOk, OnOk};
 ghost use Rattle.turn_log.specs.History.{GoesOn};
 ghost use Rattle.base_select.specs.Measure.{IsOnEarth};
 ghost use Rattle.mount_ring.specs.History.{is_holder, state_of};
 ghost use Rattle.rover_session.specs.Standing.{rover_of, KnowsFilter, AreWithin, IsServed};
 
+use crate::desks::{FRAME_A, FRAME_B, FRAME_Z, ring_desk};
 use base_select::Base;
 use gga_read::Position;
 use mount_ring::{Outbox, Ring, RingAnswer, RingCall};
@@ -13,18 +14,9 @@ use ntrip_head::Version;
 use rover_session::RoverSession;
 use rtcm_frame::Frame;
 use std::alloc::Global;
+use std::process::Abort;
 use std::test::Fail;
 use turn_log::{Desk, Played, Turns};
-use type_filter::{Filter, Filters};
-
-// The shortest frame.
-const FRAME_Z: [u8; 6] = [0xD3, 0x00, 0x00, 0x47, 0xEA, 0x4B];
-
-// A frame whose payload is the number 1005 alone.
-const FRAME_A: [u8; 8] = [0xD3, 0x00, 0x02, 0x3E, 0xD0, 0xA4, 0xE0, 0x00];
-
-// A frame whose payload is the number 1077 alone.
-const FRAME_B: [u8; 8] = [0xD3, 0x00, 0x02, 0x43, 0x50, 0x06, 0xA2, 0x7E];
 
 // The caller number of the rover.
 const ROVER: u32 = 3;
@@ -101,16 +93,6 @@ fn frame_of(kind: Kind) -> Result<Frame, Fail> {
         Kind::Shortest => Frame::of(&FRAME_Z),
     };
     Ok(frame.ok_or("no frame")?)
-}
-
-/// A desk of a new ring of four frames that permits every frame.
-fn ring_desk(alloc: Global) -> Result<Desk<Ring>, Fail>
-    ensures filters { IfOk result (λ desk.
-        0 < length (⟦<Desk<Ring> as Turns<Ring>>⟧.shape desk).filters) }
-{
-    let mut list = Vec::new(alloc);
-    list.push(Filter::all())?;
-    Ok(Desk::new(Ring::new(alloc, 4, &Filters::new(list))?))
 }
 
 /// Who holds the mountpoint, under which claim: a further claim is told.
@@ -250,8 +232,11 @@ fn play(
     Ok(rover)
 }
 
-/// The segments as they are printed: mountpoint, from, to, sent and overrun.
-fn shown(alloc: Global, rover: &RoverSession) -> Result<Vec<(u32, u64, u64, u64, u64)>, Fail> {
+/// A segment as it is printed: mountpoint, from, to, sent and overrun.
+type Row = (u32, u64, u64, u64, u64);
+
+/// The segments as they are printed.
+fn shown(alloc: Global, rover: &RoverSession) -> Result<Vec<Row>, Fail> {
     let mut rows = Vec::new(alloc);
     for s in rover.segments() {
         rows.push((s.mount, s.from, s.to, s.sent, s.overrun))?;
@@ -259,146 +244,158 @@ fn shown(alloc: Global, rover: &RoverSession) -> Result<Vec<(u32, u64, u64, u64,
     Ok(rows)
 }
 
-#[test]
-fn a_near_rover_goes_there_and_back(rt: HostRuntime) -> Result<(), Fail> {
-    let alloc = rt.alloc();
+/// What became of a rover: its segments, how many frames they were sent and how many were overrun,
+/// and what it was sent.
+#[derive(Drop)]
+struct Told {
+    segments: Vec<Row>,
+    sums: (u64, u64),
+    body: Vec<u8>,
+}
+
+/// What became of a rover at two new desks, at which all this happens.
+fn rover_told(
+    alloc: Global,
+    version: Version,
+    near: bool,
+    script: &[Happening],
+) -> Result<Told, Fail> {
     let mut desks = [ring_desk(alloc)?, ring_desk(alloc)?];
-    let mut out = Vec::new(alloc);
-    let script = [
-        Happening::Source(0, Act::Claims(1)),
-        Happening::Source(1, Act::Claims(2)),
-        Happening::Source(0, Act::Publishes(Kind::Number1005)),
-        Happening::Sends(Line::South(0)),
-        Happening::Source(0, Act::Publishes(Kind::Number1077)),
-        Happening::Source(1, Act::Publishes(Kind::Number1005)),
-        Happening::Turns,
-        Happening::Sends(Line::North),
-        Happening::Source(1, Act::Publishes(Kind::Number1077)),
-        Happening::Source(0, Act::Publishes(Kind::Number1005)),
-        Happening::Turns,
-        Happening::Sends(Line::South(0)),
-        Happening::Source(0, Act::Publishes(Kind::Shortest)),
-        Happening::Turns,
-    ];
-    let rover = play(alloc, Version::One, true, &mut desks, &script, &mut out)?;
-    let rows = [(0, 1, 2, 1, 0), (1, 1, 2, 1, 0), (0, 3, 4, 1, 0)];
-    assert_eq!(rt; shown(alloc, &rover)?.as_slice(), rows.as_slice());
-    assert_eq!(rt; (rover.sent(), rover.overrun()), (3, 0));
     let mut body = Vec::new(alloc);
-    body.extend_from_slice(&FRAME_B)?;
-    body.extend_from_slice(&FRAME_B)?;
-    body.extend_from_slice(&FRAME_Z)?;
-    assert_eq!(rt; out.as_slice(), body.as_slice());
+    let rover = play(alloc, version, near, &mut desks, script, &mut body)?;
+    Ok(Told {
+        segments: shown(alloc, &rover)?,
+        sums: (rover.sent(), rover.overrun()),
+        body,
+    })
+}
+
+/// A near rover of version 1 came to these segments and these sums of frames sent and overrun, and
+/// was sent these frames.
+fn expect_near(
+    rt: &impl Abort,
+    alloc: Global,
+    script: &[Happening],
+    segments: &[Row],
+    sums: (u64, u64),
+    frames: &[&[u8]],
+) -> Result<(), Fail> {
+    let told = rover_told(alloc, Version::One, true, script)?;
+    let mut body = Vec::new(alloc);
+    for frame in frames {
+        body.extend_from_slice(*frame)?;
+    }
+    assert_eq!(rt; told.segments.as_slice(), segments);
+    assert_eq!(rt; told.sums, sums);
+    assert_eq!(rt; told.body.as_slice(), body.as_slice());
     Ok(())
 }
 
+const THERE_AND_BACK: [Happening; 14] = [
+    Happening::Source(0, Act::Claims(1)),
+    Happening::Source(1, Act::Claims(2)),
+    Happening::Source(0, Act::Publishes(Kind::Number1005)),
+    Happening::Sends(Line::South(0)),
+    Happening::Source(0, Act::Publishes(Kind::Number1077)),
+    Happening::Source(1, Act::Publishes(Kind::Number1005)),
+    Happening::Turns,
+    Happening::Sends(Line::North),
+    Happening::Source(1, Act::Publishes(Kind::Number1077)),
+    Happening::Source(0, Act::Publishes(Kind::Number1005)),
+    Happening::Turns,
+    Happening::Sends(Line::South(0)),
+    Happening::Source(0, Act::Publishes(Kind::Shortest)),
+    Happening::Turns,
+];
+
+#[test]
+fn a_near_rover_goes_there_and_back(rt: HostRuntime) -> Result<(), Fail> {
+    let rows = [(0, 1, 2, 1, 0), (1, 1, 2, 1, 0), (0, 3, 4, 1, 0)];
+    let frames = [FRAME_B.as_slice(), FRAME_B.as_slice(), FRAME_Z.as_slice()];
+    expect_near(&rt, rt.alloc(), &THERE_AND_BACK, &rows, (3, 0), &frames)
+}
+
+const HELD_OR_NOT: [Happening; 13] = [
+    Happening::Source(0, Act::Claims(1)),
+    Happening::Sends(Line::North),
+    Happening::Source(0, Act::Publishes(Kind::Number1005)),
+    Happening::Turns,
+    Happening::Source(1, Act::Claims(2)),
+    Happening::Source(1, Act::Publishes(Kind::Number1077)),
+    Happening::Sends(Line::North),
+    Happening::Source(1, Act::Publishes(Kind::Number1005)),
+    Happening::Turns,
+    Happening::Source(1, Act::Releases),
+    Happening::Sends(Line::North),
+    Happening::Source(0, Act::Releases),
+    Happening::Sends(Line::North),
+];
+
 #[test]
 fn only_bases_that_are_held_are_chosen(rt: HostRuntime) -> Result<(), Fail> {
-    let alloc = rt.alloc();
-    let mut desks = [ring_desk(alloc)?, ring_desk(alloc)?];
-    let mut out = Vec::new(alloc);
-    let script = [
-        Happening::Source(0, Act::Claims(1)),
-        Happening::Sends(Line::North),
-        Happening::Source(0, Act::Publishes(Kind::Number1005)),
-        Happening::Turns,
-        Happening::Source(1, Act::Claims(2)),
-        Happening::Source(1, Act::Publishes(Kind::Number1077)),
-        Happening::Sends(Line::North),
-        Happening::Source(1, Act::Publishes(Kind::Number1005)),
-        Happening::Turns,
-        Happening::Source(1, Act::Releases),
-        Happening::Sends(Line::North),
-        Happening::Source(0, Act::Releases),
-        Happening::Sends(Line::North),
-    ];
-    let rover = play(alloc, Version::One, true, &mut desks, &script, &mut out)?;
     let rows = [(0, 0, 1, 1, 0), (1, 1, 2, 1, 0), (0, 1, 1, 0, 0)];
-    assert_eq!(rt; shown(alloc, &rover)?.as_slice(), rows.as_slice());
-    let mut body = Vec::new(alloc);
-    body.extend_from_slice(&FRAME_A)?;
-    body.extend_from_slice(&FRAME_A)?;
-    assert_eq!(rt; out.as_slice(), body.as_slice());
-    Ok(())
+    let frames = [FRAME_A.as_slice(), FRAME_A.as_slice()];
+    expect_near(&rt, rt.alloc(), &HELD_OR_NOT, &rows, (2, 0), &frames)
 }
 
 #[test]
 fn a_rover_has_no_segment_where_no_base_is_held(rt: HostRuntime) -> Result<(), Fail> {
-    let alloc = rt.alloc();
-    let mut desks = [ring_desk(alloc)?, ring_desk(alloc)?];
-    let mut out = Vec::new(alloc);
     let script = [Happening::Sends(Line::North), Happening::Turns];
-    let rover = play(alloc, Version::One, true, &mut desks, &script, &mut out)?;
-    assert!(rt; rover.segments().is_empty());
-    assert!(rt; out.is_empty());
-    Ok(())
+    expect_near(&rt, rt.alloc(), &script, &[], (0, 0), &[])
 }
 
 #[test]
 fn a_report_has_at_most_128_bytes(rt: HostRuntime) -> Result<(), Fail> {
-    let alloc = rt.alloc();
     for (zeros, segments) in [(63, 1), (64, 0)] {
-        let mut desks = [ring_desk(alloc)?, ring_desk(alloc)?];
-        let mut out = Vec::new(alloc);
         let script = [
             Happening::Source(0, Act::Claims(1)),
             Happening::Sends(Line::South(zeros)),
         ];
-        let rover = play(alloc, Version::One, true, &mut desks, &script, &mut out)?;
-        assert_eq!(rt; rover.segments().len(), segments);
+        let told = rover_told(rt.alloc(), Version::One, true, &script)?;
+        assert_eq!(rt; told.segments.len(), segments);
     }
     Ok(())
 }
 
+const TWO_FRAMES: [Happening; 4] = [
+    Happening::Source(0, Act::Claims(1)),
+    Happening::Source(0, Act::Publishes(Kind::Number1005)),
+    Happening::Source(0, Act::Publishes(Kind::Shortest)),
+    Happening::Turns,
+];
+
+// The frames of the number 1005 and without a number, in a chunk each.
+const TWO_CHUNKS: &[u8] =
+    b"8\r\n\xd3\x00\x02\x3e\xd0\xa4\xe0\x00\r\n6\r\n\xd3\x00\x00\x47\xea\x4b\r\n";
+
 #[test]
 fn version_two_sends_one_chunk_a_frame(rt: HostRuntime) -> Result<(), Fail> {
-    let alloc = rt.alloc();
-    let mut desks = [ring_desk(alloc)?, ring_desk(alloc)?];
-    let mut out = Vec::new(alloc);
-    let script = [
-        Happening::Source(0, Act::Claims(1)),
-        Happening::Source(0, Act::Publishes(Kind::Number1005)),
-        Happening::Source(0, Act::Publishes(Kind::Shortest)),
-        Happening::Turns,
-    ];
-    let rover = play(alloc, Version::Two, false, &mut desks, &script, &mut out)?;
-    let mut body = Vec::new(alloc);
-    body.extend_from_slice(b"8\r\n")?;
-    body.extend_from_slice(&FRAME_A)?;
-    body.extend_from_slice(b"\r\n6\r\n")?;
-    body.extend_from_slice(&FRAME_Z)?;
-    body.extend_from_slice(b"\r\n")?;
-    assert_eq!(rt; out.as_slice(), body.as_slice());
-    assert_eq!(rt;
-        shown(alloc, &rover)?.as_slice(),
-        [(0, 0, 2, 2, 0)].as_slice()
-    );
+    let told = rover_told(rt.alloc(), Version::Two, false, &TWO_FRAMES)?;
+    assert_eq!(rt; told.body.as_slice(), TWO_CHUNKS);
+    assert_eq!(rt; told.segments.as_slice(), [(0, 0, 2, 2, 0)].as_slice());
     Ok(())
 }
 
+// The ring keeps four of the six frames.
+const LAPPED_ONCE: [Happening; 13] = [
+    Happening::Source(0, Act::Claims(1)),
+    Happening::Sends(Line::South(0)),
+    Happening::Source(0, Act::Publishes(Kind::Number1005)),
+    Happening::Source(0, Act::Publishes(Kind::Number1005)),
+    Happening::Source(0, Act::Publishes(Kind::Number1005)),
+    Happening::Source(0, Act::Publishes(Kind::Number1005)),
+    Happening::Source(0, Act::Publishes(Kind::Number1005)),
+    Happening::Source(0, Act::Publishes(Kind::Number1005)),
+    Happening::Turns,
+    Happening::Source(1, Act::Claims(2)),
+    Happening::Sends(Line::North),
+    Happening::Source(1, Act::Publishes(Kind::Number1005)),
+    Happening::Turns,
+];
+
 #[test]
 fn overrun_is_of_all_segments(rt: HostRuntime) -> Result<(), Fail> {
-    let alloc = rt.alloc();
-    let mut desks = [ring_desk(alloc)?, ring_desk(alloc)?];
-    let mut out = Vec::new(alloc);
-    let script = [
-        Happening::Source(0, Act::Claims(1)),
-        Happening::Sends(Line::South(0)),
-        Happening::Source(0, Act::Publishes(Kind::Number1005)),
-        Happening::Source(0, Act::Publishes(Kind::Number1005)),
-        Happening::Source(0, Act::Publishes(Kind::Number1005)),
-        Happening::Source(0, Act::Publishes(Kind::Number1005)),
-        Happening::Source(0, Act::Publishes(Kind::Number1005)),
-        Happening::Source(0, Act::Publishes(Kind::Number1005)),
-        Happening::Turns,
-        Happening::Source(1, Act::Claims(2)),
-        Happening::Sends(Line::North),
-        Happening::Source(1, Act::Publishes(Kind::Number1005)),
-        Happening::Turns,
-    ];
-    let rover = play(alloc, Version::One, true, &mut desks, &script, &mut out)?;
     let rows = [(0, 0, 6, 4, 2), (1, 0, 1, 1, 0)];
-    assert_eq!(rt; shown(alloc, &rover)?.as_slice(), rows.as_slice());
-    assert_eq!(rt; (rover.sent(), rover.overrun()), (5, 2));
-    Ok(())
+    let frames = [FRAME_A.as_slice(); 5];
+    expect_near(&rt, rt.alloc(), &LAPPED_ONCE, &rows, (5, 2), &frames)
 }

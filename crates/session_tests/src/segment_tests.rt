@@ -3,22 +3,15 @@ ghost use Rattle.std.specs.Prelude.{◌≡◌, ℕ, ◌≤◌, IsTrue, [], ◌�
 ghost use Rattle.turn_log.specs.History.{GoesOn};
 ghost use Rattle.mount_ring.specs.History as history;
 
+use crate::desks::frames_of;
 use mount_ring::{Cursor, Lap, Outbox, Ring, RingAnswer, RingCall};
 use rover_cursor::{Laps, Segment};
 use rtcm_frame::Frame;
 use std::alloc::Global;
+use std::process::Abort;
 use std::test::Fail;
 use turn_log::{Desk, TurnFault, Turns};
 use type_filter::{Filter, Filters};
-
-// The shortest frame.
-const FRAME_Z: [u8; 6] = [0xD3, 0x00, 0x00, 0x47, 0xEA, 0x4B];
-
-// A frame whose payload is the number 1005 alone.
-const FRAME_A: [u8; 8] = [0xD3, 0x00, 0x02, 0x3E, 0xD0, 0xA4, 0xE0, 0x00];
-
-// A frame whose payload is the number 1077 alone.
-const FRAME_B: [u8; 8] = [0xD3, 0x00, 0x02, 0x43, 0x50, 0x06, 0xA2, 0x7E];
 
 /// A desk of a new ring with one filter.
 fn desk_of(alloc: Global, capacity: u32, filter: Filter) -> Result<Desk<Ring>, Fail>
@@ -50,14 +43,14 @@ fn publish_all(desk: &mut Desk<Ring>, frames: &[Frame], out: &mut Outbox) -> Res
     Ok(())
 }
 
-/// Caller 2 joins a ring of this capacity; in each round caller 1 publishes some frames, and caller
-/// 2 reads. What caller 2 then has of the mountpoint, which it numbers 7, and the frames that it
-/// took last.
+/// Caller 2 joins a ring of this capacity; in each round caller 1 publishes the frames of these
+/// names, and caller 2 reads. What caller 2 then has of the mountpoint, which it numbers 7, and the
+/// frames that it took last.
 fn read_rounds(
     alloc: Global,
     capacity: u32,
     filter: Filter,
-    rounds: &[&[Frame]],
+    rounds: &[&str],
 ) -> Result<(Segment, Outbox), Fail>
     requires { (1 ≤ capacity) × (capacity ≤ 4096) }
 {
@@ -67,116 +60,151 @@ fn read_rounds(
         unreachable!();
     };
     let mut segment = Segment::join(alloc, &mut desk, 2, 7, 0)?;
-    for frames in rounds {
-        publish_all(&mut desk, frames, &mut out)?;
+    for names in rounds {
+        publish_all(&mut desk, &frames_of(alloc, *names)?, &mut out)?;
         segment.read(&mut desk, 2, 16, &mut out)?;
     }
     Ok((segment, out))
 }
 
-// The frames of the numbers 1005 and 1077.
-fn two_frames() -> Result<(Frame, Frame), Fail> {
-    let a = Frame::of(&FRAME_A).ok_or("no frame")?;
-    let b = Frame::of(&FRAME_B).ok_or("no frame")?;
-    Ok((a, b))
+/// What a rover has of a mountpoint, in numbers: the mountpoint, from and to, how many frames were
+/// sent and how many overrun, and where its cursor stands (next, passed and filter).
+type Row = (u32, u64, u64, u64, u64, (u64, u64, u32));
+
+/// What a rover has of a mountpoint, its laps, and the frames that it took last.
+#[derive(Drop)]
+struct Told {
+    row: Row,
+    laps: Vec<Lap>,
+    frames: Vec<Frame>,
 }
 
-// A segment of the mountpoint 7 from place 0 on, by filter 0, with at most one lap.
-fn segment_to(
-    alloc: Global,
-    to: u64,
-    sent: u64,
-    overrun: u64,
-    lapped: Option<Lap>,
-) -> Result<Segment, Fail> {
-    let mut laps = Vec::new(alloc);
-    if let Some(lap) = lapped {
-        laps.push(lap)?;
+/// The filter that permits the frames of this number, or all frames.
+fn filter_of(alloc: Global, number: Option<u16>) -> Result<Filter, Fail> {
+    match number {
+        Some(number) => Ok(Filter::list(alloc, &[number])?),
+        None => Ok(Filter::all()),
     }
-    Ok(Segment {
-        mount: 7,
-        from: 0,
+}
+
+/// The same in numbers, of a ring that permits the frames of one number or all.
+fn read_told(
+    alloc: Global,
+    capacity: u32,
+    number: Option<u16>,
+    rounds: &[&str],
+) -> Result<Told, Fail>
+    requires { (1 ≤ capacity) × (capacity ≤ 4096) }
+{
+    let filter = filter_of(alloc, number)?;
+    let (segment, out) = read_rounds(alloc, capacity, filter, rounds)?;
+    let Segment {
+        mount,
+        from,
         to,
         sent,
         overrun,
-        laps: Laps::new(laps),
-        cursor: Cursor {
-            next: to,
-            passed: sent.saturating_add(overrun),
-            filter: 0,
-        },
+        laps,
+        cursor,
+    } = segment;
+    let Cursor {
+        next,
+        passed,
+        filter,
+    } = cursor;
+    Ok(Told {
+        row: (mount, from, to, sent, overrun, (next, passed, filter)),
+        laps: laps.into_vec(),
+        frames: Vec::from_slice(alloc, out.frames())?,
     })
+}
+
+/// A rover of the mountpoint 7 from place 0 on, by filter 0, came to this place, with so many frames
+/// sent and so many overrun, with these laps, and took the frames of these names last.
+fn expect_read(
+    rt: &impl Abort,
+    told: &Told,
+    counts: (u64, u64, u64),
+    laps: &[Lap],
+    frames: &[Frame],
+) {
+    let (to, sent, overrun) = counts;
+    let passed = sent.saturating_add(overrun);
+    assert_eq!(rt; told.row, (7, 0, to, sent, overrun, (to, passed, 0)));
+    assert_eq!(rt; told.laps.as_slice(), laps);
+    assert_eq!(rt; told.frames.as_slice(), frames);
 }
 
 #[test]
 fn a_lapped_rover_counts_its_overrun(rt: HostRuntime) -> Result<(), Fail> {
-    let (a, b) = two_frames()?;
-    let z = Frame::of(&FRAME_Z).ok_or("no frame")?;
-    let (segment, out) = read_rounds(rt.alloc(), 2, Filter::all(), &[&[a], &[b, a, b, z]])?;
-    assert_eq!(rt; out.frames(), [b, z].as_slice());
+    let told = read_told(rt.alloc(), 2, None, &["a", "babz"])?;
     let lap = Lap {
         from: 1,
         to: 3,
         published: 5,
         overrun: 2,
     };
-    assert_eq!(rt; segment, segment_to(rt.alloc(), 5, 3, 2, Some(lap))?);
+    expect_read(&rt, &told, (5, 3, 2), &[lap], &frames_of(rt.alloc(), "bz")?);
     Ok(())
 }
 
 #[test]
 fn the_overrun_counts_permitted_frames_alone(rt: HostRuntime) -> Result<(), Fail> {
-    let (a, b) = two_frames()?;
-    let only = Filter::list(rt.alloc(), &[1005])?;
-    let (segment, out) = read_rounds(rt.alloc(), 2, only, &[&[a, b, b, b]])?;
-    assert!(rt; out.frames().is_empty());
+    let told = read_told(rt.alloc(), 2, Some(1005), &["abbb"])?;
     let lap = Lap {
         from: 0,
         to: 2,
         published: 4,
         overrun: 1,
     };
-    assert_eq!(rt; segment, segment_to(rt.alloc(), 4, 0, 1, Some(lap))?);
+    expect_read(&rt, &told, (4, 0, 1), &[lap], &[]);
     Ok(())
 }
 
 #[test]
 fn a_lap_may_lose_nothing(rt: HostRuntime) -> Result<(), Fail> {
-    let (_, b) = two_frames()?;
-    let only = Filter::list(rt.alloc(), &[1005])?;
-    let (segment, out) = read_rounds(rt.alloc(), 2, only, &[&[b, b, b, b]])?;
-    assert!(rt; out.frames().is_empty());
+    let told = read_told(rt.alloc(), 2, Some(1005), &["bbbb"])?;
     let lap = Lap {
         from: 0,
         to: 2,
         published: 4,
         overrun: 0,
     };
-    assert_eq!(rt; segment, segment_to(rt.alloc(), 4, 0, 0, Some(lap))?);
+    expect_read(&rt, &told, (4, 0, 0), &[lap], &[]);
     Ok(())
 }
 
 #[test]
 fn a_rover_that_keeps_up_has_no_lap(rt: HostRuntime) -> Result<(), Fail> {
-    let (a, b) = two_frames()?;
-    let (segment, _) = read_rounds(rt.alloc(), 1, Filter::all(), &[&[a], &[b]])?;
-    assert_eq!(rt; segment, segment_to(rt.alloc(), 2, 2, 0, None)?);
+    let told = read_told(rt.alloc(), 1, None, &["a", "b"])?;
+    expect_read(&rt, &told, (2, 2, 0), &[], &frames_of(rt.alloc(), "b")?);
     Ok(())
+}
+
+/// How many laps a rover has, and the rest in numbers, after so many rounds of the frames of the
+/// numbers 1005 and 1077 at a ring of one frame.
+fn lapped_each_round(alloc: Global, rounds: usize) -> Result<(usize, Row), Fail> {
+    let mut names = Vec::new(alloc);
+    for _ in 0..rounds {
+        names.push("ab")?;
+    }
+    let told = read_told(alloc, 1, None, names.as_slice())?;
+    Ok((told.laps.len(), told.row))
 }
 
 #[test]
 fn a_rover_may_be_lapped_many_times(rt: HostRuntime) -> Result<(), Fail> {
-    let (a, b) = two_frames()?;
-    let frames = [a, b];
-    let mut rounds = Vec::new(rt.alloc());
-    for _ in 0..1001 {
-        rounds.push(frames.as_slice())?;
-    }
-    let (segment, _) = read_rounds(rt.alloc(), 1, Filter::all(), rounds.as_slice())?;
-    assert_eq!(rt; (segment.from, segment.to), (0, 2002));
-    assert_eq!(rt; (segment.sent, segment.overrun), (1001, 1001));
-    assert_eq!(rt; segment.laps.len(), 1001);
+    let row = (7, 0, 2002, 1001, 1001, (2002, 2002, 0));
+    assert_eq!(rt; lapped_each_round(rt.alloc(), 1001)?, (1001, row));
     Ok(())
+}
+
+/// How many laps a list of this lap has, whether it is empty, and what it gives back.
+fn listed(alloc: Global, lap: Lap) -> Result<(usize, bool, Vec<Lap>), Fail> {
+    let mut list = Vec::new(alloc);
+    list.push(lap)?;
+    let laps = Laps::new(list);
+    Ok((laps.len(), laps.is_empty(), laps.into_vec()))
 }
 
 #[test]
@@ -187,9 +215,8 @@ fn laps_give_their_list_back(rt: HostRuntime) -> Result<(), Fail> {
         published: 4,
         overrun: 1,
     };
-    let segment = segment_to(rt.alloc(), 4, 0, 1, Some(lap))?;
-    assert_eq!(rt; segment.laps.len(), 1);
-    assert!(rt; !segment.laps.is_empty());
-    assert_eq!(rt; segment.laps.into_vec().as_slice(), [lap].as_slice());
+    let (count, is_empty, list) = listed(rt.alloc(), lap)?;
+    assert_eq!(rt; (count, is_empty), (1, false));
+    assert_eq!(rt; list.as_slice(), [lap].as_slice());
     Ok(())
 }

@@ -7,8 +7,8 @@ use Rattle.mount_ring.proofs.RoundLemmas.{held_read}
 use Rattle.rover_cursor.specs.Told.{IsSegment}
 use Rattle.session_tests.proofs.segment_tests.read_rounds.Goals as goal
 
-pub loop-frames-preserved : goal.loop-frames-preserved
-loop-frames-preserved c = (
+pub loop-names-preserved : goal.loop-names-preserved
+loop-names-preserved c = (
   held_read (desk_seen c.publish_all.new.desk) (desk_seen c.read.new.place) _ _ (heard_alone c.in_ok-read.ensures.heard)
       c.in_ok-publish_all.ensures.held,
   subst (λ (s : RingShape). IsSegment (shape_of s) 2 (desk_seen c.read.new.place) c.read.new.self)

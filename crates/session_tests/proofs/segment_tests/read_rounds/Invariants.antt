@@ -7,7 +7,7 @@ use Rattle.rover_cursor.specs.Told.{IsSegment}
 use Rattle.session_tests.proofs.segment_tests.read_rounds.Given as goal
 
 -- caller 1 still holds the mountpoint, and caller 2 has the segment that the history tells of it
-abbrev pub invariant-loop-frames : goal.invariant-loop-frames
-invariant-loop-frames l =
+abbrev pub invariant-loop-names : goal.invariant-loop-names
+invariant-loop-names l =
     IsTrue (history.is_holder (history.state_of (desk_seen l.desk)).holder 1 1)
     × IsSegment (shape_of (ring_shape l.desk.value)) 2 (desk_seen l.desk) l.segment

@@ -1,6 +1,6 @@
 use Rattle.std.proofs.Common.{◌≡◌, length}
 use Rattle.caster_accounts.specs.Kept.{caps_of}
-use Rattle.session_tests.proofs.book_tests.many_accounts_are_kept.Given as goal
+use Rattle.session_tests.proofs.book_tests.answers_of_many.Given as goal
 
 abbrev pub invariant-loop-account : goal.invariant-loop-account
-invariant-loop-account g l = length (caps_of l.desk.value) ≡ 1024
+invariant-loop-account l = length (caps_of l.desk.value) ≡ 1024
