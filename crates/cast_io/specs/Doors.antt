@@ -26,7 +26,7 @@ ArrivesNew told (arrived.Link link) = IsNewLink (told link)
 ArrivesNew told arrived.Idle = ⊤
 ArrivesNew told arrived.Failed = ⊤
 
--- so did an accept
+-- so did an accept; one that did not fail leaves the count as it was
 pub record HasAccepted {L : Type 0} (told : L → LinkTold) (old new : DoorTold) (result : Arrived L)
     : Type 0 where
   pub left : StillTold (TakesArrival told result) old.left new.left
@@ -34,6 +34,7 @@ pub record HasAccepted {L : Type 0} (told : L → LinkTold) (old new : DoorTold)
   pub back : new.back ≡ old.back
   pub later : old.faults ≤ new.faults
   pub failed : IsTrue (accept_failed result) → Rose old.faults new.faults
+  pub unharmed : accept_failed result ≡ false → new.faults ≡ old.faults
 
 -- the door took a link back, which is told as it is then
 pub record HasHungUp (link : LinkTold) (old new : DoorTold) : Type 0 where
