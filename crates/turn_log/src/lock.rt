@@ -1,5 +1,6 @@
 //! One lock for any object: callers draw tickets, and the object is played in their order.
 
+mod bells;
 mod closing;
 mod notes;
 mod opening;

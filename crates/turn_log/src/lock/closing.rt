@@ -36,7 +36,7 @@ impl<V: Played> Turn<V> {
         } = last;
         self.take_in_all(&mut token, &mut passes);
         passes.destroy_empty();
-        let Turn { table } = self;
+        let Turn { table, bells: _ } = self;
         let mut closed = table.close_with(token);
         let Held { value, last: _ } = closed.take(OBJECT);
         closed.free();

@@ -6,6 +6,7 @@ ghost use Rattle.turn_log.specs.LockSteps.{after_deal};
 ghost use Rattle.turn_log.specs.LockRule.{from, maker};
 ghost use Rattle.turn_log.specs.Lock.{turn_passes, turn_value, pass_number, pass_seen, pass_worn, IsPassOf};
 
+use super::bells::Bells;
 use super::parts::{Pass, Token, Turn};
 use super::plays::Deal;
 use super::rule::{Held, Key};
@@ -50,9 +51,10 @@ impl<V: Played + Drop> Turn<V> {
             passes,
             value: Snapshot::of(&value),
         };
+        let bells = Bells::with_count(alloc, passes)?;
         let slots = lone_slot(alloc, value)?;
         match Table::new(alloc, &[0, 0], slots, &key) {
-            Ok((table, first)) => Ok((Turn { table }, first)),
+            Ok((table, first)) => Ok((Turn { table, bells }, first)),
             Err(_) => Err(AllocError),
         }
     }

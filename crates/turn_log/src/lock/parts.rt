@@ -4,6 +4,7 @@ ghost use Rattle.turn_log.specs.declared.lock.rule.Stage.TheVariants.{Idle};
 ghost use Rattle.turn_log.specs.History.{IsLegal};
 ghost use Rattle.turn_log.specs.LockNames.{table_id_set};
 
+use super::bells::Bells;
 use super::rule::{Fair, Held, Key, Known};
 use crate::object::Played;
 use atomic_table::Table;
@@ -18,6 +19,8 @@ pub type Token<V> = atomic_table::Seat<Held<V, <V as Played>::Call>, Known<<V as
 #[derive(Drop)]
 pub struct Turn<V: Played> {
     pub(super) table: Table<Held<V, V::Call>, Known<V::Call, V>, Key<V>, Fair<V>, Global>,
+    // Where callers sleep while they wait.
+    pub(super) bells: Bells,
     // Two words, ticket and serving, and one slot, the object's.
     ghost sized: { (table.shared.table_id.words ≡ 2) × (table.shared.table_id.slots ≡ 1) },
     ghost some_pass: { 0 < table.shared.key.passes },

@@ -5,13 +5,14 @@ ghost use Rattle.turn_log.specs.History.{History};
 ghost use Rattle.turn_log.specs.LockRule.{times};
 ghost use Rattle.turn_log.specs.LockSteps.{Took, TookTurn};
 
+use super::bells::{rings, sleep};
 use super::parts::{Token, Turn};
 use super::plays::{Advance, Clear, Draw, Look};
 use super::rule::Held;
 use crate::object::Played;
 use crate::place::MOST;
+use std::hint::spin_loop;
 use std::sync::Wait;
-use std::thread;
 
 /// The word of the ticket that is served.
 pub const SERVING: usize = 0;
@@ -21,6 +22,9 @@ pub const TICKET: usize = 1;
 
 /// The lock's one slot.
 pub const OBJECT: usize = 0;
+
+/// How often who waits looks before it sleeps between two looks.
+const LOOKS: u32 = 50;
 
 impl<V: Played> Turn<V> {
     /// Draws a ticket. Where 2^62 or more were drawn, it tells how many.
@@ -42,8 +46,9 @@ impl<V: Played> Turn<V> {
         Ok(self.table.shared.fetch_add::<Draw<V>>(token, TICKET, 1))
     }
 
-    /// Waits until the ticket is served, and yields the processor between two looks. Then the
-    /// object is lent to the token.
+    /// Waits until the ticket is served, and then the object is lent to the token. After some looks
+    /// it sleeps between two of them: rings are counted before a look and not after it, so that a
+    /// bell that is rung in between ends the sleep at once.
     fn wait<R: Wait>(&self, rt: &R, token: &mut Token<V>, ticket: u64)
         requires here { token.old.table_id ≡ self.now.table.shared.table_id }
         requires waiting { token.old.me.0.stage ≡ Waiting ticket }
@@ -51,14 +56,31 @@ impl<V: Played> Turn<V> {
         ensures same { (token.new.table_id ≡ token.old.table_id) × (token.new.id ≡ token.old.id) }
         ensures took { Took V.stands V.shape V.fits ticket token.old.me token.new.me }
     {
+        let bell = self.bells.of(ticket);
+        let mut looks: u32 = 0;
         for _ in rt.forever() {
+            let rung = rings(bell);
             let serving = self.table.shared.load::<Look<V>>(token, SERVING);
             if serving == ticket {
                 return;
             }
-            thread::yield_now();
+            if looks < LOOKS {
+                looks += 1;
+                spin_loop();
+            } else {
+                sleep(rt, bell, rung);
+            }
         }
         unreachable!()
+    }
+
+    /// Wakes who has the ticket after this one, if it was drawn. Who draws it later looks at the
+    /// word that is served later too, and need not be woken.
+    fn wake_next(&self, ticket: u64) {
+        let next = ticket.wrapping_add(1);
+        if self.table.shared.peek(TICKET) != next {
+            self.bells.ring(next);
+        }
     }
 
     /// Draws a ticket, waits for it, plays the object and lets the next be served. Where 2^62 or
@@ -89,6 +111,7 @@ impl<V: Played> Turn<V> {
         self.wait(rt, token, ticket);
         let answer = play_held(token.slot_mut(&self.table.shared, OBJECT), me, call, room);
         self.table.shared.fetch_add::<Advance<V>>(token, SERVING, 1);
+        self.wake_next(ticket);
         Ok(answer)
     }
 }
