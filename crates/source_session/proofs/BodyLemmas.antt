@@ -1,5 +1,5 @@
 -- How the payload of a body, its frames and its cut grow with more of the body.
-use Rattle.std.proofs.Common.{◌≡◌, ℕ, ◌+◌, ◌≤◌, Bool, true, false, List, [], ◌∷◌, ◌++◌, length, drop, refl, ap, ◌∙◌, sym, subst, arith, append_assoc, length-append, fold}
+use Rattle.std.proofs.Common.{◌≡◌, ℕ, ◌+◌, ◌≤◌, Bool, true, false, List, [], ◌∷◌, ◌++◌, length, drop, sum_by, refl, ap, ◌∙◌, sym, subst, arith, append_assoc, length-append, fold}
 use Rattle.std.proofs.lemmas.List.{append-nil, append_cancel_left}
 use Rattle.std.proofs.Math.Seq.{drop-append_seam}
 use Rattle.rtcm_frame.specs.Cut.{cut, Parts, IsWaiting}
@@ -84,6 +84,26 @@ rest_waits = cut_induction (λ x. IsWaiting (cut x).rest)
     (λ x waits. subst (λ (p : Parts). IsWaiting p.rest) (sym (cut_waiting x waits)) waits)
     (λ frame t valid so. subst (λ (p : Parts). IsWaiting p.rest) (sym (cut-frame frame t valid)) so)
     (λ x t none finished so. subst (λ (p : Parts). IsWaiting p.rest) (sym (cut_junk x t none finished)) so)
+
+-- and it stands behind all frames and all junk
+pub rest_behind : (x : List ℕ) → (front : List ℕ) × (x ≡ front ++ (cut x).rest)
+rest_behind = cut_induction (λ x. (front : List ℕ) × (x ≡ front ++ (cut x).rest))
+    (λ x waits. ([], ap (λ (p : Parts). p.rest) (sym (cut_waiting x waits))))
+    (λ frame t valid so. (
+      frame ++ so.0,
+      ap (λ (l : List ℕ). frame ++ l) so.1 ∙ sym (append_assoc frame so.0 (cut t).rest)
+          ∙ ap (λ (p : Parts). (frame ++ so.0) ++ p.rest) (sym (cut-frame frame t valid)),
+    ))
+    (λ x t none finished so. (
+      x ∷ so.0,
+      ap (λ (l : List ℕ). x ∷ l) so.1 ∙ ap (λ (p : Parts). x ∷ so.0 ++ p.rest) (sym (cut_junk x t none finished)),
+    ))
+
+-- so they are as long as what stands in front of it
+pub front_counted : (x : List ℕ) → sum_by length (cut x).frames + (cut x).junk ≡ length (rest_behind x).0
+front_counted x =
+    let front = rest_behind x in
+    omega (arith, cut_counted x, ap length front.1, length-append front.0 (cut x).rest)
 
 pub cut_few : (x : List ℕ) → (cut x).junk + length (cut x).rest ≤ length x
 cut_few x = omega (arith, cut_counted x)

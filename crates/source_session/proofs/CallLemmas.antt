@@ -1,10 +1,11 @@
 -- The calls of a source, one after the other, and what they leave of its claim.
-use Rattle.std.proofs.Common.{◌≡◌, ℕ, ◌+◌, Bool, IsTrue, List, [], ◌∷◌, ◌++◌, length, refl, ap, ◌∙◌, sym, subst, arith, append_assoc}
+use Rattle.std.proofs.Common.{◌≡◌, ℕ, ◌+◌, Bool, IsTrue, List, [], ◌∷◌, ◌++◌, length, refl, ap, ◌∙◌, sym, subst, arith, append_assoc, length-append}
 use Rattle.std.proofs.lemmas.List.{append-nil, map-append}
 use Rattle.std.proofs.lemmas.List.Sums.{sum_by-append}
 use Rattle.rtcm_frame.specs.Cut.{cut, Parts, IsWaiting, only_rest}
-use Rattle.rtcm_frame.specs.Pending.{Pending, Took}
+use Rattle.rtcm_frame.specs.Pending.{Pending, Took, IsBehindJunk}
 use Rattle.rtcm_frame.proofs.CutLemmas.{cut_waiting}
+use Rattle.rtcm_frame.proofs.PendingLemmas.{took_none}
 use Rattle.turn_log.specs.History.{History, IsLegal, GoesOn}
 use Rattle.turn_log.specs.Turn.{Turned}
 use Rattle.turn_log.specs.Heard.{calls_in, Heard, HeardFirst}
@@ -19,7 +20,7 @@ use Rattle.mount_ring.specs.History.{State, state_of, is_holder, fits, answer}
 use Rattle.mount_ring.specs.StillFits.{still_fits_one, one_more}
 use Rattle.source_session.specs.declared.fault.SourceHalt.{SourceHalt}
 use Rattle.source_session.specs.declared.fault.SourceHalt.TheVariants.{Done, BadChunk, Worn, Memory}
-use Rattle.source_session.specs.Calls.{publishes, IsHolding, HeldSince, HeardAll, HeardUntil}
+use Rattle.source_session.specs.Calls.{publishes, IsHolding, HeldSince, HeardAll, HeardUntil, IsRefusedAt}
 
 -- what a ring of this shape answers
 abbrev pub answer_at : RingShape → History RingCall → ℕ → RingCall → RingAnswer
@@ -128,21 +129,40 @@ took_both a b c xs ys first second = record {
   counted = omega (arith, first.counted, second.counted, sum_by-append length xs ys);
 }
 
+passed_more : (a b c d : List ℕ) → a ++ (b ++ (c ++ d)) ≡ ((a ++ b) ++ c) ++ d
+passed_more a b c d = sym (append_assoc a b (c ++ d)) ∙ sym (append_assoc (a ++ b) c d)
+
 -- from one state of the cutter to the next these frames were given, and each was published
 pub record GivenSoFar {A : Type 0} (alone : Bool) (said : History RingCall → ℕ → RingCall → A)
     (old now : History RingCall) (me claim : ℕ) (from to : Pending) : Type 0 where
   pub frames : List (List ℕ)
+  -- the bytes that were passed over, of frames and junk
+  pub passed : List ℕ
+  pub over : from.bytes ≡ passed ++ to.bytes
   pub took : Took from to frames
   pub heard : HeardAll alone said old now me (publishes claim frames)
 
+-- before the first frame
+pub given_none : {A : Type 0} (alone : Bool) (said : History RingCall → ℕ → RingCall → A) (h : History RingCall)
+    (me claim : ℕ) (from : Pending) → GivenSoFar alone said h h me claim from from
+given_none alone said h me claim from = record {
+  frames = [];
+  passed = [];
+  over = refl;
+  took = took_none from;
+  heard = all_none alone said h me;
+}
+
 pub given_more : {A : Type 0} {alone : Bool} {said : History RingCall → ℕ → RingCall → A}
     {old mid now : History RingCall} {me claim : ℕ} {from to next : Pending} {frame : List ℕ} {reply : A}
-    → GivenSoFar alone said old mid me claim from to → Took to next (frame ∷ [])
+    → GivenSoFar alone said old mid me claim from to → Took to next (frame ∷ []) → IsBehindJunk to next frame
     → Heard alone said mid now me ((Publish claim frame, reply) ∷ [])
     → GivenSoFar alone said old now me claim from next
 given_more {alone = alone} {said = said} {old = old} {mid = mid} {now = now} {me = me} {claim = claim} {from = from}
-    {to = to} {next = next} {frame = frame} {reply = reply} x took heard = record {
+    {to = to} {next = next} {frame = frame} {reply = reply} x took behind heard = record {
       frames = x.frames ++ frame ∷ [];
+      passed = (x.passed ++ behind.junk) ++ frame;
+      over = x.over ∙ ap (λ (l : List ℕ). x.passed ++ l) behind.split ∙ passed_more x.passed behind.junk frame next.bytes;
       took = took_both from to next x.frames (frame ∷ []) x.took took;
       heard = subst (HeardAll alone said old now me) (sym (map-append (λ f. Publish claim f) x.frames (frame ∷ [])))
           (all_both x.heard (record { pairs = (Publish claim frame, reply) ∷ []; made = refl; heard = heard }));
@@ -172,6 +192,38 @@ given_cutter {from = from} {next = next} x took waits =
     omega (arith, x.took.junk, took.junk, ap (λ (p : Parts). p.junk) only) in
     let pending : List ℕ → ℕ → Pending = λ bytes junk. record { bytes = bytes; junk = junk } in
     ap (λ (l : List ℕ). pending l next.junk) (sym rest) ∙ ap (λ (n : ℕ). pending (cut from.bytes).rest n) (sym junk)
+
+-- where one is refused, each byte in front of it is in a frame that was published or is junk
+pub given_refused : {A : Type 0} {alone : Bool} {said : History RingCall → ℕ → RingCall → A}
+    {old mid now : History RingCall} {me claim : ℕ} {from to next : Pending} {frame : List ℕ}
+    → GivenSoFar alone said old mid me claim from to → Took to next (frame ∷ []) → IsBehindJunk to next frame
+    → now ≡ mid → (before : List ℕ) (sum : ℕ) → sum + from.junk ≡ length before
+    → IsRefusedAt alone said old now me claim (cut from.bytes).frames (before ++ from.bytes) sum next.junk
+given_refused {alone = alone} {said = said} {old = old} {mid = mid} {now = now} {me = me} {claim = claim} {from = from}
+    {to = to} {next = next} {frame = frame} x took behind none before sum counted = record {
+      given = x.frames;
+      frame = frame;
+      later = (cut next.bytes).frames;
+      next = x.took.in_order ∙ ap (λ (l : List (List ℕ)). x.frames ++ l) took.in_order;
+      made = subst (λ (h : History RingCall). HeardAll alone said old h me (publishes claim x.frames)) (sym none)
+          x.heard;
+      front = before ++ (x.passed ++ behind.junk);
+      behind = next.bytes;
+      split = ap (λ (l : List ℕ). before ++ l)
+          (x.over ∙ ap (λ (l : List ℕ). x.passed ++ l) behind.split
+          ∙ sym (append_assoc x.passed behind.junk (frame ++ next.bytes)))
+          ∙ sym (append_assoc before (x.passed ++ behind.junk) (frame ++ next.bytes));
+      counted = omega (
+        arith,
+        counted,
+        x.took.counted,
+        behind.added,
+        ap length x.over,
+        length-append x.passed to.bytes,
+        length-append before (x.passed ++ behind.junk),
+        length-append x.passed behind.junk,
+      );
+    }
 
 -- ---- one turn
 

@@ -1,5 +1,6 @@
 -- Where a session stands, with more of its body.
-use Rattle.std.proofs.Common.{◌≡◌, ℕ, ◌+◌, ◌≤◌, ◌<◌, ◌^◌, Bool, List, [], ◌∷◌, ◌++◌, ◌-◌, length, take, drop, get_or, length-drop, length-take-le, Result, Err, IfErr, ap, ◌∙◌, sym, subst, arith, append_assoc, length-append, Option, None, Some}
+use Rattle.std.proofs.Common.{◌≡◌, ℕ, ◌+◌, ◌≤◌, ◌<◌, ◌^◌, Bool, List, [], ◌∷◌, ◌++◌, ◌-◌, length, take, drop, sum_by, get_or, length-drop, length-take-le, Result, Err, IfErr, ap, ◌∙◌, sym, subst, arith, append_assoc, length-append, Option, None, Some}
+use Rattle.std.proofs.lemmas.List.Sums.{sum_by-append}
 use Rattle.std.proofs.lemmas.List.{append-nil, map-append, take_more, take_rest, take-append-drop}
 use Rattle.std.specs.Prelude.{is_some, IsTrue}
 use Rattle.rtcm_frame.specs.Cut.{cut, IsWaiting}
@@ -17,11 +18,11 @@ use Rattle.mount_ring.specs.declared.RingCall.{RingCall}
 use Rattle.mount_ring.specs.declared.RingCall.TheVariants.{Publish}
 use Rattle.source_session.specs.declared.fault.SourceHalt.{SourceHalt}
 use Rattle.source_session.specs.declared.fault.SourceHalt.TheVariants.{Done, BadChunk, Worn, Memory}
-use Rattle.source_session.specs.Body.{payload, completed}
-use Rattle.source_session.specs.Calls.{publishes, HeardAll, HeardUntil}
+use Rattle.source_session.specs.Body.{payload, frames_of, completed}
+use Rattle.source_session.specs.Calls.{publishes, HeardAll, HeardUntil, IfRefused, IsRefusedAt, IsRefusedIn}
 use Rattle.source_session.specs.Standing.{cutter_at, GoesOnAt, EndsAt, BreaksAt, IsCutUp, IsCutShort, StandsBy}
 use Rattle.source_session.specs.Refusals.{halt_refused}
-use Rattle.source_session.proofs.BodyLemmas.{plain_ended, plain_bad, payload_short, payload_more, cut_few, rest_waits, completed_by, completed_none, completed_both, cutter_more, junk_more}
+use Rattle.source_session.proofs.BodyLemmas.{plain_ended, plain_bad, payload_short, payload_more, cut_few, rest_waits, completed_by, completed_none, completed_both, cutter_more, junk_more, frames_more, rest_behind, front_counted}
 use Rattle.source_session.proofs.CallLemmas.{all_none, all_both, first_more, until_both}
 
 -- ---- what has ended, is bad or was refused stays so
@@ -219,6 +220,86 @@ module _ (c : Bool) (cutter pushed : Pending) (body more y : List ℕ) (at : cut
 
 -- ---- a refused turn
 
+-- a cutter that took what more of the body carries: where a frame of these is refused, the bytes in
+-- front of what it held before are in frames of the body before or are junk
+module _ {A : Type 0} (alone : Bool) (said : History RingCall → ℕ → RingCall → A) (old now : History RingCall)
+    (me claim : ℕ) (c : Bool) (cutter pushed : Pending) (body more y : List ℕ) (junk : ℕ)
+    (at : cutter ≡ cutter_at (payload c body)) (behind : pushed ≡ with_bytes cutter y)
+    (carries : payload c (body ++ more) ≡ payload c body ++ y) where
+  pub refused_pushed : ((before : List ℕ) (sum : ℕ) → sum + pushed.junk ≡ length before
+      → IsRefusedAt alone said old now me claim (cut pushed.bytes).frames (before ++ pushed.bytes) sum junk)
+      → IsRefusedIn alone said old now me claim c body more junk
+  refused_pushed refused =
+      let x : List ℕ = payload c body in
+      let front = rest_behind x in
+      let is : pushed ≡ with_bytes (cutter_at x) y = behind ∙ ap (λ (p : Pending). with_bytes p y) at in
+      let sum : ℕ = sum_by length (frames_of c body) in
+      let counted : sum + pushed.junk ≡ length front.0 =
+      ap (λ (p : Pending). sum + p.junk) is ∙ front_counted x in
+      let bytes : front.0 ++ pushed.bytes ≡ payload c (body ++ more) =
+      ap (λ (p : Pending). front.0 ++ p.bytes) is
+      ∙ sym (append_assoc front.0 (cut x).rest y)
+      ∙ ap (λ (l : List ℕ). l ++ y) (sym front.1)
+      ∙ sym carries
+      in
+      subst (λ (l : List ℕ). IsRefusedAt alone said old now me claim (completed c body more) l sum junk) bytes
+      (subst (λ (fs : List (List ℕ)). IsRefusedAt alone said old now me claim fs (front.0 ++ pushed.bytes) sum junk)
+      (frames_pushed c cutter pushed body more y at behind carries) (refused front.0 sum counted))
+
+-- behind calls that were all made, and whatever bytes come then
+pub refused_within : {A : Type 0} (alone : Bool) (said : History RingCall → ℕ → RingCall → A) (me claim : ℕ)
+    (c : Bool) (old mid now : History RingCall) (body front more rest bytes : List ℕ) (junk : ℕ)
+    → (front ++ more) ++ rest ≡ bytes
+    → HeardAll alone said old mid me (publishes claim (completed c body front))
+    → IsRefusedIn alone said mid now me claim c (body ++ front) more junk
+    → IsRefusedIn alone said old now me claim c body bytes junk
+refused_within alone said me claim c old mid now body front more rest bytes junk split heard x =
+    let first : List (List ℕ) = completed c body front in
+    let before : List ℕ = body ++ (front ++ more) in
+    let last : List (List ℕ) = completed c before rest in
+    let same : (body ++ front) ++ more ≡ before = append_assoc body front more in
+    let ends : before ++ rest ≡ body ++ bytes =
+    append_assoc body (front ++ more) rest ∙ ap (λ (l : List ℕ). body ++ l) split in
+    let carries = payload_more c before rest in
+    record {
+      given = first ++ x.given;
+      frame = x.frame;
+      later = x.later ++ last;
+      next = ap (completed c body) (sym split)
+          ∙ completed_both c body (front ++ more) rest
+          ∙ ap (λ (l : List (List ℕ)). l ++ last) (completed_both c body front more
+          ∙ ap (λ (l : List (List ℕ)). first ++ l) x.next)
+          ∙ ap (λ (l : List (List ℕ)). l ++ last) (sym (append_assoc first x.given (x.frame ∷ x.later)))
+          ∙ append_assoc (first ++ x.given) (x.frame ∷ x.later) last;
+      made = subst (HeardAll alone said old now me) (sym (map-append (λ frame. Publish claim frame) first x.given))
+          (all_both heard x.made);
+      front = x.front;
+      behind = x.behind ++ carries.0;
+      split = ap (payload c) (sym ends)
+          ∙ carries.1
+          ∙ ap (λ (l : List ℕ). l ++ carries.0) (ap (payload c) (sym same) ∙ x.split)
+          ∙ append_assoc x.front (x.frame ++ x.behind) carries.0
+          ∙ ap (λ (l : List ℕ). x.front ++ l) (append_assoc x.frame x.behind carries.0);
+      counted = omega (
+        arith,
+        x.counted,
+        ap (sum_by length) (frames_more c body front),
+        sum_by-append length (frames_of c body) first,
+        sum_by-append length first x.given,
+      );
+    }
+
+-- by the refusal of a turn, and by any halt
+pub if_refused : {P : Type 0} (fault : TurnFault) → P → IfRefused (halt_refused fault) P
+if_refused (faults.Worn turns) holds = holds
+if_refused faults.Memory holds = holds
+
+pub refused_weaker : {P Q : Type 0} (halt : SourceHalt) → (P → Q) → IfRefused halt P → IfRefused halt Q
+refused_weaker Done f x = tt
+refused_weaker (BadChunk place) f x = tt
+refused_weaker (Worn turns) f x = f x
+refused_weaker Memory f x = f x
+
 pub stands_refused : (fault : TurnFault) (chunks : Option Reading) (cutter : Pending) (body : List ℕ)
     → IsCutShort (is_some chunks) cutter body → StandsBy (Some (halt_refused fault)) chunks cutter body
 stands_refused (faults.Worn turns) chunks cutter body short = short
@@ -249,6 +330,15 @@ pub until_same : {A : Type 0} {alone still : Bool} {said says : History RingCall
 until_same {alone = alone} {still = still} {said = said} {says = says} halt old now me calls same names x =
     subst (λ a. HeardUntil halt a said old now me calls) same
     (subst (λ f. HeardUntil halt still f old now me calls) names x)
+
+pub refused_same : {A : Type 0} {alone still : Bool} {said says : History RingCall → ℕ → RingCall → A}
+    (old now : History RingCall) (me claim : ℕ) (c : Bool) (body more : List ℕ) (junk : ℕ) → still ≡ alone
+    → says ≡ said → IsRefusedIn still says old now me claim c body more junk
+    → IsRefusedIn alone said old now me claim c body more junk
+refused_same {alone = alone} {still = still} {said = said} {says = says} old now me claim c body more junk same names x
+    =
+    subst (λ a. IsRefusedIn a said old now me claim c body more junk) same
+    (subst (λ f. IsRefusedIn still f old now me claim c body more junk) names x)
 
 -- ---- a halt within the bytes
 

@@ -1,5 +1,5 @@
 -- The calls of a source on its mountpoint.
-use Rattle.std.specs.Prelude.{◌≡◌, ℕ, Bool, IsTrue, List, [], ◌∷◌, map}
+use Rattle.std.specs.Prelude.{◌≡◌, ℕ, ◌+◌, ⊤, Bool, IsTrue, List, [], ◌∷◌, ◌++◌, length, map, sum_by}
 use Rattle.turn_log.specs.History.{History, GoesOn}
 use Rattle.turn_log.specs.Heard.{calls_in, Heard, HeardFirst}
 use Rattle.mount_ring.specs.declared.RingCall.{RingCall}
@@ -7,6 +7,7 @@ use Rattle.mount_ring.specs.declared.RingCall.TheVariants.{Claim, Publish}
 use Rattle.mount_ring.specs.declared.RingAnswer.{RingAnswer}
 use Rattle.mount_ring.specs.declared.RingAnswer.TheVariants as answers
 use Rattle.mount_ring.specs.History.{state_of, is_holder}
+use Rattle.source_session.specs.Body.{payload, frames_of, completed}
 use Rattle.source_session.specs.declared.fault.ClaimFault.{ClaimFault}
 use Rattle.source_session.specs.declared.fault.ClaimFault.TheVariants as faults
 use Rattle.source_session.specs.declared.fault.SourceHalt.{SourceHalt}
@@ -51,3 +52,36 @@ IsUnclaimed (faults.Taken caller claim) alone answer old now me =
     Heard alone answer old now me ((Claim, answers.Taken caller claim) ∷ [])
 IsUnclaimed (faults.Worn turns) alone answer old now me = now ≡ old
 IsUnclaimed faults.Memory alone answer old now me = now ≡ old
+
+-- ---- a refused turn
+
+-- what stands where a turn was refused
+abbrev pub IfRefused : SourceHalt → Type 0 → Type 0
+IfRefused Done P = ⊤
+IfRefused (BadChunk at) P = ⊤
+IfRefused (Worn turns) P = P
+IfRefused Memory P = P
+
+-- Of these frames the first were published, and then one was refused. In the bytes that it stands
+-- in, each byte before it is in a published frame, is one of so many in frames before, or is junk.
+pub record IsRefusedAt {A : Type 0} (alone : Bool) (answer : History RingCall → ℕ → RingCall → A)
+    (old now : History RingCall) (me claim : ℕ) (frames : List (List ℕ)) (bytes : List ℕ)
+    (before junk : ℕ) : Type 0 where
+  -- the frames that were published, the one that was not, and those behind it
+  pub given : List (List ℕ)
+  pub frame : List ℕ
+  pub later : List (List ℕ)
+  pub next : frames ≡ given ++ frame ∷ later
+  pub made : HeardAll alone answer old now me (publishes claim given)
+  -- where the one stands
+  pub front : List ℕ
+  pub behind : List ℕ
+  pub split : bytes ≡ front ++ (frame ++ behind)
+  pub counted : before + sum_by length given + junk ≡ length front
+
+-- the same of what more of a body completes, where all frames of the body before were published
+abbrev pub IsRefusedIn : {A : Type 0} → Bool → (History RingCall → ℕ → RingCall → A)
+    → History RingCall → History RingCall → ℕ → ℕ → Bool → List ℕ → List ℕ → ℕ → Type 0
+IsRefusedIn alone answer old now me claim chunked body more junk =
+    IsRefusedAt alone answer old now me claim (completed chunked body more)
+    (payload chunked (body ++ more)) (sum_by length (frames_of chunked body)) junk

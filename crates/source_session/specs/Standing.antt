@@ -65,3 +65,7 @@ is_cut_short (Some Done) = false
 is_cut_short (Some (BadChunk place)) = false
 is_cut_short (Some (Worn turns)) = true
 is_cut_short (Some Memory) = true
+
+-- how many bytes the session tells as junk
+abbrev pub junk_of : SourceSession → ℕ
+junk_of session = session.cutter.value.junk

@@ -5,7 +5,7 @@ ghost use Rattle.turn_log.specs.Turn.{SamePlace};
 ghost use Rattle.turn_log.specs.Heard.{HeardFirst};
 ghost use Rattle.turn_log.specs.Faults.{IsFault};
 ghost use Rattle.source_session.specs.Body.{completed};
-ghost use Rattle.source_session.specs.Calls.{publishes, IsHolding, HeardAll, HeardUntil};
+ghost use Rattle.source_session.specs.Calls.{publishes, IsHolding, HeardAll, HeardUntil, IfRefused, IsRefusedAt, IsRefusedIn};
 ghost use Rattle.source_session.specs.Standing.{cutter_at, StandsBy, IsCutShort};
 ghost use Rattle.source_session.specs.Refusals.{IsHaltOf};
 
@@ -43,6 +43,11 @@ fn publish_ready<T: Turns<Ring>>(
         (publishes claim (cut cutter.old.bytes).frames)) }
     ensures junk { OnErr result (cutter.new.junk + (cut cutter.new.bytes).junk
         ≡ cutter.old.junk + (cut cutter.old.bytes).junk) }
+    ensures short { OnErr result ((before : List ℕ) (sum : ℕ)
+        → sum + cutter.old.junk ≡ length before
+        → IsRefusedAt (T.alone place.old) (⟦<Ring as Played>⟧.answer (T.shape place.old))
+        (T.seen place.old) (T.seen place.new) me claim (cut cutter.old.bytes).frames
+        (before ++ cutter.old.bytes) sum cutter.new.junk) }
     ensures fault { IfErr result (IsFault (T.may_lack place.old) (T.worn place.new)) }
 {
     while let Some(frame) = cutter.next() {
@@ -78,6 +83,10 @@ pub fn publish_plain<T: Turns<Ring>>(
         → HeardUntil halt (T.alone place.old) (⟦<Ring as Played>⟧.answer (T.shape place.old))
         (T.seen place.old) (T.seen place.new) me
         (publishes claim (completed false body bytes.now))) }
+    ensures short { IfErr result (λ halt. IfRefused halt ((body : List ℕ)
+        → StandsBy None None cutter.old body
+        → IsRefusedIn (T.alone place.old) (⟦<Ring as Played>⟧.answer (T.shape place.old))
+        (T.seen place.old) (T.seen place.new) me claim false body bytes.now cutter.new.junk)) }
     ensures cause { IfErr result (IsHaltOf (T.may_lack place.old) (T.worn place.new)) }
 {
     let mut room = Outbox::new();
@@ -123,6 +132,10 @@ fn publish_step<T: Turns<Ring>>(
         → HeardUntil halt (T.alone place.old) (⟦<Ring as Played>⟧.answer (T.shape place.old))
         (T.seen place.old) (T.seen place.new) me
         (publishes claim (completed true body (byte ∷ [])))) }
+    ensures short { IfErr result (λ halt. IfRefused halt ((body : List ℕ)
+        → StandsBy None (Some chunks.old) cutter.old body
+        → IsRefusedIn (T.alone place.old) (⟦<Ring as Played>⟧.answer (T.shape place.old))
+        (T.seen place.old) (T.seen place.new) me claim true body (byte ∷ []) cutter.new.junk)) }
     ensures cause { IfErr result (IsHaltOf (T.may_lack place.old) (T.worn place.new)) }
 {
     match chunks.push(byte) {
@@ -169,6 +182,10 @@ pub fn publish_chunked<T: Turns<Ring>>(
         → HeardUntil halt (T.alone place.old) (⟦<Ring as Played>⟧.answer (T.shape place.old))
         (T.seen place.old) (T.seen place.new) me
         (publishes claim (completed true body bytes.now))) }
+    ensures short { IfErr result (λ halt. IfRefused halt ((body : List ℕ)
+        → StandsBy None (Some chunks.old) cutter.old body
+        → IsRefusedIn (T.alone place.old) (⟦<Ring as Played>⟧.answer (T.shape place.old))
+        (T.seen place.old) (T.seen place.new) me claim true body bytes.now cutter.new.junk)) }
     ensures cause { IfErr result (IsHaltOf (T.may_lack place.old) (T.worn place.new)) }
 {
     let mut room = Outbox::new();

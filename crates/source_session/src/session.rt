@@ -5,8 +5,8 @@ ghost use Rattle.turn_log.specs.Heard.{Heard};
 ghost use Rattle.turn_log.specs.Faults.{IsFault};
 ghost use Rattle.mount_ring.specs.History.{state_of};
 ghost use Rattle.source_session.specs.Body.{payload, completed};
-ghost use Rattle.source_session.specs.Calls.{publishes, IsHolding, HeldSince, HeardAll, HeardUntil, IsUnclaimed};
-ghost use Rattle.source_session.specs.Standing.{GoesOnAt, StandsBy, StandsFor, is_chunked, is_cut_short};
+ghost use Rattle.source_session.specs.Calls.{publishes, IsHolding, HeldSince, HeardAll, HeardUntil, IfRefused, IsRefusedIn, IsUnclaimed};
+ghost use Rattle.source_session.specs.Standing.{GoesOnAt, StandsBy, StandsFor, is_chunked, is_cut_short, junk_of};
 ghost use Rattle.source_session.specs.Refusals.{IsClaimFault, IsHaltOf};
 
 use crate::fault::{ClaimFault, SourceHalt};
@@ -97,6 +97,11 @@ impl SourceSession {
             → HeardUntil halt (T.alone place.old) (⟦<Ring as Played>⟧.answer (T.shape place.old))
             (T.seen place.old) (T.seen place.new) self.old.me
             (publishes self.old.claim (completed (is_chunked self.old) body bytes.now))) }
+        ensures short { IfNone self.old.halt (IfErr result (λ halt. IfRefused halt
+            ((body : List ℕ) → StandsFor self.old body
+            → IsRefusedIn (T.alone place.old) (⟦<Ring as Played>⟧.answer (T.shape place.old))
+            (T.seen place.old) (T.seen place.new) self.old.me self.old.claim
+            (is_chunked self.old) body bytes.now (junk_of self.new)))) }
         ensures goes_on { OnOk result (self.new.halt ≡ None) }
         ensures halts { IfErr result (λ halt. self.new.halt ≡ Some halt) }
         ensures halted { IfSome self.old.halt (λ halt.
@@ -144,8 +149,10 @@ impl SourceSession {
         self.claim
     }
 
-    /// How many bytes so far were no part of a frame.
+    /// How many bytes so far were no part of a frame: where a turn was refused, of those in front
+    /// of the frame that was not published.
     pub fn junk(&self) -> u64
+        ensures told { result ≡ junk_of self.now }
         ensures junk { (body : List ℕ) → StandsFor self.now body
             → IsTrue (is_cut_short self.now.halt)
             ⊎ (result ≡ (cut (payload (is_chunked self.now) body)).junk) }
@@ -201,6 +208,11 @@ impl SourceSession {
             → HeardUntil halt (T.alone place.old) (⟦<Ring as Played>⟧.answer (T.shape place.old))
             (T.seen place.old) (T.seen place.new) self.old.me
             (publishes self.old.claim (completed (is_chunked self.old) body bytes.now))) }
+        ensures short { IfErr result (λ halt. IfRefused halt ((body : List ℕ)
+            → StandsBy None self.old.chunks self.old.cutter.value body
+            → IsRefusedIn (T.alone place.old) (⟦<Ring as Played>⟧.answer (T.shape place.old))
+            (T.seen place.old) (T.seen place.new) self.old.me self.old.claim
+            (is_chunked self.old) body bytes.now (junk_of self.new))) }
         ensures cause { IfErr result (IsHaltOf (T.may_lack place.old) (T.worn place.new)) }
     {
         match &mut self.chunks {

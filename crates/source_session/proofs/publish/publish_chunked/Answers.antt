@@ -3,10 +3,10 @@ use Rattle.std.proofs.lemmas.List.{take_more}
 use Rattle.std.proofs.lemmas.Result.{err_from_is_err_and}
 use Rattle.turn_log.proofs.TurnLaws.{same_both}
 use Rattle.source_session.specs.Body.{completed}
-use Rattle.source_session.specs.Calls.{publishes, HeardAll}
+use Rattle.source_session.specs.Calls.{publishes, HeardAll, IsRefusedIn}
 use Rattle.source_session.specs.Standing.{StandsBy}
 use Rattle.source_session.proofs.CallLemmas.{answer_at}
-use Rattle.source_session.proofs.StandingLemmas.{if_err, all_same, until_same, stands_within, until_within, one_within, heard_more, body_more}
+use Rattle.source_session.proofs.StandingLemmas.{if_err, all_same, until_same, stands_within, until_within, one_within, heard_more, body_more, refused_within, refused_same, refused_weaker}
 use Rattle.source_session.proofs.publish.publish_chunked.Goals as goal
 
 pub returns-in_err-publish_step-clause-halted : goal.returns-in_err-publish_step-clause-halted
@@ -38,6 +38,34 @@ returns-in_err-publish_step-clause-until g c =
     (c.loop-byte.invariant.3 body stands).1
     (until_same _ _ _ _ _ same.3 (ap answer_at same.0)
     (c.in_err-publish_step.ensures.until (body ++ take i bytes) at)))
+
+pub returns-in_err-publish_step-clause-short : goal.returns-in_err-publish_step-clause-short
+returns-in_err-publish_step-clause-short g c =
+    let place = g.T.Turns in
+    let bytes = c.args.bytes.now in
+    let i = c.loop-byte.byte-index in
+    let byte = get_or bytes i 0 in
+    let same = c.loop-byte.invariant.0 in
+    let mid = place.seen c.loop-byte.place in
+    let new = place.seen c.publish_step.new.place in
+    let junk = c.publish_step.new.cutter.junk in
+    let p = err_from_is_err_and c.from_residual.result c.from_residual.ensures.1 in
+    let within : ((body : List ℕ) → StandsBy None (Some c.loop-byte.chunks) c.loop-byte.cutter body
+    → IsRefusedIn (place.alone c.loop-byte.place) (answer_at (place.shape c.loop-byte.place)) mid new c.args.me
+    c.args.claim true body (byte ∷ []) junk)
+    → (body : List ℕ) → StandsBy None (Some c.args.chunks.now) c.args.cutter.now body
+    → IsRefusedIn (place.alone c.args.place.now) (answer_at (place.shape c.args.place.now))
+    (place.seen c.args.place.now) new c.args.me c.args.claim true body bytes junk =
+    λ refused body stands.
+    let at = c.loop-byte.invariant.3 body stands in
+    refused_within (place.alone c.args.place.now) (answer_at (place.shape c.args.place.now)) c.args.me c.args.claim
+    true (place.seen c.args.place.now) mid new body (take i bytes) (byte ∷ []) (drop (i + 1) bytes) bytes junk
+    (one_within bytes i byte c.loop-byte-test.true refl) at.1
+    (refused_same mid new c.args.me c.args.claim true (body ++ take i bytes) (byte ∷ []) junk same.3
+    (ap answer_at same.0) (refused (body ++ take i bytes) at.0))
+    in
+    if_err _ c.from_residual.result _ (p.1 ∙ ap Err p.2)
+    (refused_weaker _ within c.in_err-publish_step.ensures.short)
 
 pub loop-byte-preserved : goal.loop-byte-preserved
 loop-byte-preserved g c =

@@ -4,10 +4,10 @@ use Rattle.rtcm_frame.proofs.PendingLemmas.{fed_front}
 use Rattle.turn_log.specs.Heard.{HeardFirst}
 use Rattle.turn_log.proofs.TurnLaws.{same_both}
 use Rattle.source_session.specs.Body.{completed}
-use Rattle.source_session.specs.Calls.{publishes, HeardAll}
-use Rattle.source_session.specs.Standing.{IsCutUp, cutter_at}
+use Rattle.source_session.specs.Calls.{publishes, HeardAll, IsRefusedIn}
+use Rattle.source_session.specs.Standing.{IsCutUp, StandsBy, cutter_at}
 use Rattle.source_session.proofs.CallLemmas.{answer_at}
-use Rattle.source_session.proofs.StandingLemmas.{cut_up_waits, room_for, frames_pushed, cutter_pushed, short_pushed, stands_refused, until_refused, if_err, all_same, until_same, stands_within, until_within, block_within, block_left, block_few, heard_more, body_more}
+use Rattle.source_session.proofs.StandingLemmas.{cut_up_waits, room_for, frames_pushed, cutter_pushed, short_pushed, stands_refused, until_refused, if_err, all_same, until_same, stands_within, until_within, block_within, block_left, block_few, heard_more, body_more, refused_pushed, refused_within, refused_same, if_refused}
 use Rattle.source_session.proofs.publish.publish_plain.Goals as goal
 
 pub publish_ready-requires-clause-few : goal.publish_ready-requires-clause-few
@@ -62,6 +62,32 @@ returns-in_err-publish_ready-clause-until g c =
     (frames_pushed false c.loop-at.cutter c.feed-count.new.self (body ++ take at bytes) block block
     cut_up c.feed-count.ensures.behind refl)
     c.in_err-publish_ready.ensures.first))))
+
+pub returns-in_err-publish_ready-clause-short : goal.returns-in_err-publish_ready-clause-short
+returns-in_err-publish_ready-clause-short g c =
+    let place = g.T.Turns in
+    let bytes = c.args.bytes.now in
+    let at = c.loop-at.at in
+    let block = take c.feed-count.result (take (length bytes - at) (drop at bytes)) in
+    let same = c.loop-at.invariant.0 in
+    let p = err_from_is_err_and c.from_residual.result c.from_residual.ensures.1 in
+    let mid = place.seen c.loop-at.place in
+    let new = place.seen c.publish_ready.new.place in
+    let junk = c.publish_ready.new.cutter.junk in
+    let refused : (body : List ℕ) → StandsBy None None c.args.cutter.now body
+    → IsRefusedIn (place.alone c.args.place.now) (answer_at (place.shape c.args.place.now))
+    (place.seen c.args.place.now) new c.args.me c.args.claim false body bytes junk =
+    λ body stands.
+    let now = c.loop-at.invariant.4 body stands in
+    refused_within (place.alone c.args.place.now) (answer_at (place.shape c.args.place.now)) c.args.me c.args.claim
+    false (place.seen c.args.place.now) mid new body (take at bytes) block (drop (at + c.feed-count.result) bytes) bytes
+    junk (block_within bytes at c.feed-count.result) now.1
+    (refused_same mid new c.args.me c.args.claim false (body ++ take at bytes) block junk same.3 (ap answer_at same.0)
+    (refused_pushed (place.alone c.loop-at.place) (answer_at (place.shape c.loop-at.place)) mid new c.args.me
+    c.args.claim false c.loop-at.cutter c.feed-count.new.self (body ++ take at bytes) block block junk now.0.1
+    c.feed-count.ensures.behind refl c.in_err-publish_ready.ensures.short))
+    in
+    if_err _ c.from_residual.result _ (p.1 ∙ ap Err p.2) (if_refused _ refused)
 
 pub loop-at-smaller : goal.loop-at-smaller
 loop-at-smaller g c =

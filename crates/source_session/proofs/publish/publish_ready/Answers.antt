@@ -1,8 +1,17 @@
-use Rattle.std.proofs.Common.{ap, arith}
+use Rattle.std.proofs.Common.{ap, arith, refl}
+use Rattle.std.proofs.lemmas.Result.{err_from_is_err_and}
 use Rattle.turn_log.proofs.TurnLaws.{same_both}
 use Rattle.turn_log.proofs.HeardLaws.{heard_turn, heard_same}
-use Rattle.source_session.proofs.CallLemmas.{answer_at, holding_published, given_more, given_all, given_cutter}
+use Rattle.source_session.proofs.CallLemmas.{answer_at, holding_published, given_none, given_more, given_all, given_cutter, given_refused}
 use Rattle.source_session.proofs.publish.publish_ready.Goals as goal
+
+pub loop-frame-init : goal.loop-frame-init
+loop-frame-init g c = (
+  (refl, refl, refl, refl, refl),
+  omega arith,
+  c.requires.holds,
+  given_none _ _ _ c.args.me c.args.claim c.args.cutter.now,
+)
 
 pub loop-frame-preserved : goal.loop-frame-preserved
 loop-frame-preserved g c =
@@ -12,7 +21,7 @@ loop-frame-preserved g c =
       same_both place.shape place.speaks place.may_lack place.alone place.home _ _ _ before.0 now.same,
       omega (arith, before.1, now.worn),
       holding_published (place.shape c.loop-frame.place) before.2 now.ok,
-      given_more before.3 c.in-Some.ensures.found
+      given_more before.3 c.in-Some.ensures.found c.in-Some.ensures.in_front
           (heard_same before.0.3 (ap answer_at before.0.0) (heard_turn now.ok)),
     )
 
@@ -23,3 +32,10 @@ returns-clause-cutter g c =
 pub returns-clause-heard : goal.returns-clause-heard
 returns-clause-heard g c =
     given_all c.loop-frame.invariant.3 c.in_default.ensures.none.0 c.in_default.ensures.none.1
+
+pub returns-in_err-turn-clause-short : goal.returns-in_err-turn-clause-short
+returns-in_err-turn-clause-short g c =
+    let p = err_from_is_err_and c.from_residual.result c.from_residual.ensures.1 in
+    rw p.1 (λ before sum counted.
+    given_refused c.loop-frame.invariant.3 c.in-Some.ensures.found c.in-Some.ensures.in_front c.in_err-turn.ensures.err.0
+    before sum counted)

@@ -1,12 +1,13 @@
-use Rattle.std.proofs.Common.{ℕ, List, [], ◌∷◌, ◌++◌, true, Some, Err, ap, ◌∙◌, subst, refl, arith}
+use Rattle.std.proofs.Common.{ℕ, List, [], ◌∷◌, ◌++◌, true, None, Some, Err, ap, ◌∙◌, subst, refl, arith}
 use Rattle.std.proofs.lemmas.List.{append-nil}
 use Rattle.std.proofs.lemmas.Result.{err_from_is_err_and}
 use Rattle.turn_log.specs.Heard.{HeardFirst}
 use Rattle.chunk_body.specs.Machine.{Reading}
 use Rattle.chunk_body.proofs.ReadingLemmas.{taken_most}
-use Rattle.source_session.specs.Calls.{publishes, HeardAll}
+use Rattle.source_session.specs.Calls.{publishes, HeardAll, IsRefusedIn}
+use Rattle.source_session.specs.Standing.{StandsBy}
 use Rattle.source_session.proofs.CallLemmas.{answer_at}
-use Rattle.source_session.proofs.StandingLemmas.{cut_up_waits, cut_up_on, room_for, frames_pushed, cutter_pushed, short_pushed, stands_refused, until_refused, none_called, if_err}
+use Rattle.source_session.proofs.StandingLemmas.{cut_up_waits, cut_up_on, room_for, frames_pushed, cutter_pushed, short_pushed, stands_refused, until_refused, none_called, if_err, refused_pushed, if_refused}
 use Rattle.source_session.proofs.publish.publish_step.Goals as goal
 
 pub push-requires : goal.push-requires
@@ -44,6 +45,24 @@ returns-in_err-publish_ready-in-Byte-clause-until g c =
     (frames_pushed true c.args.cutter.now c.push-in-Byte.new.self body (c.args.byte ∷ []) (c.in-Byte.data ∷ []) stands.1
     c.push-in-Byte.ensures.behind (c.in-Byte.ensures.gives body stands.0.0))
     c.in_err-publish_ready-in-Byte.ensures.first))
+
+pub returns-in_err-publish_ready-in-Byte-clause-short : goal.returns-in_err-publish_ready-in-Byte-clause-short
+returns-in_err-publish_ready-in-Byte-clause-short g c =
+    let place = g.T.Turns in
+    let p = err_from_is_err_and c.from_residual.result c.from_residual.ensures.1 in
+    let new = place.seen c.publish_ready.new.place in
+    let refused : (body : List ℕ) → StandsBy None (Some c.args.chunks.now) c.args.cutter.now body
+    → IsRefusedIn (place.alone c.args.place.now) (answer_at (place.shape c.args.place.now))
+    (place.seen c.args.place.now) new c.args.me c.args.claim true body (c.args.byte ∷ [])
+    c.publish_ready.new.cutter.junk =
+    λ body stands.
+    refused_pushed (place.alone c.args.place.now) (answer_at (place.shape c.args.place.now))
+    (place.seen c.args.place.now) new c.args.me c.args.claim true c.args.cutter.now
+    c.push-in-Byte.new.self body (c.args.byte ∷ []) (c.in-Byte.data ∷ []) c.publish_ready.new.cutter.junk stands.1
+    c.push-in-Byte.ensures.behind (c.in-Byte.ensures.gives body stands.0.0)
+    c.in_err-publish_ready-in-Byte.ensures.short
+    in
+    if_err _ c.from_residual.result _ (p.1 ∙ ap Err p.2) (if_refused _ refused)
 
 pub returns-in-More-clause-heard : goal.returns-in-More-clause-heard
 returns-in-More-clause-heard g c = λ body stands.
