@@ -1,10 +1,10 @@
 //! Threads that take turns on one counter.
-ghost use Rattle.std.specs.Prelude.{◌≡◌, ℕ, ◌<◌, ◌-◌, ◌^◌, List, length, min, IfOk};
+ghost use Rattle.std.specs.Prelude.{◌≡◌, ℕ, ◌<◌, ◌+◌, ◌-◌, ◌^◌, List, length, min, IfOk};
 ghost use Rattle.std.specs.List.{sum};
-ghost use Rattle.bench_lock.specs.Shares.{AreBounds, IsSum};
+ghost use Rattle.bench_lock.specs.Shares.{AreBounds, IsSum, share};
 ghost use mathlib.Core.Option.{some};
 ghost use lib.ListN.{get_elem?};
-ghost use Rattle.turn_log.specs.Lock.{pass_number, IsPassOf};
+ghost use Rattle.turn_log.specs.Lock.{pass_number, pass_seen, IsPassOf};
 
 use crate::counter::Counter;
 use std::alloc::{AllocError, Global};
@@ -28,20 +28,31 @@ struct Runner {
     ghost numbered: { pass_number pass ≡ me },
 }
 
-/// Takes turns until the counter has so many, and tells how many of these it took.
-fn run<R: Wait + Sync>(rt: &R, turn: &Turn<Counter>, runner: Runner, turns: u64) -> u64
+/// Takes turns until the counter has so many. It tells how many of these it took, and gives its pass
+/// back, which has seen them.
+fn run<R: Wait + Sync>(
+    rt: &R,
+    turn: &Turn<Counter>,
+    runner: Runner,
+    turns: u64,
+) -> (u64, Pass<Counter>)
     requires { IsPassOf runner.pass turn.now }
+    ensures { share runner.me turns (pass_seen result.1)
+        ≡ share runner.me turns (pass_seen runner.pass) + result.0 }
 {
     let Runner { me, pass } = runner;
     let mut seat = turn.seat(rt, pass);
-    let mut taken: u64 = 0;
-    for _ in 0..u64::MAX {
+    for taken in 0..u64::MAX {
         match seat.turn(me, (), &mut ()) {
-            Ok(number) if number < turns => taken = taken.saturating_add(1),
-            _ => return taken,
+            Ok(number) => {
+                if turns <= number {
+                    return (taken, seat.leave());
+                }
+            }
+            Err(_) => return (taken, seat.leave()),
         }
     }
-    taken
+    (u64::MAX, seat.leave())
 }
 
 /// A runner for each pass.
@@ -85,7 +96,7 @@ pub fn race<R: Threads + Wait + Sync>(
         list,
         &|runner: Runner|
             requires { IsPassOf runner.pass lock.now }
-        { run(rt, lock, runner, turns) },
+        { run(rt, lock, runner, turns).0 },
     )?;
     Ok(shares_of(&taken))
 }
