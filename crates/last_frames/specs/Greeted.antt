@@ -1,6 +1,5 @@
 -- Which greeting stands at a place, by the history.
-use Rattle.std.specs.Prelude.{◌≡◌, ℕ, Bool, true, false, IsTrue, List, [], ◌∷◌, ◌++◌, take, drop, Option, None, Some}
-use Rattle.std.specs.Coded.{Coded-set, coded_list, coded_ℕ, coded_option}
+use Rattle.std.specs.Prelude.{ℕ, Bool, true, false, List, [], ◌∷◌, ◌++◌, take, drop, Option, None, Some}
 use Rattle.turn_log.specs.History.{History}
 use Rattle.mount_ring.specs.declared.call.RingCall.{RingCall}
 use Rattle.mount_ring.specs.declared.call.RingCall.TheVariants.{Claim, Release, Publish, Join, Look, Read}
@@ -47,8 +46,3 @@ greeted_in shape before (entry ∷ entries) greeting =
 abbrev pub greeted_since : Shape → ℕ → History RingCall → Greeting
 greeted_since shape count history =
     greeted_in shape (take count history) (drop count history) None
-
--- That this is the greeting, where the place is alone, is one fact, and not a choice.
-pub greeting_once : (alone : Bool) (some other : Greeting) → IsProp (IsTrue alone → some ≡ other)
-greeting_once alone some other =
-    hlevel (Coded-set (coded_option (coded_list (coded_list coded_ℕ))))

@@ -4,11 +4,16 @@ use Rattle.mount_ring.specs.declared.call.RingCall.{RingCall}
 use Rattle.mount_ring.specs.declared.call.RingCall.TheVariants.{Claim, Release, Publish, Join, Look, Read}
 use Rattle.mount_ring.specs.History.{Shape, State, permits_at}
 use Rattle.mount_ring.specs.History as rings
-use Rattle.mount_ring.specs.Kept.{Keeps}
-use Rattle.last_frames.specs.declared.hall.Hall.{Hall}
+use Rattle.mount_ring.specs.declared.shape.RingShape.{RingShape}
+use Rattle.mount_ring.specs.Kept.{Keeps, ring_shape}
 use Rattle.last_frames.specs.declared.station.Station.{Station}
 use Rattle.last_frames.specs.Last.{station_numbers, last_permitted}
 use Rattle.last_frames.specs.Latest.{latest_of}
+use Rattle.last_frames.specs.Placed.{InHall}
+
+-- its shape is that of its ring
+abbrev pub station_shape : Station → RingShape
+station_shape station = ring_shape station.ring
 
 -- The station keeps what this state says: its ring does, and of each number it keeps the last of
 -- all frames that were published.
@@ -28,7 +33,7 @@ greeting_by shape state Look greeting = greeting
 greeting_by shape state (Read cursor budget) greeting = greeting
 
 -- the hall after a call: the outbox is that of the ring
-abbrev pub filled : Shape → State → RingCall → Hall → Hall
+abbrev pub filled : Shape → State → RingCall → InHall → InHall
 filled shape state call hall = record {
   outbox = rings.filled shape state call hall.outbox;
   greeting = greeting_by shape state call hall.greeting;

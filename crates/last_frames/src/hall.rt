@@ -9,6 +9,7 @@ use mount_ring::Outbox;
 use rtcm_frame::Frame;
 use std::alloc::{AllocError, Global};
 use std::marker::Model;
+use std::mem;
 use type_filter::Filter;
 
 /// The most frames of a greeting: one of each message number that a station keeps.
@@ -74,10 +75,20 @@ impl Greeting {
 
 /// The room that a caller of a station makes beforehand: an outbox for the frames that it reads,
 /// and one for those that it is greeted by when it joins.
+///
+/// Contracts see the frames of both.
 #[derive(Debug, Drop)]
 pub struct Hall {
     pub(crate) outbox: Outbox,
     pub(crate) greeting: Greeting,
+}
+
+impl Model for Hall {
+    ghost use Rattle.last_frames.specs.Placed.{InHall};
+
+    ghost Value = { InHall };
+
+    ghost view = { λ h. record { outbox = h.outbox; greeting = h.greeting } };
 }
 
 impl Hall {
@@ -86,8 +97,7 @@ impl Hall {
     /// # Errors
     /// For want of memory.
     pub fn new(alloc: Global) -> Result<Hall, AllocError>
-        ensures outbox { IfOk result (λ hall. hall.outbox ≡ []) }
-        ensures greeting { IfOk result (λ hall. hall.greeting ≡ []) }
+        ensures { IfOk result (λ hall. hall ≡ record { outbox = []; greeting = [] }) }
     {
         Ok(Hall {
             outbox: Outbox::new(),
@@ -100,6 +110,14 @@ impl Hall {
         ensures { result.now ≡ self.now.outbox }
     {
         &self.outbox
+    }
+
+    /// Changes its outbox for another.
+    pub(crate) fn swap_outbox(&mut self, room: &mut Outbox)
+        ensures hall { self.new ≡ record { outbox = room.old; greeting = self.old.greeting } }
+        ensures room { room.new ≡ self.old.outbox }
+    {
+        mem::swap(&mut self.outbox, room);
     }
 
     /// The frames that the last one who joined was greeted by, at most six.

@@ -4,14 +4,14 @@ ghost use Rattle.turn_log.specs.History.{History};
 ghost use Rattle.mount_ring.specs.declared.call.RingCall.{RingCall as CallValue};
 ghost use Rattle.mount_ring.specs.History.{state_of};
 ghost use Rattle.mount_ring.specs.Shapes.{shape_of};
-ghost use Rattle.last_frames.specs.Greeted.{greeted_by, greeted_since, greeting_once, is_greeted, shown};
+ghost use Rattle.last_frames.specs.Greeted.{greeted_by, greeted_since, is_greeted};
 
 use crate::hall::Hall;
 use crate::station::Station;
 use mount_ring::{Outbox, Ring, RingAnswer, RingCall};
 use rtcm_frame::Frame;
 use std::alloc::{AllocError, Global};
-use std::mem;
+use std::marker::Model;
 use std::snapshot::Snapshot;
 use turn_log::{Played, TurnFault, Turns};
 
@@ -27,6 +27,9 @@ fn is_greeted(call: &RingCall, before: bool) -> bool
 
 /// A place at a station, as a place at its ring. It keeps the greeting of the last one who joined
 /// through it.
+///
+/// Contracts see the place at the station, that greeting, and how many calls there were when the
+/// place was made or cleared last.
 #[derive(Drop)]
 pub struct StationPlace<T: Turns<Station>> {
     inner: T,
@@ -34,10 +37,27 @@ pub struct StationPlace<T: Turns<Station>> {
     // Somebody joined since the place was made or cleared, which was then.
     greeted: bool,
     since: Snapshot<T>,
-    ghost later: { length (T.seen since.value) ≤ length (T.seen inner) },
+}
+
+impl<T: Turns<Station>> Model for StationPlace<T> {
+    ghost use Rattle.std.specs.Prelude.{◌≡◌, ◌≤◌, length, IsTrue};
+    ghost use Rattle.mount_ring.specs.Shapes.{shape_of};
+    ghost use Rattle.last_frames.specs.Greeted.{greeted_since, shown};
+    ghost use Rattle.last_frames.specs.Placed.{Placed};
+
+    ghost Value = { Placed T };
+
+    ghost view = { λ place. record {
+      inner = place.inner;
+      greeting = shown place.greeted place.hall.greeting;
+      since = length (T.seen place.since.value);
+    } };
+
     // Where nobody else calls, the history tells whom the greeting is of.
-    ghost told: { IsTrue (T.alone inner) → shown greeted hall.greeting
-        ≡ greeted_since (shape_of (T.shape inner)) (length (T.seen since.value)) (T.seen inner) } by { greeting_once _ _ _ },
+    ghost invariant = { λ place. (length (T.seen place.since.value) ≤ length (T.seen place.inner))
+        × (IsTrue (T.alone place.inner) → shown place.greeted place.hall.greeting
+        ≡ greeted_since (shape_of (T.shape place.inner)) (length (T.seen place.since.value))
+        (T.seen place.inner)) };
 }
 
 impl<T: Turns<Station> + Drop> StationPlace<T> {
@@ -47,8 +67,8 @@ impl<T: Turns<Station> + Drop> StationPlace<T> {
     /// For want of memory.
     pub fn new(alloc: Global, inner: T) -> Result<StationPlace<T>, AllocError>
         ensures inner { IfOk result (λ place. place.inner ≡ inner) }
-        ensures none { IfOk result (λ place. shown place.greeted place.hall.greeting ≡ None) }
-        ensures since { IfOk result (λ place. T.seen place.since.value ≡ T.seen inner) }
+        ensures none { IfOk result (λ place. place.greeting ≡ None) }
+        ensures since { IfOk result (λ place. place.since ≡ length (T.seen inner)) }
     {
         let hall = Hall::new(alloc)?;
         let since = Snapshot::of(&inner);
@@ -79,15 +99,13 @@ impl<T: Turns<Station>> StationPlace<T> {
     /// The frames that the last one was greeted by who joined through this place since it was made
     /// or cleared; `None` exactly where nobody joined since.
     pub fn greeting(&self) -> Option<&[Frame]>
-        ensures none { IfNone result (shown self.now.greeted self.now.hall.greeting ≡ None) }
-        ensures some { IfSome result (λ frames.
-            shown self.now.greeted self.now.hall.greeting ≡ Some frames.now) }
+        ensures none { IfNone result (self.now.greeting ≡ None) }
+        ensures some { IfSome result (λ frames. self.now.greeting ≡ Some frames.now) }
 
         // Where nobody else calls, it is that of the last Join since.
-        ensures alone { IsTrue (T.alone self.now.inner)
-            → shown self.now.greeted self.now.hall.greeting
-            ≡ greeted_since (shape_of (T.shape self.now.inner))
-            (length (T.seen self.now.since.value)) (T.seen self.now.inner) }
+        ensures alone { IsTrue (T.alone self.now.inner) → self.now.greeting
+            ≡ greeted_since (shape_of (T.shape self.now.inner)) self.now.since
+            (T.seen self.now.inner) }
     {
         if self.greeted {
             Some(self.hall.greeting())
@@ -99,8 +117,8 @@ impl<T: Turns<Station>> StationPlace<T> {
     /// From now on nobody joined through it.
     pub fn clear(&mut self)
         ensures inner { self.new.inner ≡ self.old.inner }
-        ensures none { shown self.new.greeted self.new.hall.greeting ≡ None }
-        ensures since { T.seen self.new.since.value ≡ T.seen self.old.inner }
+        ensures none { self.new.greeting ≡ None }
+        ensures since { self.new.since ≡ length (T.seen self.old.inner) }
     {
         self.greeted = false;
         self.since = Snapshot::of(&self.inner);
@@ -144,16 +162,14 @@ impl<T: Turns<Station>> Turns<Ring> for StationPlace<T> {
         // One who joins is greeted by what was published before that, and nobody else changes it.
         ensures greeted { OnOk result ((before : History CallValue)
             × (T.seen self.new.inner ≡ before ++ (me, call) ∷ [])
-            × (shown self.new.greeted self.new.hall.greeting
-            ≡ greeted_by (shape_of (T.shape self.old.inner)) (state_of before) call
-            (shown self.old.greeted self.old.hall.greeting))) }
-        ensures since { T.seen self.new.since.value ≡ T.seen self.old.since.value }
-        ensures refused { OnErr result (shown self.new.greeted self.new.hall.greeting
-            ≡ shown self.old.greeted self.old.hall.greeting) }
+            × (self.new.greeting ≡ greeted_by (shape_of (T.shape self.old.inner))
+            (state_of before) call self.old.greeting)) }
+        ensures since { self.new.since ≡ self.old.since }
+        ensures refused { OnErr result (self.new.greeting ≡ self.old.greeting) }
     {
-        mem::swap(room, &mut self.hall.outbox);
+        self.hall.swap_outbox(room);
         let answer = self.inner.turn(me, call, &mut self.hall);
-        mem::swap(room, &mut self.hall.outbox);
+        self.hall.swap_outbox(room);
         let answer = answer?;
         self.greeted = is_greeted(&call, self.greeted);
         Ok(answer)

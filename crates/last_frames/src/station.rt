@@ -48,6 +48,8 @@ fn none_yet(alloc: Global) -> Result<Vec<Latest>, AllocError>
 
 impl Station {
     ghost use Rattle.std.specs.Prelude.{ℕ, IsTrue};
+    ghost use Rattle.turn_log.specs.History.{History};
+    ghost use Rattle.mount_ring.specs.declared.call.RingCall.{RingCall as CallValue};
     ghost use Rattle.mount_ring.specs.History.{State, fits};
     ghost use Rattle.last_frames.specs.Station.{IsKept, greeting_by};
 
@@ -71,9 +73,11 @@ impl Station {
         })
     }
 
-    /// Its ring.
+    /// Its ring, which keeps what the station does.
     pub fn ring(&self) -> &Ring
-        ensures { result.now ≡ self.now.ring }
+        ensures shape { ⟦<Ring as Played>⟧.shape result.now ≡ ⟦<Station as Played>⟧.shape self.now }
+        ensures stands { (h : History CallValue) → ⟦<Station as Played>⟧.stands self.now h
+            → ⟦<Ring as Played>⟧.stands result.now h }
     {
         &self.ring
     }

@@ -6,11 +6,10 @@ use turn_log::Played;
 
 impl Played for Station {
     ghost use Rattle.mount_ring.specs.History as history;
-    ghost use Rattle.mount_ring.specs.Kept.{ring_shape};
     ghost use Rattle.mount_ring.specs.Shapes.{shape_of};
     ghost use Rattle.mount_ring.specs.StillFits.{still_fits_one};
     ghost use Rattle.last_frames.specs.Once.{is_kept_once};
-    ghost use Rattle.last_frames.specs.Station.{IsKept, filled};
+    ghost use Rattle.last_frames.specs.Station.{IsKept, filled, station_shape};
 
     type Call = RingCall;
 
@@ -20,7 +19,7 @@ impl Played for Station {
 
     type Shape = RingShape;
 
-    ghost shape = { λ station. ring_shape station.ring };
+    ghost shape = { station_shape };
 
     ghost stands = { λ station h. IsKept station (history.state_of h) };
 
