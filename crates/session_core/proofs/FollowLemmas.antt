@@ -39,7 +39,7 @@ use Rattle.session_core.specs.declared.session.Session.{Session}
 use Rattle.session_core.specs.declared.stage.Stage.TheVariants.{Source, Relay, Rover}
 use Rattle.session_core.specs.Setting.{shapes, bases_at}
 use Rattle.session_core.specs.Headings.{Heading, incomplete, too_long, whole, answered}
-use Rattle.session_core.specs.Judged.{Opening, sends_head, relays, bare_source, bare_rover, Judged, waiting, refused, unanswered, table, source, rover, once, source_judged, rover_judged, request_judged, heading_judged, said_judged, relay_judged, mount_fed, judged}
+use Rattle.session_core.specs.Judged.{Opening, sends_head, relays, bare_source, bare_rover, Judged, waiting, refused, unanswered, table, source, rover, once, source_judged, rover_judged, request_judged, heading_judged, said_judged, relay_judged, mount_fed, judged, bare_admission}
 use Rattle.session_core.specs.Run.{Histories}
 use Rattle.session_core.specs.Called.{OthersCalled}
 use Rattle.session_core.specs.Standing.{Follows, IsAtStage, IsRelay, IsRover, IsSource, Stands}
@@ -142,7 +142,7 @@ relay_short mount (answered at said) text =
 judged_short : (c : Config) (o : Opening) (h : Heading) (text : List ℕ) → IsShort (body_in (judged c o h text)) text
 judged_short c sends_head h text = heading_short c h text
 judged_short c (relays n) h text = relay_short (mount_fed (slice_get c.relay n)) h text
-judged_short c (bare_source mount) h text = source_short None false text (source_admission c mount [])
+judged_short c (bare_source mount) h text = source_short None false text (bare_admission c mount)
 judged_short c (bare_rover mount) h text = rover_short None None text (admission c auths.None mount)
 
 -- ---- a rover was admitted
@@ -207,7 +207,7 @@ relay_in c mount (answered at said) text =
 judged_in : (c : Config) (o : Opening) (h : Heading) (text : List ℕ) → IsLetIn c (judged c o h text)
 judged_in c sends_head h text = heading_in c h text
 judged_in c (relays n) h text = relay_in c (mount_fed (slice_get c.relay n)) h text
-judged_in c (bare_source mount) h text = source_in c None false text (source_admission c mount [])
+judged_in c (bare_source mount) h text = source_in c None false text (bare_admission c mount)
 judged_in c (bare_rover mount) h text =
     rover_in c None None text mount auths.None (admission c auths.None mount) refl
 

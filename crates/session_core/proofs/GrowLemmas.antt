@@ -28,7 +28,7 @@ use Rattle.access_groups.specs.declared.admission.SourceDenial.TheVariants as so
 use Rattle.access_groups.specs.Admission.{admission, source_admission}
 use Rattle.session_core.specs.Headings.{Heading, incomplete, too_long, whole, answered}
 use Rattle.session_core.proofs.HeadingLemmas.{said_from}
-use Rattle.session_core.specs.Judged.{Opening, sends_head, relays, bare_source, bare_rover, SourceTerms, RoverTerms, Judged, waiting, once, source_judged, rover_judged, request_judged, heading_judged, said_judged, relay_judged, mount_fed, judged}
+use Rattle.session_core.specs.Judged.{Opening, sends_head, relays, bare_source, bare_rover, SourceTerms, RoverTerms, Judged, waiting, once, source_judged, rover_judged, request_judged, heading_judged, said_judged, relay_judged, mount_fed, judged, bare_admission}
 use Rattle.session_core.specs.Owed.{Received, unasked, claimed, taken, entered, full, received_by, source_plan, if_entered, terms_of, entering_plan, plan_of}
 
 -- ---- a source
@@ -162,7 +162,7 @@ pub plan_grows : (c : Config) (o : Opening) (h : Heading) (text more : List ℕ)
 plan_grows c sends_head h text more = heading_grows c h text more
 plan_grows c (relays n) h text more = relay_grows c (mount_fed (slice_get c.relay n)) h text more
 plan_grows c (bare_source mount) h text more =
-    source_grows c None false text more (source_admission c mount [])
+    source_grows c None false text more (bare_admission c mount)
 plan_grows c (bare_rover mount) h text more =
     rover_grows c None None text more (admission c auths.None mount)
 

@@ -1,6 +1,6 @@
 -- What more bytes make of a connection that is judged: its body or its reports go on, and nothing else
 -- changes.
-use Rattle.std.proofs.Common.{◌≡◌, ◌≢◌, ◌∙◌, ℕ, Bool, false, List, [], ◌++◌, length, drop, length-append, refl, ap, inl, inr, arith, Option, None, Some, Result, Ok, Err}
+use Rattle.std.proofs.Common.{◌≡◌, ◌≢◌, ◌∙◌, ℕ, Bool, false, List, ◌++◌, length, drop, length-append, refl, ap, inl, inr, arith, Option, None, Some, Result, Ok, Err}
 use Rattle.std.specs.Prelude.{nat_le, slice_get}
 use Rattle.std.proofs.lemmas.Bool.{cases_lt, lt-leb, le-leb}
 use Rattle.std.proofs.lemmas.List.{drop-append-le}
@@ -23,7 +23,7 @@ use Rattle.access_groups.specs.declared.admission.SourceDenial.TheVariants as so
 use Rattle.access_groups.specs.Admission.{admission, source_admission}
 use Rattle.session_core.specs.declared.ending.Ending.TheVariants as endings
 use Rattle.session_core.specs.Headings.{Heading, incomplete, too_long, whole, answered}
-use Rattle.session_core.specs.Judged.{Opening, sends_head, relays, bare_source, bare_rover, Judged, waiting, refused, unanswered, table, source, rover, once, source_judged, rover_judged, request_judged, heading_judged, said_judged, relay_judged, mount_fed, judged}
+use Rattle.session_core.specs.Judged.{Opening, sends_head, relays, bare_source, bare_rover, Judged, waiting, refused, unanswered, table, source, rover, once, source_judged, rover_judged, request_judged, heading_judged, said_judged, relay_judged, mount_fed, judged, bare_admission}
 use Rattle.session_core.specs.Reports.{IsHeadingOf}
 use Rattle.session_core.proofs.LawLemmas.{of_stays, long_says, whole_says, answered_says}
 
@@ -109,7 +109,7 @@ pub judged_more : (c : Config) (o : Opening) (h : Heading) (text more : List ℕ
     → judged c o h (text ++ more) ≡ with_more (judged c o h text) more
 judged_more c sends_head h text more not = heading_more c h text more not
 judged_more c (relays n) h text more not = relay_more (mount_fed (slice_get c.relay n)) h text more not
-judged_more c (bare_source mount) h text more not = source_more None false text more (source_admission c mount [])
+judged_more c (bare_source mount) h text more not = source_more None false text more (bare_admission c mount)
 judged_more c (bare_rover mount) h text more not = rover_more None None text more (admission c auths.None mount)
 
 -- ---- its heading is that of more bytes too

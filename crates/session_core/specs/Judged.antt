@@ -1,5 +1,5 @@
 -- What a connection is to this caster, by its head and its bytes so far.
-use Rattle.std.specs.Prelude.{ℕ, nat_le, Bool, true, false, List, [], drop, length, slice_get, Option, None, Some, Result, Ok, Err}
+use Rattle.std.specs.Prelude.{ℕ, nat_le, Bool, true, false, List, drop, length, slice_get, Option, None, Some, Result, Ok, Err}
 use Rattle.gga_read.specs.declared.Position.{Position}
 use Rattle.ntrip_head.specs.declared.fault.HeadFault.{HeadFault}
 use Rattle.ntrip_head.specs.declared.fault.HeadFault.TheVariants as heads
@@ -15,6 +15,7 @@ use Rattle.ntrip_client.specs.declared.answer.Refusal.TheVariants as refusals
 use Rattle.ntrip_client.specs.Answer.{Said}
 use Rattle.cast_config.specs.declared.config.Config.{Config}
 use Rattle.cast_config.specs.declared.config.Relay.{Relay}
+use Rattle.cast_config.specs.Names.{mount_names, place_of}
 use Rattle.access_groups.specs.declared.admission.Admission.{Admission}
 use Rattle.access_groups.specs.declared.admission.Denial.{Denial}
 use Rattle.access_groups.specs.declared.admission.Denial.TheVariants as denials
@@ -144,11 +145,19 @@ mount_fed (Some relay) = relay.mount
 
 -- ---- all of them
 
--- a bare source gives no password and a bare rover no credentials; neither is replied to
+-- a bare source is judged by its mountpoint's name alone: it has no head that could give a password
+abbrev pub named : Option ℕ → Result ℕ SourceDenial
+named None = Err sources.NoMount
+named (Some mount) = Ok mount
+
+abbrev pub bare_admission : Config → List ℕ → Result ℕ SourceDenial
+bare_admission c mount = named (place_of (mount_names c.mount) mount)
+
+-- a bare rover gives no credentials; neither is replied to
 abbrev pub judged : Config → Opening → Heading → List ℕ → Judged
 judged c sends_head heading text = heading_judged c heading text
 judged c (relays n) heading text = relay_judged (mount_fed (slice_get c.relay n)) heading text
 judged c (bare_source mount) heading text =
-    source_judged None false text (source_admission c mount [])
+    source_judged None false text (bare_admission c mount)
 judged c (bare_rover mount) heading text =
     rover_judged None None text (admission c auths.None mount)

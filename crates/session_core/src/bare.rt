@@ -11,7 +11,7 @@ ghost use Rattle.session_core.specs.Standing.{Fed};
 
 use crate::begun::{Begun, REPLY_ROOM};
 use crate::ending::Bare;
-use crate::judging::{judge_rover, judge_source};
+use crate::judging::{judge_bare_source, judge_rover};
 use crate::places::Places;
 use crate::session::Session;
 use cast_config::Config;
@@ -40,9 +40,10 @@ impl Session {
         }
     }
 
-    /// A connection that is a source of the mountpoint of this name without a password, or a rover
-    /// of it without credentials, from its first byte on, served as the caller `me`. It has no head
-    /// and is sent no reply; a rover is sent its frames as under NTRIP 1.0 (RTCM 10410.0).
+    /// A connection that is a source of the mountpoint of this name, or a rover of it without
+    /// credentials, from its first byte on, served as the caller `me`. It has no head and is sent
+    /// no reply: a source is asked for no password, and a rover is sent its frames as under NTRIP
+    /// 1.0 (RTCM 10410.0).
     ///
     /// # Errors
     /// For want of memory, before anything is called.
@@ -80,17 +81,7 @@ impl Session {
         match role {
             Bare::Source => {
                 let rings = places.rings.as_mut_slice();
-                let begun = judge_source(
-                    config,
-                    &[],
-                    me,
-                    None,
-                    mount,
-                    &[],
-                    false,
-                    rings,
-                    &mut nothing,
-                );
+                let begun = judge_bare_source(config, me, mount, rings, &mut nothing);
                 Ok(Session::of(alloc, me, begun))
             }
             Bare::Rover => {

@@ -1,6 +1,6 @@
 //! What becomes of a connection, by what its head asks for.
 
-ghost use Rattle.std.specs.Prelude.{◌≡◌, ℕ, ◌≤◌, ◌⊎◌, Bool, IsTrue, List, [], length, map, Some, Ok, Err, IfNone, IfSome, Result, Option};
+ghost use Rattle.std.specs.Prelude.{◌≡◌, ℕ, ◌≤◌, ◌⊎◌, Bool, IsTrue, List, [], length, map, Some, Ok, Err, IfNone, IfSome, Result, Option, ◌<◌, None, IfOk, false};
 ghost use Rattle.turn_log.specs.History.{History};
 ghost use Rattle.turn_log.specs.Turn.{SamePlace};
 ghost use Rattle.caster_accounts.specs.declared.call.BookCall.{BookCall};
@@ -17,7 +17,7 @@ ghost use Rattle.access_groups.specs.declared.admission.Denial.{Denial as Denial
 ghost use Rattle.access_groups.specs.Admission.{Gives, admission as admission_of, source_admission};
 ghost use Rattle.session_core.specs.Setting.{shapes, caps};
 ghost use Rattle.session_core.specs.Setting as setting;
-ghost use Rattle.session_core.specs.Judged.{rover_judged, source_judged, fault_judged, request_judged};
+ghost use Rattle.session_core.specs.Judged.{rover_judged, source_judged, bare_admission, fault_judged, request_judged};
 ghost use Rattle.session_core.specs.Run.{Histories};
 ghost use Rattle.session_core.specs.Called.{IsCause, seen_at, alone_at};
 ghost use Rattle.session_core.specs.Beginnings.{histories_of, worn_at, IsRequestOnEarth, IsTableFor};
@@ -29,7 +29,7 @@ use crate::ending::Ending;
 use crate::places::Places;
 use crate::rovers::begin_rover;
 use access_groups::{Denial, SourceDenial, admit, admit_source};
-use cast_config::Config;
+use cast_config::{Config, place_named};
 use cast_text::MountName;
 use caster_accounts::Book;
 use gga_read::Position;
@@ -145,7 +145,7 @@ pub(crate) fn judge_rover<T: Turns<Ring>, B: Turns<Book>>(
 }
 
 /// What becomes of a source that would feed a mountpoint with this password.
-pub(crate) fn judge_source<T: Turns<Ring>>(
+fn judge_source<T: Turns<Ring>>(
     config: &Config,
     table: &[u8],
     me: u32,
@@ -175,6 +175,48 @@ pub(crate) fn judge_source<T: Turns<Ring>>(
     match admit_source(config, mount, password) {
         Ok(mount) => begin_source(me, version, mount, chunked, rings, out),
         Err(denial) => deny_source(version, denial, table, out),
+    }
+}
+
+/// The number of the mountpoint that a source without a head may feed: of the one with this name,
+/// whatever its password is.
+fn admit_bare(config: &Config, mount: &MountName) -> Result<u32, SourceDenial>
+    requires { length config.now.mount ≤ 64 }
+    ensures value { result ≡ bare_admission config.now mount.now }
+    ensures within { IfOk result (λ number. number < length config.now.mount) }
+{
+    match place_named(config.mount.as_slice(), mount.bytes()) {
+        Some(place) => Ok(place as u32),
+        None => Err(SourceDenial::NoMount),
+    }
+}
+
+/// What becomes of a source without a head, by the name of its mountpoint alone.
+pub(crate) fn judge_bare_source<T: Turns<Ring>>(
+    config: &Config,
+    me: u32,
+    mount: &MountName,
+    rings: &mut [T],
+    out: &mut Vec<u8>,
+) -> Begun
+    requires kept { (cap : ℕ) × KeepsRules cap config.now }
+    requires shapes { map T.shape rings.old ≡ shapes config.now }
+    requires speaks { AllSpeak T.speaks rings.old me }
+    ensures same { SamePlaces T.shape T.speaks T.may_lack T.alone T.home rings.old rings.new }
+    ensures worn { AllLater (map T.worn rings.old) (map T.worn rings.new) }
+    ensures begins { (alone : Bool) (book : History BookCall)
+        → (IsTrue alone → IsTrue (all_alone T.alone rings.old))
+        → BeginsFor config.now alone (histories_of (map T.seen rings.old) book)
+        (histories_of (map T.seen rings.new) book) me
+        (source_judged None false [] (bare_admission config.now mount.now))
+        result.stage result.ended out.old.items out.new.items }
+    ensures untold { out.new.items ≡ out.old.items }
+    ensures starts { StartsAs result.stage result.ended }
+    ensures cause { IfSome result.ended (IsCause (map T.worn rings.new)) }
+{
+    match admit_bare(config, mount) {
+        Ok(mount) => begin_source(me, None, mount, false, rings, out),
+        Err(denial) => deny_source(None, denial, &[], out),
     }
 }
 

@@ -285,14 +285,17 @@ fn faults_end_what_goes_on(rt: HostRuntime) -> Result<(), Fail> {
     expect_closed(&rt, alloc, Start::Head, &[ROVER], Last::ReadFault, rover)
 }
 
-// BRAVO has an empty password, and may be heard without credentials.
+// ALPHA has a password, which a bare source is not asked for; BRAVO may be heard without
+// credentials.
 #[test]
 fn bare_connections_are_sent_no_reply(rt: HostRuntime) -> Result<(), Fail> {
     let alloc = rt.alloc();
     let alpha = MountName::new(alloc, b"ALPHA")?;
     let bravo = MountName::new(alloc, b"BRAVO")?;
+    let charlie = MountName::new(alloc, b"CHARLIE")?;
     let claimed = ends(Ending::SourceEnd { claim: 1 }, b"");
-    let refused = ends(Ending::SourcePassword, b"");
+    let with_password = ends(Ending::SourceEnd { claim: 1 }, b"");
+    let refused = ends(Ending::NoMount, b"");
     let entered = Wanted {
         entered: true,
         ..ends(Ending::RoverEnd, b"")
@@ -300,7 +303,8 @@ fn bare_connections_are_sent_no_reply(rt: HostRuntime) -> Result<(), Fail> {
     let denied = ends(Ending::Denied { group: 1 }, b"");
     for (role, mount, wanted) in [
         (Bare::Source, &bravo, claimed),
-        (Bare::Source, &alpha, refused),
+        (Bare::Source, &alpha, with_password),
+        (Bare::Source, &charlie, refused),
         (Bare::Rover, &bravo, entered),
         (Bare::Rover, &alpha, denied),
     ] {
