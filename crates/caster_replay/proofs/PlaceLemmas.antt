@@ -2,11 +2,14 @@
 use Rattle.std.proofs.Common.{◌≡◌, ◌∙◌, ◌<◌, ◌++◌, ◌+◌, ℕ, zero, suc, Bool, IsTrue, List, [], ◌∷◌, length, map, take, drop, get_or, set, refl, sym, ap, subst, arith, Option, None, Some}
 use Rattle.std.proofs.lemmas.Bool.{false≢true}
 use Rattle.std.proofs.lemmas.List.Elements.{All-push}
-use Rattle.std.specs.Prelude.{if◌then◌else◌, is_some}
+use Rattle.std.specs.Prelude.{if◌then◌else◌, is_some, is_none, false}
+use Rattle.std.proofs.lemmas.List.{map-append}
+use Rattle.turn_log.specs.History.{History}
+use Rattle.mount_ring.specs.declared.call.RingCall.{RingCall}
 use Rattle.std.specs.Coded.{coded_option, coded_ℕ}
 use Rattle.caster_replay.specs.declared.run_place.RunPlace.{RunPlace}
 use Rattle.caster_replay.specs.declared.run_place.RunPlace.TheVariants.{Plain, Greets}
-use Rattle.caster_replay.specs.Places.{place_seen, place_home, place_cleared, cleared_now, AllGreet, cleared_at}
+use Rattle.caster_replay.specs.Places.{place_seen, place_home, place_cleared, cleared_now, AllGreet, NoneGreets, cleared_at}
 
 one_next : (n : ℕ) → suc n ≡ n + 1
 one_next n = omega arith
@@ -62,6 +65,25 @@ greet_more greets before after is made each =
     subst (λ (b : Bool). IsTrue (is_some (counted_if b))) (sym is) refl in
     subst AllGreet (sym made)
     (All-push (λ (count : Option ℕ). IsTrue (is_some count)) before (counted_if greets) each last)
+
+pub none_more : (greets : Bool) (before after : List (Option ℕ)) → greets ≡ false
+    → after ≡ before ++ (if greets then Some 0 else None) ∷ [] → NoneGreets before → NoneGreets after
+none_more greets before after is made each =
+    let last : IsTrue (is_none (counted_if greets)) =
+    subst (λ (b : Bool). IsTrue (is_none (counted_if b))) (sym is) refl in
+    subst NoneGreets (sym made)
+    (All-push (λ (count : Option ℕ). IsTrue (is_none count)) before (counted_if greets) each last)
+
+-- one more of them, at which nothing was called
+pub counted_more : (greets : Bool) (before after : List (Option ℕ)) (rings more : List (History RingCall))
+    → IsTrue greets → after ≡ before ++ (if greets then Some 0 else None) ∷ [] → more ≡ rings ++ [] ∷ []
+    → before ≡ cleared_at rings → after ≡ cleared_at more
+counted_more greets before after rings more is made uncalled stood =
+    made
+    ∙ ap (λ (b : Bool). before ++ counted_if b ∷ []) is
+    ∙ ap (λ (l : List (Option ℕ)). l ++ Some 0 ∷ []) stood
+    ∙ sym (map-append (λ (history : History RingCall). Some (length history)) rings ([] ∷ []))
+    ∙ ap cleared_at (sym uncalled)
 
 pub cleared_again : (places : List RunPlace) → AllGreet (map place_cleared places)
     → map cleared_now places ≡ cleared_at (map place_seen places)

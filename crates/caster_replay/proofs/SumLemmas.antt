@@ -1,9 +1,8 @@
 -- The sums of all accounts are those of each account, added up.
-use Rattle.std.proofs.Common.{◌≡◌, ℕ, suc, List, [], length, subst, arith}
+use Rattle.std.proofs.Common.{◌≡◌, ℕ, suc, List, [], length, subst}
 use Rattle.turn_log.specs.History.{IsLegal}
 use Rattle.caster_accounts.specs.History.{fits}
 use Rattle.caster_accounts.specs.Sums.{total, total_of_all}
-use Rattle.caster_accounts.specs.Sums as sums
 use Rattle.cast_config.specs.declared.config.Account.{Account}
 use Rattle.session_core.specs.Reports.{added, sums_from}
 use Rattle.session_core.specs.Run.{Histories}

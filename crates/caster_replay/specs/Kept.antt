@@ -8,7 +8,7 @@ use Rattle.last_frames.specs.Greeted.{Greeting}
 use Rattle.caster_replay.specs.declared.run.Run.{Run}
 use Rattle.caster_replay.specs.Caster.{greeting_at}
 use Rattle.caster_replay.specs.Lives.{Live, lives_in}
-use Rattle.caster_replay.specs.Places.{AllGreet}
+use Rattle.caster_replay.specs.Places.{AllGreet, NoneGreets}
 use Rattle.caster_replay.specs.Scripts.{IsScriptFor, Stands}
 use Rattle.caster_replay.specs.Sends.{sent_in}
 
@@ -42,6 +42,10 @@ cleared_of run = run.desks.cleared
 -- it keeps greetings at each mountpoint
 abbrev pub Greets : Run → Type 0
 Greets run = AllGreet (cleared_of run)
+
+-- it keeps none: no mountpoint has a station
+abbrev pub KeepsNoGreetings : Run → Type 0
+KeepsNoGreetings run = NoneGreets (cleared_of run)
 
 -- the greeting that it keeps at this one
 abbrev pub greeting_of : Run → ℕ → Greeting

@@ -1,5 +1,5 @@
 -- A place of a run: at a ring alone, or at the station of a ring, whose greetings it keeps.
-use Rattle.std.specs.Prelude.{ℕ, List, length, map, IsTrue, Option, None, Some, is_some}
+use Rattle.std.specs.Prelude.{ℕ, List, length, map, IsTrue, Option, None, Some, is_some, is_none}
 use Rattle.std.specs.Coded.{coded_option, coded_ℕ}
 use Rattle.std.specs.List.{All}
 use base.Stored.{Gv}
@@ -12,6 +12,7 @@ use Rattle.mount_ring.specs.History.{Shape, state_of, fits}
 use Rattle.mount_ring.specs.Kept.{ring_shape}
 use Rattle.mount_ring.specs.Shapes.{shape_of}
 use Rattle.last_frames.specs.Greeted.{Greeting, greeted_since}
+use Rattle.last_frames.specs.Station.{station_shape}
 use Rattle.caster_replay.specs.declared.run_place.RunPlace.{RunPlace}
 use Rattle.caster_replay.specs.declared.run_place.RunPlace.TheVariants.{Plain, Greets}
 
@@ -19,7 +20,7 @@ use Rattle.caster_replay.specs.declared.run_place.RunPlace.TheVariants.{Plain, G
 
 abbrev pub place_shape : RunPlace → RingShape
 place_shape (Plain desk) = ring_shape desk.value
-place_shape (Greets place) = ring_shape place.inner.value.ring
+place_shape (Greets place) = station_shape place.inner.value
 
 abbrev pub place_seen : RunPlace → History RingCall
 place_seen (Plain desk) = so_far desk.past
@@ -36,7 +37,7 @@ place_legal (Greets place) = place.inner.legal
 -- how many calls there were when it was made or cleared last, if it keeps greetings
 abbrev pub place_cleared : RunPlace → Option ℕ
 place_cleared (Plain desk) = None
-place_cleared (Greets place) = Some (length (so_far place.since.value.past))
+place_cleared (Greets place) = Some place.since
 
 -- No turn changes that: it is a part of which place this is.
 abbrev pub place_home : RunPlace → Gv
@@ -59,6 +60,10 @@ greeting_since (Some count) shape history = greeted_since shape count history
 abbrev pub AllGreet : List (Option ℕ) → Type 0
 AllGreet cleared = All (λ count. IsTrue (is_some count)) cleared
 
--- and was cleared at these histories
+-- none does: each is at a ring alone
+abbrev pub NoneGreets : List (Option ℕ) → Type 0
+NoneGreets cleared = All (λ count. IsTrue (is_none count)) cleared
+
+-- each keeps greetings, and was cleared at these histories
 abbrev pub cleared_at : List (History RingCall) → List (Option ℕ)
 cleared_at rings = map (λ history. Some (length history)) rings

@@ -1,6 +1,6 @@
 //! The desks of a run: nobody but its connections calls at them.
 
-ghost use Rattle.std.specs.Prelude.{◌≡◌, ◌<◌, ◌++◌, ℕ, [], ◌∷◌, length, get_or, IfOk, OnOk, IfNone, IfSome, IsTrue, None, Some, if◌then◌else◌};
+ghost use Rattle.std.specs.Prelude.{◌≡◌, ◌<◌, ◌++◌, ℕ, [], ◌∷◌, length, get_or, IfOk, OnOk, IfNone, IfSome, IsTrue, None, Some, false, if◌then◌else◌};
 ghost use Rattle.cast_config.specs.declared.config.Config.{Config as ConfigValue};
 ghost use Rattle.mount_ring.specs.declared.shape.RingShape.{RingShape};
 ghost use Rattle.mount_ring.specs.History.{state_of};
@@ -15,7 +15,7 @@ ghost use Rattle.session_core.specs.Standing.{Follows};
 ghost use Rattle.session_core.specs.Turned.{flow_of};
 ghost use Rattle.caster_replay.specs.Calls.{Closes, Feeds, Opens, TakesTurn};
 ghost use Rattle.caster_replay.specs.Caster.{ArePlaces, SamePlaces, greeting_at};
-ghost use Rattle.caster_replay.specs.Places.{AllGreet, cleared_at};
+ghost use Rattle.caster_replay.specs.Places.{AllGreet, NoneGreets, cleared_at};
 
 use crate::rings::{caps_of, open_place};
 use crate::run_place::{RunPlace, clear_all};
@@ -101,6 +101,9 @@ impl Desks {
         ensures places { IfOk result (λ desks. ArePlaces config.now desks) }
         ensures uncalled { IfOk result (λ desks. desks.seen ≡ nothing_called config.now) }
         ensures greet { IsTrue greets → IfOk result (λ desks. AllGreet desks.cleared) }
+        ensures counted { IsTrue greets → IfOk result (λ desks.
+            desks.cleared ≡ cleared_at desks.seen.rings) }
+        ensures none { greets ≡ false → IfOk result (λ desks. NoneGreets desks.cleared) }
     {
         let mut desks = Desks::at_book(alloc, config)?;
         for number in 0..config.mount.as_slice().len() {

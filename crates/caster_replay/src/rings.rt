@@ -39,8 +39,7 @@ fn open_station(
         ≡ get_or (shapes config.now) number d) }
     ensures uncalled { IfOk result (λ place.
         ⟦<Desk<Station> as Turns<Station>>⟧.seen place.inner ≡ []) }
-    ensures since { IfOk result (λ place.
-        ⟦<Desk<Station> as Turns<Station>>⟧.seen place.since.value ≡ []) }
+    ensures since { IfOk result (λ place. place.since ≡ 0) }
 {
     let capacity = config.mount.as_slice()[number as usize].ring;
     let station = Station::new(alloc, capacity, config.filters(number))?;

@@ -8,7 +8,7 @@ ghost use Rattle.session_core.specs.Setting as setting;
 ghost use Rattle.session_script.specs.declared.Event.{Event as EventValue};
 ghost use Rattle.caster_replay.specs.Entries.{AreOver, IsOverAt};
 ghost use Rattle.caster_replay.specs.Going.{GoesOn, IsBehind, IsRover, MaySpeak};
-ghost use Rattle.caster_replay.specs.Kept.{Greets, MayCome, StandsFor, cleared_of, greeting_of, lives_of, seen_of, sent_by_run};
+ghost use Rattle.caster_replay.specs.Kept.{Greets, KeepsNoGreetings, MayCome, StandsFor, cleared_of, greeting_of, lives_of, seen_of, sent_by_run};
 ghost use Rattle.caster_replay.specs.Places.{cleared_at};
 ghost use Rattle.caster_replay.specs.Lives.{AreTold, IsToldBy, lives_in};
 ghost use Rattle.caster_replay.specs.Scripts.{IsShort};
@@ -81,11 +81,12 @@ fn told_all(alloc: Global, entries: Vec<Entry>) -> Result<Vec<Connection>, Alloc
 
 impl Run {
     /// The run of no events yet, over one desk a mountpoint, made as the configuration says, and
-    /// one of the book of accounts.
+    /// one of the book of accounts. It keeps no greetings.
     pub fn new(alloc: Global, config: &Config) -> Result<Run, AllocError>
         requires kept { (cap : ℕ) × KeepsRules cap config.now }
         ensures stands { IfOk result (λ run. StandsFor config.now [] run) }
         ensures unsent { (n : ℕ) → IfOk result (λ run. sent_by_run run n ≡ []) }
+        ensures plain { IfOk result (λ run. KeepsNoGreetings run) }
     {
         let table = table_text(alloc, config)?;
         let desks = Desks::new(alloc, config, false)?;
@@ -101,7 +102,11 @@ impl Run {
     pub fn with_greetings(alloc: Global, config: &Config) -> Result<Run, AllocError>
         requires kept { (cap : ℕ) × KeepsRules cap config.now }
         ensures stands { IfOk result (λ run. StandsFor config.now [] run) }
+        ensures unsent { (n : ℕ) → IfOk result (λ run. sent_by_run run n ≡ []) }
         ensures greets { IfOk result (λ run. Greets run) }
+
+        // Greetings count from here on, as after `clear`.
+        ensures cleared { IfOk result (λ run. cleared_of run ≡ cleared_at (seen_of run).rings) }
     {
         let table = table_text(alloc, config)?;
         let desks = Desks::new(alloc, config, true)?;

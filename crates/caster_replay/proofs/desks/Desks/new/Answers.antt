@@ -3,7 +3,7 @@ use Rattle.std.proofs.lemmas.List.{take_all, take_more}
 use Rattle.mount_ring.specs.declared.shape.RingShape.{RingShape}
 use Rattle.session_core.specs.Setting.{shapes}
 use Rattle.caster_replay.proofs.DeskLemmas.{no_shape, shapes_count, uncalled_next}
-use Rattle.caster_replay.proofs.PlaceLemmas.{greet_more}
+use Rattle.caster_replay.proofs.PlaceLemmas.{greet_more, counted_more, none_more}
 use Rattle.caster_replay.proofs.desks.Desks.new.Goals as goal
 
 pub loop-number-preserved : goal.loop-number-preserved
@@ -25,6 +25,13 @@ loop-number-preserved c =
       greet = λ greets.
           greet_more c.args.greets c.loop-number.desks.cleared c.add_ring.new.self.cleared greets
           c.in_ok-add_ring.ensures.cleared (c.loop-number.invariant.greet greets);
+      counted = λ greets.
+          counted_more c.args.greets c.loop-number.desks.cleared c.add_ring.new.self.cleared
+          c.loop-number.desks.seen.rings c.add_ring.new.self.seen.rings greets c.in_ok-add_ring.ensures.cleared
+          c.in_ok-add_ring.ensures.uncalled (c.loop-number.invariant.counted greets);
+      none = λ plain.
+          none_more c.args.greets c.loop-number.desks.cleared c.add_ring.new.self.cleared plain
+          c.in_ok-add_ring.ensures.cleared (c.loop-number.invariant.none plain);
     }
 
 pub returns-clause-places : goal.returns-clause-places

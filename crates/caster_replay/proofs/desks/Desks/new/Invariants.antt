@@ -1,8 +1,8 @@
 -- the desks at the first rings, at which nothing was called
-use Rattle.std.proofs.Common.{◌≡◌, [], IsTrue, map, take}
+use Rattle.std.proofs.Common.{◌≡◌, [], IsTrue, map, take, false}
 use Rattle.cast_config.specs.declared.config.Mount.{Mount}
 use Rattle.session_core.specs.Setting.{caps, shapes}
-use Rattle.caster_replay.specs.Places.{AllGreet}
+use Rattle.caster_replay.specs.Places.{AllGreet, NoneGreets, cleared_at}
 use Rattle.caster_replay.proofs.desks.Desks.new.Given as goal
 
 abbrev pub invariant-loop-number : goal.invariant-loop-number
@@ -12,4 +12,6 @@ invariant-loop-number l = record {
   book : l.desks.book ≡ caps l.config;
   book_uncalled : l.desks.seen.book ≡ [];
   greet : IsTrue l.greets → AllGreet l.desks.cleared;
+  counted : IsTrue l.greets → l.desks.cleared ≡ cleared_at l.desks.seen.rings;
+  none : l.greets ≡ false → NoneGreets l.desks.cleared;
 }
