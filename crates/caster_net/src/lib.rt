@@ -4,12 +4,15 @@
 #![tactic(auto)]
 
 mod adapters;
+mod bell;
 mod door;
 mod link;
 mod street;
 mod waiting;
+mod watch;
 
 pub use adapters::{FileStore, ReaderSource, WriterSink};
-pub use door::TcpDoor;
+pub use bell::Bell;
+pub use door::{DoorBell, TcpDoor};
 pub use link::TcpLink;
 pub use street::TcpStreet;

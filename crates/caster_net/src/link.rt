@@ -1,23 +1,48 @@
 //! A TCP connection as a link.
-ghost use Rattle.std.specs.Prelude.{◌≡◌, IfOk};
+ghost use Rattle.std.specs.Prelude.{◌≡◌, ◌<◌, ◌≤◌, length, IfOk, IfSome};
 ghost use Rattle.caster_net.specs.Untold.{link_of};
 
-use crate::waiting::{failed, rest, would_wait};
+use crate::bell::Bell;
+use crate::waiting::{LONGEST, SHORT, failed, rest, wait_ready, would_wait};
+use crate::watch::{Watch, Woken};
 use cast_io::{Failed, Got, Link};
-use std::io;
+use libc::net::{POLLIN, POLLOUT};
 use std::io::{Read, Write};
 use std::net::{Shutdown, TcpStream};
+use std::os::fd::AsRawFd;
 use std::time::{Duration, Instant};
+use std::{io, thread};
+
+// The first byte of every frame, which no head and no report has.
+const PREAMBLE: u8 = 0xD3;
+
+// The longest pause before a rest, in milliseconds.
+const LONGEST_PAUSE: u64 = 16;
+
+// How long a write waits for room with no byte taken, in seconds.
+const LONGEST_WRITE: u64 = 10;
 
 // The most that is taken of what a peer sends after its connection has ended, in bytes.
 const MOST_DRAINED: usize = 64 * 1024;
 
-/// A TCP connection, and how often it failed. A read does not wait for the peer; a write rests
-/// while the peer takes nothing.
+/// A TCP connection, and how often it failed. A read does not wait for the peer; a write waits while
+/// the peer takes nothing.
+///
+/// A link that gave the first byte of a frame is a source: it does not wait for the bell at its rests,
+/// and rings it where frames that it gave may have been published.
 #[derive(Drop)]
 pub struct TcpLink<'a> {
     rt: &'a HostRuntime,
+    bell: &'a Bell,
     stream: TcpStream,
+    // None before the first rest, and where no descriptor was left for it.
+    watch: Option<Watch>,
+    has_rested: bool,
+    // How long it sleeps before it waits, in milliseconds.
+    pause: u64,
+    is_source: bool,
+    // It gave bytes, and the bell was not rung for them yet.
+    gave: bool,
     has_ended: bool,
     pub(crate) faults: u64,
 }
@@ -25,14 +50,20 @@ pub struct TcpLink<'a> {
 impl<'a> TcpLink<'a> {
     /// A link over this connection, whose reads and writes do not wait from now on, and whose
     /// small pieces are sent at once.
-    pub(crate) fn over(rt: &'a HostRuntime, stream: TcpStream) -> io::Result<Self>
+    pub(crate) fn over(rt: &'a HostRuntime, bell: &'a Bell, stream: TcpStream) -> io::Result<Self>
         ensures { IfOk result (λ link. link.faults ≡ 0) }
     {
         stream.set_nonblocking(true)?;
         stream.set_nodelay(true)?;
         Ok(TcpLink {
             rt,
+            bell,
             stream,
+            watch: None,
+            has_rested: false,
+            pause: 0,
+            is_source: false,
+            gave: false,
             has_ended: false,
             faults: 0,
         })
@@ -43,10 +74,74 @@ impl<'a> TcpLink<'a> {
     /// with bytes unread is reset, and its peer may lose what it was sent last (RFC 9112, section
     /// 9.6).
     pub(crate) fn close(mut self, limit: Duration) {
+        self.tell();
         let _ = self.stream.shutdown(Shutdown::Write);
         if !self.has_ended && self.faults == 0 {
             let _ = drain(self.rt, &mut self.stream, limit);
         }
+    }
+
+    /// Rings the bell where this link gave frames since it was rung.
+    pub(crate) fn tell(&mut self)
+        ensures { self.new.faults ≡ self.old.faults }
+    {
+        if self.gave {
+            self.gave = false;
+            self.bell.ring();
+        }
+    }
+
+    // Notes what the peer gave.
+    fn hear(&mut self, bytes: &[u8])
+        ensures { self.new.faults ≡ self.old.faults }
+    {
+        if !self.is_source && bytes.contains(&PREAMBLE) {
+            self.is_source = true;
+            self.pause = 0;
+            if let (Some(watch), Some(ear)) = (&self.watch, self.bell.ear()) {
+                watch.forget(ear);
+            }
+        }
+        self.gave = self.is_source;
+    }
+
+    // Makes the watch at the first rest, if there is a descriptor for it.
+    fn prepare(&mut self)
+        ensures { self.new.faults ≡ self.old.faults }
+    {
+        if self.has_rested {
+            return;
+        }
+        self.has_rested = true;
+        let ear = if self.is_source {
+            None
+        } else {
+            self.bell.ear()
+        };
+        if self.is_source || ear.is_some() {
+            self.watch = Watch::over(self.rt, self.stream.as_raw_fd(), ear).ok();
+        }
+    }
+
+    // Waits for the peer and the bell; with no watch, a short while for the peer alone.
+    fn wait(&mut self) -> Woken
+        ensures { self.new.faults ≡ self.old.faults }
+    {
+        match &mut self.watch {
+            Some(watch) => {
+                if let Ok(woken) = watch.wait(Duration::from_millis(LONGEST)) {
+                    return woken;
+                }
+                rest(self.rt);
+            }
+            None => wait_ready(
+                self.rt,
+                self.stream.as_raw_fd(),
+                POLLIN,
+                Duration::from_millis(SHORT),
+            ),
+        }
+        Woken::Late
     }
 }
 
@@ -54,38 +149,82 @@ impl Link for TcpLink<'_> {
     ghost told = { λ l. link_of l.faults };
 
     fn read(&mut self, buf: &mut [u8]) -> Got {
+        self.tell();
         match self.stream.read(buf) {
             Ok(0) => {
                 self.has_ended = true;
                 Got::End
             }
-            Ok(count) => Got::Bytes(count),
+            Ok(count) => {
+                self.hear(&buf[..count]);
+                Got::Bytes(count)
+            }
             Err(fault) if would_wait(fault.kind()) => Got::Idle,
             Err(_) => failed(&mut self.faults, Got::Failed),
         }
     }
 
-    // A write that would have to wait 500 times in a row, with a rest between two tries, is a
-    // fault.
     fn write(&mut self, piece: &[u8]) -> Result<(), Failed> {
+        self.pause = 1;
         let mut at = 0;
-        let mut waits = 0u32;
         while at < piece.len() {
-            match self.stream.write(&piece[at..]) {
-                Ok(count) if count > 0 => (at, waits) = (at + count, 0),
-                Err(fault) if would_wait(fault.kind()) && waits < 499 => {
-                    waits += 1;
-                    rest(self.rt);
-                }
-                _ => return failed(&mut self.faults, Err(Failed)),
-            }
+            let Some(count) = write_some(self.rt, &mut self.stream, &piece[at..]) else {
+                return failed(&mut self.faults, Err(Failed));
+            };
+            at += count;
         }
         Ok(())
     }
 
+    // While the bell is rung for nothing, the pause before a rest grows: so links that have nothing to
+    // send are not woken by each frame of others.
     fn rest(&mut self) {
-        rest(self.rt);
+        if self.pause > 0 {
+            thread::sleep(self.rt, Duration::from_millis(self.pause));
+        }
+        self.prepare();
+        match self.wait() {
+            Woken::Peer => {}
+            Woken::Bell => self.pause = self.pause.saturating_mul(2).clamp(1, LONGEST_PAUSE),
+            Woken::Late => self.pause = self.pause.min(1),
+        }
     }
+}
+
+// Writes some first bytes of a piece that is not empty, and waits where it must: how many were taken,
+// and None where none were.
+fn write_some(rt: &HostRuntime, stream: &mut TcpStream, piece: &[u8]) -> Option<usize>
+    ensures { IfSome result (λ count. (0 < count) × (count ≤ length piece.now)) }
+{
+    match stream.write(piece) {
+        Ok(count) if count > 0 => Some(count),
+        Err(fault) if would_wait(fault.kind()) => write_late(rt, stream, piece),
+        _ => None,
+    }
+}
+
+// Waits for room and writes some first bytes then, in so many seconds. Between two tries it waits for
+// half a second at most: there may be room for some bytes, while the socket is called writable only
+// when a good part of its buffer is free.
+fn write_late(rt: &HostRuntime, stream: &mut TcpStream, piece: &[u8]) -> Option<usize>
+    ensures { IfSome result (λ count. (0 < count) × (count ≤ length piece.now)) }
+{
+    let limit = Duration::from_secs(LONGEST_WRITE);
+    let begun = Instant::now(rt).ok()?;
+    for _ in 0..u64::MAX {
+        let left = limit.saturating_sub(begun.elapsed(rt).ok()?);
+        if left.is_zero() {
+            return None;
+        }
+        let pause = left.min(Duration::from_millis(LONGEST));
+        wait_ready(rt, stream.as_raw_fd(), POLLOUT, pause);
+        match stream.write(piece) {
+            Ok(count) if count > 0 => return Some(count),
+            Err(fault) if would_wait(fault.kind()) => {}
+            _ => return None,
+        }
+    }
+    None
 }
 
 // Takes what the peer sends until it ends, for this long and so many bytes at most.
@@ -103,98 +242,4 @@ fn drain(rt: &HostRuntime, stream: &mut TcpStream, limit: Duration) -> io::Resul
         left = left.saturating_sub(count);
     }
     Ok(())
-}
-
-#[cfg(test)]
-mod tests {
-    use super::TcpLink;
-    use cast_io::{Got, Link};
-    use std::io;
-    use std::io::{Read, Write};
-    use std::net::{TcpListener, TcpStream};
-    use std::test::Fail;
-    use std::time::Duration;
-
-    // A link over a loopback connection, and its peer.
-    fn pair(rt: &HostRuntime) -> Result<(TcpLink<'_>, TcpStream), Fail> {
-        let listener = TcpListener::bind(rt, "127.0.0.1:0")?;
-        let peer = TcpStream::connect(rt, listener.local_addr()?)?;
-        let (stream, _) = listener.accept()?;
-        Ok((TcpLink::over(rt, stream)?, peer))
-    }
-
-    // What a link reads before its peer sends, behind it, and when the peer has ended.
-    fn reads_of(
-        link: &mut TcpLink<'_>,
-        mut peer: TcpStream,
-    ) -> io::Result<(Got, Got, Got, [u8; 4])> {
-        let mut buf = [0u8; 4];
-        let nothing = link.read(&mut buf);
-        let _ = peer.write(b"abc")?;
-        link.rest();
-        let some = link.read(&mut buf);
-        drop(peer);
-        link.rest();
-        let end = link.read(&mut [0u8]);
-        Ok((nothing, some, end, buf))
-    }
-
-    #[test]
-    fn a_link_reads_what_comes(rt: HostRuntime) -> Result<(), Fail> {
-        let (mut link, peer) = pair(&rt)?;
-        let got = reads_of(&mut link, peer)?;
-        let faults = link.faults;
-        drop(link);
-        assert_eq!(rt; got, (Got::Idle, Got::Bytes(3), Got::End, *b"abc\0"));
-        assert_eq!(rt; faults, 0);
-        Ok(())
-    }
-
-    // What a peer reads of a link that writes two bytes; then the peer is gone, and it tells how the
-    // link's next writes end, and how often it failed. The first of them goes out to the peer, which
-    // says that it is gone; the others have nobody, but one of no bytes.
-    fn writes_of(link: &mut TcpLink<'_>, mut peer: TcpStream) -> io::Result<([u8; 2], u8, u64)> {
-        let mut came = [0u8; 2];
-        let mut failures = u8::from(link.write(b"de").is_err());
-        peer.read_exact(&mut came)?;
-        drop(peer);
-        link.faults = u64::MAX - 1;
-        for piece in [b"f".as_slice(), b"g", b"h", b""] {
-            failures = failures.saturating_add(u8::from(link.write(piece).is_err()));
-            link.rest();
-        }
-        Ok((came, failures, link.faults))
-    }
-
-    #[test]
-    fn a_link_writes_at_once_and_counts_its_failures(rt: HostRuntime) -> Result<(), Fail> {
-        let (mut link, peer) = pair(&rt)?;
-        let is_at_once = link.stream.nodelay()?;
-        let got = writes_of(&mut link, peer)?;
-        drop(link);
-        assert!(rt; is_at_once);
-        assert_eq!(rt; got, (*b"de", 2, u64::MAX));
-        Ok(())
-    }
-
-    // What a peer reads that has sent bytes which the link did not read when it was closed.
-    fn reads_of_a_refused(
-        mut link: TcpLink<'_>,
-        mut peer: TcpStream,
-    ) -> io::Result<(usize, usize)> {
-        let _ = peer.write(&[7u8; 1000])?;
-        let _ = link.write(b"no");
-        link.close(Duration::from_millis(100));
-        let mut back = [0u8; 8];
-        Ok((peer.read(&mut back)?, peer.read(&mut back)?))
-    }
-
-    // Bytes that came and were not read would reset the connection as it is closed.
-    #[test]
-    fn a_peer_that_goes_on_sending_reads_its_reply(rt: HostRuntime) -> Result<(), Fail> {
-        let (link, peer) = pair(&rt)?;
-        let got = reads_of_a_refused(link, peer)?;
-        assert_eq!(rt; got, (2, 0));
-        Ok(())
-    }
 }

@@ -1,11 +1,20 @@
 //! What links, doors and streets have in common: the count of faults, the errors that say "nothing
-//! yet", and the rest.
+//! yet", and how they wait.
 ghost use Rattle.std.specs.Prelude.{◌≡◌, ◌≤◌};
 ghost use Rattle.cast_io.specs.Causes.{Rose};
 
+use libc::net::poll;
+use libc::types::pollfd;
 use std::io::ErrorKind;
+use std::os::fd::RawFd;
 use std::thread;
 use std::time::Duration;
+
+/// A short rest, in milliseconds.
+pub(crate) const SHORT: u64 = 20;
+
+/// The longest rest of a link, in milliseconds, and how long a write waits between two tries.
+pub(crate) const LONGEST: u64 = 500;
 
 /// Counts a failure, and gives this answer.
 pub(crate) fn failed<X>(faults: &mut u64, answer: X) -> X
@@ -22,7 +31,20 @@ pub(crate) fn would_wait(kind: ErrorKind) -> bool {
     matches!(kind, ErrorKind::WouldBlock | ErrorKind::Interrupted)
 }
 
-/// Waits a while.
+/// Waits a short while.
 pub(crate) fn rest(rt: &HostRuntime) {
-    thread::sleep(rt, Duration::from_millis(20));
+    thread::sleep(rt, Duration::from_millis(SHORT));
+}
+
+/// Waits until the descriptor is ready for what is wanted, so long at most.
+pub(crate) fn wait_ready(rt: &HostRuntime, fd: RawFd, wanted: i16, limit: Duration) {
+    let mut asked = [pollfd {
+        fd,
+        events: wanted,
+        revents: 0,
+    }];
+    let millis = i32::try_from(limit.as_millis()).unwrap_or(i32::MAX).max(1);
+    if poll(&mut asked, millis) < 0 {
+        rest(rt);
+    }
 }
