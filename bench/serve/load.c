@@ -2,7 +2,10 @@
  * Loads a caster on loopback: sources that push frames to mountpoints M1, M2, .., and rovers that take
  * them, the rover of number i from mountpoint i modulo the number of sources.
  *
- *     load PORT SOURCES ROVERS RATE SECONDS SIZE [FLOOD]
+ *     load PORT[:FEED] SOURCES ROVERS RATE SECONDS SIZE [FLOOD]
+ *
+ * With FEED the server is one process for each source, as str2str is: source s sends its frames alone to
+ * port FEED + s, and its rovers ask at port PORT + s.
  *
  * Each source sends RATE frames of SIZE bytes a second, evenly spaced; with SECONDS 0 it sends RATE
  * frames at once. With RATE 0 nothing is sent for SECONDS seconds. With FLOOD, "preambles" or "frames", one
@@ -58,6 +61,7 @@ struct rover {
 };
 
 static int port, sources, rovers, rate, seconds, size;
+static int feed; /* the port of the first source where each has a process of its own; 0 */
 static const char *flood; /* what the source of FLOOD sends; NULL */
 static int flood_socket;
 static size_t flood_frames, flood_bytes;
@@ -128,11 +132,10 @@ static void write_all(int to, const uint8_t *at, size_t left)
     }
 }
 
-/* Connects, waiting until somebody listens, sends the head, and waits for the reply of version 1. */
-static int enter(const char *head)
+/* Connects, and waits until somebody listens. */
+static int dial(int at)
 {
-    static const char wanted[] = "ICY 200 OK\r\n\r\n";
-    struct sockaddr_in addr = {.sin_family = AF_INET, .sin_port = htons(port)};
+    struct sockaddr_in addr = {.sin_family = AF_INET, .sin_port = htons(at)};
     addr.sin_addr.s_addr = htonl(INADDR_LOOPBACK);
     int64_t begun = now();
     int to, on = 1;
@@ -148,10 +151,19 @@ static int enter(const char *head)
         usleep(10000);
     }
     setsockopt(to, IPPROTO_TCP, TCP_NODELAY, &on, sizeof on);
+    return to;
+}
+
+/* Connects, sends the head, and waits for the reply of version 1. That of str2str has no empty line. */
+static int enter(int at, const char *head)
+{
+    const char *wanted = feed ? "ICY 200 OK\r\n" : "ICY 200 OK\r\n\r\n";
+    size_t length = strlen(wanted);
+    char reply[20];
+    int to = dial(at);
     write_all(to, (const uint8_t *)head, strlen(head));
-    char reply[sizeof wanted];
-    for (size_t have = 0; have < sizeof wanted - 1;) {
-        ssize_t got = recv(to, reply + have, sizeof wanted - 1 - have, 0);
+    for (size_t have = 0; have < length;) {
+        ssize_t got = recv(to, reply + have, length - have, 0);
         if (got <= 0 || memcmp(reply, wanted, have + got) != 0) {
             fprintf(stderr, "not let in: %s\n", head);
             exit(2);
@@ -323,15 +335,15 @@ static void connect_all(void)
     char head[100];
     for (int s = 0; s < sources; s++) {
         snprintf(head, sizeof head, "SOURCE pw M%d\r\n\r\n", s + 1);
-        source[s].socket = enter(head);
+        source[s].socket = feed ? dial(feed + s) : enter(port, head);
     }
     if (flood)
-        flood_socket = enter("SOURCE pw FLOOD\r\n\r\n");
+        flood_socket = enter(port, "SOURCE pw FLOOD\r\n\r\n");
     for (int k = 0; k < rovers; k++) {
         rover[k].source = k % sources;
         rover[k].place = -1;
         snprintf(head, sizeof head, "GET /M%d HTTP/1.0\r\nUser-Agent: NTRIP load\r\n\r\n", k % sources + 1);
-        rover[k].socket = enter(head);
+        rover[k].socket = enter(feed ? port + k % sources : port, head);
     }
 }
 
@@ -375,10 +387,12 @@ int main(int words, char **word)
     if (words == 8 && (strcmp(word[7], "preambles") == 0 || strcmp(word[7], "frames") == 0))
         flood = word[7];
     if (words != 7 && !flood) {
-        fprintf(stderr, "usage: load PORT SOURCES ROVERS RATE SECONDS SIZE [preambles|frames]\n");
+        fprintf(stderr, "usage: load PORT[:FEED] SOURCES ROVERS RATE SECONDS SIZE [preambles|frames]\n");
         return 2;
     }
     port = atoi(word[1]);
+    const char *colon = strchr(word[1], ':');
+    feed = colon ? atoi(colon + 1) : 0;
     sources = atoi(word[2]);
     rovers = atoi(word[3]);
     rate = atoi(word[4]);
