@@ -1,2 +1,3 @@
 pub mod GreetingLemmas
 pub mod PartLemmas
+pub mod SentLemmas

@@ -2,7 +2,7 @@
 use Rattle.std.proofs.Common.{◌≡◌, ◌≢◌, ◌∙◌, ◌++◌, ◌≤◌, ◌<◌, ◌+◌, ℕ, suc, get_or, Bool, true, false, IsTrue, Option, Some, List, [], ◌∷◌, length, map, take, drop, fold, refl, sym, ap, subst, inl, inr, arith, length-append, append_assoc}
 use Rattle.std.specs.Prelude.{◌==◌, ◌&&◌, nat_lt, if◌then◌else◌, is_some}
 use Rattle.std.proofs.lemmas.Bool.{cases_Bool, eq-eqb, eqb-true, eqb-false, ne_eqb}
-use Rattle.std.proofs.lemmas.List.{append-nil, flat_map_more, take_more}
+use Rattle.std.proofs.lemmas.List.{append-nil, take_more}
 use Rattle.std.proofs.lemmas.List.Elements.{All-map}
 use Rattle.std.proofs.Math.Seq.{drop-length}
 use Rattle.turn_log.specs.History.{History}
@@ -30,7 +30,7 @@ use Rattle.caster_replay.proofs.WorldReportLemmas.{report_with}
 use Rattle.caster_replay.proofs.WorldRunnerLemmas.{after_one}
 use Rattle.caster_warm.specs.declared.parts.Part.{Part}
 use Rattle.caster_warm.specs.Numbers.{number_of, brings_bytes}
-use Rattle.caster_warm.specs.Parts.{part_to, parts_to}
+use Rattle.caster_warm.specs.Parts.{part_to}
 use Rattle.caster_warm.specs.Warm.{greeting_for, greeting_by, sent_so_far, sent_by_event, sent_by_events, told_with, IsWarmReport}
 
 abbrev told_as : Connection → List ℕ → Connection
@@ -236,18 +236,6 @@ still_greets now rings is =
     subst AllGreet (sym is)
     (All-map (λ (count : Option ℕ). IsTrue (is_some count)) (λ (h : History RingCall). Some (length h)) rings
     (λ k d within. refl))
-
--- ---- parts
-
-pub parts_push : (n : ℕ) (parts : List Part) (part : Part)
-    → parts_to n (parts ++ part ∷ []) ≡ parts_to n parts ++ part_to n part
-parts_push n parts part = sym (flat_map_more (part_to n) [] parts part)
-
-pub parts_next : (n i : ℕ) (parts : List Part) (part : Part) → i < length parts → part ≡ get_or parts i part
-    → parts_to n (take i parts) ++ part_to n part ≡ parts_to n (take (i + 1) parts)
-parts_next n i parts part within is =
-    sym (parts_push n (take i parts) part)
-    ∙ ap (parts_to n) (ap (λ (p : Part). take i parts ++ p ∷ []) is ∙ sym (take_more parts i part within))
 
 -- ---- all events
 

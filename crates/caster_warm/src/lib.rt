@@ -5,6 +5,7 @@
 mod events;
 mod greeting;
 mod parts;
+mod sent;
 mod warming;
 
 pub use warming::warm;

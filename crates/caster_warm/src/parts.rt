@@ -97,24 +97,3 @@ pub(crate) fn play_part(
     append_greeting_by(run, event, &mut bytes)?;
     Ok(Part { number, bytes })
 }
-
-/// Appends the bytes of the part, if it is of this connection.
-fn append_part(part: &Part, number: u32, out: &mut Vec<u8>) -> Result<(), AllocError>
-    ensures { OnOk result (out.new.items ≡ out.old.items ++ told.part_to number part.now) }
-{
-    if part.number == number {
-        out.extend_from_slice(&part.bytes)?;
-    }
-    Ok(())
-}
-
-/// All bytes of the parts of this connection, in order.
-pub(crate) fn bytes_to(alloc: Global, number: u32, parts: &[Part]) -> Result<Vec<u8>, AllocError>
-    ensures { IfOk result (λ bytes. bytes.items ≡ told.parts_to number parts.now) }
-{
-    let mut bytes = Vec::new(alloc);
-    for part in parts {
-        append_part(part, number, &mut bytes)?;
-    }
-    Ok(bytes)
-}

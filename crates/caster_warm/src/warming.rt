@@ -7,45 +7,46 @@ ghost use Rattle.session_core.specs.Reports.{AreHeadings};
 ghost use Rattle.session_core.specs.Run.{after_events};
 ghost use Rattle.caster_replay.specs.Kept.{StandsFor};
 ghost use Rattle.caster_replay.specs.Scripts.{IsScriptFor};
-ghost use Rattle.caster_warm.specs.Parts.{parts_to};
+ghost use Rattle.caster_warm.specs.Parts.{sent_to};
 ghost use Rattle.caster_warm.specs.Warm.{IsWarmReport, sent_by_events, told_with};
 
-use crate::parts::{Part, bytes_to, play_part};
+use crate::parts::play_part;
+use crate::sent::{AllSent, add_part, bytes_to};
 use cast_config::Config;
 use caster_replay::Run;
 use session_core::{Connection, Connections, Report, Sent};
 use session_script::Event;
 use std::alloc::{AllocError, Global};
+use std::collections::BTreeMap;
 
-/// Plays the events of a script, and notes what each sends its connection, with its greeting.
-fn played(alloc: Global, config: &Config, events: &[Event]) -> Result<(Run, Vec<Part>), AllocError>
+/// Plays the events of a script, and notes what they send each connection, with its greetings.
+fn played(alloc: Global, config: &Config, events: &[Event]) -> Result<(Run, AllSent), AllocError>
     requires kept { (cap : ℕ) × KeepsRules cap config.now }
     requires script { IsScriptFor config.now events.now }
     ensures stands { IfOk result (λ played. StandsFor config.now events.now played.0) }
-    ensures parts { (headings : ℕ → Heading) (n : ℕ) → AreHeadings events.now headings
-        → IfOk result (λ played. parts_to n played.1.items ≡ sent_by_events config.now headings
+    ensures sent { (headings : ℕ → Heading) (n : ℕ) → AreHeadings events.now headings
+        → IfOk result (λ played. sent_to n played.1 ≡ sent_by_events config.now headings
         (after_events config.now headings []) events.now n) }
 {
     let mut run = Run::with_greetings(alloc, config)?;
-    let mut parts = Vec::new(alloc);
+    let mut sent = BTreeMap::new(alloc);
     for event in events {
         let part = play_part(alloc, config, &mut run, event)?;
-        parts.push(part)?;
+        add_part(&mut sent, part)?;
     }
-    Ok((run, parts))
+    Ok((run, sent))
 }
 
-/// What is told of a connection, with the bytes of its parts.
-fn told(alloc: Global, connection: Connection, parts: &[Part]) -> Result<Connection, AllocError>
-    ensures { IfOk result (λ told. told
-        ≡ told_with (λ n. parts_to n parts.now) connection) }
+/// What is told of a connection, with the bytes that it was sent.
+fn told(alloc: Global, connection: Connection, sent: &AllSent) -> Result<Connection, AllocError>
+    ensures { IfOk result (λ told. told ≡ told_with (λ n. sent_to n sent.now) connection) }
 {
     let Connection {
         number,
         receipt,
         bytes: _,
     } = connection;
-    let bytes = bytes_to(alloc, number, parts)?;
+    let bytes = bytes_to(alloc, number, sent)?;
     Ok(Connection {
         number,
         receipt,
@@ -53,18 +54,18 @@ fn told(alloc: Global, connection: Connection, parts: &[Part]) -> Result<Connect
     })
 }
 
-/// What is told of all connections, with the bytes of their parts.
+/// What is told of all connections, with the bytes that they were sent.
 fn told_all(
     alloc: Global,
     connections: Vec<Connection>,
-    parts: &[Part],
+    sent: &AllSent,
 ) -> Result<Vec<Connection>, AllocError>
     ensures { IfOk result (λ list. list.items
-        ≡ map (told_with (λ n. parts_to n parts.now)) connections.items) }
+        ≡ map (told_with (λ n. sent_to n sent.now)) connections.items) }
 {
     let mut list = Vec::new(alloc);
     for connection in connections {
-        let next = told(alloc, connection, parts)?;
+        let next = told(alloc, connection, sent)?;
         list.push(next)?;
     }
     Ok(list)
@@ -84,9 +85,9 @@ pub fn warm(alloc: Global, config: &Config, events: &[Event]) -> Result<Report, 
     requires script { IsScriptFor config.now events.now }
     ensures { IfOk result (λ report. IsWarmReport config.now events.now report) }
 {
-    let (run, parts) = played(alloc, config, events)?;
+    let (run, sent) = played(alloc, config, events)?;
     let (plain, closed) = run.parts(alloc, config)?;
-    let connections = told_all(alloc, plain, &parts)?;
+    let connections = told_all(alloc, plain, &sent)?;
     Ok(Report {
         connections: Connections::new(connections),
         closed,

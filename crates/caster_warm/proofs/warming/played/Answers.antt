@@ -4,9 +4,9 @@ use Rattle.session_script.specs.declared.Event.{Event}
 use Rattle.cast_config.specs.declared.config.Config.{Config}
 use Rattle.session_core.specs.Run.{after_events}
 use Rattle.caster_replay.proofs.RunLemmas.{comes_next, stands_next, stands_whole}
-use Rattle.caster_warm.specs.Parts.{part_to, parts_to}
+use Rattle.caster_warm.specs.Parts.{part_to}
 use Rattle.caster_warm.specs.Warm.{sent_by_events}
-use Rattle.caster_warm.proofs.PartLemmas.{headings_at, parts_push, sent_next}
+use Rattle.caster_warm.proofs.PartLemmas.{headings_at, sent_next}
 use Rattle.caster_warm.proofs.warming.played.Goals as goal
 
 pub play_part-requires-clause-run : goal.play_part-requires-clause-run
@@ -29,10 +29,9 @@ loop-event-preserved c =
       stands = stands_next config events i event c.play_part.new.run c.loop-event-test.true c.event-item.is
           (c.in_ok-part.ensures.played (take i events) before.stands comes);
       greets = c.in_ok-part.ensures.greets;
-      parts = λ headings n are.
-          ap (parts_to n) c.in_ok-push.ensures.items
-          ∙ parts_push n c.loop-event.parts.items c.in_ok-part.part
-          ∙ ap (λ (l : List ℕ). l ++ part_to n c.in_ok-part.part) (before.parts headings n are)
+      sent = λ headings n are.
+          c.in_ok-add_part.ensures n
+          ∙ ap (λ (l : List ℕ). l ++ part_to n c.in_ok-part.part) (before.sent headings n are)
           ∙ ap (λ (l : List ℕ).
           sent_by_events config headings (after_events config headings []) (take i events) n ++ l)
           (c.in_ok-part.ensures.part (take i events) (drop (suc i) events) headings n before.stands comes
@@ -45,9 +44,9 @@ returns-clause-stands c =
     stands_whole c.args.config.now c.args.events.now c.loop-event.event-index c.loop-event.run c.loop-event-test.false
     c.loop-event.invariant.stands
 
-pub returns-clause-parts : goal.returns-clause-parts
-returns-clause-parts c = λ headings n are.
-    c.loop-event.invariant.parts headings n are
+pub returns-clause-sent : goal.returns-clause-sent
+returns-clause-sent c = λ headings n are.
+    c.loop-event.invariant.sent headings n are
     ∙ ap (λ (l : List Event).
     sent_by_events c.args.config.now headings (after_events c.args.config.now headings []) l n)
     (take_all c.loop-event.event-index c.args.events.now c.loop-event-test.false)

@@ -1,10 +1,10 @@
--- the run stands for the events so far, and the parts have what each of them sent
+-- the run stands for the events so far, and what each connection was sent is noted
 use Rattle.std.proofs.Common.{◌≡◌, ℕ, [], take}
 use Rattle.session_core.specs.Headings.{Heading}
 use Rattle.session_core.specs.Reports.{AreHeadings}
 use Rattle.session_core.specs.Run.{after_events}
 use Rattle.caster_replay.specs.Kept.{Greets, StandsFor}
-use Rattle.caster_warm.specs.Parts.{parts_to}
+use Rattle.caster_warm.specs.Parts.{sent_to}
 use Rattle.caster_warm.specs.Warm.{sent_by_events}
 use Rattle.caster_warm.proofs.warming.played.Given as goal
 
@@ -12,7 +12,7 @@ abbrev pub invariant-loop-event : goal.invariant-loop-event
 invariant-loop-event l = record {
   stands : StandsFor l.config (take l.event-index l.events) l.run;
   greets : Greets l.run;
-  parts : (headings : ℕ → Heading) (n : ℕ) → AreHeadings l.events headings
-      → parts_to n l.parts.items
+  sent : (headings : ℕ → Heading) (n : ℕ) → AreHeadings l.events headings
+      → sent_to n l.sent
       ≡ sent_by_events l.config headings (after_events l.config headings []) (take l.event-index l.events) n;
 }

@@ -1,7 +1,7 @@
 use Rattle.std.proofs.Common.{◌∙◌, ◌++◌, List, [], ◌∷◌, sym, ap, append_assoc}
 use Rattle.std.proofs.lemmas.List.{map-append}
 use Rattle.session_core.specs.declared.report.Connection.{Connection}
-use Rattle.caster_warm.specs.Parts.{parts_to}
+use Rattle.caster_warm.specs.Parts.{sent_to}
 use Rattle.caster_warm.specs.Warm.{told_with}
 use Rattle.caster_warm.proofs.warming.told_all.Goals as goal
 
@@ -12,8 +12,8 @@ loop-connection-preserved c = (
   c.in_ok-push.ensures.items
       ∙ ap (λ (told : Connection). c.loop-connection.list.items ++ told ∷ []) c.in_ok-next.ensures
       ∙ ap (λ (l : List Connection).
-      l ++ told_with (λ n. parts_to n c.args.parts.now) c.in-Some.connection ∷ []) c.loop-connection.invariant.2
-      ∙ sym (map-append (told_with (λ n. parts_to n c.args.parts.now)) c.loop-connection.yielded
+      l ++ told_with (λ n. sent_to n c.args.sent.now) c.in-Some.connection ∷ []) c.loop-connection.invariant.2
+      ∙ sym (map-append (told_with (λ n. sent_to n c.args.sent.now)) c.loop-connection.yielded
       (c.in-Some.connection ∷ [])),
   append_assoc c.loop-connection.yielded (c.in-Some.connection ∷ []) c.next.new.self.rest.items
       ∙ ap (λ (l : List Connection). c.loop-connection.yielded ++ l) (sym c.in-Some.ensures.steps.0)

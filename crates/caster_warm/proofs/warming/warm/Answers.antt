@@ -1,7 +1,4 @@
-use Rattle.std.proofs.Common.{◌∙◌, List, map, ap}
-use Rattle.caster_warm.specs.declared.parts.Part.{Part}
-use Rattle.caster_warm.specs.Parts.{parts_to}
-use Rattle.caster_warm.specs.Warm.{told_with}
+use Rattle.caster_warm.specs.Parts.{sent_to}
 use Rattle.caster_warm.proofs.PartLemmas.{warm_of}
 use Rattle.caster_warm.proofs.warming.warm.Goals as goal
 
@@ -10,10 +7,9 @@ parts-requires-clause-run c = (c.args.events.now, c.requires.script.1, c.in_ok-r
 
 pub returns : goal.returns
 returns c =
-    warm_of c.args.config.now c.args.events.now (λ n. parts_to n c.in_ok-run.parts.items) c.in_ok-plain.plain.items
+    warm_of c.args.config.now c.args.events.now (λ n. sent_to n c.in_ok-run.sent) c.in_ok-plain.plain.items
     c.in_ok-connections.connections.items c.new.result c.in_ok-plain.closed
     (c.in_ok-plain.ensures.report c.args.events.now c.requires.script.1 c.in_ok-run.ensures.stands)
-    c.in_ok-run.ensures.parts
-    (c.in_ok-connections.ensures
-    ∙ ap (λ (l : List Part). map (told_with (λ n. parts_to n l)) c.in_ok-plain.plain.items) c.deref.ensures.value)
+    c.in_ok-run.ensures.sent
+    c.in_ok-connections.ensures
     c.new.ensures
