@@ -4,6 +4,7 @@ ghost use Rattle.caster_accounts.specs.Kept.{caps_of};
 ghost use Rattle.turn_log.specs.Turn.{SamePlace};
 ghost use Rattle.turn_log.specs.Lock.{turn_passes, turn_value, pass_number, IsPassOf};
 
+use crate::desks::expect_eq;
 use caster_accounts::{Book, BookAnswer, BookCall, Sum};
 use std::alloc::{AllocError, Global};
 use std::sync::Wait;
@@ -132,6 +133,6 @@ fn two_threads_add_up_a_thousand_turns_each(rt: HostRuntime) -> Result<(), Fail>
         sent: 4000,
         overrun: 1000,
     };
-    assert_eq!(rt; sum_of_both(rt.alloc(), &rt)?, sum);
+    expect_eq(&rt, sum_of_both(rt.alloc(), &rt)?, sum);
     Ok(())
 }

@@ -5,6 +5,8 @@ ghost use Rattle.turn_log.specs.Desks.{desk_shape};
 use mount_ring::{Cursor, Outbox, Ring, RingCall};
 use rtcm_frame::Frame;
 use std::alloc::Global;
+use std::fmt::Debug;
+use std::process::Abort;
 use std::test::Fail;
 use turn_log::{Desk, Turns};
 use type_filter::{Filter, Filters};
@@ -17,6 +19,12 @@ pub(crate) const FRAME_A: [u8; 8] = [0xD3, 0x00, 0x02, 0x3E, 0xD0, 0xA4, 0xE0, 0
 
 /// A frame whose payload is the number 1077 alone.
 pub(crate) const FRAME_B: [u8; 8] = [0xD3, 0x00, 0x02, 0x43, 0x50, 0x06, 0xA2, 0x7E];
+
+/// What was found is what was wanted. It is proved once for all types, and so costs a test less than
+/// an assertion of its own.
+pub(crate) fn expect_eq<T: Copy + Debug + PartialEq>(rt: &impl Abort, found: T, wanted: T) {
+    assert_eq!(rt; found, wanted);
+}
 
 /// The frames of these names: `a` has the number 1005 and `b` the number 1077, and each other name
 /// is the shortest frame, which has none.

@@ -6,7 +6,7 @@ ghost use Rattle.base_select.specs.Measure.{IsOnEarth};
 ghost use Rattle.mount_ring.specs.History.{is_holder, state_of};
 ghost use Rattle.rover_session.specs.Standing.{rover_of, KnowsFilter, AreWithin, IsServed};
 
-use crate::desks::{FRAME_A, FRAME_B, FRAME_Z, ring_desk};
+use crate::desks::{FRAME_A, FRAME_B, FRAME_Z, expect_eq, ring_desk};
 use base_select::Base;
 use gga_read::Position;
 use mount_ring::{Outbox, Ring, RingAnswer, RingCall};
@@ -253,6 +253,17 @@ struct Told {
     body: Vec<u8>,
 }
 
+/// What became of a rover that was sent these bytes.
+fn told_of(alloc: Global, rover: RoverSession, body: Vec<u8>) -> Result<Told, Fail> {
+    let sums = (rover.sent(), rover.overrun());
+    let segments = shown(alloc, &rover)?;
+    Ok(Told {
+        segments,
+        sums,
+        body,
+    })
+}
+
 /// What became of a rover at two new desks, at which all this happens.
 fn rover_told(
     alloc: Global,
@@ -263,11 +274,16 @@ fn rover_told(
     let mut desks = [ring_desk(alloc)?, ring_desk(alloc)?];
     let mut body = Vec::new(alloc);
     let rover = play(alloc, version, near, &mut desks, script, &mut body)?;
-    Ok(Told {
-        segments: shown(alloc, &rover)?,
-        sums: (rover.sent(), rover.overrun()),
-        body,
-    })
+    told_of(alloc, rover, body)
+}
+
+/// These frames, one behind the other.
+fn joined(alloc: Global, frames: &[&[u8]]) -> Result<Vec<u8>, Fail> {
+    let mut body = Vec::new(alloc);
+    for frame in frames {
+        body.extend_from_slice(*frame)?;
+    }
+    Ok(body)
 }
 
 /// A near rover of version 1 came to these segments and these sums of frames sent and overrun, and
@@ -281,13 +297,10 @@ fn expect_near(
     frames: &[&[u8]],
 ) -> Result<(), Fail> {
     let told = rover_told(alloc, Version::One, true, script)?;
-    let mut body = Vec::new(alloc);
-    for frame in frames {
-        body.extend_from_slice(*frame)?;
-    }
-    assert_eq!(rt; told.segments.as_slice(), segments);
-    assert_eq!(rt; told.sums, sums);
-    assert_eq!(rt; told.body.as_slice(), body.as_slice());
+    let body = joined(alloc, frames)?;
+    expect_eq(rt, told.segments.as_slice(), segments);
+    expect_eq(rt, told.sums, sums);
+    expect_eq(rt, told.body.as_slice(), body.as_slice());
     Ok(())
 }
 
@@ -352,7 +365,7 @@ fn a_report_has_at_most_128_bytes(rt: HostRuntime) -> Result<(), Fail> {
             Happening::Sends(Line::South(zeros)),
         ];
         let told = rover_told(rt.alloc(), Version::One, true, &script)?;
-        assert_eq!(rt; told.segments.len(), segments);
+        expect_eq(&rt, told.segments.len(), segments);
     }
     Ok(())
 }
@@ -371,8 +384,8 @@ const TWO_CHUNKS: &[u8] =
 #[test]
 fn version_two_sends_one_chunk_a_frame(rt: HostRuntime) -> Result<(), Fail> {
     let told = rover_told(rt.alloc(), Version::Two, false, &TWO_FRAMES)?;
-    assert_eq!(rt; told.body.as_slice(), TWO_CHUNKS);
-    assert_eq!(rt; told.segments.as_slice(), [(0, 0, 2, 2, 0)].as_slice());
+    expect_eq(&rt, told.body.as_slice(), TWO_CHUNKS);
+    expect_eq(&rt, told.segments.as_slice(), [(0, 0, 2, 2, 0)].as_slice());
     Ok(())
 }
 

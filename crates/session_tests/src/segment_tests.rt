@@ -3,7 +3,7 @@ ghost use Rattle.std.specs.Prelude.{◌≡◌, ℕ, ◌≤◌, IsTrue, [], ◌�
 ghost use Rattle.turn_log.specs.History.{GoesOn};
 ghost use Rattle.mount_ring.specs.History as history;
 
-use crate::desks::frames_of;
+use crate::desks::{expect_eq, frames_of};
 use mount_ring::{Cursor, Lap, Outbox, Ring, RingAnswer, RingCall};
 use rover_cursor::{Laps, Segment};
 use rtcm_frame::Frame;
@@ -119,66 +119,67 @@ fn read_told(
     })
 }
 
+/// How many frames a ring keeps, the number of the frames that it permits, if it does not permit all,
+/// and the frames that are published in each round.
+type Rounds<'a> = (u32, Option<u16>, &'a [&'a str]);
+
 /// A rover of the mountpoint 7 from place 0 on, by filter 0, came to this place, with so many frames
 /// sent and so many overrun, with these laps, and took the frames of these names last.
 fn expect_read(
     rt: &impl Abort,
-    told: &Told,
+    alloc: Global,
+    rounds: Rounds,
     counts: (u64, u64, u64),
     laps: &[Lap],
-    frames: &[Frame],
-) {
+    names: &str,
+) -> Result<(), Fail>
+    requires { (1 ≤ rounds.0) × (rounds.0 ≤ 4096) }
+{
+    let told = read_told(alloc, rounds.0, rounds.1, rounds.2)?;
+    let frames = frames_of(alloc, names)?;
     let (to, sent, overrun) = counts;
     let passed = sent.saturating_add(overrun);
-    assert_eq!(rt; told.row, (7, 0, to, sent, overrun, (to, passed, 0)));
-    assert_eq!(rt; told.laps.as_slice(), laps);
-    assert_eq!(rt; told.frames.as_slice(), frames);
+    expect_eq(rt, told.row, (7, 0, to, sent, overrun, (to, passed, 0)));
+    expect_eq(rt, told.laps.as_slice(), laps);
+    expect_eq(rt, told.frames.as_slice(), frames.as_slice());
+    Ok(())
+}
+
+/// A lap: from, to, how many frames were published by then and how many were overrun.
+fn lap_of(from: u64, to: u64, published: u64, overrun: u64) -> Lap {
+    Lap {
+        from,
+        to,
+        published,
+        overrun,
+    }
 }
 
 #[test]
 fn a_lapped_rover_counts_its_overrun(rt: HostRuntime) -> Result<(), Fail> {
-    let told = read_told(rt.alloc(), 2, None, &["a", "babz"])?;
-    let lap = Lap {
-        from: 1,
-        to: 3,
-        published: 5,
-        overrun: 2,
-    };
-    expect_read(&rt, &told, (5, 3, 2), &[lap], &frames_of(rt.alloc(), "bz")?);
-    Ok(())
+    let rounds = (2, None, ["a", "babz"].as_slice());
+    let laps = [lap_of(1, 3, 5, 2)];
+    expect_read(&rt, rt.alloc(), rounds, (5, 3, 2), &laps, "bz")
 }
 
 #[test]
 fn the_overrun_counts_permitted_frames_alone(rt: HostRuntime) -> Result<(), Fail> {
-    let told = read_told(rt.alloc(), 2, Some(1005), &["abbb"])?;
-    let lap = Lap {
-        from: 0,
-        to: 2,
-        published: 4,
-        overrun: 1,
-    };
-    expect_read(&rt, &told, (4, 0, 1), &[lap], &[]);
-    Ok(())
+    let rounds = (2, Some(1005), ["abbb"].as_slice());
+    let laps = [lap_of(0, 2, 4, 1)];
+    expect_read(&rt, rt.alloc(), rounds, (4, 0, 1), &laps, "")
 }
 
 #[test]
 fn a_lap_may_lose_nothing(rt: HostRuntime) -> Result<(), Fail> {
-    let told = read_told(rt.alloc(), 2, Some(1005), &["bbbb"])?;
-    let lap = Lap {
-        from: 0,
-        to: 2,
-        published: 4,
-        overrun: 0,
-    };
-    expect_read(&rt, &told, (4, 0, 0), &[lap], &[]);
-    Ok(())
+    let rounds = (2, Some(1005), ["bbbb"].as_slice());
+    let laps = [lap_of(0, 2, 4, 0)];
+    expect_read(&rt, rt.alloc(), rounds, (4, 0, 0), &laps, "")
 }
 
 #[test]
 fn a_rover_that_keeps_up_has_no_lap(rt: HostRuntime) -> Result<(), Fail> {
-    let told = read_told(rt.alloc(), 1, None, &["a", "b"])?;
-    expect_read(&rt, &told, (2, 2, 0), &[], &frames_of(rt.alloc(), "b")?);
-    Ok(())
+    let rounds = (1, None, ["a", "b"].as_slice());
+    expect_read(&rt, rt.alloc(), rounds, (2, 2, 0), &[], "b")
 }
 
 /// How many laps a rover has, and the rest in numbers, after so many rounds of the frames of the
@@ -195,7 +196,7 @@ fn lapped_each_round(alloc: Global, rounds: usize) -> Result<(usize, Row), Fail>
 #[test]
 fn a_rover_may_be_lapped_many_times(rt: HostRuntime) -> Result<(), Fail> {
     let row = (7, 0, 2002, 1001, 1001, (2002, 2002, 0));
-    assert_eq!(rt; lapped_each_round(rt.alloc(), 1001)?, (1001, row));
+    expect_eq(&rt, lapped_each_round(rt.alloc(), 1001)?, (1001, row));
     Ok(())
 }
 
@@ -209,14 +210,9 @@ fn listed(alloc: Global, lap: Lap) -> Result<(usize, bool, Vec<Lap>), Fail> {
 
 #[test]
 fn laps_give_their_list_back(rt: HostRuntime) -> Result<(), Fail> {
-    let lap = Lap {
-        from: 0,
-        to: 2,
-        published: 4,
-        overrun: 1,
-    };
+    let lap = lap_of(0, 2, 4, 1);
     let (count, is_empty, list) = listed(rt.alloc(), lap)?;
-    assert_eq!(rt; (count, is_empty), (1, false));
-    assert_eq!(rt; list.as_slice(), [lap].as_slice());
+    expect_eq(&rt, (count, is_empty), (1, false));
+    expect_eq(&rt, list.as_slice(), [lap].as_slice());
     Ok(())
 }

@@ -1,14 +1,15 @@
 //! A source at a desk, by the public calls.
 ghost use Rattle.std.specs.Prelude.{◌^◌, ◌<◌, ◌≤◌, length};
+ghost use Rattle.turn_log.specs.Desks.{desk_shape};
 
-use crate::desks::{frames_at, frames_of, ring_desk};
+use crate::desks::{expect_eq, frames_at, frames_of, ring_desk};
 use mount_ring::Ring;
 use rtcm_frame::{Cutter, Frame};
 use source_session::{ClaimFault, SourceHalt, SourceSession};
 use std::alloc::Global;
 use std::process::Abort;
 use std::test::Fail;
-use turn_log::Desk;
+use turn_log::{Desk, TurnFault};
 
 // The frame of the number 1005, a byte of no frame, the frame of the number 1077, and the beginning
 // of a frame.
@@ -25,12 +26,29 @@ const MALFORMED: &[u8] = b"8\r\n\xd3\x00\x02\x3e\xd0\xa4\xe0\x00\r\n0000008";
 // The frame of the number 1005 with a last byte that is not its checksum's, and that of 1077.
 const DAMAGED: &[u8] = b"\xd3\x00\x02\x3e\xd0\xa4\xe0\x01\xd3\x00\x02\x43\x50\x06\xa2\x7e";
 
-// What became of a source: how its last bytes were taken, its junk, and the frames that its
-// mountpoint has then.
+// What became of a source: how its last bytes were taken, and its junk.
+type Came = (Result<(), SourceHalt>, u64);
+
+// What became of a source, and the frames that its mountpoint has then.
 #[derive(Drop)]
 struct Told {
-    came: (Result<(), SourceHalt>, u64),
+    came: Came,
     frames: Vec<Frame>,
+}
+
+// What became of a source whose last bytes were taken so, at this desk.
+fn source_told(
+    alloc: Global,
+    session: SourceSession,
+    desk: Desk<Ring>,
+    ended: Result<(), SourceHalt>,
+) -> Result<Told, Fail>
+    requires { 0 < length (desk_shape desk).filters }
+{
+    let came = (ended, session.junk());
+    let mut desk = desk;
+    let frames = frames_at(alloc, &mut desk)?;
+    Ok(Told { came, frames })
 }
 
 // Caller 1 sends a body in two pieces, cut at this place.
@@ -43,10 +61,7 @@ fn sent_in_two(alloc: Global, chunked: bool, body: &[u8], at: usize) -> Result<T
     let mut session = SourceSession::claim(1, chunked, cutter, &mut desk)?;
     let _first = session.feed(&body[..at], &mut desk);
     let ended = session.feed(&body[at..], &mut desk);
-    Ok(Told {
-        came: (ended, session.junk()),
-        frames: frames_at(alloc, &mut desk)?,
-    })
+    source_told(alloc, session, desk, ended)
 }
 
 // Caller 1 sends a body in pieces of one byte.
@@ -60,10 +75,7 @@ fn sent_by_bytes(alloc: Global, chunked: bool, body: &[u8]) -> Result<Told, Fail
     for byte in body {
         ended = session.feed(&[*byte], &mut desk);
     }
-    Ok(Told {
-        came: (ended, session.junk()),
-        frames: frames_at(alloc, &mut desk)?,
-    })
+    source_told(alloc, session, desk, ended)
 }
 
 // A source came to this, and its mountpoint has the frames of these names.
@@ -71,12 +83,12 @@ fn expect_told(
     rt: &impl Abort,
     alloc: Global,
     told: &Told,
-    came: (Result<(), SourceHalt>, u64),
+    came: Came,
     names: &str,
 ) -> Result<(), Fail> {
     let frames = frames_of(alloc, names)?;
-    assert_eq!(rt; told.came, came);
-    assert_eq!(rt; told.frames.as_slice(), frames.as_slice());
+    expect_eq(rt, told.came, came);
+    expect_eq(rt, told.frames.as_slice(), frames.as_slice());
     Ok(())
 }
 
@@ -95,7 +107,7 @@ fn expect_sent(
     alloc: Global,
     chunked: bool,
     body: &[u8],
-    came: (Result<(), SourceHalt>, u64),
+    came: Came,
     names: &str,
 ) -> Result<(), Fail>
     requires { length body.now < 2 ^ 62 }
@@ -121,18 +133,29 @@ fn a_damaged_frame_is_junk(rt: HostRuntime) -> Result<(), Fail> {
     expect_sent(&rt, rt.alloc(), false, DAMAGED, (Ok(()), 8), "b")
 }
 
-// The claim of caller 1, what caller 2 is answered while it stands, and the claim of caller 2 once
-// it was given back.
-fn claims(alloc: Global) -> Result<(u64, Option<ClaimFault>, u64), Fail> {
+// The claim of caller 1, what caller 2 is answered while it stands, how it was given back, and what
+// caller 2 is answered then.
+type Claims = (
+    u64,
+    Option<ClaimFault>,
+    Result<(), TurnFault>,
+    Result<u64, ClaimFault>,
+);
+
+// The claims of two callers, one after the other.
+fn claims(alloc: Global) -> Result<Claims, Fail> {
     let mut desk = ring_desk(alloc)?;
     let cutter = Box::new(alloc, Cutter::new())?;
     let mut first = SourceSession::claim(1, false, cutter, &mut desk)?;
     let cutter = Box::new(alloc, Cutter::new())?;
     let taken = SourceSession::claim(2, false, cutter, &mut desk).err();
-    first.release(&mut desk)?;
+    let released = first.release(&mut desk);
     let cutter = Box::new(alloc, Cutter::new())?;
-    let second = SourceSession::claim(2, false, cutter, &mut desk)?;
-    Ok((first.claim_number(), taken, second.claim_number()))
+    let second = match SourceSession::claim(2, false, cutter, &mut desk) {
+        Ok(session) => Ok(session.claim_number()),
+        Err(fault) => Err(fault),
+    };
+    Ok((first.claim_number(), taken, released, second))
 }
 
 #[test]
@@ -141,6 +164,7 @@ fn a_release_lets_the_next_claim_be_given(rt: HostRuntime) -> Result<(), Fail> {
         caller: 1,
         claim: 1,
     };
-    assert_eq!(rt; claims(rt.alloc())?, (1, Some(taken), 2));
+    let told = (1, Some(taken), Ok(()), Ok(2));
+    expect_eq(&rt, claims(rt.alloc())?, told);
     Ok(())
 }
