@@ -225,14 +225,53 @@ pub(crate) fn served(
     Ok(serve_two(&config, &table, two, script, last, &mut places))
 }
 
+/// How a connection ended, its junk, whether it entered its account and holds nothing in the end,
+/// and how many frames it was sent.
+type Fate = (Ending, u64, bool, bool, u64);
+
+/// What a connection came to, and what it was sent.
+#[derive(Drop)]
+struct Came {
+    fate: Fate,
+    sent: Vec<u8>,
+}
+
+/// What a connection came to, and what it was sent.
+fn outcome(told: Told) -> Came {
+    let Told { receipt, sent, .. } = told;
+    let fate = (
+        receipt.ending,
+        receipt.junk,
+        receipt.entered,
+        receipt.settled,
+        receipt.sent,
+    );
+    Came { fate, sent }
+}
+
+/// What both connections came to, and what they were sent.
+fn both_came(
+    alloc: Global,
+    how: Start,
+    refused: Refused,
+    script: &[(Who, Act)],
+    last: Last,
+) -> Result<(Came, Came), Fail> {
+    let (first, second) = served(alloc, how, refused, script, last)?;
+    Ok((outcome(first), outcome(second)))
+}
+
 /// A connection came to what was wanted.
-fn expect_told(rt: &impl Abort, told: &Told, wanted: Wanted) {
-    assert_eq!(rt; told.receipt.ending, wanted.ending);
-    assert_eq!(rt; told.sent.as_slice(), wanted.sent);
-    assert_eq!(rt; told.receipt.junk, wanted.junk);
-    assert_eq!(rt; told.receipt.entered, wanted.entered);
-    assert_eq!(rt; told.receipt.settled, wanted.settled);
-    assert_eq!(rt; told.receipt.sent, wanted.frames);
+fn expect_came(rt: &impl Abort, came: &Came, wanted: Wanted) {
+    let fate = (
+        wanted.ending,
+        wanted.junk,
+        wanted.entered,
+        wanted.settled,
+        wanted.frames,
+    );
+    assert_eq!(rt; came.fate, fate);
+    assert_eq!(rt; came.sent.as_slice(), wanted.sent);
 }
 
 /// Two connections, of which the first starts so, came to what was wanted.
@@ -244,9 +283,9 @@ pub(crate) fn expect_two_from(
     first: Wanted,
     second: Wanted,
 ) -> Result<(), Fail> {
-    let told = served(alloc, how, NONE, script, Last::End)?;
-    expect_told(rt, &told.0, first);
-    expect_told(rt, &told.1, second);
+    let came = both_came(alloc, how, NONE, script, Last::End)?;
+    expect_came(rt, &came.0, first);
+    expect_came(rt, &came.1, second);
     Ok(())
 }
 
@@ -261,6 +300,21 @@ pub(crate) fn expect_two(
     expect_two_from(rt, alloc, Start::Head, script, first, second)
 }
 
+/// What became of two connections, where these pieces of bytes come to the first, which starts so
+/// and is closed so, and nothing to the second.
+fn pieces_came(
+    alloc: Global,
+    how: Start,
+    pieces: &[&[u8]],
+    last: Last,
+) -> Result<(Came, Came), Fail> {
+    let mut script = Vec::new(alloc);
+    for piece in pieces {
+        script.push((Who::First, Act::In(*piece)))?;
+    }
+    both_came(alloc, how, NONE, &script, last)
+}
+
 /// A connection that starts so, to which so many pieces of bytes come, and then is closed so, came
 /// to what was wanted.
 pub(crate) fn expect_closed(
@@ -271,32 +325,22 @@ pub(crate) fn expect_closed(
     last: Last,
     wanted: Wanted,
 ) -> Result<(), Fail> {
-    let mut script = Vec::new(alloc);
-    for piece in pieces {
-        script.push((Who::First, Act::In(*piece)))?;
-    }
-    let told = served(alloc, how, NONE, &script, last)?;
-    expect_told(rt, &told.0, wanted);
-    expect_told(rt, &told.1, silent());
+    let came = pieces_came(alloc, how, pieces, last)?;
+    expect_came(rt, &came.0, wanted);
+    expect_came(rt, &came.1, silent());
     Ok(())
 }
 
-/// A connection that sends this head, and whatever is behind it, came to what was wanted.
-pub(crate) fn expect_head(
-    rt: &impl Abort,
-    alloc: Global,
-    bytes: &[u8],
-    ending: Ending,
-    sent: &[u8],
-) -> Result<(), Fail> {
-    expect_closed(
-        rt,
-        alloc,
-        Start::Head,
-        &[bytes],
-        Last::End,
-        ends(ending, sent),
-    )
+/// A head and whatever is behind it, how a connection ends that sends it, and what that is sent.
+pub(crate) type HeadRow<'a> = (&'a [u8], Ending, &'a [u8]);
+
+/// Connections that send these heads came to what is wanted of each.
+pub(crate) fn expect_heads(rt: &impl Abort, alloc: Global, rows: &[HeadRow]) -> Result<(), Fail> {
+    for (bytes, ending, sent) in rows {
+        let wanted = ends(*ending, *sent);
+        expect_closed(rt, alloc, Start::Head, &[*bytes], Last::End, wanted)?;
+    }
+    Ok(())
 }
 
 /// A connection of which a turn was refused came to what was wanted.
@@ -308,7 +352,7 @@ pub(crate) fn expect_refused(
     script: &[(Who, Act)],
     wanted: Wanted,
 ) -> Result<(), Fail> {
-    let told = served(alloc, how, refused, script, Last::End)?;
-    expect_told(rt, &told.0, wanted);
+    let came = both_came(alloc, how, refused, script, Last::End)?;
+    expect_came(rt, &came.0, wanted);
     Ok(())
 }

@@ -12,45 +12,57 @@ User-Agent: NTRIP lapcast/1.0\r
 \r
 ";
 
-// A relay that is answered so ends so.
-fn expect_answered(
-    rt: &impl Abort,
-    alloc: Global,
-    answer: &[u8],
-    ending: Ending,
-) -> Result<(), Fail> {
-    let wanted = ends(ending, ASKED);
-    expect_closed(rt, alloc, Start::Relay, &[answer], Last::End, wanted)
+// Relays that are answered so end so.
+fn expect_answered(rt: &impl Abort, alloc: Global, rows: &[(&[u8], Ending)]) -> Result<(), Fail> {
+    for (answer, ending) in rows {
+        let wanted = ends(*ending, ASKED);
+        expect_closed(rt, alloc, Start::Relay, &[*answer], Last::End, wanted)?;
+    }
+    Ok(())
 }
+
+const CHUNKED: [(&[u8], Ending); 2] = [
+    (
+        b"HTTP/1.1 200 OK\r\nTransfer-Encoding: chunked\r\n\r\nz",
+        Ending::BadChunk { at: 0 },
+    ),
+    (
+        b"HTTP/1.1 200 OK\r\nTransfer-Encoding: chunked\r\n\r\n0\r\n\r\n",
+        Ending::SourceEnd { claim: 1 },
+    ),
+];
 
 // The empty line behind the answer's first line is no part of a frame.
 #[test]
 fn an_answer_is_published(rt: HostRuntime) -> Result<(), Fail> {
-    let alloc = rt.alloc();
     let wanted = Wanted {
         junk: 2,
         ..ends(Ending::SourceEnd { claim: 1 }, ASKED)
     };
     let pieces = [b"ICY 200 OK\r\n\r\n".as_slice(), FRAME_A];
-    expect_closed(&rt, alloc, Start::Relay, &pieces, Last::End, wanted)?;
-    let answer = b"HTTP/1.1 200 OK\r\nTransfer-Encoding: chunked\r\n\r\nz";
-    expect_answered(&rt, alloc, answer, Ending::BadChunk { at: 0 })?;
-    let answer = b"HTTP/1.1 200 OK\r\nTransfer-Encoding: chunked\r\n\r\n0\r\n\r\n";
-    expect_answered(&rt, alloc, answer, Ending::SourceEnd { claim: 1 })
+    expect_closed(&rt, rt.alloc(), Start::Relay, &pieces, Last::End, wanted)?;
+    expect_answered(&rt, rt.alloc(), &CHUNKED)
 }
+
+const OTHERS: [(&[u8], Ending); 5] = [
+    (
+        b"HTTP/1.1 404 Not Found\r\n\r\n",
+        Ending::Upstream { status: 404 },
+    ),
+    (b"SOURCETABLE 200 OK\r\n", Ending::UpstreamTable),
+    (b"HELLO\r\n", Ending::BadHead),
+    (
+        b"HTTP/1.1 200 OK\r\nTransfer-Encoding: gzip\r\n\r\n",
+        Ending::Coding,
+    ),
+    (b"ICY 200 OK", Ending::NoHead),
+];
 
 #[test]
 fn other_answers_end_a_relay(rt: HostRuntime) -> Result<(), Fail> {
-    let alloc = rt.alloc();
-    let answer = b"HTTP/1.1 404 Not Found\r\n\r\n";
-    expect_answered(&rt, alloc, answer, Ending::Upstream { status: 404 })?;
-    expect_answered(&rt, alloc, b"SOURCETABLE 200 OK\r\n", Ending::UpstreamTable)?;
-    expect_answered(&rt, alloc, b"HELLO\r\n", Ending::BadHead)?;
-    let answer = b"HTTP/1.1 200 OK\r\nTransfer-Encoding: gzip\r\n\r\n";
-    expect_answered(&rt, alloc, answer, Ending::Coding)?;
-    let answer = vec![in alloc; b'a'; 8192]?;
-    expect_answered(&rt, alloc, &answer, Ending::LongHead)?;
-    expect_answered(&rt, alloc, b"ICY 200 OK", Ending::NoHead)
+    let long = [b'a'; 8192];
+    expect_answered(&rt, rt.alloc(), &OTHERS)?;
+    expect_answered(&rt, rt.alloc(), &[(long.as_slice(), Ending::LongHead)])
 }
 
 #[test]

@@ -2,7 +2,6 @@
 
 ghost use Rattle.std.specs.Prelude.{◌≡◌, IfOk, length};
 
-use crate::text_tests::{bare_config, sizes};
 use cast_config::Config;
 use caster_accounts::Sum;
 use mount_ring::{Cursor, Lap};
@@ -161,39 +160,45 @@ fn rover(alloc: Global) -> Result<Connection, Fail> {
     })
 }
 
-#[test]
-fn long_reports_are_written_whole(rt: HostRuntime) -> Result<(), Fail> {
-    let alloc = rt.alloc();
+// The text of a report of these connections behind these bytes, of a caster of one mountpoint.
+fn text_of(alloc: Global, connections: Connections, before: &[u8]) -> Result<Vec<u8>, Fail> {
     let config = Config::bare(alloc, 2)?;
+    let report = Report {
+        connections,
+        closed: closed(alloc)?,
+    };
+    let mut text = Vec::from_slice(alloc, before)?;
+    report_text(&config, &report, &mut text)?;
+    Ok(text)
+}
+
+// The text of a report of a hundred such rovers.
+fn long_text(alloc: Global) -> Result<Vec<u8>, Fail> {
     let mut connections = Vec::new(alloc);
-    let mut wanted = Vec::new(alloc);
     for _ in 0..100 {
         connections.push(rover(alloc)?)?;
+    }
+    text_of(alloc, Connections::new(connections), b"")
+}
+
+#[test]
+fn long_reports_are_written_whole(rt: HostRuntime) -> Result<(), Fail> {
+    let mut wanted = Vec::new(rt.alloc());
+    for _ in 0..100 {
         wanted.extend_from_slice(ROVER)?;
     }
     wanted.extend_from_slice(b"mount A 7 1\ntotal 1 2 5\n")?;
-    let report = Report {
-        connections: Connections::new(connections),
-        closed: closed(alloc)?,
-    };
-    let mut text = Vec::new(alloc);
-    report_text(&config, &report, &mut text)?;
-    assert_eq!(rt; text.as_slice(), wanted.as_slice());
+    assert_eq!(rt; long_text(rt.alloc())?.as_slice(), wanted.as_slice());
     Ok(())
+}
+
+// The text of a report of a source, a rover and one that was refused, behind a line.
+fn short_text(alloc: Global) -> Result<Vec<u8>, Fail> {
+    text_of(alloc, connections(alloc)?, b"x\n")
 }
 
 #[test]
 fn each_connection_has_its_lines(rt: HostRuntime) -> Result<(), Fail> {
-    let alloc = rt.alloc();
-    let config = bare_config(alloc, 2)?;
-    let (mounts, accounts) = sizes(&config);
-    assert!(rt; mounts == 1 && accounts == 0);
-    let report = Report {
-        connections: connections(alloc)?,
-        closed: closed(alloc)?,
-    };
-    let mut text = Vec::from_slice(alloc, b"x\n")?;
-    report_text(&config, &report, &mut text)?;
-    assert_eq!(rt; text.as_slice(), TEXT);
+    assert_eq!(rt; short_text(rt.alloc())?.as_slice(), TEXT);
     Ok(())
 }

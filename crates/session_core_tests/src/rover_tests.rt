@@ -7,7 +7,6 @@ use ntrip_head::Version;
 use rover_cursor::Segment;
 use session_core::{Ending, Last, RoverState};
 use std::alloc::Global;
-use std::process::Abort;
 use std::test::Fail;
 
 /// The head of a rover of BRAVO, in version 2, without credentials.
@@ -32,15 +31,8 @@ fn rover_told(alloc: Global, script: &[(Who, Act)]) -> Result<Told, Fail> {
 }
 
 /// Where a rover stands after these steps.
-fn expect_rover(
-    rt: &impl Abort,
-    alloc: Global,
-    script: &[(Who, Act)],
-    wanted: Option<RoverState>,
-) -> Result<(), Fail> {
-    let told = rover_told(alloc, script)?;
-    assert_eq!(rt; told.rover, wanted);
-    Ok(())
+fn rover_at(alloc: Global, script: &[(Who, Act)]) -> Result<Option<RoverState>, Fail> {
+    Ok(rover_told(alloc, script)?.rover)
 }
 
 /// A rover at a mountpoint, whose one segment goes on at this place.
@@ -53,60 +45,92 @@ fn at(version: Version, mount: u32, next: u64) -> Option<RoverState> {
     })
 }
 
+const READS: [(Who, Act); 7] = [
+    (Who::Second, Act::In(SOURCE)),
+    A,
+    (Who::First, Act::In(ROVER)),
+    B,
+    A,
+    (Who::First, Act::Turn(1)),
+    READ,
+];
+
 // It stands nowhere before its head is whole, and then where the next frame will be.
 #[test]
 fn a_rover_stands_behind_what_it_read(rt: HostRuntime) -> Result<(), Fail> {
-    let alloc = rt.alloc();
-    let script = [
-        (Who::Second, Act::In(SOURCE)),
-        A,
-        (Who::First, Act::In(ROVER)),
-        B,
-        A,
-        (Who::First, Act::Turn(1)),
-        READ,
-    ];
     let one = Version::One;
-    expect_rover(&rt, alloc, &script[..2], None)?;
-    expect_rover(&rt, alloc, &script[..3], at(one, 0, 1))?;
-    expect_rover(&rt, alloc, &script[..5], at(one, 0, 1))?;
-    expect_rover(&rt, alloc, &script[..6], at(one, 0, 2))?;
-    expect_rover(&rt, alloc, &script, at(one, 0, 3))
+    for (script, wanted) in [
+        (&READS[..2], None),
+        (&READS[..3], at(one, 0, 1)),
+        (&READS[..5], at(one, 0, 1)),
+        (&READS[..6], at(one, 0, 2)),
+        (&READS[..7], at(one, 0, 3)),
+    ] {
+        assert_eq!(rt; rover_at(rt.alloc(), script)?, wanted);
+    }
+    Ok(())
 }
+
+const ONLY_SOURCE: [(Who, Act); 2] = [
+    (Who::First, Act::In(SOURCE)),
+    (Who::First, Act::In(FRAME_A)),
+];
+
+const REFUSED: [(Who, Act); 2] = [(Who::Second, Act::In(ROVER)), (Who::First, Act::In(ROVER))];
+
+const JOINS_IN_TWO: [(Who, Act); 1] = [(Who::First, Act::In(ROVER_TWO))];
 
 // A source and a rover that was refused. One of version 2 that goes on stands at its mountpoint.
 #[test]
 fn who_is_no_rover_that_goes_on_stands_nowhere(rt: HostRuntime) -> Result<(), Fail> {
-    let alloc = rt.alloc();
-    let source = [
-        (Who::First, Act::In(SOURCE)),
-        (Who::First, Act::In(FRAME_A)),
-    ];
-    expect_rover(&rt, alloc, &source, None)?;
-    let full = [(Who::Second, Act::In(ROVER)), (Who::First, Act::In(ROVER))];
-    expect_rover(&rt, alloc, &full, None)?;
-    let two = [(Who::First, Act::In(ROVER_TWO))];
-    expect_rover(&rt, alloc, &two, at(Version::Two, 1, 0))
+    for (script, wanted) in [
+        (ONLY_SOURCE.as_slice(), None),
+        (REFUSED.as_slice(), None),
+        (JOINS_IN_TWO.as_slice(), at(Version::Two, 1, 0)),
+    ] {
+        assert_eq!(rt; rover_at(rt.alloc(), script)?, wanted);
+    }
+    Ok(())
 }
 
-/// The one segment of a rover of ALPHA that joined first: where it ended, how many frames it was
-/// sent and how many were overrun, and its laps.
-fn expect_segment(rt: &impl Abort, segment: &Segment, counts: (u64, u64, u64), laps: &[Lap]) {
-    assert_eq!(rt; (segment.mount, segment.from), (0, 0));
-    assert_eq!(rt; (segment.to, segment.sent, segment.overrun), counts);
-    assert_eq!(rt; segment.laps.as_slice(), laps);
+/// What a receipt says of a rover: how it ended, how many frames it was sent and how many were
+/// overrun.
+type Sums = (Ending, u64, u64);
+
+/// A segment: mountpoint, from, to, how many frames were sent and how many were overrun.
+type Row = (u32, u64, u64, u64, u64);
+
+/// What became of a rover of one segment.
+#[derive(Drop)]
+struct Lapped {
+    sums: Sums,
+    segment: Row,
+    laps: Vec<Lap>,
 }
 
-/// The only one of these segments, and the sums of the receipt, which are its own.
-fn expect_lapped(rt: &impl Abort, told: &Told, counts: (u64, u64, u64), laps: &[Lap]) {
-    assert_eq!(rt; told.receipt.ending, Ending::RoverEnd);
-    assert_eq!(rt;
-        (told.receipt.sent, told.receipt.overrun),
-        (counts.1, counts.2)
-    );
-    let segments = told.receipt.segments.as_slice();
-    assert!(rt; segments.len() == 1);
-    expect_segment(rt, &segments[0], counts, laps);
+/// A segment in numbers.
+fn row(segment: &Segment) -> Row {
+    (
+        segment.mount,
+        segment.from,
+        segment.to,
+        segment.sent,
+        segment.overrun,
+    )
+}
+
+/// What became of a rover of one segment after these steps.
+fn rover_lapped(alloc: Global, script: &[(Who, Act)]) -> Result<Lapped, Fail> {
+    let receipt = rover_told(alloc, script)?.receipt;
+    let segments = receipt.segments.as_slice();
+    if segments.len() != 1 {
+        return Err(Fail::from("not one segment"));
+    }
+    Ok(Lapped {
+        sums: (receipt.ending, receipt.sent, receipt.overrun),
+        segment: row(&segments[0]),
+        laps: Vec::from_slice(alloc, segments[0].laps.as_slice())?,
+    })
 }
 
 fn lap(from: u64, to: u64, published: u64, overrun: u64) -> Lap {
@@ -118,34 +142,38 @@ fn lap(from: u64, to: u64, published: u64, overrun: u64) -> Lap {
     }
 }
 
+const LAPPED_THREE_TIMES: [(Who, Act); 20] = [
+    (Who::First, Act::In(ROVER)),
+    (Who::Second, Act::In(SOURCE)),
+    A,
+    B,
+    A,
+    B,
+    A,
+    B,
+    READ,
+    A,
+    B,
+    A,
+    B,
+    A,
+    READ_TWO,
+    A,
+    B,
+    A,
+    B,
+    READ,
+];
+
 // The ring keeps four frames. Of six the first two are gone; of eleven the one at place 6 is, and
-// the rover reads two; of fifteen those at 9 and 10 are.
+// the rover reads two; of fifteen those at 9 and 10 are. The sums of the receipt are those of its
+// one segment.
 #[test]
 fn a_segment_has_each_lap_of_its_rover(rt: HostRuntime) -> Result<(), Fail> {
-    let script = [
-        (Who::First, Act::In(ROVER)),
-        (Who::Second, Act::In(SOURCE)),
-        A,
-        B,
-        A,
-        B,
-        A,
-        B,
-        READ,
-        A,
-        B,
-        A,
-        B,
-        A,
-        READ_TWO,
-        A,
-        B,
-        A,
-        B,
-        READ,
-    ];
-    let told = rover_told(rt.alloc(), &script)?;
+    let told = rover_lapped(rt.alloc(), &LAPPED_THREE_TIMES)?;
     let laps = [lap(0, 2, 6, 2), lap(6, 7, 11, 1), lap(9, 11, 15, 2)];
-    expect_lapped(&rt, &told, (15, 10, 5), &laps);
+    assert_eq!(rt; told.sums, (Ending::RoverEnd, 10, 5));
+    assert_eq!(rt; told.segment, (0, 0, 15, 10, 5));
+    assert_eq!(rt; told.laps.as_slice(), laps.as_slice());
     Ok(())
 }

@@ -37,7 +37,7 @@ pub enum Who {
 }
 
 /// A connection, and what it was sent.
-#[derive(Debug, Drop)]
+#[derive(Drop)]
 pub struct Served {
     /// The connection.
     pub session: Session,
@@ -46,7 +46,7 @@ pub struct Served {
 }
 
 /// Two connections.
-#[derive(Debug, Drop)]
+#[derive(Drop)]
 pub struct Two {
     /// The first one.
     pub first: Served,
@@ -168,7 +168,7 @@ fn close_at<T: Turns<Ring>, B: Turns<Book>>(
 }
 
 /// What became of a connection, and what it was sent.
-#[derive(Debug, Drop)]
+#[derive(Drop)]
 pub struct Told {
     /// Where it stood as a rover before it was closed.
     pub rover: Option<RoverState>,

@@ -39,14 +39,14 @@ total 8 1 340282366920938463463374607431768211455
 ";
 
 /// The configuration of one mountpoint and no account, whose ring keeps so many frames.
-pub(crate) fn bare_config(alloc: Global, capacity: u32) -> Result<Config, Fail>
+fn bare_config(alloc: Global, capacity: u32) -> Result<Config, Fail>
     requires { (1 ≤ capacity) × (capacity ≤ 4096) }
 {
     Ok(Config::bare(alloc, capacity)?)
 }
 
 /// How many mountpoints and accounts a configuration has.
-pub(crate) fn sizes(config: &Config) -> (usize, usize)
+fn sizes(config: &Config) -> (usize, usize)
     ensures mounts { result.0 ≡ length config.now.mount }
     ensures accounts { result.1 ≡ length config.now.account }
 {
@@ -78,15 +78,21 @@ fn smallest(alloc: Global) -> Result<Closed, Fail>
     })
 }
 
-#[test]
-fn the_smallest_caster_has_two_lines(rt: HostRuntime) -> Result<(), Fail> {
-    let alloc = rt.alloc();
+/// The text of the smallest caster's totals, behind a letter.
+fn smallest_text(alloc: Global) -> Result<Vec<u8>, Fail> {
     let config = bare_config(alloc, 4)?;
     let closed = smallest(alloc)?;
-    let (mounts, accounts) = sizes(&config);
-    assert!(rt; mounts == 1 && accounts == 0);
+    if sizes(&config) != (1, 0) {
+        return Err(Fail::from("another configuration"));
+    }
     let mut text = Vec::from_slice(alloc, b"x")?;
     closed_text(&config, &closed, &mut text)?;
+    Ok(text)
+}
+
+#[test]
+fn the_smallest_caster_has_two_lines(rt: HostRuntime) -> Result<(), Fail> {
+    let text = smallest_text(rt.alloc())?;
     assert_eq!(rt; text.as_slice(), b"xmount A 2 1\ntotal 1 2 0\n".as_slice());
     Ok(())
 }
@@ -139,16 +145,21 @@ fn largest(alloc: Global) -> Result<Closed, Fail>
     })
 }
 
-#[test]
-fn each_mountpoint_and_each_account_has_its_line(rt: HostRuntime) -> Result<(), Fail> {
-    let alloc = rt.alloc();
+/// The text of the totals of a caster of the file.
+fn largest_text(alloc: Global) -> Result<Vec<u8>, Fail> {
     let config = read_config(alloc, FILE)?;
     let closed = largest(alloc)?;
-    let (mounts, accounts) = sizes(&config);
-    assert!(rt; mounts == 2 && accounts == 1);
+    if sizes(&config) != (2, 1) {
+        return Err(Fail::from("another configuration"));
+    }
     let mut text = Vec::new(alloc);
     closed_text(&config, &closed, &mut text)?;
-    assert_eq!(rt; text.as_slice(), TEXT);
+    Ok(text)
+}
+
+#[test]
+fn each_mountpoint_and_each_account_has_its_line(rt: HostRuntime) -> Result<(), Fail> {
+    assert_eq!(rt; largest_text(rt.alloc())?.as_slice(), TEXT);
     Ok(())
 }
 
@@ -181,10 +192,11 @@ fn push_lines(kind: &[u8], numbers: &[u8], out: &mut Vec<u8>) -> Result<(), Fail
     Ok(())
 }
 
-#[test]
-fn many_mountpoints_and_accounts_have_their_lines(rt: HostRuntime) -> Result<(), Fail> {
-    let alloc = rt.alloc();
-    let config = many(alloc)?;
+// What each of 26 mountpoints and as many accounts came to.
+fn many_closed(alloc: Global) -> Result<Closed, Fail>
+    ensures mounts { IfOk result (λ closed. length closed.mounts ≡ 26) }
+    ensures accounts { IfOk result (λ closed. length closed.accounts ≡ 26) }
+{
     let total = MountTotal {
         published: 3,
         claims: 2,
@@ -194,18 +206,31 @@ fn many_mountpoints_and_accounts_have_their_lines(rt: HostRuntime) -> Result<(),
         sent: 1,
         overrun: 5,
     };
-    let closed = Closed {
+    Ok(Closed {
         mounts: MountTotals::new(vec![in alloc; total; 26]?),
         accounts: Sums::new(vec![in alloc; sum; 26]?),
         total: sum,
-    };
-    assert!(rt; config.mount.as_slice().len() == 26 && config.account.as_slice().len() == 26);
-    let mut wanted = Vec::new(alloc);
+    })
+}
+
+// The text of their totals.
+fn many_text(alloc: Global) -> Result<Vec<u8>, Fail> {
+    let config = many(alloc)?;
+    let closed = many_closed(alloc)?;
+    if sizes(&config) != (26, 26) {
+        return Err(Fail::from("another configuration"));
+    }
+    let mut text = Vec::new(alloc);
+    closed_text(&config, &closed, &mut text)?;
+    Ok(text)
+}
+
+#[test]
+fn many_mountpoints_and_accounts_have_their_lines(rt: HostRuntime) -> Result<(), Fail> {
+    let mut wanted = Vec::new(rt.alloc());
     push_lines(b"mount ", b" 3 2\n", &mut wanted)?;
     push_lines(b"account ", b" 7 1 5\n", &mut wanted)?;
     wanted.extend_from_slice(b"total 7 1 5\n")?;
-    let mut text = Vec::new(alloc);
-    closed_text(&config, &closed, &mut text)?;
-    assert_eq!(rt; text.as_slice(), wanted.as_slice());
+    assert_eq!(rt; many_text(rt.alloc())?.as_slice(), wanted.as_slice());
     Ok(())
 }

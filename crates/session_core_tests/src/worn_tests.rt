@@ -5,6 +5,8 @@ use crate::caster::{
 };
 use crate::{Act, Start, Who};
 use session_core::Ending;
+use std::alloc::Global;
+use std::process::Abort;
 use std::test::Fail;
 
 const RING: Ending = Ending::Worn { turns: RING_WORN };
@@ -27,71 +29,91 @@ fn book(turn: u64) -> Refused {
     }
 }
 
+// Which turn is refused, what happens, and what is wanted of the connection.
+type Row<'a> = (Refused, &'a [(Who, Act<'a>)], Wanted<'a>);
+
+// Connections that start so, of which a turn was refused, came to what is wanted of each.
+fn expect_worn(rt: &impl Abort, alloc: Global, how: Start, rows: &[Row]) -> Result<(), Fail> {
+    for (refused, script, wanted) in rows {
+        expect_refused(rt, alloc, how, *refused, *script, *wanted)?;
+    }
+    Ok(())
+}
+
+const SENDS: [(Who, Act); 2] = [
+    (Who::First, Act::In(SOURCE)),
+    (Who::First, Act::In(FRAME_A)),
+];
+
+const SENDS_JUNK: [(Who, Act); 3] = [
+    (Who::First, Act::In(SOURCE)),
+    (Who::First, Act::In(b"xyz")),
+    (Who::First, Act::In(FRAME_A)),
+];
+
 // Its claim, its frame, and its release.
 #[test]
 fn a_turn_of_a_source_is_refused(rt: HostRuntime) -> Result<(), Fail> {
-    let alloc = rt.alloc();
-    let script = [
-        (Who::First, Act::In(SOURCE)),
-        (Who::First, Act::In(FRAME_A)),
-    ];
-    let unclaimed = ends(RING, b"");
-    expect_refused(&rt, alloc, Start::Head, ring(0), &script, unclaimed)?;
     let unpublished = ends(RING, ICY);
-    expect_refused(&rt, alloc, Start::Head, ring(1), &script, unpublished)?;
-    let behind_junk = [
-        (Who::First, Act::In(SOURCE)),
-        (Who::First, Act::In(b"xyz")),
-        (Who::First, Act::In(FRAME_A)),
-    ];
     let junk = Wanted {
         junk: 3,
         ..unpublished
     };
-    expect_refused(&rt, alloc, Start::Head, ring(1), &behind_junk, junk)?;
     let unreleased = Wanted {
         settled: false,
         ..ends(Ending::SourceEnd { claim: 1 }, ICY)
     };
-    expect_refused(&rt, alloc, Start::Head, ring(2), &script, unreleased)
+    let rows = [
+        (ring(0), SENDS.as_slice(), ends(RING, b"")),
+        (ring(1), SENDS.as_slice(), unpublished),
+        (ring(1), SENDS_JUNK.as_slice(), junk),
+        (ring(2), SENDS.as_slice(), unreleased),
+    ];
+    expect_worn(&rt, rt.alloc(), Start::Head, &rows)
 }
+
+const JOINS: [(Who, Act); 2] = [(Who::First, Act::In(ROVER)), (Who::First, Act::Turn(16))];
 
 // Its entry, its join, its read, and its leave.
 #[test]
 fn a_turn_of_a_rover_is_refused(rt: HostRuntime) -> Result<(), Fail> {
-    let alloc = rt.alloc();
-    let script = [(Who::First, Act::In(ROVER)), (Who::First, Act::Turn(16))];
-    let outside = ends(BOOK, b"");
-    expect_refused(&rt, alloc, Start::Head, book(0), &script, outside)?;
     let inside = Wanted {
         entered: true,
         ..ends(RING, ICY)
     };
-    expect_refused(&rt, alloc, Start::Head, ring(0), &script, inside)?;
-    expect_refused(&rt, alloc, Start::Head, ring(1), &script, inside)?;
     let left_inside = Wanted {
         entered: true,
         settled: false,
         ..ends(Ending::RoverEnd, ICY)
     };
-    expect_refused(&rt, alloc, Start::Head, book(1), &script, left_inside)
+    let rows = [
+        (book(0), JOINS.as_slice(), ends(BOOK, b"")),
+        (ring(0), JOINS.as_slice(), inside),
+        (ring(1), JOINS.as_slice(), inside),
+        (book(1), JOINS.as_slice(), left_inside),
+    ];
+    expect_worn(&rt, rt.alloc(), Start::Head, &rows)
 }
+
+const ASKED: &[u8] = b"GET /UP HTTP/1.0\r\nUser-Agent: NTRIP lapcast/1.0\r\n\r\n";
+
+const ANSWERS: [(Who, Act); 2] = [
+    (Who::First, Act::In(b"ICY 200 OK\r\n")),
+    (Who::First, Act::In(FRAME_A)),
+];
 
 // Its claim, its frame, and its release.
 #[test]
 fn a_turn_of_a_relay_is_refused(rt: HostRuntime) -> Result<(), Fail> {
-    let alloc = rt.alloc();
-    let asked = b"GET /UP HTTP/1.0\r\nUser-Agent: NTRIP lapcast/1.0\r\n\r\n";
-    let script = [
-        (Who::First, Act::In(b"ICY 200 OK\r\n")),
-        (Who::First, Act::In(FRAME_A)),
-    ];
-    let worn = ends(RING, asked);
-    expect_refused(&rt, alloc, Start::Relay, ring(0), &script, worn)?;
-    expect_refused(&rt, alloc, Start::Relay, ring(1), &script, worn)?;
+    let worn = ends(RING, ASKED);
     let unreleased = Wanted {
         settled: false,
-        ..ends(Ending::SourceEnd { claim: 1 }, asked)
+        ..ends(Ending::SourceEnd { claim: 1 }, ASKED)
     };
-    expect_refused(&rt, alloc, Start::Relay, ring(2), &script, unreleased)
+    let rows = [
+        (ring(0), ANSWERS.as_slice(), worn),
+        (ring(1), ANSWERS.as_slice(), worn),
+        (ring(2), ANSWERS.as_slice(), unreleased),
+    ];
+    expect_worn(&rt, rt.alloc(), Start::Relay, &rows)
 }
