@@ -130,74 +130,124 @@ const ALL: [[u8; 8]; 10] = [
     FRAME_1077, FRAME_1077,
 ];
 
-/// The greeting at this place has these frames.
+/// The greeting at a place.
+fn greeting_of(alloc: Global, place: &StationPlace<Desk<Station>>) -> Result<Vec<Frame>, Fail> {
+    let greeting = place.greeting().ok_or("nobody joined")?;
+    Ok(Vec::from_slice(alloc, greeting)?)
+}
+
+/// The greeting of one who joins such a station once these frames were published.
+fn greeted(alloc: Global, filter: Filter, frames: &[[u8; 8]]) -> Result<Vec<Frame>, Fail> {
+    greeting_of(alloc, &joined_place(alloc, filter, frames)?)
+}
+
+/// A greeting has these frames.
 fn expect_greeting(
     rt: &impl Abort,
-    place: &StationPlace<Desk<Station>>,
+    alloc: Global,
+    greeting: &[Frame],
     frames: &[[u8; 8]],
 ) -> Result<(), Fail> {
-    let greeting = place.greeting().ok_or("nobody joined")?;
-    assert_eq!(rt; greeting.len(), frames.len());
-    for (frame, bytes) in greeting.iter().zip(frames) {
-        assert_eq!(rt; frame.bytes(), bytes.as_slice());
+    let mut wanted = Vec::new(alloc);
+    for bytes in frames {
+        wanted.push(Frame::of(bytes).ok_or("no frame")?)?;
     }
+    assert_eq!(rt; greeting, wanted.as_slice());
     Ok(())
 }
 
+// The last frame of each number that stations are known by.
+const LAST: [[u8; 8]; 6] = [
+    LATER_1005, FRAME_1006, FRAME_1007, FRAME_1008, FRAME_1033, FRAME_1230,
+];
+
 #[test]
 fn one_who_joins_is_greeted_by_the_last_frame_of_each_number(rt: HostRuntime) -> Result<(), Fail> {
-    let place = joined_place(rt.alloc(), Filter::all(), &ALL)?;
-    let last = [
-        LATER_1005, FRAME_1006, FRAME_1007, FRAME_1008, FRAME_1033, FRAME_1230,
-    ];
-    expect_greeting(&rt, &place, &last)
+    let greeting = greeted(rt.alloc(), Filter::all(), &ALL)?;
+    expect_greeting(&rt, rt.alloc(), &greeting, &LAST)
 }
 
 #[test]
 fn the_filter_permits_some_of_the_greeting(rt: HostRuntime) -> Result<(), Fail> {
     let filter = Filter::list(rt.alloc(), &[1077, 1230, 1005])?;
-    let place = joined_place(rt.alloc(), filter, &ALL)?;
-    expect_greeting(&rt, &place, &[LATER_1005, FRAME_1230])
+    let greeting = greeted(rt.alloc(), filter, &ALL)?;
+    expect_greeting(&rt, rt.alloc(), &greeting, &[LATER_1005, FRAME_1230])
+}
+
+/// The greeting at a place behind the look of another caller, whether there is one once it was
+/// cleared, and the greeting behind one more join.
+fn greetings(alloc: Global) -> Result<(Vec<Frame>, bool, Vec<Frame>), Fail> {
+    let mut place = joined_place(alloc, Filter::all(), &[FRAME_1077, FRAME_1005])?;
+    place.turn(3, RingCall::Look, &mut Outbox::new())?;
+    let before = greeting_of(alloc, &place)?;
+    place.clear();
+    let is_greeted = place.greeting().is_some();
+    join_first(&mut place, 2)?;
+    Ok((before, is_greeted, greeting_of(alloc, &place)?))
 }
 
 #[test]
 fn a_greeting_stands_until_it_is_cleared(rt: HostRuntime) -> Result<(), Fail> {
-    let mut place = joined_place(rt.alloc(), Filter::all(), &[FRAME_1077, FRAME_1005])?;
-    place.turn(3, RingCall::Look, &mut Outbox::new())?;
-    expect_greeting(&rt, &place, &[FRAME_1005])?;
-    place.clear();
-    assert_eq!(rt; place.greeting(), None);
-    join_first(&mut place, 2)?;
-    expect_greeting(&rt, &place, &[FRAME_1005])
+    let (before, is_greeted, behind) = greetings(rt.alloc())?;
+    assert!(rt; !is_greeted);
+    expect_greeting(&rt, rt.alloc(), &before, &[FRAME_1005])?;
+    expect_greeting(&rt, rt.alloc(), &behind, &[FRAME_1005])
+}
+
+/// How many frames were published at the station that a place gives back.
+fn published(alloc: Global) -> Result<u64, Fail> {
+    let place = joined_place(alloc, Filter::all(), &ALL)?;
+    let desk = place.inner();
+    Ok(desk.value().ring().published())
 }
 
 #[test]
 fn a_place_gives_its_station_back(rt: HostRuntime) -> Result<(), Fail> {
-    let place = joined_place(rt.alloc(), Filter::all(), &ALL)?;
-    let desk = place.inner();
-    assert_eq!(rt; desk.value().ring().published(), 10);
+    assert_eq!(rt; published(rt.alloc())?, 10);
     Ok(())
 }
 
-// The calls of a ring, at a station itself.
-#[test]
-fn a_hall_has_what_was_read_and_the_greeting(rt: HostRuntime) -> Result<(), Fail> {
-    let mut desk = Desk::new(new_station(rt.alloc(), Filter::all())?);
-    let mut hall = Hall::new(rt.alloc())?;
+/// The frames that a hall has.
+#[derive(Drop)]
+struct Frames {
+    read: Vec<Frame>,
+    greeting: Vec<Frame>,
+}
+
+/// The frames that a hall has.
+fn frames_in(alloc: Global, hall: &Hall) -> Result<Frames, Fail> {
+    Ok(Frames {
+        read: Vec::from_slice(alloc, hall.outbox().frames())?,
+        greeting: Vec::from_slice(alloc, hall.greeting())?,
+    })
+}
+
+/// At a station itself caller 2 joins, caller 1 publishes a frame, and caller 2 reads it and joins
+/// again: what its hall has before it joins again and behind.
+fn hall_frames(alloc: Global, frame: Frame) -> Result<(Frames, Frames), Fail> {
+    let mut desk = Desk::new(new_station(alloc, Filter::all())?);
+    let mut hall = Hall::new(alloc)?;
     let RingAnswer::Joined(cursor) = desk.turn(2, RingCall::Join(0), &mut hall)? else {
         unreachable!();
     };
     let RingAnswer::Given(claim) = desk.turn(1, RingCall::Claim, &mut hall)? else {
         unreachable!();
     };
-    let frame = Frame::of(&FRAME_1005).ok_or("no frame")?;
     desk.turn(1, RingCall::Publish(claim, frame), &mut hall)?;
     desk.turn(2, RingCall::Read { cursor, budget: 16 }, &mut hall)?;
-    assert_eq!(rt; hall.outbox().frames(), [frame].as_slice());
-    assert!(rt; hall.greeting().is_empty());
+    let before = frames_in(alloc, &hall)?;
     desk.turn(2, RingCall::Join(0), &mut hall)?;
-    assert_eq!(rt; hall.greeting(), [frame].as_slice());
-    assert_eq!(rt; hall.outbox().frames(), [frame].as_slice());
+    Ok((before, frames_in(alloc, &hall)?))
+}
+
+#[test]
+fn a_hall_has_what_was_read_and_the_greeting(rt: HostRuntime) -> Result<(), Fail> {
+    let frame = Frame::of(&FRAME_1005).ok_or("no frame")?;
+    let (before, behind) = hall_frames(rt.alloc(), frame)?;
+    assert!(rt; before.greeting.is_empty());
+    for read in [&before.read, &behind.read, &behind.greeting] {
+        assert_eq!(rt; read.as_slice(), [frame].as_slice());
+    }
     Ok(())
 }
 
@@ -206,9 +256,14 @@ fn a_hall_has_what_was_read_and_the_greeting(rt: HostRuntime) -> Result<(), Fail
 #[test]
 fn a_station_is_its_ring_and_two_lists(rt: HostRuntime) -> Result<(), Fail> {
     let list = size_of::<Vec<Frame>>();
-    assert_eq!(rt; size_of::<Station>(), size_of::<Ring>() + 2 * list);
-    assert_eq!(rt; size_of::<Hall>(), size_of::<Outbox>() + list);
-    let within = size_of::<Desk<Station>>() + size_of::<Hall>();
-    assert_eq!(rt; size_of::<StationPlace<Desk<Station>>>(), within + 8);
+    let station = size_of::<Ring>() + 2 * list;
+    let hall = size_of::<Outbox>() + list;
+    let place = size_of::<Desk<Station>>() + size_of::<Hall>() + 8;
+    let sizes = [
+        size_of::<Station>(),
+        size_of::<Hall>(),
+        size_of::<StationPlace<Desk<Station>>>(),
+    ];
+    assert_eq!(rt; sizes, [station, hall, place]);
     Ok(())
 }

@@ -137,11 +137,21 @@ fn open_two(alloc: Global) -> Result<(Turn<Station>, Pass<Station>, Pass<Station
     Ok((turn, first, second))
 }
 
+/// The greeting of the second pass, which met the note that the first wrote once it had published a
+/// frame.
+fn told_greeting<R: Threads + Wait + Sync>(
+    alloc: Global,
+    rt: &R,
+    frame: Frame,
+) -> Result<Vec<Frame>, Fail> {
+    let (turn, first, second) = open_two(alloc)?;
+    tell(alloc, &turn, rt, first, second, frame)
+}
+
 #[test]
 fn who_met_a_note_is_greeted_by_what_its_writer_published(rt: HostRuntime) -> Result<(), Fail> {
     let frame = Frame::of(&FRAME_1005).ok_or("no frame")?;
-    let (turn, first, second) = open_two(rt.alloc())?;
-    let greeting = tell(rt.alloc(), &turn, &rt, first, second, frame)?;
+    let greeting = told_greeting(rt.alloc(), &rt, frame)?;
     assert_eq!(rt; greeting.as_slice(), [frame].as_slice());
     Ok(())
 }

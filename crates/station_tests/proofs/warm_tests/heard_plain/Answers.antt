@@ -4,10 +4,10 @@ use Rattle.session_script.specs.declared.Event.{Event}
 use Rattle.session_script.specs.declared.ScriptKind.TheVariants.{Replay}
 use Rattle.session_script.specs.Script.{IsSession}
 use Rattle.caster_replay.specs.Scripts.{IsShort}
-use Rattle.station_tests.proofs.warm_tests.the_same_run_without_greetings_sends_the_frames_alone.Goals as goal
+use Rattle.station_tests.proofs.warm_tests.heard_plain.Goals as goal
 
 pub replay-requires-clause-script : goal.replay-requires-clause-script
-replay-requires-clause-script g c = (
+replay-requires-clause-script c = (
   (
     Replay 0,
     omega arith,

@@ -4,10 +4,10 @@ use Rattle.session_script.specs.declared.Event.{Event}
 use Rattle.session_script.specs.declared.ScriptKind.TheVariants.{Replay}
 use Rattle.session_script.specs.Script.{IsSession}
 use Rattle.caster_replay.specs.Scripts.{IsShort}
-use Rattle.station_tests.proofs.warm_tests.expect_warm.Goals as goal
+use Rattle.station_tests.proofs.warm_tests.heard_warm.Goals as goal
 
 pub warm-requires-clause-script : goal.warm-requires-clause-script
-warm-requires-clause-script g c = (
+warm-requires-clause-script c = (
   (
     Replay 0,
     omega arith,
