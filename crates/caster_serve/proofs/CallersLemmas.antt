@@ -1,6 +1,6 @@
 -- Callers that served.
 use Rattle.std.proofs.Common.{◌≡◌, ◌∙◌, take, drop, append-nil, ◌+◌, ◌<◌, ◌≤◌, ◌^◌, ◌++◌, ◌⊎◌, ℕ, zero, suc, List, [], ◌∷◌, length, map, replicate, inl, inr, refl, sym, ap, subst, arith}
-use Rattle.std.specs.Prelude.{⊤, ◌&&◌, true, false, IsTrue, slice_index_or}
+use Rattle.std.specs.Prelude.{⊤, ◌&&◌, Bool, true, false, IsTrue, slice_index_or}
 use Rattle.std.specs.List.{All, list_all, list_any}
 use Rattle.std.proofs.lemmas.Bool.{and_cases, or_left, or_right, eq-eqb, lt-ltb}
 use Rattle.std.proofs.lemmas.List.{length-map, take_all, drop_all}
@@ -23,6 +23,7 @@ use Rattle.caster_places.specs.Piles.{AreMatched}
 use Rattle.caster_places.specs.Rows.{AreAt, RingLocks, BookLock, left_by}
 use Rattle.caster_serve.specs.declared.shared.Shared.{Shared}
 use Rattle.caster_serve.specs.Sharing.{IsReady}
+use Rattle.caster_serve.specs.Wear.{Wear, lacks_in, only_worn}
 use Rattle.caster_serve.specs.Works.{IsWithin}
 use Rattle.caster_serve.specs.Callers.{Caller, Served, ServedOver, IsServed, AreServed, ends_of, is_whole, is_whole_at, seen_of, uncalled}
 use Rattle.caster_serve.specs.Hands.{HandTold, HandServed, FitsEnd, MayServe}
@@ -158,16 +159,22 @@ abbrev served_one : (shared : Shared) (limit n : ℕ) (end : EndTold) (old new :
 served_one shared limit n end old new unused seated served = record {
   end = end;
   unused = unused;
-  served = subst (λ (caller : Caller). Served shared.config.now limit n caller new.caller) seated.fresh
-      (subst (λ (k : ℕ). Served shared.config.now limit k old.caller new.caller) seated.numbered served.served);
+  worn = new.worn;
+  served = subst (λ (caller : Caller). Served shared.config.now limit n (only_worn new.worn) caller new.caller)
+      seated.fresh
+      (subst (λ (k : ℕ). Served shared.config.now limit k (only_worn new.worn) old.caller new.caller) seated.numbered
+      (subst (λ (lacks : Bool). Served shared.config.now limit old.number (record {
+        may_lack = lacks;
+        turns = new.worn;
+      }) old.caller new.caller) (ap lacks_in served.known ∙ seated.full) served.served));
 }
 
-kind_kept : (c : Config) (limit me : ℕ) (before after : EndTold) (old new : Caller)
-    → ServedOver c limit me before after old new → kind_of after ≡ kind_of before
-kind_kept c limit me (at_door before) (at_door after) old new served = refl
-kind_kept c limit me (at_door before) (over_link number after) old new served = absurd served
-kind_kept c limit me (over_link number before) (at_door after) old new served = absurd served
-kind_kept c limit me (over_link number before) (over_link now after) old new served = ap a_relay served.0
+kind_kept : (c : Config) (limit me : ℕ) (wear : Wear) (before after : EndTold) (old new : Caller)
+    → ServedOver c limit me wear before after old new → kind_of after ≡ kind_of before
+kind_kept c limit me wear (at_door before) (at_door after) old new served = refl
+kind_kept c limit me wear (at_door before) (over_link number after) old new served = absurd served
+kind_kept c limit me wear (over_link number before) (at_door after) old new served = absurd served
+kind_kept c limit me wear (over_link number before) (over_link now after) old new served = ap a_relay served.0
 
 -- what is known when they served
 pub record HaveServed (shared : Shared) (limit n : ℕ) (ends : List EndTold) (hands : List HandTold) : Type 0 where
@@ -189,7 +196,7 @@ have_served shared limit n (end ∷ ends) (old ∷ olds) (new ∷ news) unused s
     record {
       served = (one, later.served);
       kinds_kept = ap (λ k. k ∷ map kind_of (ends_of (callers_of news)))
-          (kind_kept shared.config.now limit n one.end new.caller.end (uncalled shared.config.now one.end) new.caller
+          (kind_kept shared.config.now limit n (only_worn one.worn) one.end new.caller.end (uncalled shared.config.now one.end) new.caller
           one.served)
           ∙ ap (λ l. kind_of end ∷ l) later.kinds_kept;
       at = (subst (λ known. AreAt n known shared.rings.items shared.book) (sym served.0.known) seated.0.at, later.at);
@@ -227,19 +234,20 @@ whole_are limit told (x ∷ xs) = ap (λ b. is_whole limit (told x).caller && b)
 
 -- ---- what they add up to
 
-leaves_over : (c : Config) (limit n : ℕ) (before after : EndTold) (start now : Caller)
-    → ServedOver c limit n before after start now → Leaves n start.seen.book now.seen.book start.tally now.tally
-leaves_over c limit n (at_door before) (at_door after) start now served = served.works.leaves
-leaves_over c limit n (at_door before) (over_link number after) start now served = absurd served
-leaves_over c limit n (over_link number before) (at_door after) start now served = absurd served
-leaves_over c limit n (over_link number before) (over_link same after) start now served = served.1.leaves
+leaves_over : (c : Config) (limit n : ℕ) (wear : Wear) (before after : EndTold) (start now : Caller)
+    → ServedOver c limit n wear before after start now
+    → Leaves n start.seen.book now.seen.book start.tally now.tally
+leaves_over c limit n wear (at_door before) (at_door after) start now served = served.works.leaves
+leaves_over c limit n wear (at_door before) (over_link number after) start now served = absurd served
+leaves_over c limit n wear (over_link number before) (at_door after) start now served = absurd served
+leaves_over c limit n wear (over_link number before) (over_link same after) start now served = served.1.leaves
 
 pub tallies_are : (c : Config) (limit n : ℕ) (callers : List Caller) → AreServed c limit n callers
     → left_by n (seen_of callers) ≡ map (λ (caller : Caller). caller.tally) callers
 tallies_are c limit n [] served = refl
 tallies_are c limit n (caller ∷ callers) served =
     let one = served.0 in
-    let leaves = leaves_over c limit n one.end caller.end (uncalled c one.end) caller one.served in
+    let leaves = leaves_over c limit n (only_worn one.worn) one.end caller.end (uncalled c one.end) caller one.served in
     let next : n + 1 ≡ suc n = omega arith in
     ap (λ (s : Sum). s ∷ left_by (suc n) (seen_of callers))
     (ap (λ h. left_in nothing (own n h)) leaves.on ∙ sym leaves.sums)
@@ -248,17 +256,17 @@ tallies_are c limit n (caller ∷ callers) served =
 
 -- ---- a door that failed
 
-failed_over : (c : Config) (limit n : ℕ) (before after : EndTold) (start now : Caller) → IsUnused before
-    → ServedOver c limit n before after start now → is_whole_at limit now.served after ≡ false
+failed_over : (c : Config) (limit n : ℕ) (wear : Wear) (before after : EndTold) (start now : Caller)
+    → IsUnused before → ServedOver c limit n wear before after start now → is_whole_at limit now.served after ≡ false
     → door_failed after ≡ true
-failed_over c limit n (at_door before) (at_door after) start now unused served short = by_done served.done
+failed_over c limit n wear (at_door before) (at_door after) start now unused served short = by_done served.done
   where
     by_done : (now.served ≡ limit) ⊎ Rose before.faults after.faults → door_failed (at_door after) ≡ true
     by_done (inl all) = absurd (let clash : true ≡ false = sym (eq-eqb now.served limit all) ∙ short in cc)
     by_done (inr rose) = lt-ltb 0 after.faults (omega (arith, rose, unused.faults))
-failed_over c limit n (at_door before) (over_link number after) start now unused served short = absurd served
-failed_over c limit n (over_link number before) (at_door after) start now unused served short = absurd served
-failed_over c limit n (over_link number before) (over_link same after) start now unused served short = absurd cc
+failed_over c limit n wear (at_door before) (over_link number after) start now unused served short = absurd served
+failed_over c limit n wear (over_link number before) (at_door after) start now unused served short = absurd served
+failed_over c limit n wear (over_link number before) (over_link same after) start now unused served short = absurd cc
 
 pub some_failed : (c : Config) (limit n : ℕ) (callers : List Caller) → AreServed c limit n callers
     → list_all (is_whole limit) callers ≡ false → IsTrue (list_any door_failed (ends_of callers))
@@ -271,6 +279,6 @@ some_failed c limit n (caller ∷ callers) served short =
         → (is_whole limit caller ≡ false) ⊎ (list_all (is_whole limit) callers ≡ false)
         → IsTrue (list_any door_failed (ends_of (caller ∷ callers)))
     from later (inl here) = or_left (door_failed caller.end) (list_any door_failed (ends_of callers))
-        (failed_over c limit n served.0.end caller.end (uncalled c served.0.end) caller served.0.unused served.0.served
-        here)
+        (failed_over c limit n (only_worn served.0.worn) served.0.end caller.end (uncalled c served.0.end) caller
+        served.0.unused served.0.served here)
     from later (inr there) = or_right (door_failed caller.end) (list_any door_failed (ends_of callers)) (later there)

@@ -6,6 +6,7 @@ use Rattle.caster_accounts.specs.Sums.{nothing}
 use Rattle.cast_config.specs.declared.config.Config.{Config}
 use Rattle.session_core.specs.Run.{Histories, nothing_called}
 use Rattle.caster_street.specs.Ends.{EndTold, at_door, over_link, IsUnused}
+use Rattle.caster_serve.specs.Wear.{Wear, only_worn}
 use Rattle.caster_serve.specs.Works.{Worked, RelayGoes}
 
 -- what it has seen, what its rovers add up to, how many connections it served, and over what
@@ -16,28 +17,30 @@ pub record Caller : Type 0 where
   pub end : EndTold
 
 -- A worker served the links of its door, as many as it was to, or until its door failed; a relay
--- was served over its one link.
-abbrev pub ServedOver : Config → ℕ → ℕ → EndTold → EndTold → Caller → Caller → Type 0
-ServedOver c limit me (at_door before) (at_door after) old new =
-    Worked c me old.seen new.seen before after old.tally new.tally limit new.served
-ServedOver c limit me (at_door before) (over_link number after) old new = ⊥
-ServedOver c limit me (over_link number before) (at_door after) old new = ⊥
-ServedOver c limit me (over_link number before) (over_link now after) old new =
-    (now ≡ number) × RelayGoes c number me old.seen new.seen after old.tally new.tally
+-- was served over its one link. Its places were worn so.
+abbrev pub ServedOver : Config → ℕ → ℕ → Wear → EndTold → EndTold → Caller → Caller → Type 0
+ServedOver c limit me wear (at_door before) (at_door after) old new =
+    Worked c me wear old.seen new.seen before after old.tally new.tally limit new.served
+ServedOver c limit me wear (at_door before) (over_link number after) old new = ⊥
+ServedOver c limit me wear (over_link number before) (at_door after) old new = ⊥
+ServedOver c limit me wear (over_link number before) (over_link now after) old new =
+    (now ≡ number) × RelayGoes c number me wear old.seen new.seen after old.tally new.tally
 
 -- the caller of this number served
-abbrev pub Served : Config → ℕ → ℕ → Caller → Caller → Type 0
-Served c limit me old new = ServedOver c limit me old.end new.end old new
+abbrev pub Served : Config → ℕ → ℕ → Wear → Caller → Caller → Type 0
+Served c limit me wear old new = ServedOver c limit me wear old.end new.end old new
 
 -- a caller before its first call
 abbrev pub uncalled : Config → EndTold → Caller
 uncalled c end = record { seen = nothing_called c; tally = nothing; served = 0; end = end }
 
--- The caller of this number did that from its first call on, over what nobody had used.
+-- The caller of this number did that from its first call on, over what nobody had used. Its places
+-- never lacked memory, and were worn by so many turns when it left them.
 pub record IsServed (c : Config) (limit me : ℕ) (caller : Caller) : Type 0 where
   pub end : EndTold
   pub unused : IsUnused end
-  pub served : Served c limit me (uncalled c end) caller
+  pub worn : List ℕ
+  pub served : Served c limit me (only_worn worn) (uncalled c end) caller
 
 -- so did each of these, numbered from this number on
 abbrev pub AreServed : Config → ℕ → ℕ → List Caller → Type 0

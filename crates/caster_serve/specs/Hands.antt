@@ -10,29 +10,34 @@ use Rattle.cast_config.specs.Kept.{KeepsRules}
 use Rattle.cast_io.specs.Told.{LinkTold, DoorTold}
 use Rattle.cast_io.specs.Links.{IsNewLink}
 use Rattle.session_core.specs.Setting as setting
+use Rattle.session_core.specs.Beginnings.{worn_at}
 use Rattle.session_core.specs.Called.{seen_at}
 use Rattle.caster_street.specs.Ends.{EndTold, at_door, over_link, end_told}
 use Rattle.caster_places.specs.Known.{Known, Fit, known_at}
 use Rattle.caster_serve.specs.declared.hands.Hand.{Hand}
+use Rattle.caster_serve.specs.Wear.{wear_of}
 use Rattle.caster_serve.specs.Works.{IsWithin}
 use Rattle.caster_serve.specs.Callers.{Caller, Served}
 
--- with its number, and with what is known of its places
+-- with its number, with what is known of its places, and with how many turns each is worn by
 pub record HandTold : Type 0 where
   pub number : ℕ
   pub known : Known
+  pub worn : List ℕ
   pub caller : Caller
 
 -- of a caller with places at rings and at the book, and with such an end
 abbrev pub hand_told : {P B D L : Type 0} → (P → RingShape) → (B → List ℕ) → (P → ℕ → Bool)
     → (B → ℕ → Bool) → (P → Bool) → (B → Bool) → (P → Bool) → (B → Bool) → (P → Gv) → (B → Gv)
-    → (P → History RingCall) → (B → History BookCall) → (D → DoorTold) → (L → LinkTold)
+    → (P → History RingCall) → (B → History BookCall) → (P → ℕ) → (B → ℕ) → (D → DoorTold)
+    → (L → LinkTold)
     → Hand P B D L → HandTold
 hand_told ring_shape book_shape ring_speaks book_speaks ring_may_lack book_may_lack ring_alone
-    book_alone ring_home book_home ring_seen book_seen door_told link_told hand = record {
+    book_alone ring_home book_home ring_seen book_seen ring_worn book_worn door_told link_told hand = record {
       number = hand.number;
       known = known_at ring_shape book_shape ring_speaks book_speaks ring_may_lack book_may_lack
           ring_alone book_alone ring_home book_home hand.places.rings.items hand.places.book;
+      worn = worn_at ring_worn book_worn hand.places.rings.items hand.places.book;
       caller = record {
         seen = seen_at ring_seen book_seen hand.places.rings.items hand.places.book;
         tally = hand.tally;
@@ -60,4 +65,4 @@ pub record MayServe (c : Config) (table : List ℕ) (limit : ℕ) (hand : HandTo
 pub record HandServed (c : Config) (limit : ℕ) (old new : HandTold) : Type 0 where
   pub number : new.number ≡ old.number
   pub known : new.known ≡ old.known
-  pub served : Served c limit old.number old.caller new.caller
+  pub served : Served c limit old.number (wear_of new.known new.worn) old.caller new.caller

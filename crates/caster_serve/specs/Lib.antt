@@ -11,3 +11,5 @@ pub mod Seated
 pub mod Prepared
 pub mod Caster
 pub mod Visits
+pub mod Resting
+pub mod Wear

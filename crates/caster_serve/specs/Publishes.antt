@@ -5,6 +5,10 @@ use Rattle.turn_log.specs.History.{History, own}
 use Rattle.mount_ring.specs.declared.call.RingCall.{RingCall}
 use Rattle.mount_ring.specs.declared.call.RingCall.TheVariants.{Claim, Release, Publish}
 use Rattle.rover_session.specs.Made.{is_call_owed}
+use Rattle.session_calls.specs.Rings.{history_at}
+use Rattle.source_session.specs.Body.{frames_of}
+use Rattle.session_core.specs.Judged.{SourceTerms}
+use Rattle.session_core.specs.Run.{Histories}
 
 -- all frames that are due, and of a source that was halted the first of them
 abbrev pub AreDue : Bool → List (List ℕ) → List (List ℕ) → Type 0
@@ -22,3 +26,11 @@ pub record HasPublished (me claim : ℕ) (start now : History RingCall) (frames 
   pub mine : filter is_call_owed (own me more)
       ≡ Claim ∷ map (Publish claim) frames ++ released
   pub last : (released ≡ []) ⊎ (released ≡ Release claim ∷ [])
+
+-- The caller was given this claim as a source of these terms, and published the frames of this body
+-- at its mountpoint; where it was halted, the first of them.
+abbrev pub PublishesBody : Bool → SourceTerms → List ℕ → ℕ → ℕ → Histories → Histories → Type 0
+PublishesBody halted terms body me claim start now =
+    (frames : List (List ℕ)) × AreDue halted frames (frames_of terms.chunked body)
+    × HasPublished me claim (history_at start.rings terms.mount)
+    (history_at now.rings terms.mount) frames

@@ -1,5 +1,5 @@
 -- The callers of a caster at the seats of its locks, in the order of their numbers.
-use Rattle.std.specs.Prelude.{◌≡◌, Bool, ℕ, ◌+◌, ⊤, List, [], ◌∷◌, ◌++◌, length, map}
+use Rattle.std.specs.Prelude.{◌≡◌, Bool, false, ℕ, ◌+◌, ⊤, List, [], ◌∷◌, ◌++◌, length, map}
 use Rattle.std.specs.List.{All, list_all}
 use Rattle.turn_log.specs.History.{IsLegal}
 use Rattle.caster_accounts.specs.History.{fits}
@@ -12,6 +12,7 @@ use Rattle.session_core.specs.Setting.{caps}
 use Rattle.caster_serve.specs.declared.shared.Shared.{Shared}
 use Rattle.caster_serve.specs.Callers.{Caller, AreServed, ends_of, is_whole, seen_of, uncalled}
 use Rattle.caster_serve.specs.Hands.{HandTold}
+use Rattle.caster_serve.specs.Wear.{lacks_in}
 
 -- ---- sitting down
 
@@ -20,6 +21,8 @@ pub record IsSeated (shared : Shared) (number : ℕ) (end : EndTold) (hand : Han
   pub numbered : hand.number ≡ number
   pub fit : Fit shared.config.now number hand.known
   pub at : AreAt number hand.known shared.rings.items shared.book
+  -- a place at a lock never lacks memory
+  pub full : lacks_in hand.known ≡ false
   pub fresh : hand.caller ≡ uncalled shared.config.now end
 
 -- so did each of these, numbered from this number on, each with the end at the same place

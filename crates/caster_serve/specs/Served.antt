@@ -1,5 +1,5 @@
 -- What became of a connection that was served over a link: from its first byte to its receipt.
-use Rattle.std.specs.Prelude.{◌≡◌, ℕ, ◌^◌, ◌<◌, ◌⊎◌, ◌||◌, false, List, [], ◌++◌, length, reverse, is_some, Option, Some, ◌≤◌, get_or, ⊤}
+use Rattle.std.specs.Prelude.{◌≡◌, ℕ, ◌^◌, ◌<◌, ◌⊎◌, ◌||◌, false, List, [], ◌++◌, length, reverse, is_some, Option, Some}
 use Rattle.std.specs.List.{All}
 use Rattle.cast_io.specs.declared.steps.Step.{Step as LinkTook}
 use Rattle.cast_io.specs.Told.{LinkTold}
@@ -7,7 +7,7 @@ use Rattle.session_calls.specs.Steps.{Step}
 use Rattle.rover_session.specs.Made.{segments_after, owed_among}
 use Rattle.cast_config.specs.declared.config.Config.{Config}
 use Rattle.session_core.specs.declared.ending.Ending.{Ending}
-use Rattle.session_core.specs.declared.ending.Ending.TheVariants.{Memory, Worn}
+use Rattle.session_core.specs.declared.ending.Ending.TheVariants.{Memory}
 use Rattle.session_core.specs.declared.ending.Last.{Last}
 use Rattle.session_core.specs.declared.report.Receipt.{Receipt}
 use Rattle.session_core.specs.declared.session.Session.{Session}
@@ -159,8 +159,3 @@ pub record LinkServed (c : Config) (opening : Opening) (me : ℕ) (start now : H
   pub last : Last
   pub goes : LinkGoes c opening me start now taken written last receipt
   pub caused : IsCausedBy last before.faults after.faults
-
--- Worn is told only where one of these places was worn by at least as many turns as it tells.
-abbrev pub IsWornBy : List ℕ → Ending → Type 0
-IsWornBy worn (Worn turns) = (2 ^ 62 ≤ turns) × (place : ℕ) × (turns ≤ get_or worn place 0)
-IsWornBy worn _ = ⊤

@@ -1,19 +1,25 @@
 -- What a worker did: the links that came back to its door, one after the other.
-use Rattle.std.specs.Prelude.{◌≡◌, ℕ, ◌+◌, ◌*◌, ◌^◌, ◌≤◌, ◌&&◌, ◌⊎◌, if◌then◌else◌, List, [], ◌∷◌, length, map, fold, Option, Some}
+use Rattle.std.specs.Prelude.{◌≡◌, ℕ, ◌+◌, ◌*◌, ◌^◌, ◌≤◌, ◌&&◌, ◌⊎◌, if◌then◌else◌, List, [], ◌∷◌, ◌++◌, length, map, fold, Option, None, Some}
+use Rattle.cast_io.specs.declared.steps.LinkStep.{LinkStep}
 use Rattle.cast_io.specs.declared.steps.Step.{Step as LinkTook}
 use Rattle.cast_io.specs.declared.door.Arrived.TheVariants as arrived
 use Rattle.cast_io.specs.Causes.{Rose}
-use Rattle.cast_io.specs.Told.{LinkTold, DoorTold, Grew}
+use Rattle.cast_io.specs.Told.{LinkTold, DoorTold, Grew, StillTold}
 use Rattle.caster_accounts.specs.declared.account.Sum.{Sum}
 use Rattle.cast_config.specs.declared.config.Config.{Config}
 use Rattle.session_core.specs.declared.ending.Last.{Last}
 use Rattle.session_core.specs.declared.report.Receipt.{Receipt}
-use Rattle.session_core.specs.Judged.{Opening, sends_head, relays}
+use Rattle.session_core.specs.Judged.{Opening, SourceTerms, source, sends_head, relays}
+use Rattle.session_core.specs.Owed.{claimed, received}
 use Rattle.session_core.specs.Run.{Histories}
+use Rattle.session_core.specs.Standing.{is_halted}
+use Rattle.caster_serve.specs.Courses.{steps_of}
 use Rattle.caster_serve.specs.Links.{IsCausedBy}
 use Rattle.caster_serve.specs.Served.{LinkGoes}
 use Rattle.caster_places.specs.Leaves.{Leaves}
+use Rattle.caster_serve.specs.Publishes.{PublishesBody}
 use Rattle.caster_serve.specs.Visits.{Visit, HasCome, WentOn}
+use Rattle.caster_serve.specs.Wear.{Wear, IsRefusedBy}
 
 -- what a link told when it came back, and the receipt of its connection
 pub record Record : Type 0 where
@@ -24,8 +30,9 @@ pub record Record : Type 0 where
 abbrev pub IsTold : {X : Type 0} → Option (List X) → List X → Type 0
 IsTold {X} told list = (is : List X) → told ≡ Some is → is ≡ list
 
--- The connection of the link went by what the link tells from these histories to those.
-pub record RecordGoes (c : Config) (opening : Opening) (me : ℕ) (entry : Record)
+-- The connection of the link went by what the link tells from these histories to those. Its places
+-- refused turns only as they were worn so.
+pub record RecordGoes (c : Config) (opening : Opening) (me : ℕ) (wear : Wear) (entry : Record)
     (start now : Histories) : Type 0 where
   pub taken : List LinkTook
   pub written : List ℕ
@@ -34,13 +41,36 @@ pub record RecordGoes (c : Config) (opening : Opening) (me : ℕ) (entry : Recor
   pub bytes_is : IsTold entry.link.bytes written
   pub goes : LinkGoes c opening me start now taken written last entry.receipt
   pub caused : IsCausedBy last 0 entry.link.faults
+  pub refused : IsRefusedBy wear entry.receipt
+  -- a source, or a relay, that was given its claim published the frames of its body
+  pub published : (terms : SourceTerms) (body : List ℕ) (claim : ℕ)
+      → goes.j ≡ source terms body → received (steps_of goes.events) ≡ claimed claim
+      → PublishesBody (is_halted goes.ended) terms body me claim start now
 
 -- so did each of these, one after the other, from the histories that the one before it left
-abbrev pub Followed : Config → ℕ → List Record → Histories → Histories → Type 0
-Followed c me [] start now = now ≡ start
-Followed c me (entry ∷ entries) start now =
-    (between : Histories) × RecordGoes c sends_head me entry start between
-    × Followed c me entries between now
+abbrev pub Followed : Config → ℕ → Wear → List Record → Histories → Histories → Type 0
+Followed c me wear [] start now = now ≡ start
+Followed c me wear (entry ∷ entries) start now =
+    (between : Histories) × RecordGoes c sends_head me wear entry start between
+    × Followed c me wear entries between now
+
+-- ---- arrivals
+
+-- the links among these arrivals, in order, by the steps that each was to take at first
+abbrev pub givens_among : List (Option LinkTold) → List (Option (List LinkStep))
+givens_among [] = []
+givens_among (None ∷ arrivals) = givens_among arrivals
+givens_among (Some link ∷ arrivals) = link.given ∷ givens_among arrivals
+
+-- Of the arrivals that were to come the first came, and these are left. The links among those that
+-- came are these, in order.
+pub record AreTaken (givens : List (Option (List LinkStep))) (old new : List (Option LinkTold))
+    : Type 0 where
+  pub came : List (Option LinkTold)
+  pub split : old ≡ came ++ new
+  pub links : givens_among came ≡ givens
+
+-- ---- a worker
 
 -- no more than so many sessions can count
 abbrev pub IsWithin : Sum → Type 0
@@ -57,16 +87,22 @@ tallied sum receipt = if receipt.entered && receipt.settled then record {
 abbrev pub links_of : List Record → List LinkTold
 links_of entries = map (λ (entry : Record). entry.link) entries
 
+-- the steps that each link was to take at first
+abbrev pub givens_of : List Record → List (Option (List LinkStep))
+givens_of entries = map (λ (entry : Record). entry.link.given) entries
+
 abbrev pub receipts_of : List Record → List Receipt
 receipts_of entries = map (λ (entry : Record). entry.receipt) entries
 
 -- So many links were given, each was served to its receipt and came back, and the tally counts
--- their receipts.
-pub record Works (c : Config) (me : ℕ) (start now : Histories) (before after : DoorTold)
-    (old new : Sum) (count : ℕ) : Type 0 where
+-- their receipts. Where the door tells the arrivals to come, the links that came back are those that
+-- it gave, in the order of arrival.
+pub record Works (c : Config) (me : ℕ) (wear : Wear) (start now : Histories)
+    (before after : DoorTold) (old new : Sum) (count : ℕ) : Type 0 where
   pub entries : List Record
   pub back : Grew before.back after.back (links_of entries)
-  pub followed : Followed c me entries start now
+  pub arrived : StillTold (AreTaken (givens_of entries)) before.left after.left
+  pub followed : Followed c me wear entries start now
   pub counted : length entries ≡ count
   pub tally : new ≡ fold tallied old (receipts_of entries)
   -- these are the sessions that it ended in the book
@@ -75,29 +111,31 @@ pub record Works (c : Config) (me : ℕ) (start now : Histories) (before after :
 
 -- The worker stopped after so many links as it was to serve, or where its door failed: up to there
 -- it went on from accept to accept, none of which failed, and there it asked the door no more.
-pub record Worked (c : Config) (me : ℕ) (start now : Histories) (before after : DoorTold)
-    (old new : Sum) (limit count : ℕ) : Type 0 where
-  pub works : Works c me start now before after old new count
+pub record Worked (c : Config) (me : ℕ) (wear : Wear) (start now : Histories)
+    (before after : DoorTold) (old new : Sum) (limit count : ℕ) : Type 0 where
+  pub works : Works c me wear start now before after old new count
   pub done : (count ≡ limit) ⊎ Rose before.faults after.faults
   pub visits : List Visit
   pub at : DoorTold
   pub went_on : WentOn visits before at
   pub stopped : ((count ≡ limit) × (after ≡ at)) ⊎ HasCome arrived.Failed at after
 
--- one link more was served and came back, and the tally counts its receipt
-pub record OneServed (c : Config) (me : ℕ) (start now : Histories) (before after : DoorTold)
-    (old new : Sum) : Type 0 where
+-- this link, which had arrived, was served and came back, and the tally counts its receipt
+pub record OneServed (c : Config) (me : ℕ) (wear : Wear) (start now : Histories) (link : LinkTold)
+    (before after : DoorTold) (old new : Sum) : Type 0 where
   pub entry : Record
+  pub given : entry.link.given ≡ link.given
   pub left : after.left ≡ before.left
   pub back : Grew before.back after.back (entry.link ∷ [])
   pub faults : after.faults ≡ before.faults
-  pub goes : RecordGoes c sends_head me entry start now
+  pub goes : RecordGoes c sends_head me wear entry start now
   pub tally : new ≡ tallied old entry.receipt
 
 -- The relay of this number was served over its link to its receipt, which the tally counts.
-pub record RelayGoes (c : Config) (number me : ℕ) (start now : Histories) (after : LinkTold)
-    (old new : Sum) : Type 0 where
+pub record RelayGoes (c : Config) (number me : ℕ) (wear : Wear) (start now : Histories)
+    (after : LinkTold) (old new : Sum) : Type 0 where
   pub receipt : Receipt
-  pub goes : RecordGoes c (relays number) me (record { link = after; receipt = receipt }) start now
+  pub goes : RecordGoes c (relays number) me wear (record { link = after; receipt = receipt })
+      start now
   pub tally : new ≡ tallied old receipt
   pub leaves : Leaves me start.book now.book old new

@@ -1,6 +1,7 @@
 //! What a session does for a step of its link.
 
 ghost use Rattle.std.specs.Prelude.{◌≡◌, ℕ, List, [], ◌∷◌, length, None, IfSome};
+ghost use Rattle.session_calls.specs.Rings.{AllLater};
 ghost use Rattle.cast_config.specs.declared.config.Config.{Config as ConfigValue};
 ghost use Rattle.cast_config.specs.Kept.{KeepsRules};
 ghost use Rattle.session_core.specs.Called.{IsCause};
@@ -10,6 +11,7 @@ ghost use Rattle.session_core.specs.Run.{Histories};
 ghost use Rattle.session_core.specs.Setting as setting;
 ghost use Rattle.session_core.specs.Standing.{Follows};
 ghost use Rattle.caster_places.specs.Known.{Fit};
+ghost use Rattle.caster_serve.specs.Resting.{is_caught_up, next_of};
 ghost use Rattle.caster_serve.specs.Served.{Arrived, Reached};
 
 use cast_config::Config;
@@ -22,18 +24,39 @@ use turn_log::Turns;
 /// How many frames a served connection reads in one turn at most.
 const BUDGET: u32 = 16;
 
-/// One turn of a session that goes on.
+/// The place of the next frame that a rover reads; 0 of any other session.
+fn next_of(session: &Session) -> u64
+    ensures { result ≡ next_of session.now }
+{
+    match session.rover() {
+        Some(state) => state.next,
+        None => 0,
+    }
+}
+
+/// A session may rest that goes on and looked at fewer frames than a turn may take, since it read
+/// from this place on: no frame is left for it.
+fn is_caught_up(session: &Session, from: u64) -> bool
+    ensures { result ≡ is_caught_up session.now from }
+{
+    !session.ended() && next_of(session).saturating_sub(from) < u64::from(BUDGET)
+}
+
+/// One turn of a session that goes on. Answers whether its link may rest.
 pub(crate) fn take_turn<T: Turns<Ring>, B: Turns<Book>>(
     session: &mut Session,
     places: &mut Places<T, B>,
     out: &mut Vec<u8>,
-)
+) -> bool
     requires goes_on { session.old.ended ≡ None }
     requires ready { (c : ConfigValue)
         × Fit c session.old.me (⟦<Places<T, B> as AllPlaces>⟧.known places.old)
         × Follows c session.old (⟦<Places<T, B> as AllPlaces>⟧.seen places.old) 0 }
+    ensures rests { result ≡ is_caught_up session.new (next_of session.old) }
     ensures known { ⟦<Places<T, B> as AllPlaces>⟧.known places.new
         ≡ ⟦<Places<T, B> as AllPlaces>⟧.known places.old }
+    ensures later { AllLater (⟦<Places<T, B> as AllPlaces>⟧.worn places.old)
+        (⟦<Places<T, B> as AllPlaces>⟧.worn places.new) }
     ensures cause { IfSome session.new.ended
         (IsCause (⟦<Places<T, B> as AllPlaces>⟧.worn places.new)) }
     ensures turned { (c : ConfigValue) (opening : Opening) (me : ℕ) (start : Histories)
@@ -44,7 +67,9 @@ pub(crate) fn take_turn<T: Turns<Ring>, B: Turns<Book>>(
         → Arrived c opening me start (⟦<Places<T, B> as AllPlaces>⟧.seen places.new) session.new
         sent out.old.items out.new.items whats (takes_turn 16 ∷ []) }
 {
+    let from = next_of(session);
     session.turn(BUDGET, places, out);
+    is_caught_up(session, from)
 }
 
 /// Bytes of a connection that goes on, and then a turn, unless they ended it.
@@ -64,6 +89,8 @@ pub(crate) fn arrive<T: Turns<Ring>, B: Turns<Book>>(
         (⟦<Places<T, B> as AllPlaces>⟧.seen places.old) (length bytes.now) }
     ensures known { ⟦<Places<T, B> as AllPlaces>⟧.known places.new
         ≡ ⟦<Places<T, B> as AllPlaces>⟧.known places.old }
+    ensures later { AllLater (⟦<Places<T, B> as AllPlaces>⟧.worn places.old)
+        (⟦<Places<T, B> as AllPlaces>⟧.worn places.new) }
     ensures cause { IfSome session.new.ended
         (IsCause (⟦<Places<T, B> as AllPlaces>⟧.worn places.new)) }
     ensures arrived { (opening : Opening) (me : ℕ) (start : Histories) (sent : List ℕ)
@@ -76,6 +103,8 @@ pub(crate) fn arrive<T: Turns<Ring>, B: Turns<Book>>(
 {
     match session.feed(config, table, bytes, places, out) {
         Flow::Ended => {}
-        Flow::Open => take_turn(session, places, out),
+        Flow::Open => {
+            take_turn(session, places, out);
+        }
     }
 }

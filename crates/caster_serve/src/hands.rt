@@ -51,7 +51,7 @@ impl<T: Turns<Ring> + Send, B: Turns<Book> + Send, L: Link + Send, D: Door<Link 
     ghost use Rattle.caster_serve.specs.Hands.{hand_told};
 
     ghost told = { hand_told T.shape B.shape T.speaks B.speaks T.may_lack B.may_lack T.alone B.alone
-        T.home B.home T.seen B.seen D.told L.told };
+        T.home B.home T.seen B.seen T.worn B.worn D.told L.told };
 
     fn serve<R: Wait>(&mut self, rt: &R, alloc: Global, config: &Config, table: &[u8], limit: u64) {
         let number = self.number;

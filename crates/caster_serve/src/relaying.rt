@@ -7,6 +7,7 @@ ghost use Rattle.session_core.specs.Judged.{relays};
 ghost use Rattle.session_core.specs.Setting as setting;
 ghost use Rattle.caster_places.specs.Known.{Fit};
 ghost use Rattle.caster_places.specs.Leaves.{Leaves};
+ghost use Rattle.caster_serve.specs.Wear.{wear_of};
 ghost use Rattle.caster_serve.specs.Works.{IsWithin, RelayGoes};
 
 use crate::role::Role;
@@ -43,7 +44,10 @@ pub(crate) fn serve_relay<T: Turns<Ring>, B: Turns<Book>, L: Link, R: Wait>(
     requires within { IsWithin tally.old }
     ensures known { ⟦<Places<T, B> as AllPlaces>⟧.known places.new
         ≡ ⟦<Places<T, B> as AllPlaces>⟧.known places.old }
-    ensures goes { RelayGoes config.now number me (⟦<Places<T, B> as AllPlaces>⟧.seen places.old)
+    ensures goes { RelayGoes config.now number me
+        (wear_of (⟦<Places<T, B> as AllPlaces>⟧.known places.new)
+        (⟦<Places<T, B> as AllPlaces>⟧.worn places.new))
+        (⟦<Places<T, B> as AllPlaces>⟧.seen places.old)
         (⟦<Places<T, B> as AllPlaces>⟧.seen places.new) (L.told link.new) tally.old tally.new }
 {
     let role = Role::Relay(number);

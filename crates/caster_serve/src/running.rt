@@ -1,8 +1,9 @@
 //! A connection over its link, from its first byte to its receipt.
 
-ghost use Rattle.std.specs.Prelude.{◌≡◌, ◌+◌, ◌^◌, ◌<◌, ℕ, List, [], length, None, Some, IfNone, IfOk, IfSome, true};
+ghost use Rattle.std.specs.Prelude.{◌≡◌, ◌+◌, ◌^◌, ◌<◌, ℕ, List, [], length, None, Some, IfErr, IfOk, IfSome, IsTrue, OnOk, false, true};
 ghost use Rattle.cast_io.specs.Told.{LinkTold};
 ghost use Rattle.cast_config.specs.Kept.{KeepsRules};
+ghost use Rattle.session_calls.specs.Rings.{AllLater};
 ghost use Rattle.session_core.specs.Called.{IsCause};
 ghost use Rattle.session_core.specs.Judged.{Opening, waiting};
 ghost use Rattle.session_core.specs.Run.{Histories};
@@ -10,11 +11,12 @@ ghost use Rattle.session_core.specs.Setting as setting;
 ghost use Rattle.session_core.specs.Standing.{IsReceipt, StandsFor};
 ghost use Rattle.caster_places.specs.Known.{Fit};
 ghost use Rattle.caster_serve.specs.Links.{opening_of};
-ghost use Rattle.caster_serve.specs.Served.{Came, ComesTo, IsServedOn, IsWornBy, LinkServed, Reached, Serving};
+ghost use Rattle.caster_serve.specs.Served.{Came, ComesTo, IsServedOn, LinkServed, Reached, Serving};
+ghost use Rattle.caster_serve.specs.Wear.{IsWornBy, MayRefuse, wear_of};
 
 use crate::arriving::{arrive, take_turn};
 use crate::role::Role;
-use crate::sending::{rest_if_idle, send};
+use crate::sending::send;
 use cast_config::Config;
 use cast_io::{Got, Link};
 use caster_accounts::Book;
@@ -31,8 +33,8 @@ const MOST: u64 = 1 << 62;
 /// How many bytes one read takes at most.
 const PIECE: usize = 4096;
 
-/// Reads the link once, and the session does what is due then. Says how the session is to be
-/// closed, where the link has ended or the read failed.
+/// Reads the link once, and the session does what is due then. Answers whether the link may rest;
+/// or how the session is to be closed, where the link has ended or the read failed.
 fn hear<T: Turns<Ring>, B: Turns<Book>, L: Link>(
     config: &Config,
     table: &[u8],
@@ -42,7 +44,7 @@ fn hear<T: Turns<Ring>, B: Turns<Book>, L: Link>(
     given: &mut u64,
     piece: &mut [u8],
     link: &mut L,
-) -> Option<Last>
+) -> Result<bool, Last>
     requires kept { (cap : ℕ) × KeepsRules cap config.now }
     requires table { table.now ≡ setting.table config.now }
     requires fit { Fit config.now session.old.me (⟦<Places<T, B> as AllPlaces>⟧.known places.old) }
@@ -56,14 +58,18 @@ fn hear<T: Turns<Ring>, B: Turns<Book>, L: Link>(
     ensures me { session.new.me ≡ session.old.me }
     ensures known { ⟦<Places<T, B> as AllPlaces>⟧.known places.new
         ≡ ⟦<Places<T, B> as AllPlaces>⟧.known places.old }
+    ensures later { AllLater (⟦<Places<T, B> as AllPlaces>⟧.worn places.old)
+        (⟦<Places<T, B> as AllPlaces>⟧.worn places.new) }
     ensures cause { IfSome session.new.ended
         (IsCause (⟦<Places<T, B> as AllPlaces>⟧.worn places.new)) }
     ensures few { given.new < 2 ^ 62 + 4096 }
-    ensures goes { IfNone result (IsServedOn config.now
+    ensures rests { IfOk result (λ rests. IsTrue rests
+        → (given.new ≡ given.old) × (session.new.ended ≡ None)) }
+    ensures goes { OnOk result (IsServedOn config.now
         (⟦<Places<T, B> as AllPlaces>⟧.seen places.old)
         (⟦<Places<T, B> as AllPlaces>⟧.seen places.new) session.old session.new
         (L.told link.old) (L.told link.new) given.old given.new out.new.items) }
-    ensures closes { IfSome result (ComesTo config.now
+    ensures closes { IfErr result (ComesTo config.now
         (⟦<Places<T, B> as AllPlaces>⟧.seen places.old)
         (⟦<Places<T, B> as AllPlaces>⟧.seen places.new) session.old session.new
         (L.told link.old) (L.told link.new) given.old) }
@@ -72,15 +78,11 @@ fn hear<T: Turns<Ring>, B: Turns<Book>, L: Link>(
         Got::Bytes(count) => {
             *given += count as u64;
             arrive(config, table, session, &piece[..count], places, out);
-            None
+            Ok(false)
         }
-        Got::Idle => {
-            take_turn(session, places, out);
-            rest_if_idle(link, out);
-            None
-        }
-        Got::End => Some(Last::End),
-        Got::Failed => Some(Last::ReadFault),
+        Got::Idle => Ok(take_turn(session, places, out)),
+        Got::End => Err(Last::End),
+        Got::Failed => Err(Last::ReadFault),
     }
 }
 
@@ -106,6 +108,8 @@ fn run<T: Turns<Ring>, B: Turns<Book>, L: Link, R: Wait>(
     ensures me { session.new.me ≡ session.old.me }
     ensures known { ⟦<Places<T, B> as AllPlaces>⟧.known places.new
         ≡ ⟦<Places<T, B> as AllPlaces>⟧.known places.old }
+    ensures later { AllLater (⟦<Places<T, B> as AllPlaces>⟧.worn places.old)
+        (⟦<Places<T, B> as AllPlaces>⟧.worn places.new) }
     ensures cause { IfSome session.new.ended
         (IsCause (⟦<Places<T, B> as AllPlaces>⟧.worn places.new)) }
     ensures came { Came config.now (opening_of role) session.old.me
@@ -115,8 +119,9 @@ fn run<T: Turns<Ring>, B: Turns<Book>, L: Link, R: Wait>(
 {
     let mut given: u64 = 0;
     let mut piece = [0u8; PIECE];
+    let mut may_rest = false;
     for _ in rt.forever() {
-        let Ok(()) = send(link, out) else {
+        let Ok(()) = send(link, out, may_rest) else {
             return Last::WriteFault;
         };
         if session.ended() || given >= MOST {
@@ -125,8 +130,9 @@ fn run<T: Turns<Ring>, B: Turns<Book>, L: Link, R: Wait>(
         let heard = hear(
             config, table, session, places, out, &mut given, &mut piece, link,
         );
-        if let Some(last) = heard {
-            return last;
+        match heard {
+            Ok(rests) => may_rest = rests,
+            Err(last) => return last,
         }
     }
     unreachable!()
@@ -191,7 +197,12 @@ pub fn serve_places<T: Turns<Ring>, B: Turns<Book>, L: Link, R: Wait>(
         (⟦<Places<T, B> as AllPlaces>⟧.seen places.old)
         (⟦<Places<T, B> as AllPlaces>⟧.seen places.new) (L.told link.old) (L.told link.new)
         result }
+    ensures later { AllLater (⟦<Places<T, B> as AllPlaces>⟧.worn places.old)
+        (⟦<Places<T, B> as AllPlaces>⟧.worn places.new) }
     ensures worn { IsWornBy (⟦<Places<T, B> as AllPlaces>⟧.worn places.new) result.ending }
+    ensures unsettled { result.settled ≡ false
+        → MayRefuse (wear_of (⟦<Places<T, B> as AllPlaces>⟧.known places.new)
+        (⟦<Places<T, B> as AllPlaces>⟧.worn places.new)) }
 {
     let mut out = Vec::new(alloc);
     let Ok(mut session) = open_as(alloc, config, me, role, &mut out) else {

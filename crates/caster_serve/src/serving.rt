@@ -1,10 +1,12 @@
 //! A connection at the locks of a caster.
 
-ghost use Rattle.std.specs.Prelude.{◌≡◌, ◌<◌, ℕ, length};
+ghost use Rattle.std.specs.Prelude.{◌≡◌, ◌<◌, ℕ, false, length};
+ghost use Rattle.session_calls.specs.Rings.{AllLater};
 ghost use Rattle.caster_places.specs.Known.{Fit};
 ghost use Rattle.caster_serve.specs.Links.{opening_of};
-ghost use Rattle.caster_serve.specs.Served.{IsWornBy, LinkServed};
+ghost use Rattle.caster_serve.specs.Served.{LinkServed};
 ghost use Rattle.caster_serve.specs.Sharing.{IsReady};
+ghost use Rattle.caster_serve.specs.Wear.{IsWorn, IsWornBy};
 
 use crate::role::Role;
 use crate::running::serve_places;
@@ -20,8 +22,8 @@ use turn_log::Seat;
 
 /// Serves one connection over its link, as the caller `me`, until it is closed: 4,096 bytes at most
 /// are read at a time and fed to its session, which then takes a turn of 16 frames at most; what it
-/// appends is written. Where nothing was read and nothing appended, the link rests. Once the link
-/// gave 2^62 bytes, it is closed as if it had ended.
+/// appends is written. Where nothing was read and no frame is left to be looked at, the link rests
+/// behind that write. Once the link gave 2^62 bytes, it is closed as if it had ended.
 pub fn serve_link<'a, L: Link, R: Wait + Sync>(
     rt: &R,
     alloc: Global,
@@ -42,9 +44,14 @@ pub fn serve_link<'a, L: Link, R: Wait + Sync>(
         (⟦<Places<Seat<'a, Ring, R>, Seat<'a, Book, R>> as AllPlaces>⟧.seen places.old)
         (⟦<Places<Seat<'a, Ring, R>, Seat<'a, Book, R>> as AllPlaces>⟧.seen places.new)
         (L.told link.old) (L.told link.new) result }
+    ensures later { AllLater
+        (⟦<Places<Seat<'a, Ring, R>, Seat<'a, Book, R>> as AllPlaces>⟧.worn places.old)
+        (⟦<Places<Seat<'a, Ring, R>, Seat<'a, Book, R>> as AllPlaces>⟧.worn places.new) }
     ensures worn { IsWornBy
         (⟦<Places<Seat<'a, Ring, R>, Seat<'a, Book, R>> as AllPlaces>⟧.worn places.new)
         result.ending }
+    ensures unsettled { result.settled ≡ false
+        → IsWorn (⟦<Places<Seat<'a, Ring, R>, Seat<'a, Book, R>> as AllPlaces>⟧.worn places.new) }
 {
     serve_places(
         rt,

@@ -4,6 +4,8 @@ ghost use Rattle.std.specs.Prelude.{◌≡◌, ◌+◌, ◌*◌, ◌^◌, ◌<�
 ghost use Rattle.caster_accounts.specs.Sums.{nothing};
 ghost use Rattle.caster_places.specs.Known.{Fit};
 ghost use Rattle.caster_serve.specs.Sharing.{IsReady};
+ghost use Rattle.session_calls.specs.Rings.{AllLater};
+ghost use Rattle.caster_serve.specs.Wear.{only_worn};
 ghost use Rattle.caster_serve.specs.Works.{Worked};
 
 use crate::shared::Shared;
@@ -87,7 +89,11 @@ pub fn work<'a, D: Door, R: Wait + Sync>(
     ensures number { worker.new.number ≡ worker.old.number }
     ensures known { ⟦<Places<Seat<'a, Ring, R>, Seat<'a, Book, R>> as AllPlaces>⟧.known worker.new.places
         ≡ ⟦<Places<Seat<'a, Ring, R>, Seat<'a, Book, R>> as AllPlaces>⟧.known worker.old.places }
+    ensures later { AllLater
+        (⟦<Places<Seat<'a, Ring, R>, Seat<'a, Book, R>> as AllPlaces>⟧.worn worker.old.places)
+        (⟦<Places<Seat<'a, Ring, R>, Seat<'a, Book, R>> as AllPlaces>⟧.worn worker.new.places) }
     ensures worked { (count : ℕ) × Worked shared.now.config.now worker.old.number
+        (only_worn (⟦<Places<Seat<'a, Ring, R>, Seat<'a, Book, R>> as AllPlaces>⟧.worn worker.new.places))
         (⟦<Places<Seat<'a, Ring, R>, Seat<'a, Book, R>> as AllPlaces>⟧.seen worker.old.places)
         (⟦<Places<Seat<'a, Ring, R>, Seat<'a, Book, R>> as AllPlaces>⟧.seen worker.new.places)
         (D.told worker.old.door) (D.told worker.new.door) worker.old.tally worker.new.tally

@@ -6,6 +6,8 @@ ghost use Rattle.session_core.specs.Judged.{sends_head};
 ghost use Rattle.session_core.specs.Setting as setting;
 ghost use Rattle.caster_places.specs.Known.{Fit};
 ghost use Rattle.cast_io.specs.Links.{IsNewLink};
+ghost use Rattle.session_calls.specs.Rings.{AllLater};
+ghost use Rattle.caster_serve.specs.Wear.{wear_of};
 ghost use Rattle.caster_serve.specs.Works.{IsWithin, OneServed, Worked};
 
 use crate::role::Role;
@@ -43,9 +45,14 @@ fn serve_one<T: Turns<Ring>, B: Turns<Book>, D: Door, R: Wait>(
         ≡ ⟦<Places<T, B> as AllPlaces>⟧.known places.old }
     ensures sessions { tally.new.sessions ≤ tally.old.sessions + 1 }
     ensures within { IsWithin tally.new }
-    ensures one { OneServed config.now me (⟦<Places<T, B> as AllPlaces>⟧.seen places.old)
-        (⟦<Places<T, B> as AllPlaces>⟧.seen places.new) (D.told door.old) (D.told door.new)
-        tally.old tally.new }
+    ensures later { AllLater (⟦<Places<T, B> as AllPlaces>⟧.worn places.old)
+        (⟦<Places<T, B> as AllPlaces>⟧.worn places.new) }
+    ensures one { OneServed config.now me
+        (wear_of (⟦<Places<T, B> as AllPlaces>⟧.known places.new)
+        (⟦<Places<T, B> as AllPlaces>⟧.worn places.new))
+        (⟦<Places<T, B> as AllPlaces>⟧.seen places.old)
+        (⟦<Places<T, B> as AllPlaces>⟧.seen places.new) (D.Link.told link) (D.told door.old)
+        (D.told door.new) tally.old tally.new }
 {
     let receipt = serve_places(
         rt,
@@ -82,7 +89,12 @@ pub fn work_places<T: Turns<Ring>, B: Turns<Book>, D: Door, R: Wait>(
     ensures known { ⟦<Places<T, B> as AllPlaces>⟧.known places.new
         ≡ ⟦<Places<T, B> as AllPlaces>⟧.known places.old }
     ensures within { IsWithin tally.new }
-    ensures worked { Worked config.now me (⟦<Places<T, B> as AllPlaces>⟧.seen places.old)
+    ensures later { AllLater (⟦<Places<T, B> as AllPlaces>⟧.worn places.old)
+        (⟦<Places<T, B> as AllPlaces>⟧.worn places.new) }
+    ensures worked { Worked config.now me
+        (wear_of (⟦<Places<T, B> as AllPlaces>⟧.known places.new)
+        (⟦<Places<T, B> as AllPlaces>⟧.worn places.new))
+        (⟦<Places<T, B> as AllPlaces>⟧.seen places.old)
         (⟦<Places<T, B> as AllPlaces>⟧.seen places.new) (D.told door.old) (D.told door.new)
         tally.old tally.new limit result }
 {

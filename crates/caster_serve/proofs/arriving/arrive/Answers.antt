@@ -6,6 +6,7 @@ use Rattle.caster_serve.specs.Courses.{steps_of, text_of}
 use Rattle.caster_serve.proofs.CalledLemmas.{others_none}
 use Rattle.caster_serve.proofs.PlaceLemmas.{fit_kept, known_same, speak_by}
 use Rattle.caster_serve.proofs.ReachLemmas.{bytes_ended, bytes_turned, ended_flow, follows_fed, reach_bytes}
+use Rattle.caster_serve.proofs.WornLemmas.{later_both, worn_later}
 use Rattle.caster_serve.proofs.arriving.arrive.Goals as goal
 
 pub feed-requires-clause-rings : goal.feed-requires-clause-rings
@@ -42,6 +43,17 @@ returns-in-Open-clause-known g c =
     ∙ known_same t.shape b.shape t.speaks b.speaks t.may_lack b.may_lack t.alone b.alone t.home b.home
     c.args.places.now.rings.items c.feed.new.places.rings.items c.args.places.now.book c.feed.new.places.book
     c.feed.ensures.same_rings c.feed.ensures.same_book
+
+pub returns-in-Ended-clause-later : goal.returns-in-Ended-clause-later
+returns-in-Ended-clause-later g c =
+    worn_later g.T.Turns.shape g.T.Turns.worn c.args.places.now.rings.items c.feed.new.places.rings.items _ _
+    c.feed.ensures.same_rings.0 c.feed.ensures.worn_rings c.feed.ensures.worn_book
+
+pub returns-in-Open-clause-later : goal.returns-in-Open-clause-later
+returns-in-Open-clause-later g c =
+    later_both _ _ _
+    (worn_later g.T.Turns.shape g.T.Turns.worn c.args.places.now.rings.items c.feed.new.places.rings.items _ _
+    c.feed.ensures.same_rings.0 c.feed.ensures.worn_rings c.feed.ensures.worn_book) c.take_turn.ensures.later
 
 pub returns-in-Ended-clause-arrived : goal.returns-in-Ended-clause-arrived
 returns-in-Ended-clause-arrived g c = λ opening me start sent whats reached.

@@ -5,6 +5,7 @@ use Rattle.caster_serve.specs.Courses.{steps_of, text_of}
 use Rattle.caster_serve.proofs.CalledLemmas.{others_none}
 use Rattle.caster_serve.proofs.PlaceLemmas.{known_same, speak_by}
 use Rattle.caster_serve.proofs.ReachLemmas.{turned_arrived}
+use Rattle.caster_serve.proofs.WornLemmas.{worn_later}
 use Rattle.caster_serve.proofs.arriving.take_turn.Goals as goal
 
 pub turn-requires-clause-rings : goal.turn-requires-clause-rings
@@ -21,6 +22,11 @@ returns-clause-known g c =
     known_same t.shape b.shape t.speaks b.speaks t.may_lack b.may_lack t.alone b.alone t.home b.home
     c.args.places.now.rings.items c.turn.new.places.rings.items c.args.places.now.book c.turn.new.places.book
     c.turn.ensures.same_rings c.turn.ensures.same_book
+
+pub returns-clause-later : goal.returns-clause-later
+returns-clause-later g c =
+    worn_later g.T.Turns.shape g.T.Turns.worn c.args.places.now.rings.items c.turn.new.places.rings.items _ _
+    c.turn.ensures.same_rings.0 c.turn.ensures.worn_rings c.turn.ensures.worn_book
 
 pub returns-clause-turned : goal.returns-clause-turned
 returns-clause-turned g c = λ config opening me start sent whats fit reached.

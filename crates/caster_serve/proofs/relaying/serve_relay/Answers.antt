@@ -4,4 +4,8 @@ use Rattle.caster_serve.proofs.relaying.serve_relay.Goals as goal
 
 pub returns-clause-goes : goal.returns-clause-goes
 returns-clause-goes g c =
-    relay_goes _ _ _ _ _ _ _ _ _ _ c.requires.fresh c.serve_places-receipt.ensures.served c.count.ensures.counted
+    relay_goes _ _ _ _ _ _ _ _ _ _ _ c.requires.fresh c.serve_places-receipt.ensures.served
+    (record {
+      ending = c.serve_places-receipt.ensures.worn;
+      unsettled = c.serve_places-receipt.ensures.unsettled;
+    }) c.count.ensures.counted

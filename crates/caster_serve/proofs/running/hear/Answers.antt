@@ -4,7 +4,7 @@ use Rattle.cast_io.specs.declared.link.Got.TheVariants as got
 use Rattle.caster_serve.specs.Courses.{text_of}
 use Rattle.caster_serve.proofs.PlaceLemmas.{fit_kept}
 use Rattle.caster_serve.proofs.ServingLemmas.{still, ends_so, fails_so, goes_on_by, long_bytes, long_idle, follows_serving}
-use Rattle.caster_serve.proofs.WornLemmas.{not_ended}
+use Rattle.caster_serve.proofs.WornLemmas.{later_none, not_ended}
 use Rattle.caster_serve.proofs.running.hear.Goals as goal
 
 pub arrive-requires-clause-follows : goal.arrive-requires-clause-follows
@@ -65,7 +65,7 @@ pub returns-in-Idle-clause-goes : goal.returns-in-Idle-clause-goes
 returns-in-Idle-clause-goes g c = λ opening me start before serving.
     let turned = c.take_turn.ensures.turned c.args.config.now opening me start (serving.written ++ []) serving.whats
     (fit_kept _ _ _ _ _ (sym serving.reached.caller) refl c.requires.fit) serving.reached in
-    still _ _ _ _ _ _ _ _ _ _ _ _ (sym c.rest_if_idle.ensures) (omega arith)
+    still _ _ _ _ _ _ _ _ _ _ _ _ refl (omega arith)
     (goes_on_by _ _ _ _ _ _ _ _ _ _ _ c.args.given.now 0 got.Idle c.read.new.buf _ _ serving c.requires.goes_on
     c.in-Idle.ensures.read c.requires.empty turned (long_idle serving.whats))
 
@@ -76,3 +76,9 @@ returns-in-End-clause-closes g c = λ opening me start before serving.
 pub returns-in-Failed-clause-closes : goal.returns-in-Failed-clause-closes
 returns-in-Failed-clause-closes g c = λ opening me start before serving.
     fails_so _ _ _ _ _ _ _ _ _ _ _ (omega (arith, c.requires.few)) serving c.in-Failed.ensures.read
+
+pub returns-in-End-clause-later : goal.returns-in-End-clause-later
+returns-in-End-clause-later g c = later_none _
+
+pub returns-in-Failed-clause-later : goal.returns-in-Failed-clause-later
+returns-in-Failed-clause-later g c = later_none _

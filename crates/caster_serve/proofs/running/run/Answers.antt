@@ -4,7 +4,7 @@ use Rattle.session_core.specs.Called.{seen_at}
 use Rattle.caster_serve.specs.Links.{opening_of}
 use Rattle.caster_serve.proofs.PlaceLemmas.{fit_kept}
 use Rattle.caster_serve.proofs.ServingLemmas.{begins_serving, sent_on, torn, stops, going_by}
-use Rattle.caster_serve.proofs.WornLemmas.{not_ended}
+use Rattle.caster_serve.proofs.WornLemmas.{later_both, later_none, not_ended}
 use Rattle.caster_serve.proofs.running.run.Goals.{then-ended-via-then-ended, then-ended-via-else-ended+then-given-ge-MOST}
 use Rattle.caster_serve.proofs.running.run.Goals as goal
 
@@ -15,6 +15,7 @@ loop-init g c =
       finite = tt;
       me = refl;
       known = refl;
+      later = later_none _;
       cause = not_ended _ c.args.session.now.ended c.requires.goes_on;
       size = refl;
       few = omega arith;
@@ -52,10 +53,10 @@ hear-heard-requires-clause-served g c =
       sent_on _ _ _ _ _ _ _ _ _ _ _ c.loop.invariant.serving c.in-Ok.ensures.ok,
     )
 
-pub returns-in-Some-heard-clause-came : goal.returns-in-Some-heard-clause-came
-returns-in-Some-heard-clause-came g c =
+pub returns-in-Err-clause-came : goal.returns-in-Err-clause-came
+returns-in-Err-clause-came g c =
     let t = g.T.Turns in let b = g.B.Turns in
-    c.in-Some-heard.ensures.closes (opening_of c.args.role) c.args.session.now.me
+    c.in-Err.ensures.closes (opening_of c.args.role) c.args.session.now.me
     (seen_at t.seen b.seen c.args.places.now.rings.items c.args.places.now.book) (g.L.Link.told c.args.link.now)
     (sent_on _ _ _ _ _ _ _ _ _ _ _ c.loop.invariant.serving c.in-Ok.ensures.ok)
 
@@ -67,10 +68,11 @@ loop-preserved g c =
       finite = tt;
       me = c.hear-heard.ensures.me ∙ c.loop.invariant.me;
       known = c.hear-heard.ensures.known ∙ c.loop.invariant.known;
+      later = later_both _ _ _ c.loop.invariant.later c.hear-heard.ensures.later;
       cause = c.hear-heard.ensures.cause;
       size = c.hear-heard.auto.piece ∙ c.loop.invariant.size;
       few = c.hear-heard.ensures.few;
-      serving = c.in_default-heard.ensures.goes (opening_of c.args.role) c.args.session.now.me
+      serving = c.in-Ok-heard.ensures.goes (opening_of c.args.role) c.args.session.now.me
           (seen_at t.seen b.seen c.args.places.now.rings.items c.args.places.now.book) (g.L.Link.told c.args.link.now)
           (sent_on _ _ _ _ _ _ _ _ _ _ _ c.loop.invariant.serving c.in-Ok.ensures.ok);
     }

@@ -1,6 +1,7 @@
 -- All that the link's steps gave happened, and what was made for it was written or is pending.
 use Rattle.std.proofs.Common.{◌≡◌, ◌+◌, ◌^◌, ◌<◌, length}
 use Rattle.std.specs.Prelude.{IfSome}
+use Rattle.session_calls.specs.Rings.{AllLater}
 use Rattle.session_core.specs.Beginnings.{worn_at}
 use Rattle.session_core.specs.Called.{IsCause, seen_at}
 use Rattle.caster_places.specs.Known.{known_at}
@@ -17,6 +18,8 @@ invariant-loop g l = let t = g.T.Turns in let b = g.B.Turns in record {
       l.places.rings.items l.places.book
       ≡ known_at t.shape b.shape t.speaks b.speaks t.may_lack b.may_lack t.alone b.alone t.home b.home
       l.fn.places.rings.items l.fn.places.book;
+  later : AllLater (worn_at t.worn b.worn l.fn.places.rings.items l.fn.places.book)
+      (worn_at t.worn b.worn l.places.rings.items l.places.book);
   cause : IfSome l.session.ended (IsCause (worn_at t.worn b.worn l.places.rings.items l.places.book));
   size : length l.piece ≡ 4096;
   few : l.given < 2 ^ 62 + 4096;

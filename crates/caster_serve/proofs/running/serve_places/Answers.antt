@@ -1,16 +1,18 @@
 -- A session is opened, served and closed.
-use Rattle.std.proofs.Common.{◌∙◌, ℕ, Bool, [], map, refl, sym, subst, arith}
+use Rattle.std.proofs.Common.{◌≡◌, ◌∙◌, ℕ, Bool, true, false, [], map, refl, sym, ap, subst, arith}
 use Rattle.session_core.specs.Judged.{waiting}
 use Rattle.session_core.specs.Owed.{closing}
 use Rattle.session_core.specs.Standing.{IsSettled}
 use Rattle.caster_serve.specs.Served.{LinkServed}
+use Rattle.session_core.specs.Beginnings.{worn_at}
 use Rattle.session_core.specs.Called.{alone_at, seen_at}
+use Rattle.caster_serve.specs.Wear.{MayRefuse, lacks_in}
 use Rattle.caster_serve.specs.Links.{opening_of}
 use Rattle.caster_serve.proofs.PlaceLemmas.{fit_kept, known_same, speak_by}
 use Rattle.caster_serve.proofs.ReachLemmas.{follows_reached}
 use Rattle.caster_serve.proofs.ServingLemmas.{begins}
 use Rattle.caster_serve.proofs.ClosedLemmas.{came_closed, unopened}
-use Rattle.caster_serve.proofs.WornLemmas.{ending_is, same_length, worn_still}
+use Rattle.caster_serve.proofs.WornLemmas.{ending_is, later_both, later_none, may_by, same_length, worn_later, worn_still}
 use Rattle.caster_serve.proofs.running.serve_places.Goals as goal
 
 pub returns-in_default-clause-served : goal.returns-in_default-clause-served
@@ -90,3 +92,30 @@ returns-clause-worn g c =
     (λ heading text steps histories sent is stands others.
     c.close.ensures.closed c.args.config.now (opening_of c.args.role) heading text steps histories sent
     fit.shapes_fit fit.caps_fit is stands others))
+
+pub returns-in_default-clause-later : goal.returns-in_default-clause-later
+returns-in_default-clause-later g c = later_none _
+
+pub returns-in_default-clause-unsettled : goal.returns-in_default-clause-unsettled
+returns-in_default-clause-unsettled g c = λ is.
+    absurd (let clash : true ≡ false = sym c.not_opened.ensures.settled ∙ is in cc)
+
+pub returns-clause-later : goal.returns-clause-later
+returns-clause-later g c =
+    later_both _ _ _ c.run-last.ensures.later
+    (worn_later g.T.Turns.shape g.T.Turns.worn c.run-last.new.places.rings.items c.close.new.places.rings.items _ _
+    c.close.ensures.same_rings.0 c.close.ensures.worn_rings c.close.ensures.worn_book)
+
+pub returns-clause-unsettled : goal.returns-clause-unsettled
+returns-clause-unsettled g c = λ is.
+    let t = g.T.Turns in let b = g.B.Turns in
+    let mid = c.run-last.new.places in
+    let new = c.close.new.places in
+    let may = c.close.ensures.unsettled is in
+    let same = known_same t.shape b.shape t.speaks b.speaks t.may_lack b.may_lack t.alone b.alone t.home b.home
+    mid.rings.items new.rings.items mid.book new.book c.close.ensures.same_rings c.close.ensures.same_book in
+    subst (λ (lacks : Bool). MayRefuse (record {
+      may_lack = lacks;
+      turns = worn_at t.worn b.worn new.rings.items new.book;
+    })) (sym (ap lacks_in same))
+    (may_by (map t.may_lack mid.rings.items) (b.may_lack mid.book) _ may.0 may.1)

@@ -2,6 +2,7 @@
 use Rattle.std.proofs.Common.{◌∙◌, [], length, sym, arith, append-nil}
 use Rattle.caster_serve.proofs.SharingLemmas.{zero_by}
 use Rattle.caster_serve.proofs.SittingLemmas.{are_passes, unseen, seated_none, seated_more, last_new, front_new, is_uncalled, is_nothing, one_longer}
+use Rattle.caster_serve.proofs.WornLemmas.{none_lack}
 use Rattle.caster_serve.proofs.seat_hands.+sit_all.Goals as goal
 
 pub returns-in_default-clause-seated : goal.returns-in_default-clause-seated
@@ -44,6 +45,7 @@ returns-clause-seated g t c =
       numbered = omega (arith, c.len-number.ensures, c.pop.new.self.ok.0);
       fit = places.fit _ of_number;
       at = places.at _ of_number;
+      full = none_lack c.in_ok-places.places.rings.items;
       fresh = is_uncalled c.args.shared.now.config.now _ _ _ (places.seen ∙ unseen _ _ _ c.requires.ready fresh)
           (let d = c.default.ensures in is_nothing c.default.result d.0 d.1.0 d.1.1);
     })

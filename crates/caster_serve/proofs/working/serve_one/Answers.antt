@@ -4,5 +4,9 @@ use Rattle.caster_serve.proofs.working.serve_one.Goals as goal
 
 pub returns-clause-one : goal.returns-clause-one
 returns-clause-one g c =
-    one_served _ _ _ _ _ _ _ _ _ _ _ c.requires.fresh c.serve_places-receipt.ensures.served c.hang_up.ensures.left
+    one_served _ _ _ _ _ _ _ _ _ _ _ _ c.requires.fresh c.serve_places-receipt.ensures.served
+    (record {
+      ending = c.serve_places-receipt.ensures.worn;
+      unsettled = c.serve_places-receipt.ensures.unsettled;
+    }) c.hang_up.ensures.left
     c.count.ensures.counted
