@@ -23,6 +23,8 @@ mod one_caller;
 #[cfg(test)]
 mod relay_tests;
 #[cfg(test)]
+mod rest_tests;
+#[cfg(test)]
 mod ring_tests;
 #[cfg(test)]
 mod setting;
