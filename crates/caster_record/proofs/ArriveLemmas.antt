@@ -1,5 +1,5 @@
 -- What a door gave, call after call.
-use Rattle.std.proofs.Common.{◌≡◌, ◌∙◌, ◌<◌, ℕ, zero, suc, List, [], ◌∷◌, ◌++◌, map, set, get_or, length, refl, sym, ap, subst, inl, inr, arith, append_assoc, All, Option, None, Some}
+use Rattle.std.proofs.Common.{◌≡◌, ◌∙◌, ◌<◌, ℕ, Bool, zero, suc, List, [], ◌∷◌, ◌++◌, map, set, get_or, length, refl, sym, ap, subst, inl, inr, arith, append_assoc, All, Option, None, Some}
 use Rattle.std.proofs.lemmas.List.{append-nil, map-append}
 use Rattle.std.proofs.lemmas.List.Elements.{All-nil, All-cons, All-append}
 use Rattle.cast_io.specs.declared.door.Arrived.{Arrived}
@@ -8,7 +8,9 @@ use Rattle.cast_io.specs.declared.steps.LinkStep.{LinkStep}
 use Rattle.cast_io.specs.Doors.{ArrivesNew, HasAccepted, TakesArrival}
 use Rattle.cast_io.specs.Links.{IsNewLink}
 use Rattle.cast_io.specs.Told.{LinkTold, DoorTold, StillTold, Grew}
+use Rattle.cast_io.specs.declared.steps.Step.{Step}
 use Rattle.caster_record.specs.Arriving.{links_among, HasTaken, given_in, HaveCome, HasTakenBack, HaveLeft}
+use Rattle.caster_record.specs.Moves.{Move, came, nobody, served, Asks, AskAll}
 
 links_both : (a b : List (Option LinkTold)) → links_among (a ++ b) ≡ links_among a ++ links_among b
 links_both [] b = refl
@@ -35,6 +37,37 @@ still_as : {X : Type 0} (P Q : X → X → Type 0) → ((a b : X) → P a b → 
 still_as P Q so o p f = λ now is.
     let first = f now is in
     (first.0, first.1, so first.0 now first.2)
+
+-- ---- what the moves took of the arrivals to come
+
+asks_more : (moves : List Move) (move : Move) (a b c : List (Option LinkTold)) → AskAll moves a b → Asks move b c
+    → AskAll (moves ++ move ∷ []) a c
+asks_more [] move a b c so one = (c, subst (λ (l : List (Option LinkTold)). Asks move l c) so one, refl)
+asks_more (m ∷ moves) move a b c so one = (so.0, so.1, asks_more moves move so.0 b c so.2 one)
+
+pub asked_more : (moves : List Move) (move : Move) (a b c : Option (List (Option LinkTold)))
+    → StillTold (AskAll moves) a b → StillTold (Asks move) b c → StillTold (AskAll (moves ++ move ∷ [])) a c
+asked_more moves move a b c so one =
+    still_both (AskAll moves) (Asks move) (AskAll (moves ++ move ∷ [])) (asks_more moves move) a b c so one
+
+-- who serves a link does not ask the door
+pub asked_served : (moves : List Move) (k : ℕ) (answer : Step) (torn : Bool) (a b : Option (List (Option LinkTold)))
+    → StillTold (AskAll moves) a b → StillTold (AskAll (moves ++ served k answer torn ∷ [])) a b
+asked_served moves k answer torn a b so =
+    asked_more moves (served k answer torn) a b b so (λ now is. (now, is, refl))
+
+pub asked_link : {L : Type 0} (told : L → LinkTold) (link : L) (k : ℕ) (a b : DoorTold)
+    → HasAccepted told a b (arrived.Link link) → StillTold (Asks (came k)) a.left b.left
+asked_link told link k a b h =
+    still_as (TakesArrival told (arrived.Link link)) (Asks (came k)) (λ old new takes. (told link, takes)) a.left b.left
+    h.left
+
+pub asked_nobody : {L : Type 0} (told : L → LinkTold) (a b : DoorTold) → HasAccepted told a b arrived.Idle
+    → StillTold (Asks nobody) a.left b.left
+asked_nobody told a b h =
+    still_as (TakesArrival told arrived.Idle) (Asks nobody) (λ old new takes. takes) a.left b.left h.left
+
+-- ---- the links that came
 
 given_both : (a b : List LinkTold) → given_in (a ++ b) ≡ given_in a ++ given_in b
 given_both a b = map-append (λ (link : LinkTold). link.given) a b

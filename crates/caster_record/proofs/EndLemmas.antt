@@ -2,7 +2,7 @@
 use Rattle.std.proofs.Common.{◌≡◌, ◌≤◌, ℕ, Bool, List, [], length, length-append, map, refl, sym, ap, subst, arith}
 use Rattle.std.specs.Prelude.{codes}
 use Rattle.std.proofs.lemmas.List.{length-map}
-use Rattle.cast_io.specs.Told.{LinkTold}
+use Rattle.cast_io.specs.Told.{LinkTold, DoorTold}
 use Rattle.session_script.specs.declared.Event.{Event}
 use Rattle.session_script.specs.Numbers.{no_numbers}
 use Rattle.session_core.specs.Reports.{IsReport}
@@ -24,11 +24,14 @@ use Rattle.caster_record.proofs.MoveLemmas.{all_brought}
 use Rattle.caster_record.proofs.PeerLemmas.{peers_same}
 use Rattle.caster_record.proofs.RecordLemmas.{input_lines}
 
-keep_none : {L : Type 0} (told : L → LinkTold) (c : Config) (limit : ℕ) (new : Recorder) → Records c new
-    → events_in new ≡ [] → ((n : ℕ) → sent_by_run new.run n ≡ []) → RestsAfter told c limit new [] []
-keep_none told c limit new records none unsent = record {
+keep_none : {L : Type 0} (told : L → LinkTold) (c : Config) (limit : ℕ) (door : DoorTold) (new : Recorder)
+    → Records c new → events_in new ≡ [] → ((n : ℕ) → sent_by_run new.run n ≡ [])
+    → RestsAfter told c limit door door new [] []
+keep_none told c limit door new records none unsent = record {
   rounds = [];
   are = (refl, none);
+  asked = λ now is. (now, is, refl);
+  calm = refl;
   keeps = record {
     records = records;
     made = none;
@@ -44,12 +47,13 @@ keep_none told c limit new records none unsent = record {
   };
 }
 
-pub rests_first : {L : Type 0} (told : L → LinkTold) (c : Config) (limit : ℕ) (new : Recorder) (links : List L)
-    (torn : List Bool) → links ≡ [] → torn ≡ [] → Records c new → events_in new ≡ []
-    → ((n : ℕ) → sent_by_run new.run n ≡ []) → RestsAfter told c limit new links torn
-rests_first told c limit new links torn no_links no_torn records none unsent =
-    subst (RestsAfter told c limit new links) (sym no_torn)
-    (subst (λ l. RestsAfter told c limit new l []) (sym no_links) (keep_none told c limit new records none unsent))
+pub rests_first : {L : Type 0} (told : L → LinkTold) (c : Config) (limit : ℕ) (door : DoorTold) (new : Recorder)
+    (links : List L) (torn : List Bool) → links ≡ [] → torn ≡ [] → Records c new → events_in new ≡ []
+    → ((n : ℕ) → sent_by_run new.run n ≡ []) → RestsAfter told c limit door door new links torn
+rests_first told c limit door new links torn no_links no_torn records none unsent =
+    subst (RestsAfter told c limit door door new links) (sym no_torn)
+    (subst (λ l. RestsAfter told c limit door door new l []) (sym no_links)
+    (keep_none told c limit door new records none unsent))
 
 -- so few bytes come in that the run may be finished
 pub short_enough : (c : Config) (recorder : Recorder) → Records c recorder → recorder.tape.size ≤ 8378380
@@ -61,19 +65,20 @@ within_bound : (c : Config) (recorder : Recorder) → Records c recorder → rec
 within_bound c recorder records bound =
     omega (arith, length-append (lines_text (events_in recorder)) (codes "stop\n"), records.size, bound)
 
-pub recorded : {L : Type 0} (told : L → LinkTold) (c : Config) (limit : ℕ) (recorder : Recorder) (links : List L)
-    (torn : List Bool) (report : Report) → RestsAfter told c limit recorder links torn → IsReport c
-    (events_in recorder) report
+pub recorded : {L : Type 0} (told : L → LinkTold) (c : Config) (limit : ℕ) (before door : DoorTold)
+    (recorder : Recorder) (links : List L) (torn : List Bool) (report : Report)
+    → RestsAfter told c limit before door recorder links torn → IsReport c (events_in recorder) report
     → ((n : ℕ) → told_sent n report.connections ≡ sent_by_run recorder.run n)
     → IsAtEnd c limit (events_in recorder) (length links)
-    → IsRecorded c limit (events_in recorder) report (map told links)
-recorded told c limit recorder links torn report r is_report sent ended = record {
+    → IsRecorded c limit before door (events_in recorder) report (map told links)
+recorded told c limit before door recorder links torn report r is_report sent ended = record {
   session = r.keeps.records.session;
   bound = small;
   reads = reads_plain (kind_of c) (events_in recorder) r.keeps.records.session small;
   is_report = is_report;
   rounds = r.rounds;
   are = subst (λ (n : ℕ). AreRounds c limit r.rounds [] 0 [] n (events_in recorder)) (sym count) r.are;
+  asked = r.asked;
   peers = peers_same 1 moves moves (sent_by_run recorder.run) (λ n. told_sent n report.connections) (map told links)
       (λ n least. refl) (λ n least. sent n) r.keeps.peers;
   brought = λ n. all_brought c n moves [] (events_in recorder) r.keeps.made;

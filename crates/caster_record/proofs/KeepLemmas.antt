@@ -1,4 +1,4 @@
--- What stands while a session is recorded, where a link came and where one was served.
+-- What stands while a session is recorded, where a link came or nobody, and where one was served.
 use Rattle.std.proofs.Common.{◌≡◌, ◌≢◌, ◌∙◌, ◌<◌, ◌≤◌, ◌+◌, ℕ, Bool, true, false, List, [], ◌∷◌, ◌++◌, length, length-append, map, get_or, set, refl, sym, ap, subst, inl, inr, arith}
 use Rattle.std.specs.Prelude.{◌==◌, ◌&&◌, nat_lt}
 use Rattle.std.specs.List.{list_any}
@@ -19,12 +19,12 @@ use Rattle.caster_replay.specs.Kept.{lives_of, sent_by_run}
 use Rattle.caster_replay.specs.Sends.{IsSilent}
 use Rattle.caster_record.specs.declared.recorder.Recorder.{Recorder}
 use Rattle.caster_record.specs.Keeping.{AreUpTo, Keeps}
-use Rattle.caster_record.specs.Moves.{Move, came, served, Served, taken_in, has_torn, is_torn, torn_step, heard_by, turn_if, break_if}
+use Rattle.caster_record.specs.Moves.{Move, came, nobody, served, Served, taken_in, has_torn, is_torn, torn_step, heard_by, turn_if, break_if}
 use Rattle.cast_io.specs.declared.steps.Step.TheVariants as took
 use Rattle.caster_record.specs.Peers.{IsPeer, ArePeers}
 use Rattle.caster_record.specs.Recording.{Records, events_in}
 use Rattle.caster_record.specs.Steps.{IsServed}
-use Rattle.caster_record.proofs.MoveLemmas.{made_more, taken_came, taken_own, taken_apart}
+use Rattle.caster_record.proofs.MoveLemmas.{made_more, taken_came, taken_nobody, taken_own, taken_apart}
 use Rattle.caster_record.proofs.PeerLemmas.{peers_same, peers_push, peers_at, peers_set, peer_new}
 
 -- ---- the numbers that were opened
@@ -138,6 +138,25 @@ keep_came told c old new links torn moves link k fresh fewer records all silent 
 
     above : length links < 1 + length (map told links)
     above = omega (arith, length-map links told)
+
+-- ---- nobody came
+
+pub keep_nobody : {L : Type 0} (told : L → LinkTold) (c : Config) (recorder : Recorder) (links : List L)
+    (torn : List Bool) (moves : List Move) → Keeps told c recorder links torn moves
+    → Keeps told c recorder links torn (moves ++ nobody ∷ [])
+keep_nobody told c recorder links torn moves k = record {
+  records = k.records;
+  made = made_more c moves nobody [] (events_in recorder) (events_in recorder) k.made refl;
+  peers = peers_same 1 moves (moves ++ nobody ∷ []) (sent_by_run recorder.run) (sent_by_run recorder.run)
+      (map told links) (λ n least. taken_nobody n moves) (λ n least. refl) k.peers;
+  size = k.size;
+  few = k.few;
+  marks = λ at within. k.marks at within ∙ sym (ap (list_any is_torn) (taken_nobody (1 + at) moves));
+  unread = λ n least. taken_nobody n moves ∙ k.unread n least;
+  unsent = k.unsent;
+  opened = k.opened;
+  bound = k.bound;
+}
 
 -- ---- a link that was served
 

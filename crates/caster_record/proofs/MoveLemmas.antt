@@ -9,7 +9,7 @@ use Rattle.cast_io.specs.declared.steps.Step.TheVariants as took
 use Rattle.session_script.specs.declared.Event.{Event}
 use Rattle.session_script.specs.declared.Event.TheVariants as events
 use Rattle.cast_config.specs.declared.config.Config.{Config}
-use Rattle.caster_record.specs.Moves.{Move, came, served, Makes, MakeAll, torn_step, taken_by, taken_in, heard_by, turn_if, break_if, brought_by, brought_in}
+use Rattle.caster_record.specs.Moves.{Move, came, nobody, served, Makes, MakeAll, torn_step, taken_by, taken_in, heard_by, turn_if, break_if, brought_by, brought_in}
 use Rattle.cast_io.specs.Links.{bytes_of, bytes_in}
 
 pub made_more : (c : Config) (moves : List Move) (move : Move) (first between after : List Event)
@@ -26,6 +26,9 @@ taken_more k moves move =
 
 pub taken_came : (k n : ℕ) (moves : List Move) → taken_in k (moves ++ came n ∷ []) ≡ taken_in k moves
 taken_came k n moves = taken_more k moves (came n) ∙ append-nil (taken_in k moves)
+
+pub taken_nobody : (k : ℕ) (moves : List Move) → taken_in k (moves ++ nobody ∷ []) ≡ taken_in k moves
+taken_nobody k moves = taken_more k moves nobody ∙ append-nil (taken_in k moves)
 
 pub taken_own : (k n : ℕ) (moves : List Move) (answer : Step) (torn : Bool) → n ≡ k
     → taken_in k (moves ++ served n answer torn ∷ []) ≡ taken_in k moves ++ answer ∷ torn_step torn
@@ -92,6 +95,7 @@ one_brought : (c : Config) (k : ℕ) (move : Move) (before after : List Event) �
     → brought_in k after ≡ brought_in k before ++ bytes_in (taken_by k move)
 one_brought c k (came n) before after is =
     ap (brought_in k) is ∙ brought_both k before (events.Open n ∷ [])
+one_brought c k nobody before after is = ap (brought_in k) is ∙ sym (append-nil (brought_in k before))
 one_brought c k (served n answer torn) before after s =
     let heard : List Event = heard_by n answer in
     ap (brought_in k) s.events

@@ -1,13 +1,13 @@
 -- What stands while a session is recorded.
 use Rattle.std.specs.Prelude.{◌≡◌, ℕ, ◌+◌, ◌<◌, ◌≤◌, Bool, true, false, List, [], ◌++◌, length, map, get_or}
-use Rattle.cast_io.specs.Told.{LinkTold}
+use Rattle.cast_io.specs.Told.{LinkTold, DoorTold, StillTold}
 use Rattle.session_script.specs.declared.Event.{Event}
 use Rattle.session_script.specs.Numbers.{no_numbers, is_among}
 use Rattle.cast_config.specs.declared.config.Config.{Config}
 use Rattle.caster_replay.specs.Going.{numbers_from}
 use Rattle.caster_replay.specs.Kept.{sent_by_run}
 use Rattle.caster_record.specs.declared.recorder.Recorder.{Recorder}
-use Rattle.caster_record.specs.Moves.{Move, MakeAll, taken_in, has_torn}
+use Rattle.caster_record.specs.Moves.{Move, AskAll, MakeAll, taken_in, has_torn}
 use Rattle.caster_record.specs.Peers.{ArePeers}
 use Rattle.caster_record.specs.Recording.{Records, events_in}
 use Rattle.caster_record.specs.Rounds.{AreRounds, IsRound, moves_of}
@@ -33,20 +33,27 @@ pub record Keeps {L : Type 0} (told : L → LinkTold) (c : Config) (recorder : R
   pub opened : AreUpTo (length links) (numbers_from no_numbers (events_in recorder)).opened
   pub bound : recorder.tape.size ≤ 8378380
 
--- so it is between rounds
+-- So it is between rounds. Where the door told its arrivals to come before them all, and tells those
+-- now, the rounds took one for each time that they asked it; and it had no fault.
 pub record RestsAfter {L : Type 0} (told : L → LinkTold) (c : Config) (limit : ℕ)
-    (recorder : Recorder) (links : List L) (torn : List Bool) : Type 0 where
+    (before now : DoorTold) (recorder : Recorder) (links : List L) (torn : List Bool)
+    : Type 0 where
   pub rounds : List (List Move)
   pub are : AreRounds c limit rounds [] 0 [] (length links) (events_in recorder)
+  pub asked : StillTold (AskAll (moves_of rounds)) before.left now.left
+  pub calm : now.faults ≡ before.faults
   pub keeps : Keeps told c recorder links torn (moves_of rounds)
 
 -- and so in the midst of one, where the links up to number n had their places
 pub record IsWithin {L : Type 0} (told : L → LinkTold) (c : Config) (limit n : ℕ)
-    (recorder : Recorder) (links : List L) (torn : List Bool) : Type 0 where
+    (before now : DoorTold) (recorder : Recorder) (links : List L) (torn : List Bool)
+    : Type 0 where
   pub rounds : List (List Move)
   pub few : ℕ
   pub first : List Event
   pub are : AreRounds c limit rounds [] 0 [] few first
   pub round : List Move
   pub is : IsRound c limit (moves_of rounds) few n round first (events_in recorder) (length links)
+  pub asked : StillTold (AskAll (moves_of rounds ++ round)) before.left now.left
+  pub calm : now.faults ≡ before.faults
   pub keeps : Keeps told c recorder links torn (moves_of rounds ++ round)

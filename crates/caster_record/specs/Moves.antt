@@ -1,17 +1,21 @@
 -- What a recording caster did, one link after the other, and the events of it.
-use Rattle.std.specs.Prelude.{◌≡◌, ℕ, ◌==◌, ◌&&◌, Bool, true, false, if◌then◌else◌, List, [], ◌∷◌, ◌++◌}
+use Rattle.std.specs.Prelude.{◌≡◌, ℕ, ◌==◌, ◌&&◌, Bool, true, false, if◌then◌else◌, List, [], ◌∷◌, ◌++◌, Option}
 use Rattle.std.specs.List.{flat_map, list_any}
+use Rattle.cast_io.specs.declared.door.Arrived.TheVariants as arrived
 use Rattle.cast_io.specs.declared.steps.Step.{Step}
 use Rattle.cast_io.specs.declared.steps.Step.TheVariants as took
+use Rattle.cast_io.specs.Doors.{TakesArrival}
+use Rattle.cast_io.specs.Told.{LinkTold}
 use Rattle.session_script.specs.declared.Event.{Event}
 use Rattle.session_script.specs.declared.Event.TheVariants as events
 use Rattle.cast_config.specs.declared.config.Config.{Config}
 use Rattle.caster_replay.specs.Going.{GoesOn, IsBehind}
 
--- A link came under this number; or the link of this number was read, with this answer, and what
--- its connection was then sent was written to it, whole or torn.
+-- The door was asked, and a link came under this number, or nobody; or the link of this number was
+-- read, with this answer, and what its connection was then sent was written to it, whole or torn.
 pub data Move : Type 0 where
   came : ℕ → Move
+  nobody : Move
   served : ℕ → Step → Bool → Move
 
 -- ---- the events of a move
@@ -49,6 +53,7 @@ pub record Served (c : Config) (k : ℕ) (answer : Step) (torn : Bool) (before a
 
 abbrev pub Makes : Config → Move → List Event → List Event → Type 0
 Makes c (came k) before after = after ≡ before ++ events.Open k ∷ []
+Makes c nobody before after = after ≡ before
 Makes c (served k answer torn) before after = Served c k answer torn before after
 
 -- these moves, one after the other
@@ -56,6 +61,22 @@ abbrev pub MakeAll : Config → List Move → List Event → List Event → Type
 MakeAll c [] before after = after ≡ before
 MakeAll c (move ∷ moves) before after =
     (between : List Event) × Makes c move before between × MakeAll c moves between after
+
+-- ---- what the moves took of the arrivals to come at the door
+
+-- A move took this of the arrivals to come: a link where one came, and an idle one where nobody did,
+-- or nothing where none was to come. No other move asks the door.
+abbrev pub Asks : Move → List (Option LinkTold) → List (Option LinkTold) → Type 0
+Asks (came k) old new =
+    (link : LinkTold) × TakesArrival (λ (told : LinkTold). told) (arrived.Link link) old new
+Asks nobody old new = TakesArrival (λ (told : LinkTold). told) arrived.Idle old new
+Asks (served k answer torn) old new = new ≡ old
+
+-- these moves, one after the other
+abbrev pub AskAll : List Move → List (Option LinkTold) → List (Option LinkTold) → Type 0
+AskAll [] old new = new ≡ old
+AskAll (move ∷ moves) old new =
+    (between : List (Option LinkTold)) × Asks move old between × AskAll moves between new
 
 -- ---- what the link of a number took
 
@@ -66,6 +87,7 @@ torn_step false = []
 -- its reads, each with the write behind it where that failed
 abbrev pub taken_by : ℕ → Move → List Step
 taken_by k (came n) = []
+taken_by k nobody = []
 taken_by k (served n answer torn) = if n == k then answer ∷ torn_step torn else []
 
 abbrev pub taken_in : ℕ → List Move → List Step

@@ -7,7 +7,7 @@ use Rattle.session_script.specs.declared.Event.TheVariants as events
 use Rattle.session_script.specs.Writing.{lines_text}
 use Rattle.cast_config.specs.declared.config.Config.{Config}
 use Rattle.caster_replay.specs.Going.{GoesOn}
-use Rattle.caster_record.specs.Moves.{Move, came, served, Served, has_torn}
+use Rattle.caster_record.specs.Moves.{Move, came, nobody, served, Served, has_torn}
 
 -- the lines of these events have at most 8,370,000 bytes
 abbrev pub HasRoom : List Event → Type 0
@@ -53,15 +53,29 @@ HaveTheirPlaces c earlier (suc n) moves before after =
 
 -- ---- a round
 
--- No link came; or one more than these few came, where fewer came than may and the record has room,
--- and its connection opened under the next number.
+-- A link may come: these few that came are fewer than may, and the record has room.
+abbrev pub MayAsk : ℕ → ℕ → List Event → Type 0
+MayAsk limit few script = (few < limit) × HasRoom script
+
+-- None may.
+abbrev pub IsFull : ℕ → ℕ → List Event → Type 0
+IsFull limit few script = (limit ≤ few) ⊎ (8370000 < length (lines_text script))
+
+-- The door was asked and nobody came; or one link did, and its connection opened under the number
+-- that is next behind these few.
+abbrev pub HasAnswered : ℕ → List Move → List Event → List Event → ℕ → Type 0
+HasAnswered few moves before after count =
+    ((moves ≡ nobody ∷ []) × (after ≡ before) × (count ≡ few))
+    ⊎ ((moves ≡ came (few + 1) ∷ []) × (after ≡ before ++ events.Open (few + 1) ∷ [])
+    × (count ≡ few + 1))
+
+-- The door was asked once where a link may come, and not at all where none may.
 abbrev pub HasBegun : ℕ → ℕ → List Move → List Event → List Event → ℕ → Type 0
 HasBegun limit few moves before after count =
-    ((moves ≡ []) × (after ≡ before) × (count ≡ few))
-    ⊎ ((moves ≡ came (few + 1) ∷ []) × (after ≡ before ++ events.Open (few + 1) ∷ [])
-    × (count ≡ few + 1) × (few < limit) × HasRoom before)
+    (IsFull limit few before × (moves ≡ []) × (after ≡ before) × (count ≡ few))
+    ⊎ (MayAsk limit few before × HasAnswered few moves before after count)
 
--- A round, up to the link of number n: a link came, or none, and then each link had its place.
+-- A round, up to the link of number n: the door was asked, or not, and then each link had its place.
 pub record IsRound (c : Config) (limit : ℕ) (earlier : List Move) (few n : ℕ) (round : List Move)
     (before after : List Event) (count : ℕ) : Type 0 where
   pub first : List Move

@@ -1,10 +1,12 @@
 //! A caster that records its session.
 
-ghost use Rattle.std.specs.Prelude.{◌≡◌, ℕ, ◌+◌, ◌<◌, ◌≤◌, ◌++◌, [], ◌∷◌, length, map, false, vec_len, vec_capacity, IsTrue, IfOk, OnErr, OnOk};
+ghost use Rattle.std.specs.Prelude.{◌≡◌, ℕ, ◌+◌, ◌<◌, ◌≤◌, ◌⊎◌, ◌++◌, [], ◌∷◌, length, map, false, vec_len, vec_capacity, IsTrue, IfOk, OnErr, OnOk};
 ghost use Rattle.std.specs.Result.{IsErrOf};
 ghost use Rattle.cast_config.specs.Kept.{KeepsRules};
 ghost use Rattle.cast_io.specs.Causes.{Rose};
+ghost use Rattle.cast_io.specs.Doors.{HasAccepted};
 ghost use Rattle.cast_io.specs.Links.{IsNewLink};
+ghost use Rattle.cast_io.specs.Told.{DoorTold};
 ghost use Rattle.session_core.specs.Reports.{IsReport};
 ghost use Rattle.caster_replay.specs.Going.{GoesOn};
 ghost use Rattle.caster_replay.specs.Kept.{sent_by_run};
@@ -66,6 +68,16 @@ impl Recorder {
         self.tape.size > MOST || count as u32 == limit && self.none_goes_on(config, limit)
     }
 
+    /// Whether the door is to be asked for a link: fewer came than may, and the record has not come
+    /// to its limit.
+    fn may_ask(&self, limit: u32, count: usize) -> bool
+        requires few { count ≤ 256 }
+        ensures open { IsTrue result → (count < limit) × (self.now.tape.size ≤ 8370000) }
+        ensures full { result ≡ false → (limit ≤ count) ⊎ (8370000 < self.now.tape.size) }
+    {
+        (count as u32) < limit && self.tape.size <= MOST
+    }
+
     /// A link came: its connection opens, and no write to it was torn.
     fn open_link<L: Link>(
         &mut self,
@@ -78,14 +90,18 @@ impl Recorder {
     ) -> Result<(), AllocError>
         requires kept { (cap : ℕ) × KeepsRules cap config.now }
         requires limit { limit ≤ 256 }
-        requires rests { RestsAfter L.told config.now limit self.old links.old.items
-            torn.old.items }
+        requires rests { (before : DoorTold) × (door : DoorTold) × RestsAfter L.told config.now
+            limit before door self.old links.old.items torn.old.items }
         requires fresh { IsNewLink (L.told link) }
         requires fewer { length links.old.items < limit }
         requires small { self.old.tape.size ≤ 8370000 }
         requires room { vec_len links.old + 1 ≤ vec_capacity links.old }
         requires mark { vec_len torn.old + 1 ≤ vec_capacity torn.old }
-        ensures begins { OnOk result (IsWithin L.told config.now limit 0 self.new links.new.items
+        ensures begins { OnOk result ((before door later : DoorTold)
+            → RestsAfter L.told config.now limit before door self.old links.old.items
+            torn.old.items
+            → HasAccepted L.told door later (Arrived.Link link)
+            → IsWithin L.told config.now limit 0 before later self.new links.new.items
             torn.new.items) }
         ensures pushed { links.new.items ≡ links.old.items ++ link ∷ [] }
     {
@@ -95,7 +111,45 @@ impl Recorder {
         Ok(())
     }
 
-    /// Asks the door for a link, where fewer came than may. Answers whether one came.
+    /// Asks the door for a link. Answers whether one came.
+    fn ask<D: Door>(
+        &mut self,
+        alloc: Global,
+        config: &Config,
+        limit: u32,
+        door: &mut D,
+        links: &mut Vec<D::Link>,
+        torn: &mut Vec<bool>,
+    ) -> Result<bool, RecorderFault>
+        requires kept { (cap : ℕ) × KeepsRules cap config.now }
+        requires limit { limit ≤ 256 }
+        requires rests { (before : DoorTold) × RestsAfter D.Link.told config.now limit before
+            (D.told door.old) self.old links.old.items torn.old.items }
+        requires fewer { length links.old.items < limit }
+        requires small { self.old.tape.size ≤ 8370000 }
+        requires room { vec_len links.old + 1 ≤ vec_capacity links.old }
+        requires mark { vec_len torn.old + 1 ≤ vec_capacity torn.old }
+        ensures begins { IfOk result (λ came. (before : DoorTold)
+            → RestsAfter D.Link.told config.now limit before (D.told door.old) self.old
+            links.old.items torn.old.items
+            → IsWithin D.Link.told config.now limit 0 before (D.told door.new) self.new
+            links.new.items torn.new.items) }
+        ensures come { HaveCome (D.told door.old) (D.told door.new)
+            (map D.Link.told links.old.items) (map D.Link.told links.new.items) }
+        ensures network { IsErrOf result RecorderFault.Network
+            → Rose (D.told door.old).faults (D.told door.new).faults }
+    {
+        match door.accept() {
+            Arrived::Link(link) => {
+                self.open_link(alloc, config, limit, link, links, torn)?;
+                Ok(true)
+            }
+            Arrived::Idle => Ok(false),
+            Arrived::Failed => Err(RecorderFault::Network),
+        }
+    }
+
+    /// Asks the door for a link, where one may come. Answers whether one came.
     fn accept<D: Door>(
         &mut self,
         alloc: Global,
@@ -107,28 +161,25 @@ impl Recorder {
     ) -> Result<bool, RecorderFault>
         requires kept { (cap : ℕ) × KeepsRules cap config.now }
         requires limit { limit ≤ 256 }
-        requires rests { RestsAfter D.Link.told config.now limit self.old links.old.items
-            torn.old.items }
-        ensures begins { IfOk result (λ came. IsWithin D.Link.told config.now limit 0 self.new
+        requires rests { (before : DoorTold) × RestsAfter D.Link.told config.now limit before
+            (D.told door.old) self.old links.old.items torn.old.items }
+        ensures begins { IfOk result (λ came. (before : DoorTold)
+            → RestsAfter D.Link.told config.now limit before (D.told door.old) self.old
+            links.old.items torn.old.items
+            → IsWithin D.Link.told config.now limit 0 before (D.told door.new) self.new
             links.new.items torn.new.items) }
         ensures come { HaveCome (D.told door.old) (D.told door.new)
             (map D.Link.told links.old.items) (map D.Link.told links.new.items) }
         ensures network { IsErrOf result RecorderFault.Network
             → Rose (D.told door.old).faults (D.told door.new).faults }
     {
-        if links.len() as u32 >= limit || self.tape.size > MOST {
+        if !self.may_ask(limit, links.len()) {
             return Ok(false);
         }
         links.reserve(1)?;
         torn.reserve(1)?;
-        match door.accept() {
-            Arrived::Link(link) => {
-                self.open_link(alloc, config, limit, link, links, torn)?;
-                Ok(true)
-            }
-            Arrived::Idle => Ok(false),
-            Arrived::Failed => Err(RecorderFault::Network),
-        }
+        let came = self.ask(alloc, config, limit, door, links, torn)?;
+        Ok(came)
     }
 }
 
@@ -144,10 +195,13 @@ fn round<D: Door>(
 ) -> Result<(), RecorderFault>
     requires kept { (cap : ℕ) × KeepsRules cap config.now }
     requires limit { limit ≤ 256 }
-    requires rests { RestsAfter D.Link.told config.now limit recorder.old links.old.items
-        torn.old.items }
-    ensures rests { OnOk result
-        (RestsAfter D.Link.told config.now limit recorder.new links.new.items torn.new.items) }
+    requires rests { (before : DoorTold) × RestsAfter D.Link.told config.now limit before
+        (D.told door.old) recorder.old links.old.items torn.old.items }
+    ensures rests { OnOk result ((before : DoorTold)
+        → RestsAfter D.Link.told config.now limit before (D.told door.old) recorder.old
+        links.old.items torn.old.items
+        → RestsAfter D.Link.told config.now limit before (D.told door.new) recorder.new
+        links.new.items torn.new.items) }
     ensures come { HaveCome (D.told door.old) (D.told door.new)
         (map D.Link.told links.old.items) (map D.Link.told links.new.items) }
     ensures network { IsErrOf result RecorderFault.Network
@@ -175,10 +229,10 @@ fn run<D: Door, R: Wait>(
 ) -> Result<(), RecorderFault>
     requires kept { (cap : ℕ) × KeepsRules cap config.now }
     requires limit { limit ≤ 256 }
-    requires rests { RestsAfter D.Link.told config.now limit recorder.old links.old.items
-        torn.old.items }
-    ensures rests { OnOk result
-        (RestsAfter D.Link.told config.now limit recorder.new links.new.items torn.new.items) }
+    requires rests { RestsAfter D.Link.told config.now limit (D.told door.old) (D.told door.old)
+        recorder.old links.old.items torn.old.items }
+    ensures rests { OnOk result (RestsAfter D.Link.told config.now limit (D.told door.old)
+        (D.told door.new) recorder.new links.new.items torn.new.items) }
     ensures ended { OnOk result
         (IsAtEnd config.now limit (events_in recorder.new) (length links.new.items)) }
     ensures come { HaveCome (D.told door.old) (D.told door.new)
@@ -226,8 +280,9 @@ fn session<D: Door, R: Wait>(
     requires kept { (cap : ℕ) × KeepsRules cap config.now }
     requires limit { limit ≤ 256 }
     requires empty { links.old.items ≡ [] }
-    ensures recorded { IfOk result (λ told. IsRecorded config.now limit told.events.items
-        told.report (map D.Link.told links.new.items)) }
+    ensures recorded { IfOk result (λ told. IsRecorded config.now limit (D.told door.old)
+        (D.told door.new) told.events.items told.report (map D.Link.told links.new.items)) }
+    ensures calm { OnOk result ((D.told door.new).faults ≡ (D.told door.old).faults) }
     ensures come { HaveCome (D.told door.old) (D.told door.new) []
         (map D.Link.told links.new.items) }
     ensures network { IsErrOf result RecorderFault.Network
@@ -264,9 +319,9 @@ pub fn hang_up_all<D: Door>(door: &mut D, mut links: Vec<D::Link>)
 /// Serves the links that come to the door, at most `limit` of them, 1 to 256, and records what
 /// happens.
 ///
-/// It goes in rounds: one accept while fewer links came than may; then, for each connection that
-/// goes on, in increasing order of number, a read of at most 4,096 bytes, a turn of 16 frames where
-/// it has frames to read, and a write of what it was then sent. A connection whose write fails
+/// It goes in rounds: one accept while fewer links came than may, whoever is connected; then, for
+/// each connection that goes on, in increasing order of number, a read of at most 4,096 bytes, a
+/// turn of 16 frames where it has frames to read, and a write of what it was then sent. A connection whose write fails
 /// while it goes on breaks. After a round in which nothing happened the door rests. It ends where
 /// `limit` links came and none goes on, or where the lines of the events have more than 8,370,000
 /// bytes.
@@ -283,8 +338,9 @@ pub fn record<D: Door, R: Wait>(
 ) -> Result<Recorded<D::Link>, RecorderFault>
     requires kept { (cap : ℕ) × KeepsRules cap config.now }
     requires limit { (1 ≤ limit) × (limit ≤ 256) }
-    ensures recorded { IfOk result (λ r. IsRecorded config.now limit r.events.items r.report
-        (map D.Link.told r.links.items)) }
+    ensures recorded { IfOk result (λ r. IsRecorded config.now limit (D.told door.old)
+        (D.told door.new) r.events.items r.report (map D.Link.told r.links.items)) }
+    ensures calm { OnOk result ((D.told door.new).faults ≡ (D.told door.old).faults) }
     ensures come { IfOk result
         (λ r. HaveCome (D.told door.old) (D.told door.new) [] (map D.Link.told r.links.items)) }
     ensures network { IsErrOf result RecorderFault.Network

@@ -3,6 +3,7 @@
 ghost use Rattle.std.specs.Prelude.{◌≡◌, ℕ, ◌≤◌, ◌<◌, ◌+◌, length, map, true, false};
 ghost use Rattle.std.specs.Prelude.{IfOk, IsTrue, List};
 ghost use Rattle.cast_config.specs.Kept.{KeepsRules};
+ghost use Rattle.cast_io.specs.Told.{DoorTold};
 ghost use Rattle.caster_replay.specs.Going.{GoesOn, MaySpeak};
 ghost use Rattle.caster_record.specs.Arriving.{given_in};
 ghost use Rattle.caster_record.specs.Keeping.{IsWithin, RestsAfter};
@@ -45,11 +46,15 @@ impl Recorder {
         at: usize,
     ) -> Result<bool, AllocError>
         requires kept { (cap : ℕ) × KeepsRules cap config.now }
-        requires place { IsWithin L.told config.now limit at self.old links.old.items
+        requires place { (before : DoorTold) × (door : DoorTold)
+            × IsWithin L.told config.now limit at before door self.old links.old.items
             torn.old.items }
         requires within { at < length links.old.items }
-        ensures place { IfOk result (λ busy. IsWithin L.told config.now limit (at + 1) self.new
-            links.new.items torn.new.items) }
+        ensures place { IfOk result (λ busy. (before door : DoorTold)
+            → IsWithin L.told config.now limit at before door self.old links.old.items
+            torn.old.items
+            → IsWithin L.told config.now limit (at + 1) before door self.new links.new.items
+            torn.new.items) }
         ensures given { given_in (map L.told links.new.items)
             ≡ given_in (map L.told links.old.items) }
         ensures count { length links.new.items ≡ length links.old.items }
@@ -73,10 +78,14 @@ impl Recorder {
         torn: &mut Vec<bool>,
     ) -> Result<bool, AllocError>
         requires kept { (cap : ℕ) × KeepsRules cap config.now }
-        requires begins { IsWithin L.told config.now limit 0 self.old links.old.items
+        requires begins { (before : DoorTold) × (door : DoorTold)
+            × IsWithin L.told config.now limit 0 before door self.old links.old.items
             torn.old.items }
-        ensures rests { IfOk result (λ busy. RestsAfter L.told config.now limit self.new
-            links.new.items torn.new.items) }
+        ensures rests { IfOk result (λ busy. (before door : DoorTold)
+            → IsWithin L.told config.now limit 0 before door self.old links.old.items
+            torn.old.items
+            → RestsAfter L.told config.now limit before door self.new links.new.items
+            torn.new.items) }
         ensures given { given_in (map L.told links.new.items)
             ≡ given_in (map L.told links.old.items) }
     {

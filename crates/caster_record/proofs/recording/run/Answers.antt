@@ -12,6 +12,9 @@ loop-init g c =
       come = come_none (g.D.Door.told c.args.door.now) links links refl;
     }
 
+pub round-requires-clause-rests : goal.round-requires-clause-rests
+round-requires-clause-rests g c = (g.D.Door.told c.args.door.now, c.loop.invariant.rests)
+
 pub returns-in_err-round-clause-come : goal.returns-in_err-round-clause-come
 returns-in_err-round-clause-come g c =
     let told = map g.D.Link.Link.told in
@@ -25,7 +28,7 @@ loop-preserved g c =
     record {
       can = tt;
       finite = tt;
-      rests = c.in_ok-round.ensures.rests;
+      rests = c.in_ok-round.ensures.rests (g.D.Door.told c.args.door.now) c.loop.invariant.rests;
       come = come_both (g.D.Door.told c.args.door.now) (g.D.Door.told c.loop.door) (g.D.Door.told c.round.new.door)
           (told c.args.links.now.items) (told c.loop.links.items) (told c.round.new.links.items)
           c.loop.invariant.come c.round.ensures.come;

@@ -13,8 +13,8 @@ returns-in_err-recorder-clause-come g c =
 
 pub run-requires-clause-rests : goal.run-requires-clause-rests
 run-requires-clause-rests g c =
-    rests_first g.D.Link.Link.told c.args.config.now c.args.limit c.in_ok-recorder.recorder c.args.links.now.items
-    c.new-torn.result.items c.requires.empty c.new-torn.ensures.items c.in_ok-recorder.ensures.records
+    rests_first g.D.Link.Link.told c.args.config.now c.args.limit (g.D.Door.told c.args.door.now)
+    c.in_ok-recorder.recorder c.args.links.now.items c.new-torn.result.items c.requires.empty c.new-torn.ensures.items c.in_ok-recorder.ensures.records
     c.in_ok-recorder.ensures.events c.in_ok-recorder.ensures.unsent
 
 pub finished-requires-clause-records : goal.finished-requires-clause-records
@@ -27,8 +27,13 @@ pub returns-clause-recorded : goal.returns-clause-recorded
 returns-clause-recorded g c =
     let told = c.in_ok-told.told in
     let links = map g.D.Link.Link.told c.run.new.links.items in
-    subst (λ (l : List Event). IsRecorded c.args.config.now c.args.limit l told.report links)
+    let before = g.D.Door.told c.args.door.now in
+    let door = g.D.Door.told c.run.new.door in
+    subst (λ (l : List Event). IsRecorded c.args.config.now c.args.limit before door l told.report links)
     (sym c.in_ok-told.ensures.events)
-    (recorded g.D.Link.Link.told c.args.config.now c.args.limit c.run.new.recorder c.run.new.links.items
+    (recorded g.D.Link.Link.told c.args.config.now c.args.limit before door c.run.new.recorder c.run.new.links.items
     c.run.new.torn.items told.report c.in_ok-run.ensures.rests c.in_ok-told.ensures.report
     c.in_ok-told.ensures.sent c.in_ok-run.ensures.ended)
+
+pub returns-clause-calm : goal.returns-clause-calm
+returns-clause-calm g c = c.in_ok-run.ensures.rests.calm

@@ -3,13 +3,15 @@ use Rattle.caster_record.proofs.ArriveLemmas.{given_set}
 use Rattle.caster_record.proofs.RoundLemmas.{mark_is, within_passed, within_served}
 use Rattle.caster_record.proofs.recorder.Recorder.serve_at.Goals as goal
 
+pub serve-requires-clause-records : goal.serve-requires-clause-records
+serve-requires-clause-records g c = c.requires.place.2.keeps.records
+
 pub returns-then-not-is_due-clause-place : goal.returns-then-not-is_due-clause-place
 returns-then-not-is_due-clause-place g c =
-    let w = c.requires.place in
+    λ before door w.
     let torn = c.args.torn.now.items in
-    within_passed g.L.Link.told c.args.config.now c.args.limit c.args.at (c.args.at + 1) c.args.self.now
-    c.args.links.now.items
-    torn w refl c.requires.within
+    within_passed g.L.Link.told c.args.config.now c.args.limit c.args.at (c.args.at + 1) before door c.args.self.now
+    c.args.links.now.items torn w refl c.requires.within
     (λ earlier mark.
     c.if-not-is_due.ensures.passed refl earlier
     (sym (mark_is torn c.args.at c.index.result.now (omega (arith, c.requires.within, w.keeps.size)) c.index.ensures)
@@ -22,14 +24,12 @@ returns-in_err-outcome-clause-given g c =
 
 pub returns-clause-place : goal.returns-clause-place
 returns-clause-place g c =
-    let w = c.requires.place in
+    λ before door w.
     let torn = c.args.torn.now.items in
     let room = c.if-not-is_due.ensures.room refl in
-    within_served g.L.Link.told c.args.config.now c.args.limit c.args.at (c.args.at + 1) c.args.self.now
-    c.serve.new.self
-    c.args.links.now.items torn c.index_mut.result.now c.serve.new.link c.in_ok-outcome.outcome.torn w refl
-    c.requires.within
-    c.index_mut.ensures.value
+    within_served g.L.Link.told c.args.config.now c.args.limit c.args.at (c.args.at + 1) before door c.args.self.now
+    c.serve.new.self c.args.links.now.items torn c.index_mut.result.now c.serve.new.link
+    c.in_ok-outcome.outcome.torn w refl c.requires.within c.index_mut.ensures.value
     (mark_is torn c.args.at c.index.result.now (omega (arith, c.requires.within, w.keeps.size)) c.index.ensures
     ∙ c.if-not-is_due.ensures.whole refl)
     room c.in_ok-outcome.ensures.served c.in_ok-outcome.ensures.records
