@@ -1,15 +1,10 @@
 -- A text that is written piece by piece.
-use Rattle.std.proofs.Common.{ℕ, ◌+◌, ◌≤◌, List, ◌++◌, length, take, drop, Option, None, Some, ap, sym, subst, ◌∙◌, append_assoc, arith, length-take, length-drop}
+use Rattle.std.proofs.Common.{ℕ, ◌+◌, ◌≤◌, List, length, take, drop, Option, sym, subst, arith, length-take, length-drop}
 use Rattle.std.proofs.Math.Seq.{take-add}
 use Rattle.std.proofs.lemmas.List.{take-take}
 use Rattle.std.specs.Io.KnownBytes.{Appends}
 use Rattle.cast_io.specs.Pieces.{AppendsPrefix}
-
-Appends-append : (a b c : Option (List ℕ)) (xs ys : List ℕ) → Appends a b xs → Appends b c ys → Appends a c (xs ++ ys)
-Appends-append None b c xs ys p q = tt
-Appends-append (Some a) None c xs ys p q = absurd p
-Appends-append (Some a) (Some b) None xs ys p q = absurd q
-Appends-append (Some a) (Some b) (Some c) xs ys p q = q ∙ ap (λ l. l ++ ys) p ∙ append_assoc a xs ys
+use Rattle.cast_io.proofs.PieceLemmas.{Appends-append}
 
 -- one more piece
 pub piece_written : (a b c : Option (List ℕ)) (text : List ℕ) (at n : ℕ) → Appends a b (take at text)

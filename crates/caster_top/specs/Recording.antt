@@ -1,5 +1,5 @@
 -- What a caster did that records a session over the links of one door, and what its street tells.
-use Rattle.std.specs.Prelude.{ℕ, ◌⊎◌, List, []}
+use Rattle.std.specs.Prelude.{◌≡◌, ℕ, ◌⊎◌, List, []}
 use Rattle.cast_io.specs.declared.steps.Asked.TheVariants as asked
 use Rattle.cast_io.specs.Doors.{IsNewDoor}
 use Rattle.cast_io.specs.Streets.{HasAsked, HasShut}
@@ -19,14 +19,15 @@ pub record HasOpened (addr : List ℕ) (before after : StreetTold) (first last :
     pub fresh : IsNewDoor first
     pub shut : HasShut last mid after
 
--- a session of these events was recorded over the links that the door gave; then these came back to
--- it, in order, as they were told
+-- A session of these events was recorded over the links that the door gave, none of whose accepts
+-- failed; then these links came back to it, in order, as they were told.
 pub record IsRecording (c : Config) (limit : ℕ) (first last : DoorTold) (events : List Event)
     : Type 0 where
   pub report : Report
   pub links : List LinkTold
   pub now : DoorTold
-  pub recorded : IsRecorded c limit events report links
+  pub recorded : IsRecorded c limit first now events report links
+  pub calm : now.faults ≡ first.faults
   pub come : HaveCome first now [] links
   pub back : HasTakenBack links now last
 
