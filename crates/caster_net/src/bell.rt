@@ -3,6 +3,7 @@ use std::io;
 use std::io::{Read, Write};
 use std::os::fd::{AsRawFd, RawFd};
 use std::os::unix::net::UnixStream;
+use std::sync::atomic::{AtomicBool, Ordering};
 
 /// A bell that all links of a street share. What is written to its rope comes to its ear, where links
 /// wait for it at their rests. Nobody takes what has come, as each byte more wakes them anew. Where
@@ -10,6 +11,8 @@ use std::os::unix::net::UnixStream;
 #[derive(Drop)]
 pub struct Bell {
     ends: Option<Ends>,
+    // A door had no descriptor for a connection.
+    is_short: AtomicBool,
 }
 
 #[derive(Drop)]
@@ -23,7 +26,18 @@ impl Bell {
     pub fn new(rt: &HostRuntime) -> Bell {
         Bell {
             ends: new_ends(rt).ok(),
+            is_short: AtomicBool::new(false),
         }
+    }
+
+    /// Notes whether a door had no descriptor for a connection.
+    pub(crate) fn note_short(&self, is_short: bool) {
+        self.is_short.store(is_short, Ordering::SeqCst);
+    }
+
+    /// The last door that looked had no descriptor for a connection.
+    pub(crate) fn is_short(&self) -> bool {
+        self.is_short.load(Ordering::SeqCst)
     }
 
     /// Ends the rests of all links that wait for the bell. Where the ear is full it is emptied first.

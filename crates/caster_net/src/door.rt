@@ -99,6 +99,20 @@ impl<'a> TcpDoor<'a> {
         Ok(DoorBell { porch })
     }
 
+    // The next connection at the listener. While there is no descriptor for it, the bell tells links.
+    fn take(&self) -> io::Result<TcpStream> {
+        match self.porch.listener.accept() {
+            Ok((stream, _)) => {
+                self.bell.note_short(false);
+                Ok(stream)
+            }
+            Err(fault) => {
+                self.bell.note_short(is_short(&fault));
+                Err(fault)
+            }
+        }
+    }
+
     // What ended the last rest. Where rests are short, what is at the listener.
     fn next(&mut self) -> io::Result<TcpStream>
         ensures { self.new.faults ≡ self.old.faults }
@@ -109,7 +123,7 @@ impl<'a> TcpDoor<'a> {
         match self.came.take() {
             Some(came) => came,
             None if self.porch.waits => Err(io::Error::from(ErrorKind::WouldBlock)),
-            None => taken_at(&self.porch.listener),
+            None => self.take(),
         }
     }
 }
@@ -142,7 +156,7 @@ impl<'a> Door for TcpDoor<'a> {
         if self.porch.is_shut() || !self.porch.waits {
             rest(self.rt);
         } else if self.came.is_none() {
-            match taken_at(&self.porch.listener) {
+            match self.take() {
                 Err(fault) if !is_dead(&fault) => rest(self.rt),
                 came => self.came = Some(came),
             }
@@ -161,16 +175,15 @@ impl<'a> Door for TcpDoor<'a> {
     }
 }
 
-// The next connection at the listener.
-fn taken_at(listener: &TcpListener) -> io::Result<TcpStream> {
-    let (stream, _) = listener.accept()?;
-    Ok(stream)
-}
-
 // The listener is no listener any more.
 fn is_dead(fault: &io::Error) -> bool {
     matches!(
         fault.raw_os_error(),
         Some(libc::EBADF | libc::EINVAL | libc::ENOTSOCK)
     )
+}
+
+// No descriptor is left for a connection.
+fn is_short(fault: &io::Error) -> bool {
+    matches!(fault.raw_os_error(), Some(libc::EMFILE))
 }

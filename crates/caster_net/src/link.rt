@@ -35,7 +35,7 @@ pub struct TcpLink<'a> {
     rt: &'a HostRuntime,
     bell: &'a Bell,
     stream: TcpStream,
-    // None before the first rest, and where no descriptor was left for it.
+    // None before the first rest, and where descriptors lack.
     watch: Option<Watch>,
     has_rested: bool,
     // How long it sleeps before it waits, in milliseconds.
@@ -105,22 +105,27 @@ impl<'a> TcpLink<'a> {
         self.gave = self.is_source;
     }
 
-    // Makes the watch at the first rest, if there is a descriptor for it.
+    // Makes the watch at the first rest, if there is a descriptor for it. Where a door has none, the
+    // link gives its own back for good: connections come first.
     fn prepare(&mut self)
         ensures { self.new.faults ≡ self.old.faults }
     {
-        if self.has_rested {
-            return;
+        if self.bell.is_short() {
+            self.watch = None;
+        } else if !self.has_rested {
+            self.watch = self.new_watch();
         }
         self.has_rested = true;
-        let ear = if self.is_source {
-            None
-        } else {
-            self.bell.ear()
-        };
-        if self.is_source || ear.is_some() {
-            self.watch = Watch::over(self.rt, self.stream.as_raw_fd(), ear).ok();
+    }
+
+    // A watch over the peer, and over the bell but for a source. With no bell there is none.
+    fn new_watch(&self) -> Option<Watch> {
+        let socket = self.stream.as_raw_fd();
+        if self.is_source {
+            return Watch::over(self.rt, socket, None).ok();
         }
+        let ear = self.bell.ear()?;
+        Watch::over(self.rt, socket, Some(ear)).ok()
     }
 
     // Waits for the peer and the bell; with no watch, a short while for the peer alone.
