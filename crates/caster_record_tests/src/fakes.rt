@@ -1,19 +1,11 @@
-//! A caster, its clients as links in memory, and what is recorded of them.
+//! The file of a caster, and its clients as links in memory.
 
-ghost use Rattle.std.specs.Prelude.{ℕ, IfOk, IsTrue};
+ghost use Rattle.std.specs.Prelude.{IfOk, IsTrue};
 ghost use Rattle.std.specs.List.{list_all};
-ghost use Rattle.cast_config.specs.Kept.{KeepsRules};
 ghost use Rattle.cast_io.specs.FakeLinks.{has_bytes, is_new_link};
 
-use cast_config::{Config, read_config};
 use cast_io::{ByteString, LinkStep, MemDoor, MemLink};
-use caster_record::{Recorded, record};
-use session_core::{Report, report_text};
-use session_script::script_text;
 use std::alloc::{AllocError, Global};
-use std::process::Abort;
-use std::sync::Wait;
-use std::test::Fail;
 
 /// Two mountpoints, a near one, and two accounts.
 pub(crate) const FILE: &[u8] = b"version = 1
@@ -70,11 +62,6 @@ pub(crate) const ICY: &[u8] = b"ICY 200 OK\r\n\r\n";
 /// The same, and the frame behind it.
 pub(crate) const ICY_AND_FRAME: &[u8] = b"ICY 200 OK\r\n\r\n\xD3\x00\x02\x3E\xD0\xA4\xE0\x00";
 
-/// The script's lines of the source's head.
-const SOURCE_LINES: &[u8] = b"open 1\nin 1 \
-534f5552434520736573616d6520414c5048410d0a\
-536f757263652d4167656e743a204e5452495020746573740d0a0d0a\n";
-
 /// The script's line of the rover's head.
 pub(crate) const ROVER_LINE: &[u8] = b"in 2 \
 474554202f414c50484120485454502f312e300d0a557365722d4167656e743a204e5452495020746573740d0a\
@@ -116,95 +103,19 @@ pub(crate) fn torn_rover(alloc: Global, write: u64, most: u64) -> Result<MemLink
     Ok(MemLink::torn(alloc, steps_of(alloc, &[ROVER, b"", b""])?, fails))
 }
 
-/// A client that sends these two pieces, the second one after a while.
-fn slow_link(alloc: Global, first: &[u8], second: &[u8]) -> Result<MemLink, AllocError>
+/// A rover that sends its head and is idle twice, of whose link these calls fail.
+pub(crate) fn rover_of(alloc: Global, fails: &[u64]) -> Result<MemLink, AllocError>
     ensures { IfOk result (λ link. IsTrue (is_new_link link)) }
 {
-    link_of(alloc, &[first, b"", second], &[])
+    link_of(alloc, &[ROVER, b"", b""], fails)
 }
 
-/// A source that sends its head and, after a while, the frame.
-pub(crate) fn source_of(alloc: Global) -> Result<MemLink, AllocError>
-    ensures { IfOk result (λ link. IsTrue (is_new_link link)) }
-{
-    slow_link(alloc, SOURCE, FRAME)
-}
-
-/// A door at which the source comes and then this link, and whose accepts of these numbers fail.
+/// A door at which a source comes, which sends its head and, after a while, the frame, and then
+/// this link. The accepts of these numbers fail.
 pub(crate) fn door_of(alloc: Global, second: MemLink, fails: &[u64]) -> Result<MemDoor, AllocError>
     requires { IsTrue (is_new_link second) }
 {
-    let mut arrivals = Vec::new(alloc);
-    arrivals.push(Some(source_of(alloc)?))?;
-    arrivals.push(Some(second))?;
+    let source = link_of(alloc, &[SOURCE, b"", FRAME], &[])?;
+    let arrivals = vec![in alloc; Some(source), Some(second)]?;
     MemDoor::new(alloc, arrivals, fails.to_vec(alloc)?)
-}
-
-/// What is recorded of the source and of this second link.
-pub(crate) fn with_source<R: Wait + Abort>(
-    rt: &R,
-    alloc: Global,
-    config: &Config,
-    second: MemLink,
-) -> Result<Recorded<MemLink>, Fail>
-    requires kept { (cap : ℕ) × KeepsRules cap config.now }
-    requires second { IsTrue (is_new_link second) }
-{
-    let mut door = door_of(alloc, second, &[])?;
-    let Ok(recorded) = record(rt, alloc, config, 2, &mut door) else {
-        panic!(rt; "nothing recorded");
-    };
-    Ok(recorded)
-}
-
-/// The recorded events are those of the source's head, the opening of the second connection and
-/// these lines, up to `stop`.
-pub(crate) fn expect_lines(
-    rt: &impl Abort,
-    alloc: Global,
-    recorded: &Recorded<MemLink>,
-    lines: &[&[u8]],
-) -> Result<(), Fail> {
-    let mut wanted = Vec::from_slice(alloc, SOURCE_LINES)?;
-    wanted.extend_from_slice(b"open 2\n")?;
-    for line in lines {
-        wanted.extend_from_slice(line)?;
-    }
-    wanted.extend_from_slice(b"stop\n")?;
-    let mut text = Vec::new(alloc);
-    script_text(&recorded.events, &mut text)?;
-    assert_eq!(rt; text.as_slice(), wanted.as_slice());
-    Ok(())
-}
-
-/// The text of this report over this configuration is this.
-pub(crate) fn expect_report(
-    rt: &impl Abort,
-    alloc: Global,
-    config: &Config,
-    report: &Report,
-    wanted: &[u8],
-) -> Result<(), Fail> {
-    let closed = &report.closed;
-    assert!(rt; closed.mounts.as_slice().len() == config.mount.as_slice().len());
-    assert!(rt; closed.accounts.as_slice().len() == config.account.as_slice().len());
-    let mut text = Vec::new(alloc);
-    report_text(config, report, &mut text)?;
-    assert_eq!(rt; text.as_slice(), wanted);
-    Ok(())
-}
-
-/// The second link was given this, and failed so often.
-pub(crate) fn expect_given(
-    rt: &impl Abort,
-    recorded: &Recorded<MemLink>,
-    given: &[u8],
-    faults: u64,
-) -> Result<(), Fail> {
-    let Some(link) = recorded.links.get(1) else {
-        panic!(rt; "no second link");
-    };
-    assert_eq!(rt; link.bytes(), given);
-    assert_eq!(rt; link.faults(), faults);
-    Ok(())
 }

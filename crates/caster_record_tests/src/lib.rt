@@ -13,6 +13,12 @@ mod limit_tests;
 #[cfg(test)]
 mod link_tests;
 #[cfg(test)]
+mod noted;
+#[cfg(test)]
 mod replay_tests;
 #[cfg(test)]
+mod rest_tests;
+#[cfg(test)]
 mod run_tests;
+#[cfg(test)]
+mod telling;

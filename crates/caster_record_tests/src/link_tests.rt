@@ -1,24 +1,33 @@
 //! What is recorded of a source and a rover, and of a rover whose link fails.
 
-use crate::fakes::{
-    FILE, ICY, ICY_AND_FRAME, ROVER, ROVER_LINE, expect_given, expect_lines, expect_report,
-    link_of, torn_rover, with_source,
-};
-use cast_config::read_config;
+use crate::fakes::{ICY, ICY_AND_FRAME, ROVER_LINE, door_of, rover_of, torn_rover};
+use crate::telling::{Told, told_at};
+use std::alloc::Global;
+use std::sync::Wait;
 use std::test::Fail;
+
+/// What is told of the source and a rover of whose link these calls fail.
+fn with_rover<R: Wait>(rt: &R, alloc: Global, fails: &[u64]) -> Result<Told, Fail> {
+    let door = door_of(alloc, rover_of(alloc, fails)?, &[])?;
+    told_at(rt, alloc, door)
+}
 
 /// The source sends the frame.
 const SENT: &[u8] = b"in 1 d300023ed0a4e000\n";
 
 #[test]
 fn a_source_and_a_rover_are_recorded_until_both_ended(rt: HostRuntime) -> Result<(), Fail> {
-    let alloc = rt.alloc();
-    let config = read_config(alloc, FILE)?;
-    let rover = link_of(alloc, &[ROVER, b"", b""], &[])?;
-    let recorded = with_source(&rt, alloc, &config, rover)?;
+    let told = with_rover(&rt, rt.alloc(), &[])?;
     let end = b"turn 2 16\nend 1\nend 2\n";
-    expect_lines(&rt, alloc, &recorded, &[ROVER_LINE, SENT, end])?;
-    expect_given(&rt, &recorded, ICY_AND_FRAME, 0)
+    assert!(rt; told.has_lines(rt.alloc(), [ROVER_LINE, SENT, end]));
+    assert!(rt; told.second.is(ICY_AND_FRAME, 0));
+    Ok(())
+}
+
+/// What is told of the source and a rover of which the second write takes three bytes and fails.
+fn with_torn_rover<R: Wait>(rt: &R, alloc: Global) -> Result<Told, Fail> {
+    let door = door_of(alloc, torn_rover(alloc, 2, 3)?, &[])?;
+    told_at(rt, alloc, door)
 }
 
 /// The report where the rover breaks before it ends: the frame was sent to it.
@@ -38,13 +47,12 @@ total 1 1 0
 
 #[test]
 fn a_rover_whose_write_is_torn_breaks(rt: HostRuntime) -> Result<(), Fail> {
-    let alloc = rt.alloc();
-    let config = read_config(alloc, FILE)?;
-    let recorded = with_source(&rt, alloc, &config, torn_rover(alloc, 2, 3)?)?;
+    let told = with_torn_rover(&rt, rt.alloc())?;
     let end = b"turn 2 16\nbreak 2\nend 1\n";
-    expect_lines(&rt, alloc, &recorded, &[ROVER_LINE, SENT, end])?;
-    expect_given(&rt, &recorded, b"ICY 200 OK\r\n\r\n\xD3\x00\x02", 1)?;
-    expect_report(&rt, alloc, &config, &recorded.report, TORN_REPORT)
+    assert!(rt; told.has_lines(rt.alloc(), [ROVER_LINE, SENT, end]));
+    assert!(rt; told.second.is(b"ICY 200 OK\r\n\r\n\xD3\x00\x02", 1));
+    assert!(rt; told.report.as_slice() == TORN_REPORT);
+    Ok(())
 }
 
 /// The lines after `open 2` where this call of the rover's link fails, and what it was then given.
@@ -70,14 +78,11 @@ fn after_failure(call: u64) -> ([&'static [u8]; 3], &'static [u8]) {
 
 #[test]
 fn a_rover_breaks_at_whichever_call_its_link_fails(rt: HostRuntime) -> Result<(), Fail> {
-    let alloc = rt.alloc();
-    let config = read_config(alloc, FILE)?;
     for call in 1..=6 {
-        let rover = link_of(alloc, &[ROVER, b"", b""], &[call])?;
-        let recorded = with_source(&rt, alloc, &config, rover)?;
         let (lines, given) = after_failure(call);
-        expect_lines(&rt, alloc, &recorded, &lines)?;
-        expect_given(&rt, &recorded, given, 1)?;
+        let told = with_rover(&rt, rt.alloc(), &[call])?;
+        assert!(rt; told.has_lines(rt.alloc(), lines));
+        assert!(rt; told.second.is(given, 1));
     }
     Ok(())
 }

@@ -1,9 +1,12 @@
 //! The script of what was recorded is replayed.
 
-use crate::fakes::{FILE, ROVER, expect_report, link_of, with_source};
+use crate::fakes::{FILE, door_of, rover_of};
+use crate::telling::{text_of, told_at};
 use cast_config::read_config;
 use caster_replay::replay;
-use session_script::{ScriptKind, parse, script_text};
+use session_script::{ScriptKind, parse};
+use std::alloc::Global;
+use std::sync::Wait;
 use std::test::Fail;
 
 /// The report of a source of ALPHA that sends one frame, which a rover of the first account reads.
@@ -21,16 +24,26 @@ account rover2 0 0 0
 total 1 1 0
 ";
 
+/// The report of the replay of this script.
+fn replayed(alloc: Global, script: &[u8]) -> Result<Vec<u8>, Fail> {
+    let config = read_config(alloc, FILE)?;
+    let events = parse(alloc, script, ScriptKind::Replay { relays: 0 })?;
+    let report = replay(alloc, &config, &events)?;
+    text_of(alloc, &report)
+}
+
+/// The reports of a source and a rover that are recorded, and of the replay of their script.
+fn reports<R: Wait>(rt: &R, alloc: Global) -> Result<[Vec<u8>; 2], Fail> {
+    let door = door_of(alloc, rover_of(alloc, &[])?, &[])?;
+    let told = told_at(rt, alloc, door)?;
+    let replayed = replayed(alloc, &told.script)?;
+    Ok([replayed, told.report])
+}
+
 #[test]
 fn the_replay_of_the_script_writes_the_report(rt: HostRuntime) -> Result<(), Fail> {
-    let alloc = rt.alloc();
-    let config = read_config(alloc, FILE)?;
-    let rover = link_of(alloc, &[ROVER, b"", b""], &[])?;
-    let recorded = with_source(&rt, alloc, &config, rover)?;
-    let mut script = Vec::new(alloc);
-    script_text(&recorded.events, &mut script)?;
-    let events = parse(alloc, &script, ScriptKind::Replay { relays: 0 })?;
-    let report = replay(alloc, &config, &events)?;
-    expect_report(&rt, alloc, &config, &report, REPORT)?;
-    expect_report(&rt, alloc, &config, &recorded.report, REPORT)
+    let [replayed, recorded] = reports(&rt, rt.alloc())?;
+    assert!(rt; replayed.as_slice() == REPORT);
+    assert!(rt; recorded.as_slice() == REPORT);
+    Ok(())
 }

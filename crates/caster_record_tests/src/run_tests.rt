@@ -1,8 +1,14 @@
 //! A run that is played event by event.
 
+ghost use Rattle.std.specs.Prelude.{List};
+ghost use Rattle.cast_config.specs.declared.config.Config.{Config as ConfigValue};
+ghost use Rattle.session_script.specs.declared.Event.{Event as EventValue};
+ghost use Rattle.caster_replay.specs.Kept.{StandsFor};
+
 use cast_config::Config;
-use caster_replay::played;
+use caster_replay::{Run, played};
 use session_script::{ScriptKind, parse};
+use std::alloc::Global;
 use std::test::Fail;
 
 /// A source, a rover, and a frame that the rover did not read yet.
@@ -11,20 +17,38 @@ const SO_FAR: &[u8] = b"source 1 A\nrover 2 A\nin 1 d300034cb0280e65e1\nstop\n";
 /// The same, and the rover reads the frame, and then the source ends.
 const LATER: &[u8] = b"source 1 A\nrover 2 A\nin 1 d300034cb0280e65e1\nturn 2 16\nend 1\nstop\n";
 
+/// The frame.
+const FRAME: &[u8] = b"\xD3\x00\x03\x4C\xB0\x28\x0E\x65\xE1";
+
+/// Whether the connection of this number is behind and goes on, and whether it was sent this.
+fn stands(run: &Run, number: u32, sent: &[u8]) -> [bool; 3]
+    requires { (c : ConfigValue) × (script : List EventValue) × StandsFor c script run.now }
+{
+    let was_sent = run.sent(number) == sent;
+    [run.is_behind(number), run.goes_on(number), was_sent]
+}
+
+/// The same after this script.
+fn stands_after(alloc: Global, script: &[u8], number: u32, sent: &[u8]) -> Result<[bool; 3], Fail> {
+    let config = Config::bare(alloc, 4)?;
+    let events = parse(alloc, script, ScriptKind::Bare)?;
+    let run = played(alloc, &config, &events)?;
+    Ok(stands(&run, number, sent))
+}
+
 #[test]
 fn a_rover_is_behind_until_it_took_its_turn(rt: HostRuntime) -> Result<(), Fail> {
-    let config = Config::bare(rt.alloc(), 4)?;
-    let events = parse(rt.alloc(), SO_FAR, ScriptKind::Bare)?;
-    let run = played(rt.alloc(), &config, &events)?;
-    assert!(rt; run.is_behind(2) && !run.is_behind(1) && !run.is_behind(3));
-    assert!(rt; run.goes_on(1) && run.goes_on(2) && !run.goes_on(3));
-    assert!(rt; run.sent(2).is_empty());
-    let events = parse(rt.alloc(), LATER, ScriptKind::Bare)?;
-    let run = played(rt.alloc(), &config, &events)?;
-    assert!(rt; !run.is_behind(2));
-    assert!(rt; !run.goes_on(1) && run.goes_on(2));
-    let frame = [0xD3, 0x00, 0x03, 0x4C, 0xB0, 0x28, 0x0E, 0x65, 0xE1];
-    assert!(rt; run.sent(2) == frame.as_slice());
-    assert!(rt; run.sent(1).is_empty() && run.sent(3).is_empty());
+    for (script, number, behind, going, sent) in [
+        (SO_FAR, 1, false, true, b"".as_slice()),
+        (SO_FAR, 2, true, true, b"".as_slice()),
+        (SO_FAR, 3, false, false, b"".as_slice()),
+        (LATER, 1, false, false, b"".as_slice()),
+        (LATER, 2, false, true, FRAME),
+        (LATER, 3, false, false, b"".as_slice()),
+    ] {
+        let [is_behind, goes_on, was_sent] = stands_after(rt.alloc(), script, number, sent)?;
+        assert!(rt; is_behind == behind && goes_on == going);
+        assert!(rt; was_sent);
+    }
     Ok(())
 }
