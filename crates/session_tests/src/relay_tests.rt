@@ -241,3 +241,27 @@ fn a_relay_asks_as_its_configuration_says(rt: HostRuntime) -> Result<(), Fail> {
     expect_asked(&rt, rt.alloc(), 1, user, WITH_USER)?;
     expect_asked(&rt, rt.alloc(), 2, user, IN_TWO)
 }
+
+// How a relay is printed that asks its caster as the user `caster` with the password `secret`.
+fn printed(alloc: Global) -> Result<String, Fail> {
+    let relay = RelaySession::new(alloc, 1, &relay_of(alloc, 1, Some(b"caster"))?)?;
+    Ok(format!(in alloc; "{relay:?}")?)
+}
+
+// The password as it is, and what the request has in its place, as a text and as a list of bytes.
+const SECRETS: [&str; 4] = [
+    "secret",
+    "Y2FzdGVyOnNlY3JldA==",
+    "115, 101, 99, 114, 101, 116",
+    "89, 50, 70, 122, 100, 71, 86",
+];
+
+#[test]
+fn a_relay_is_printed_without_its_password(rt: HostRuntime) -> Result<(), Fail> {
+    let text = printed(rt.alloc())?;
+    assert!(rt; text.starts_with("RelaySession"), "{text}");
+    for secret in SECRETS {
+        assert!(rt; !text.contains(secret), "{secret}");
+    }
+    Ok(())
+}
