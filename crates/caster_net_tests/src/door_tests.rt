@@ -1,0 +1,83 @@
+//! Doors at a loopback address, and what their rests end with.
+use cast_io::{Arrived, Door, Got, Link, Street, StreetFault};
+use caster_net::{Bell, TcpDoor, TcpStreet};
+use std::io::Read;
+use std::net::{TcpListener, TcpStream};
+use std::test::Fail;
+use std::thread;
+use std::thread::Threads;
+use std::time::Duration;
+
+// An address of this machine at which nobody listens.
+fn free_place(rt: &HostRuntime) -> Result<String, Fail> {
+    let addr = TcpListener::bind(rt, "127.0.0.1:0")?.local_addr()?;
+    Ok(format!(in rt.alloc(); "{addr}")?)
+}
+
+// Two doors at this address.
+fn two_doors<'a>(
+    rt: &HostRuntime,
+    street: &mut TcpStreet<'a>,
+    place: &str,
+) -> (Vec<TcpDoor<'a>>, bool) {
+    let doors = match street.open(place, 2) {
+        Ok(doors) => doors,
+        Err(_) => Vec::new(rt.alloc()),
+    };
+    let is_taken = matches!(street.open(place, 1), Err(StreetFault::Failed));
+    (doors, is_taken)
+}
+
+// Whether a door finds nothing before a peer dials, one link that does not wait behind it, and nothing
+// behind that; and how many bytes the peer reads when the link was hung up.
+fn arrivals_of(
+    rt: &HostRuntime,
+    door: &mut TcpDoor<'_>,
+    place: &str,
+) -> Result<([bool; 3], usize), Fail> {
+    let before = matches!(door.accept(), Arrived::Idle);
+    let mut peer = TcpStream::connect(rt, place)?;
+    door.rest();
+    let is_idle = match door.accept() {
+        Arrived::Link(mut link) => {
+            let got = link.read(&mut [0u8; 1]);
+            door.hang_up(link);
+            got == Got::Idle
+        }
+        _ => false,
+    };
+    let behind = matches!(door.accept(), Arrived::Idle);
+    Ok(([before, is_idle, behind], peer.read(&mut [0u8; 1])?))
+}
+
+// Whether a door finds nothing once its bell has ended a rest of it.
+fn is_stopped<R: Threads>(
+    rt: &R,
+    host: &HostRuntime,
+    door: &mut TcpDoor<'_>,
+) -> Result<bool, Fail> {
+    let bell = door.bell()?;
+    let ring = || {
+        thread::sleep(host, Duration::from_millis(50));
+        bell.ring();
+    };
+    let ((), ()) = thread::join(rt, || door.rest(), ring);
+    Ok(matches!(door.accept(), Arrived::Idle))
+}
+
+#[test]
+fn a_door_gives_each_link_once_until_its_bell_is_rung(rt: HostRuntime) -> Result<(), Fail> {
+    let bell = Bell::new(&rt);
+    let mut street = TcpStreet::new(&rt, &bell);
+    let place = free_place(&rt)?;
+    let (mut doors, is_taken) = two_doors(&rt, &mut street, &place);
+    let Some(mut door) = doors.pop() else {
+        panic!(rt; "no doors");
+    };
+    let arrivals = arrivals_of(&rt, &mut door, &place)?;
+    let is_stopped = is_stopped(&rt, &rt, &mut door)?;
+    street.shut(door);
+    assert_eq!(rt; (doors.len(), is_taken, is_stopped), (1, true, true));
+    assert_eq!(rt; arrivals, ([true, true, true], 0));
+    Ok(())
+}
