@@ -105,16 +105,21 @@ fn open_all<'a>(
     Ok(())
 }
 
-// Connects to this address, one address of its name after the other.
+// A link over a connection to this address.
 fn dialled<'a>(rt: &'a HostRuntime, bell: &'a Bell, addr: &str) -> io::Result<TcpLink<'a>>
     ensures { IfOk result (λ link. link.faults ≡ 0) }
 {
+    TcpLink::over(rt, bell, reached(rt, addr)?)
+}
+
+// Connects to this address, one address of its name after the other.
+fn reached(rt: &HostRuntime, addr: &str) -> io::Result<TcpStream> {
     let begun = Instant::now(rt)?;
     let limit = Duration::from_secs(LONGEST_DIAL);
     for addr in addr.to_socket_addrs(rt)? {
         let left = limit.saturating_sub(begun.elapsed(rt)?);
         if let Ok(stream) = TcpStream::connect_timeout(rt, &addr, left) {
-            return TcpLink::over(rt, bell, stream);
+            return Ok(stream);
         }
     }
     Err(io::Error::from(ErrorKind::TimedOut))

@@ -33,14 +33,10 @@ impl Watch {
     /// A watch over this socket, and over the bell that is heard here.
     pub(crate) fn over(rt: &HostRuntime, socket: RawFd, ear: Option<RawFd>) -> io::Result<Watch> {
         let poll = Poll::new(rt)?;
+        enlist(&poll, socket, ear)?;
         let Ok(events) = Events::with_capacity(rt.alloc(), 2) else {
             return Err(io::Error::from(ErrorKind::OutOfMemory));
         };
-        let registry = poll.registry();
-        registry.register(&mut SourceFd(&socket), PEER, Interest::READABLE)?;
-        if let Some(ear) = ear {
-            registry.register(&mut SourceFd(&ear), BELL, Interest::READABLE)?;
-        }
         Ok(Watch { poll, events })
     }
 
@@ -59,5 +55,15 @@ impl Watch {
         } else {
             Ok(Woken::Bell)
         }
+    }
+}
+
+// Has the poll wait for this socket, and for the bell that is heard here.
+fn enlist(poll: &Poll, socket: RawFd, ear: Option<RawFd>) -> io::Result<()> {
+    let registry = poll.registry();
+    registry.register(&mut SourceFd(&socket), PEER, Interest::READABLE)?;
+    match ear {
+        Some(ear) => registry.register(&mut SourceFd(&ear), BELL, Interest::READABLE),
+        None => Ok(()),
     }
 }
