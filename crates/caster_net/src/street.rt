@@ -115,12 +115,16 @@ fn dialled<'a>(rt: &'a HostRuntime, bell: &'a Bell, addr: &str) -> io::Result<Tc
 // Connects to this address, one address of its name after the other.
 fn reached(rt: &HostRuntime, addr: &str) -> io::Result<TcpStream> {
     let begun = Instant::now(rt)?;
-    let limit = Duration::from_secs(LONGEST_DIAL);
     for addr in addr.to_socket_addrs(rt)? {
-        let left = limit.saturating_sub(begun.elapsed(rt)?);
-        if let Ok(stream) = TcpStream::connect_timeout(rt, &addr, left) {
+        if let Ok(stream) = reached_at(rt, &addr, &begun) {
             return Ok(stream);
         }
     }
     Err(io::Error::from(ErrorKind::TimedOut))
+}
+
+// Connects to this one address, in what is left of the time for a dial that began then.
+fn reached_at(rt: &HostRuntime, addr: &SocketAddr, begun: &Instant) -> io::Result<TcpStream> {
+    let limit = Duration::from_secs(LONGEST_DIAL);
+    TcpStream::connect_timeout(rt, addr, limit.saturating_sub(begun.elapsed(rt)?))
 }
