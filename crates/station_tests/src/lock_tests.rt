@@ -1,6 +1,7 @@
 //! A station at a lock: two threads take turns on it.
 ghost use Rattle.std.specs.Prelude.{◌≡◌, ◌==◌, ◌<◌, true, IsTrue, IfOk, length};
 ghost use Rattle.turn_log.specs.Lock.{turn_value, pass_number, IsPassOf};
+ghost use Rattle.mount_ring.specs.Kept.{ring_shape};
 ghost use Rattle.last_frames.specs.LockTests.{IsHanded};
 
 use crate::frames_tests::{FRAME_1005, join_first, new_station, publish_first};
@@ -11,7 +12,7 @@ use std::alloc::Global;
 use std::sync::Wait;
 use std::test::Fail;
 use std::thread::{Threads, join};
-use turn_log::{Pass, Played, Turn, Turns};
+use turn_log::{Pass, Turn, Turns};
 use type_filter::Filter;
 
 /// Publishes a frame with this pass.
@@ -59,7 +60,7 @@ fn greeting_at<R: Wait + Sync>(
 ) -> Result<Vec<Frame>, Fail>
     requires pass { IsPassOf pass turn.now }
     requires me { (me == pass_number pass) ≡ true }
-    requires filter { 0 < length (⟦<Station as Played>⟧.shape (turn_value turn.now)).filters }
+    requires filter { 0 < length (ring_shape (turn_value turn.now).ring).filters }
 {
     let mut place = StationPlace::new(alloc, turn.seat(rt, pass))?;
     join_first(&mut place, me)?;
@@ -106,7 +107,7 @@ fn tell<R: Threads + Wait + Sync>(
 ) -> Result<Vec<Frame>, Fail>
     requires first { IsPassOf first turn.now × (pass_number first ≡ 0) }
     requires second { IsPassOf second turn.now × (pass_number second ≡ 1) }
-    requires filter { 0 < length (⟦<Station as Played>⟧.shape (turn_value turn.now)).filters }
+    requires filter { 0 < length (ring_shape (turn_value turn.now).ring).filters }
 {
     let hall = Hall::new(alloc)?;
     let (first, mut second) = publish_beside(alloc, turn, rt, first, second, frame, hall);
@@ -123,7 +124,7 @@ fn open_two(alloc: Global) -> Result<(Turn<Station>, Pass<Station>, Pass<Station
     ensures second { IfOk result (λ opened.
         IsPassOf opened.2 opened.0 × (pass_number opened.2 ≡ 1)) }
     ensures filter { IfOk result (λ opened.
-        0 < length (⟦<Station as Played>⟧.shape (turn_value opened.0)).filters) }
+        0 < length (ring_shape (turn_value opened.0).ring).filters) }
 {
     let station = new_station(alloc, Filter::all())?;
     let (turn, mut passes) = Turn::open(alloc, station, 2)?;
