@@ -231,17 +231,38 @@ went-snoc (first ∷ visits) visit before now went came goes =
 link_come : {L : Type 0} (told : L → LinkTold) (link : L) (old new : DoorTold)
     → HasAccepted told old new (arrived.Link link) → HasCome (arrived.Link (told link)) old new
 link_come told link old new is =
-    record { left = is.left; fresh = is.fresh; back = is.back; later = is.later; failed = is.failed }
+    record {
+      left = is.left;
+      fresh = is.fresh;
+      back = is.back;
+      later = is.later;
+      failed = is.failed;
+      unharmed = is.unharmed;
+    }
 
 none_come : {L : Type 0} (told : L → LinkTold) (old new : DoorTold) → HasAccepted told old new arrived.Idle
     → HasCome arrived.Idle old new
 none_come told old new is =
-    record { left = is.left; fresh = is.fresh; back = is.back; later = is.later; failed = is.failed }
+    record {
+      left = is.left;
+      fresh = is.fresh;
+      back = is.back;
+      later = is.later;
+      failed = is.failed;
+      unharmed = is.unharmed;
+    }
 
 fault_come : {L : Type 0} (told : L → LinkTold) (old new : DoorTold) → HasAccepted told old new arrived.Failed
     → HasCome arrived.Failed old new
 fault_come told old new is =
-    record { left = is.left; fresh = is.fresh; back = is.back; later = is.later; failed = is.failed }
+    record {
+      left = is.left;
+      fresh = is.fresh;
+      back = is.back;
+      later = is.later;
+      failed = is.failed;
+      unharmed = is.unharmed;
+    }
 
 -- what a worker saw of its door so far
 pub record Visited (before now : DoorTold) : Type 0 where
