@@ -10,6 +10,8 @@ mod fetch_tests;
 #[cfg(test)]
 mod link_tests;
 #[cfg(test)]
+mod rest_tests;
+#[cfg(test)]
 mod runs;
 #[cfg(test)]
 mod sink_tests;

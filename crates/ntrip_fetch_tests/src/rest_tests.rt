@@ -1,0 +1,87 @@
+//! When a link rests that is fetched from.
+
+ghost use Rattle.std.specs.Prelude.{◌≡◌, ◌≤◌};
+ghost use Rattle.cast_io.specs.FakeLinks.{link_told};
+
+use crate::fakes::{FRAME_B, link_of, target_of};
+use cast_io::{Failed, Got, Link, MemLink, MemSink};
+use ntrip_fetch::fetch_link;
+use std::alloc::Global;
+use std::sync::Wait;
+use std::test::Fail;
+
+/// A link that answers as one in memory, and notes its reads and rests, each as a letter: `b` where
+/// a read gave bytes, `i` where it gave nothing yet, `e` at the end, `f` where it failed, and `r`
+/// for a rest.
+#[derive(Drop)]
+struct NotedLink {
+    link: MemLink,
+    calls: Vec<u8>,
+}
+
+impl NotedLink {
+    // Notes a call.
+    fn note(&mut self, call: u8)
+        ensures { self.new.link ≡ self.old.link }
+    {
+        let _ = self.calls.push(call);
+    }
+}
+
+/// The letter of what was read.
+fn letter_of(got: Got) -> u8 {
+    match got {
+        Got::Bytes(_) => b'b',
+        Got::Idle => b'i',
+        Got::End => b'e',
+        Got::Failed => b'f',
+    }
+}
+
+impl Link for NotedLink {
+    ghost told = { λ noted. link_told noted.link };
+
+    fn read(&mut self, buf: &mut [u8]) -> Got {
+        let got = self.link.read(buf);
+        self.note(letter_of(got));
+        got
+    }
+
+    fn write(&mut self, piece: &[u8]) -> Result<(), Failed> {
+        self.link.write(piece)
+    }
+
+    fn rest(&mut self) {
+        self.note(b'r');
+    }
+}
+
+/// The calls of a link to a caster that sends these pieces, while two frames are fetched from it.
+fn calls<R: Wait>(rt: &R, alloc: Global, pieces: &[&[u8]]) -> Result<Vec<u8>, Fail> {
+    let target = target_of(alloc, 1, "a:1")?;
+    let mut link = NotedLink {
+        link: link_of(alloc, pieces, &[])?,
+        calls: Vec::new(alloc),
+    };
+    let mut out = MemSink::new(alloc, Vec::new(alloc));
+    let _ = fetch_link(rt, alloc, &target, 2, &mut link, &mut out)?;
+    Ok(link.calls)
+}
+
+/// The head of an answer of NTRIP 1.0, and a frame.
+const ICY_A: &[u8] = b"ICY 200 OK\r\n\r\n\xD3\x00\x02\x3E\xD0\xA4\xE0\x00";
+
+// Only behind a read that gave nothing.
+#[test]
+fn a_link_rests_where_it_gives_nothing(rt: HostRuntime) -> Result<(), Fail> {
+    let whole: [&[u8]; 5] = [b"", ICY_A, b"", b"", FRAME_B];
+    let short: [&[u8]; 3] = [ICY_A, b"", b"\xD3"];
+    for (pieces, wanted) in [
+        (whole.as_slice(), b"irbirirb".as_slice()),
+        (short.as_slice(), b"birbe".as_slice()),
+    ] {
+        let calls = calls(&rt, rt.alloc(), pieces)?;
+        assert!(rt; calls.as_slice() == wanted);
+    }
+    Ok(())
+}
