@@ -3,10 +3,9 @@ ghost use Rattle.std.specs.Prelude.{◌≡◌, IfOk, IsTrue};
 ghost use Rattle.std.specs.List.{list_all};
 ghost use Rattle.cast_io.specs.FakeLinks.{has_bytes};
 
-use crate::expected::{expect_bytes, expect_got, expect_sent, expect_write};
-use cast_io::{ByteString, Failed, Got, LinkStep, MemLink, MemSink, Step};
+use crate::runs::{run_link, run_sink};
+use cast_io::{ByteString, LinkStep, MemLink, MemSink, Step};
 use std::alloc::Global;
-use std::process::Abort;
 use std::test::Fail;
 
 // A peer that sends `abcd`, is idle, sends `ef` and ends.
@@ -23,14 +22,9 @@ pub(crate) fn steps(alloc: Global) -> Result<Vec<LinkStep>, Fail>
 
 #[test]
 fn each_kind_of_step_is_read(rt: HostRuntime) -> Result<(), Fail> {
-    let alloc = rt.alloc();
-    let mut link = MemLink::new(alloc, steps(alloc)?, Vec::new(alloc));
-    expect_got(&rt, &mut link, 3, Got::Bytes(3), b"abc\0");
-    expect_got(&rt, &mut link, 3, Got::Bytes(1), b"d\0");
-    expect_got(&rt, &mut link, 3, Got::Idle, b"");
-    expect_got(&rt, &mut link, 3, Got::Bytes(2), b"ef\0");
-    expect_got(&rt, &mut link, 3, Got::End, b"");
-    expect_got(&rt, &mut link, 3, Got::End, b"");
+    let mut link = MemLink::new(rt.alloc(), steps(rt.alloc())?, Vec::new(rt.alloc()));
+    let answers = run_link(rt.alloc(), &mut link, "3 3 3 3 3 3")?;
+    assert_eq!(rt; answers.as_slice(), b"abc d idle ef end end ".as_slice());
     Ok(())
 }
 
@@ -43,55 +37,64 @@ fn steps_taken(alloc: Global) -> Result<Vec<Step>, Fail> {
     Ok(steps)
 }
 
-// The second and the third call fail: a read and a write.
+// A run of which the second and the third call fail, a read and a write: its answers, what the link
+// took, how many faults it had, and whether it tells just those steps.
+fn failing_run(alloc: Global) -> Result<(Vec<u8>, Vec<u8>, u64, bool), Fail> {
+    let mut link = MemLink::new(alloc, steps(alloc)?, [2, 3].to_vec(alloc)?);
+    let answers = run_link(alloc, &mut link, "one 8 two 8 three")?;
+    let wanted = steps_taken(alloc)?;
+    let told = link.taken() == Some(wanted.as_slice());
+    Ok((answers, link.bytes().to_vec(alloc)?, link.faults(), told))
+}
+
 #[test]
 fn calls_fail_by_their_number(rt: HostRuntime) -> Result<(), Fail> {
-    let alloc = rt.alloc();
-    let mut link = MemLink::new(alloc, steps(alloc)?, [2, 3].to_vec(alloc)?);
-    expect_sent(&rt, &mut link, b"one", Ok(()));
-    expect_got(&rt, &mut link, 8, Got::Failed, b"");
-    expect_sent(&rt, &mut link, b"two", Err(Failed));
-    expect_got(&rt, &mut link, 8, Got::Bytes(4), b"abcd\0");
-    expect_sent(&rt, &mut link, b"three", Ok(()));
-    expect_bytes(&rt, link.bytes(), b"onethree");
-    let told = steps_taken(alloc)?;
-    assert!(rt; link.faults() == 2 && link.taken() == Some(told.as_slice()));
+    let (answers, bytes, faults, told) = failing_run(rt.alloc())?;
+    assert_eq!(rt; answers.as_slice(), b"ok failed failed abcd ok ".as_slice());
+    assert_eq!(rt; bytes.as_slice(), b"onethree".as_slice());
+    assert_eq!(rt; (faults, told), (2, true));
     Ok(())
 }
 
-// The second write of a link fails after so many bytes. The read between them is no write.
-fn expect_torn_link(rt: &impl Abort, alloc: Global, most: u64, wanted: &[u8]) -> Result<(), Fail> {
+// A run of a link whose second write fails after so many bytes: its answers, and what the link took
+// behind them. The read between the writes is no write.
+fn torn_link(alloc: Global, most: u64) -> Result<Vec<u8>, Fail> {
     let mut link = MemLink::torn(alloc, steps(alloc)?, [(2, most)].to_vec(alloc)?);
-    expect_sent(rt, &mut link, b"ab", Ok(()));
-    expect_got(rt, &mut link, 8, Got::Bytes(4), b"abcd\0");
-    expect_sent(rt, &mut link, b"cd", Err(Failed));
-    expect_sent(rt, &mut link, b"ef", Ok(()));
-    expect_bytes(rt, link.bytes(), wanted);
-    Ok(())
+    let mut told = run_link(alloc, &mut link, "ab 8 cd ef")?;
+    told.extend_from_slice(link.bytes())?;
+    Ok(told)
+}
+
+// The same of a sink.
+fn torn_sink(alloc: Global, most: u64) -> Result<Vec<u8>, Fail> {
+    let mut sink = MemSink::torn(alloc, [(2, most)].to_vec(alloc)?);
+    let mut told = run_sink(alloc, &mut sink, "ab cd ef")?;
+    told.extend_from_slice(sink.bytes())?;
+    Ok(told)
 }
 
 #[test]
 fn writes_of_a_link_are_torn(rt: HostRuntime) -> Result<(), Fail> {
-    expect_torn_link(&rt, rt.alloc(), 0, b"abef")?;
-    expect_torn_link(&rt, rt.alloc(), 1, b"abcef")?;
-    expect_torn_link(&rt, rt.alloc(), 2, b"abcdef")?;
-    expect_torn_link(&rt, rt.alloc(), 9, b"abcdef")
-}
-
-// The second write of a sink fails after so many bytes.
-fn expect_torn_sink(rt: &impl Abort, alloc: Global, most: u64, wanted: &[u8]) -> Result<(), Fail> {
-    let mut sink = MemSink::torn(alloc, [(2, most)].to_vec(alloc)?);
-    expect_write(rt, &mut sink, b"ab", Ok(()));
-    expect_write(rt, &mut sink, b"cd", Err(Failed));
-    expect_write(rt, &mut sink, b"ef", Ok(()));
-    expect_bytes(rt, sink.bytes(), wanted);
+    for (most, told) in [
+        (0, b"ok abcd failed ok abef".as_slice()),
+        (1, b"ok abcd failed ok abcef"),
+        (2, b"ok abcd failed ok abcdef"),
+        (9, b"ok abcd failed ok abcdef"),
+    ] {
+        assert_eq!(rt; torn_link(rt.alloc(), most)?.as_slice(), told);
+    }
     Ok(())
 }
 
 #[test]
 fn writes_of_a_sink_are_torn(rt: HostRuntime) -> Result<(), Fail> {
-    expect_torn_sink(&rt, rt.alloc(), 0, b"abef")?;
-    expect_torn_sink(&rt, rt.alloc(), 1, b"abcef")?;
-    expect_torn_sink(&rt, rt.alloc(), 2, b"abcdef")?;
-    expect_torn_sink(&rt, rt.alloc(), 9, b"abcdef")
+    for (most, told) in [
+        (0, b"ok failed ok abef".as_slice()),
+        (1, b"ok failed ok abcef"),
+        (2, b"ok failed ok abcdef"),
+        (9, b"ok failed ok abcdef"),
+    ] {
+        assert_eq!(rt; torn_sink(rt.alloc(), most)?.as_slice(), told);
+    }
+    Ok(())
 }

@@ -1,8 +1,7 @@
 //! Runs of a store in memory: files by their paths, and calls that fail.
-use crate::expected::{expect_bytes, expect_read};
-use cast_io::{ByteString, Failed, MemStore, Store, read_all};
-use std::alloc::Global;
-use std::process::Abort;
+use crate::runs::{read_source, say, say_taken};
+use cast_io::{ByteString, MemStore, Store, read_all};
+use std::alloc::{AllocError, Global};
 use std::test::Fail;
 
 // Adds a file to these.
@@ -27,48 +26,57 @@ fn store_of(alloc: Global, fails: &[u64]) -> Result<MemStore, Fail> {
     Ok(MemStore::new(alloc, files, fails.to_vec(alloc)?))
 }
 
-fn expect_open(rt: &impl Abort, store: &mut MemStore, path: &str, wanted: Result<(), Failed>) {
-    let answer = store.open(path);
-    assert_eq!(rt; answer, wanted);
+// All that is left to read of the file that was opened last, at most nine bytes.
+fn say_all(alloc: Global, store: &mut MemStore, out: &mut Vec<u8>) -> Result<(), AllocError> {
+    match read_all(alloc, store, 9) {
+        Ok(all) => say(out, &all),
+        Err(_) => say(out, b"fault"),
+    }
 }
 
-// All that is left to read of the file that was opened last, at most nine bytes.
-fn expect_all_of(rt: &impl Abort, alloc: Global, store: &mut MemStore, wanted: &[u8]) {
-    match read_all(alloc, store, 9) {
-        Ok(all) => expect_bytes(rt, &all, wanted),
-        Err(_) => assert!(rt; false),
+// What these calls of a store answer. A number is a read of so many bytes, `all` reads all that is
+// left, and any other word is a path that is opened.
+fn run(alloc: Global, store: &mut MemStore, calls: &str) -> Result<Vec<u8>, AllocError> {
+    let mut out = Vec::new(alloc);
+    for call in calls.split(' ') {
+        match call.parse::<usize>() {
+            Ok(size) => read_source(store, size, &mut out)?,
+            Err(_) if call == "all" => say_all(alloc, store, &mut out)?,
+            Err(_) => say_taken(&mut out, store.open(call))?,
+        }
     }
+    Ok(out)
+}
+
+// The same of a store all of whose calls are taken.
+fn plain_run(alloc: Global, calls: &str) -> Result<Vec<u8>, Fail> {
+    let mut store = store_of(alloc, &[])?;
+    Ok(run(alloc, &mut store, calls)?)
 }
 
 // Before the first `open` there is nothing to read.
 #[test]
 fn the_file_opened_last_is_read_from_its_first_byte(rt: HostRuntime) -> Result<(), Fail> {
-    let mut store = store_of(rt.alloc(), &[])?;
-    expect_read(&rt, &mut store, 3, Ok(0), b"\0");
-    expect_open(&rt, &mut store, "a", Ok(()));
-    expect_read(&rt, &mut store, 3, Ok(3), b"abc\0");
-    expect_open(&rt, &mut store, "b", Ok(()));
-    expect_read(&rt, &mut store, 3, Ok(2), b"xy\0");
-    expect_open(&rt, &mut store, "a", Ok(()));
-    expect_read(&rt, &mut store, 8, Ok(5), b"abcde\0");
+    let told = plain_run(rt.alloc(), "3 a 3 b 3 a 8")?;
+    assert_eq!(rt; told.as_slice(), b" ok abc ok xy ok abcde ".as_slice());
     Ok(())
 }
 
 #[test]
 fn the_first_file_of_a_path_is_read(rt: HostRuntime) -> Result<(), Fail> {
-    let mut store = store_of(rt.alloc(), &[])?;
-    expect_open(&rt, &mut store, "b", Ok(()));
-    expect_open(&rt, &mut store, "a", Ok(()));
-    expect_all_of(&rt, rt.alloc(), &mut store, b"abcde");
+    assert_eq!(rt;
+        plain_run(rt.alloc(), "b a all")?.as_slice(),
+        b"ok ok abcde ".as_slice()
+    );
     Ok(())
 }
 
 #[test]
 fn nothing_is_left_after_a_refused_open(rt: HostRuntime) -> Result<(), Fail> {
-    let mut store = store_of(rt.alloc(), &[])?;
-    expect_open(&rt, &mut store, "b", Ok(()));
-    expect_open(&rt, &mut store, "c", Err(Failed));
-    expect_read(&rt, &mut store, 3, Ok(0), b"\0");
+    assert_eq!(rt;
+        plain_run(rt.alloc(), "b c 3")?.as_slice(),
+        b"ok failed  ".as_slice()
+    );
     Ok(())
 }
 
@@ -80,16 +88,19 @@ fn paths(alloc: Global) -> Result<Vec<ByteString>, Fail> {
     Ok(paths)
 }
 
-// The second and the fourth call fail: a read, which takes nothing, and an `open`.
+// A run of which the second and the fourth call fail, a read, which takes nothing, and an `open`:
+// its answers, and whether the store tells just the paths that were asked for.
+fn failing_run(alloc: Global) -> Result<(Vec<u8>, bool), Fail> {
+    let mut store = store_of(alloc, &[2, 4])?;
+    let answers = run(alloc, &mut store, "a 8 8 b 8")?;
+    let wanted = paths(alloc)?;
+    Ok((answers, store.asked() == Some(wanted.as_slice())))
+}
+
 #[test]
 fn calls_of_a_store_fail_by_their_number(rt: HostRuntime) -> Result<(), Fail> {
-    let mut store = store_of(rt.alloc(), &[2, 4])?;
-    expect_open(&rt, &mut store, "a", Ok(()));
-    expect_read(&rt, &mut store, 8, Err(Failed), b"");
-    expect_read(&rt, &mut store, 8, Ok(5), b"abcde\0");
-    expect_open(&rt, &mut store, "b", Err(Failed));
-    expect_read(&rt, &mut store, 8, Ok(0), b"\0");
-    let wanted = paths(rt.alloc())?;
-    assert!(rt; store.asked() == Some(wanted.as_slice()));
+    let (answers, told) = failing_run(rt.alloc())?;
+    assert_eq!(rt; answers.as_slice(), b"ok failed abcde failed  ".as_slice());
+    assert!(rt; told);
     Ok(())
 }
