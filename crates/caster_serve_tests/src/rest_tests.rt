@@ -6,7 +6,6 @@ ghost use mathlib.Core.Option.{some};
 ghost use lib.ListN.{get_elem?};
 ghost use Rattle.cast_io.specs.FakeDoors.{door_told};
 ghost use Rattle.cast_io.specs.FakeLinks.{link_told};
-ghost use Rattle.caster_places.specs.Known.{Fit};
 ghost use Rattle.caster_serve.specs.Sharing.{AreNewPasses, IsReady};
 
 use crate::fakes::{door_with, link_of};
@@ -14,15 +13,10 @@ use crate::one_caller::sit_down;
 use crate::setting::{FRAME_A, FRAMES_AB, ROVER_ALPHA, SOURCE_ALPHA};
 use cast_config::read_config;
 use cast_io::{Arrived, Door, Failed, Got, Link, MemDoor, MemLink};
-use caster_accounts::Book;
-use caster_places::AllPlaces;
 use caster_serve::{Passes, Role, Shared, Worker, serve_link, work};
-use mount_ring::Ring;
-use session_core::Places;
 use std::alloc::Global;
 use std::sync::Wait;
 use std::test::Fail;
-use turn_log::Seat;
 
 // A ring that holds more frames than a turn takes.
 const FILE: &[u8] = b"version = 1
@@ -58,37 +52,37 @@ enum Call {
     HungUp,
 }
 
-/// Other places of the caster, at which sources are served from time to time: the last of the list
-/// first, where `None` is no source.
+/// Other callers of the caster, each of which serves a source: the last of the list first, where
+/// `None` is no source.
 #[derive(Drop)]
 struct Base<'a, 'c, R: Wait + Sync> {
     rt: &'a R,
     alloc: Global,
     shared: &'a Shared<'c>,
-    me: u32,
-    places: Places<Seat<'a, Ring, R>, Seat<'a, Book, R>>,
+    list: Vec<Passes>,
     sources: Vec<Option<MemLink>>,
     ghost ready: { IsReady shared.now },
-    ghost fit: { Fit shared.now.config.now me
-        (⟦<Places<Seat<'a, Ring, R>, Seat<'a, Book, R>> as AllPlaces>⟧.known places) },
+    ghost each: { (number : ℕ) (passes : _) → get_elem? list.items number ≡ some passes
+        → AreNewPasses number passes shared.now },
+    ghost few: { length list.items < 2 ^ 32 },
 }
 
 impl<'a, 'c, R: Wait + Sync> Base<'a, 'c, R> {
     // Serves the next source to its end, if there is one.
     fn serve_next(&mut self) {
-        if let Some(Some(mut link)) = self.sources.pop() {
-            let places = &mut self.places;
-            let role = Role::Caller;
-            serve_link(
-                self.rt,
-                self.alloc,
-                self.shared,
-                self.me,
-                places,
-                role,
-                &mut link,
-            );
-        }
+        let Some(Some(mut link)) = self.sources.pop() else {
+            return;
+        };
+        let Some(passes) = self.list.pop() else {
+            return;
+        };
+        let me = self.list.len() as u32;
+        let (rt, alloc, shared) = (self.rt, self.alloc, self.shared);
+        let Ok(mut places) = shared.places(rt, alloc, passes) else {
+            return;
+        };
+        let role = Role::Caller;
+        let _receipt = serve_link(rt, alloc, shared, me, &mut places, role, &mut link);
     }
 }
 
@@ -185,29 +179,27 @@ fn sources_of(alloc: Global, counts: &[usize]) -> Result<Vec<Option<MemLink>>, F
     Ok(sources)
 }
 
-/// The calls of a link that is served by one of two callers, while the other serves these sources,
-/// the last before its first read.
+/// The calls of a link that is served by the last caller, while others serve these sources, the last
+/// before its first read.
 fn calls_at<R: Wait + Sync>(
     rt: &R,
     alloc: Global,
     shared: &Shared,
-    list: &mut Vec<Passes>,
+    mut list: Vec<Passes>,
     link: MemLink,
     sources: Vec<Option<MemLink>>,
 ) -> Result<Vec<Call>, Fail>
     requires ready { IsReady shared.now }
-    requires each { (number : ℕ) (passes : _) → get_elem? list.old.items number ≡ some passes
+    requires each { (number : ℕ) (passes : _) → get_elem? list.items number ≡ some passes
         → AreNewPasses number passes shared.now }
-    requires few { length list.old.items < 2 ^ 32 }
+    requires few { length list.items < 2 ^ 32 }
 {
-    let (number, elsewhere) = sit_down(rt, alloc, shared, list)?;
-    let (me, mut places) = sit_down(rt, alloc, shared, list)?;
+    let (me, mut places) = sit_down(rt, alloc, shared, &mut list)?;
     let base = Base {
         rt,
         alloc,
         shared,
-        me: number,
-        places: elsewhere,
+        list,
         sources,
     };
     let mut link = NotingLink {
@@ -231,8 +223,8 @@ fn calls_of<R: Wait + Sync>(
     let link = link_of(alloc, pieces, &[])?;
     let sources = sources_of(alloc, counts)?;
     let config = read_config(alloc, FILE)?;
-    let (shared, mut list) = Shared::new(alloc, &config, 2)?;
-    calls_at(rt, alloc, &shared, &mut list, link, sources)
+    let (shared, list) = Shared::new(alloc, &config, 8)?;
+    calls_at(rt, alloc, &shared, list, link, sources)
 }
 
 // A reply is written before the next read. No rest follows a read that gave bytes, nor comes behind
