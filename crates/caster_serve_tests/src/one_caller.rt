@@ -48,7 +48,7 @@ pub(crate) fn sit_down<'a, R: Wait + Sync>(
 
 /// What a connection over this link came to that is served so. The configuration has this behind
 /// it.
-fn serve_as<L: Link, R: Wait + Sync>(
+pub(crate) fn serve_as<L: Link, R: Wait + Sync>(
     rt: &R,
     alloc: Global,
     more: &[u8],

@@ -1,24 +1,24 @@
 //! When a link and a door rest, and when bytes are written: what a link and a door note of their
 //! calls, in the order in which they come.
-
-ghost use Rattle.std.specs.Prelude.{◌≡◌, ◌<◌, ◌^◌, ℕ, length};
-ghost use mathlib.Core.Option.{some};
-ghost use lib.ListN.{get_elem?};
+ghost use Rattle.std.specs.Prelude.{◌≡◌};
 ghost use Rattle.cast_io.specs.FakeDoors.{door_told};
-ghost use Rattle.cast_io.specs.FakeLinks.{link_told};
-ghost use Rattle.caster_serve.specs.Sharing.{AreNewPasses, IsReady};
 
 use crate::fakes::{door_with, link_of};
-use crate::one_caller::sit_down;
-use crate::setting::{FRAME_A, FRAMES_AB, ROVER_ALPHA, SOURCE_ALPHA};
+use crate::one_caller::{serve_as, sit_down};
+use crate::setting::{ADDRESS, FRAME_A, FRAMES_AB, ROVER_ALPHA, SOURCE_ALPHA, config_of};
+use crate::thread_tests::{NONE, timed_door};
+use crate::{Stop, TimedLink, TimedStreet};
 use cast_config::read_config;
-use cast_io::{Arrived, Door, Failed, Got, Link, MemDoor, MemLink};
-use caster_serve::{Passes, Role, Shared, Worker, serve_link, work};
+use cast_io::{Arrived, Door, MemDoor, MemLink};
+use caster_serve::{Role, Shared, Worker, serve, work};
 use std::alloc::Global;
 use std::sync::Wait;
+use std::sync::atomic::AtomicBool;
 use std::test::Fail;
+use std::thread::Threads;
+use std::time::Clock;
 
-// A ring that holds more frames than a turn takes.
+// Two workers, and a ring that holds more frames than a turn takes.
 const FILE: &[u8] = b"version = 1
 workers = 2
 [[mount]]
@@ -38,98 +38,122 @@ group = 'field'
 cap = 1
 ";
 
-/// A call and what it found: of a link a read, a write of so many bytes or a rest; of a door an
-/// accept, a rest or the end of a link.
-#[derive(Clone, Copy, Debug, PartialEq, Eq)]
-enum Call {
-    Bytes,
-    Idle,
-    End,
-    Failed,
-    Write(usize),
-    Rest,
-    Came,
-    HungUp,
+/// What the link of a client notes that sends these pieces and is served alone.
+fn notes_of<R: Clock + Wait + Sync>(
+    rt: &R,
+    alloc: Global,
+    pieces: &[&[u8]],
+) -> Result<Vec<u8>, Fail> {
+    let link = link_of(alloc, pieces, &[])?;
+    let mut link = TimedLink::new(rt, alloc, &[], Vec::new(alloc), link);
+    let _receipt = serve_as(rt, alloc, b"", Role::Caller, &mut link)?;
+    Ok(link.notes().to_vec(alloc)?)
 }
 
-/// Other callers of the caster, each of which serves a source: the last of the list first, where
-/// `None` is no source.
-#[derive(Drop)]
-struct Base<'a, 'c, R: Wait + Sync> {
+// A reply is written before the next read. No rest follows a read that gave bytes, nor comes behind
+// the end of a session.
+#[test]
+fn a_link_rests_where_its_peer_says_nothing(rt: HostRuntime) -> Result<(), Fail> {
+    let source: [&[u8]; 4] = [b"", SOURCE_ALPHA, FRAMES_AB, b""];
+    let rover: [&[u8]; 1] = [ROVER_ALPHA];
+    let refused: [&[u8]; 2] = [b"SOURCE wrong ALPHA\r\n\r\n", b""];
+    for (pieces, wanted) in [
+        (source.as_slice(), b"irbwbire".as_slice()),
+        (rover.as_slice(), b"bwe"),
+        (refused.as_slice(), b"bw"),
+    ] {
+        let notes = notes_of(&rt, rt.alloc(), pieces)?;
+        assert_eq!(rt; notes.as_slice(), wanted);
+    }
+    Ok(())
+}
+
+/// A source of ALPHA that publishes so many frames.
+fn source_of(alloc: Global, count: usize) -> Result<MemLink, Fail> {
+    let mut body = Vec::new(alloc);
+    for _ in 0..count {
+        body.extend_from_slice(FRAME_A)?;
+    }
+    Ok(link_of(alloc, &[SOURCE_ALPHA, &body], &[])?)
+}
+
+/// A street of a rover of ALPHA, and of a source that publishes so many frames within the rover's
+/// second read. The calls of the rover up to there are a read, a write and a read; those of the
+/// source up to where its frames were published are a read, a write and two reads.
+fn street_of<'a, R: Clock>(
     rt: &'a R,
     alloc: Global,
-    shared: &'a Shared<'c>,
-    list: Vec<Passes>,
-    sources: Vec<Option<MemLink>>,
-    ghost ready: { IsReady shared.now },
-    ghost each: { (number : ℕ) (passes : _) → get_elem? list.items number ≡ some passes
-        → AreNewPasses number passes shared.now },
-    ghost few: { length list.items < 2 ^ 32 },
+    flags: &'a [AtomicBool],
+    count: usize,
+) -> Result<TimedStreet<'a, R>, Fail> {
+    let waits = Stop {
+        call: 3,
+        sets: 0,
+        awaits: 1,
+    };
+    let begins = Stop {
+        call: 1,
+        sets: NONE,
+        awaits: 0,
+    };
+    let done = Stop {
+        call: 4,
+        sets: 1,
+        awaits: NONE,
+    };
+    let rover = link_of(alloc, &[ROVER_ALPHA, b"", b""], &[])?;
+    let mut doors = Vec::new(alloc);
+    doors.push(timed_door(rt, alloc, flags, &[waits], rover)?)?;
+    let source = source_of(alloc, count)?;
+    doors.push(timed_door(rt, alloc, flags, &[begins, done], source)?)?;
+    Ok(TimedStreet::new(alloc, doors))
 }
 
-impl<'a, 'c, R: Wait + Sync> Base<'a, 'c, R> {
-    // Serves the next source to its end, if there is one.
-    fn serve_next(&mut self) {
-        let Some(Some(mut link)) = self.sources.pop() else {
-            return;
-        };
-        let Some(passes) = self.list.pop() else {
-            return;
-        };
-        let me = self.list.len() as u32;
-        let (rt, alloc, shared) = (self.rt, self.alloc, self.shared);
-        let Ok(mut places) = shared.places(rt, alloc, passes) else {
-            return;
-        };
-        let role = Role::Caller;
-        let _receipt = serve_link(rt, alloc, shared, me, &mut places, role, &mut link);
+/// What the rover's link notes over such a street.
+fn rover_notes<R: Clock + Threads + Wait + Sync>(
+    rt: &R,
+    alloc: Global,
+    count: usize,
+) -> Result<Vec<u8>, Fail> {
+    let flags = [AtomicBool::new(false), AtomicBool::new(false)];
+    let mut street = street_of(rt, alloc, &flags, count)?;
+    let config = read_config(alloc, FILE)?;
+    let _closed = serve(rt, alloc, &config, ADDRESS, 1, &mut street);
+    let door = street.back().first().ok_or("no door")?;
+    let link = door.back().ok_or("no link came back")?;
+    Ok(link.notes().to_vec(alloc)?)
+}
+
+// A turn takes 16 frames. Behind one that found fewer the link rests once they are written; behind
+// one that found as many another turn looks for more.
+#[test]
+fn a_link_rests_behind_the_write_of_the_last_frames(rt: HostRuntime) -> Result<(), Fail> {
+    for (count, wanted) in [
+        (15, b"bwiwrire".as_slice()),
+        (16, b"bwiwire"),
+        (17, b"bwiwiwre"),
+    ] {
+        let notes = rover_notes(&rt, rt.alloc(), count)?;
+        assert_eq!(rt; notes.as_slice(), wanted);
     }
+    Ok(())
 }
 
-/// A link as one in memory that notes its calls. Before each read the next source is served.
-#[derive(Drop)]
-struct NotingLink<'a, 'c, R: Wait + Sync> {
-    link: MemLink,
-    calls: Vec<Call>,
-    base: Base<'a, 'c, R>,
-}
-
-/// Notes a call. A test fails where there is no memory for it, as the call is missed then.
-fn note(calls: &mut Vec<Call>, call: Call) {
-    let _ = calls.push(call);
-}
-
-impl<'a, 'c, R: Wait + Sync> Link for NotingLink<'a, 'c, R> {
-    ghost told = { λ link. link_told link.link };
-
-    fn read(&mut self, buf: &mut [u8]) -> Got {
-        self.base.serve_next();
-        let got = self.link.read(buf);
-        let call = match got {
-            Got::Bytes(_) => Call::Bytes,
-            Got::Idle => Call::Idle,
-            Got::End => Call::End,
-            Got::Failed => Call::Failed,
-        };
-        note(&mut self.calls, call);
-        got
-    }
-
-    fn write(&mut self, piece: &[u8]) -> Result<(), Failed> {
-        note(&mut self.calls, Call::Write(piece.len()));
-        self.link.write(piece)
-    }
-
-    fn rest(&mut self) {
-        note(&mut self.calls, Call::Rest);
-    }
-}
-
-/// A door as one in memory that notes its calls.
+/// A door as one in memory that notes its calls: `l` where a link came, `i` where nobody did, `f`
+/// where an accept failed, `r` for a rest and `h` where a link was hung up.
 #[derive(Drop)]
 struct NotingDoor {
     door: MemDoor,
-    calls: Vec<Call>,
+    notes: Vec<u8>,
+}
+
+impl NotingDoor {
+    // Notes a call.
+    fn note(&mut self, letter: u8)
+        ensures { self.new.door ≡ self.old.door }
+    {
+        let _ = self.notes.push(letter);
+    }
 }
 
 impl Door for NotingDoor {
@@ -139,168 +163,45 @@ impl Door for NotingDoor {
 
     fn accept(&mut self) -> Arrived<MemLink> {
         let arrived = self.door.accept();
-        let call = match &arrived {
-            Arrived::Link(_) => Call::Came,
-            Arrived::Idle => Call::Idle,
-            Arrived::Failed => Call::Failed,
+        let letter = match &arrived {
+            Arrived::Link(_) => b'l',
+            Arrived::Idle => b'i',
+            Arrived::Failed => b'f',
         };
-        note(&mut self.calls, call);
+        self.note(letter);
         arrived
     }
 
     fn rest(&mut self) {
-        note(&mut self.calls, Call::Rest);
+        self.note(b'r');
     }
 
     fn hang_up(&mut self, link: MemLink) {
-        note(&mut self.calls, Call::HungUp);
+        self.note(b'h');
         self.door.hang_up(link);
     }
 }
 
-/// A source of ALPHA that publishes so many frames; none for 0.
-fn source_of(alloc: Global, count: usize) -> Result<Option<MemLink>, Fail> {
-    if count == 0 {
-        return Ok(None);
-    }
-    let mut body = Vec::new(alloc);
-    for _ in 0..count {
-        body.extend_from_slice(FRAME_A)?;
-    }
-    Ok(Some(link_of(alloc, &[SOURCE_ALPHA, &body], &[])?))
-}
-
-/// Such sources, one for each count.
-fn sources_of(alloc: Global, counts: &[usize]) -> Result<Vec<Option<MemLink>>, Fail> {
-    let mut sources = Vec::new(alloc);
-    for count in counts {
-        sources.push(source_of(alloc, *count)?)?;
-    }
-    Ok(sources)
-}
-
-/// The calls of a link that is served by the last caller, while others serve these sources, the last
-/// before its first read.
-fn calls_at<R: Wait + Sync>(
-    rt: &R,
-    alloc: Global,
-    shared: &Shared,
-    mut list: Vec<Passes>,
-    link: MemLink,
-    sources: Vec<Option<MemLink>>,
-) -> Result<Vec<Call>, Fail>
-    requires ready { IsReady shared.now }
-    requires each { (number : ℕ) (passes : _) → get_elem? list.items number ≡ some passes
-        → AreNewPasses number passes shared.now }
-    requires few { length list.items < 2 ^ 32 }
-{
-    let (me, mut places) = sit_down(rt, alloc, shared, &mut list)?;
-    let base = Base {
-        rt,
-        alloc,
-        shared,
-        list,
-        sources,
-    };
-    let mut link = NotingLink {
-        link,
-        calls: Vec::new(alloc),
-        base,
-    };
-    let role = Role::Caller;
-    let _receipt = serve_link(rt, alloc, shared, me, &mut places, role, &mut link);
-    Ok(link.calls)
-}
-
-/// The calls of the link of a client that sends these pieces. Before each read a source publishes
-/// so many frames, before the first as many as the last count says.
-fn calls_of<R: Wait + Sync>(
-    rt: &R,
-    alloc: Global,
-    pieces: &[&[u8]],
-    counts: &[usize],
-) -> Result<Vec<Call>, Fail> {
-    let link = link_of(alloc, pieces, &[])?;
-    let sources = sources_of(alloc, counts)?;
-    let config = read_config(alloc, FILE)?;
-    let (shared, list) = Shared::new(alloc, &config, 8)?;
-    calls_at(rt, alloc, &shared, list, link, sources)
-}
-
-// A reply is written before the next read. No rest follows a read that gave bytes, nor comes behind
-// the end of a session.
-#[test]
-fn a_link_rests_where_its_peer_says_nothing(rt: HostRuntime) -> Result<(), Fail> {
-    use Call::{Bytes, End, Idle, Rest, Write};
-    let rows: [(&[&[u8]], &[Call]); 3] = [
-        (
-            &[b"", SOURCE_ALPHA, FRAMES_AB, b""],
-            &[Idle, Rest, Bytes, Write(14), Bytes, Idle, Rest, End],
-        ),
-        (&[ROVER_ALPHA], &[Bytes, Write(14), End]),
-        (&[b"SOURCE wrong ALPHA\r\n\r\n", b""], &[Bytes, Write(22)]),
-    ];
-    for (pieces, wanted) in rows {
-        let calls = calls_of(&rt, rt.alloc(), pieces, &[])?;
-        assert_eq!(rt; calls.as_slice(), wanted);
-    }
-    Ok(())
-}
-
-// A turn takes 16 frames. Behind one that found fewer the link rests once they are written; behind
-// one that found as many another turn looks for more.
-#[test]
-fn a_link_rests_behind_the_write_of_the_last_frames(rt: HostRuntime) -> Result<(), Fail> {
-    use Call::{Bytes, End, Idle, Rest, Write};
-    let pieces: &[&[u8]] = &[ROVER_ALPHA, b"", b"", b"", b"", b""];
-    let calls = calls_of(&rt, rt.alloc(), pieces, &[0, 17, 0, 16, 15, 0])?;
-    let wanted = [
-        Bytes,
-        Write(14),
-        Idle,
-        Write(120),
-        Rest,
-        Idle,
-        Write(128),
-        Idle,
-        Rest,
-        Idle,
-        Write(128),
-        Idle,
-        Write(8),
-        Rest,
-        End,
-    ];
-    assert_eq!(rt; calls.as_slice(), wanted.as_slice());
-    Ok(())
-}
-
-/// The calls of a door at which a client with such a peer arrives, then nothing, and then one that
-/// ends at once, while a worker serves two links.
-fn calls_at_door<R: Wait + Sync>(
-    rt: &R,
-    alloc: Global,
-    pieces: &[&[u8]],
-) -> Result<Vec<Call>, Fail> {
+/// What a door notes at which a client arrives, then nothing, and then one that ends at once, while a
+/// worker serves two links.
+fn door_notes<R: Wait + Sync>(rt: &R, alloc: Global) -> Result<Vec<u8>, Fail> {
     let door = NotingDoor {
-        door: door_with(alloc, pieces, &[])?,
-        calls: Vec::new(alloc),
+        door: door_with(alloc, &[], &[])?,
+        notes: Vec::new(alloc),
     };
-    let config = read_config(alloc, FILE)?;
+    let config = config_of(alloc, b"")?;
     let (shared, mut list) = Shared::new(alloc, &config, 1)?;
     let (me, places) = sit_down(rt, alloc, &shared, &mut list)?;
     let mut worker = Worker::new(me, places, door);
     work(rt, alloc, &shared, &mut worker, 2);
     let (_places, door) = worker.into_parts();
-    Ok(door.calls)
+    Ok(door.notes)
 }
 
 // It rests behind an accept that found nothing, and nowhere else.
 #[test]
 fn a_door_rests_where_nobody_came(rt: HostRuntime) -> Result<(), Fail> {
-    use Call::{Came, HungUp, Idle, Rest};
-    let calls = calls_at_door(&rt, rt.alloc(), &[])?;
-    let wanted = [Came, HungUp, Idle, Rest, Came, HungUp];
-    assert_eq!(rt; calls.as_slice(), wanted.as_slice());
+    let notes = door_notes(&rt, rt.alloc())?;
+    assert_eq!(rt; notes.as_slice(), b"lhirlh".as_slice());
     Ok(())
 }

@@ -15,10 +15,10 @@ use std::thread::Threads;
 use std::time::Clock;
 
 /// No flag.
-const NONE: usize = 2;
+pub(crate) const NONE: usize = 2;
 
 /// A door at which this link arrives, with these stops.
-fn timed_door<'a, R: Clock>(
+pub(crate) fn timed_door<'a, R: Clock>(
     rt: &'a R,
     alloc: Global,
     flags: &'a [AtomicBool],
@@ -26,7 +26,7 @@ fn timed_door<'a, R: Clock>(
     link: MemLink,
 ) -> Result<TimedDoor<'a, R>, Fail> {
     let stops = stops.to_vec(alloc)?;
-    Ok(TimedDoor::new(TimedLink::new(rt, flags, stops, link)))
+    Ok(TimedDoor::new(TimedLink::new(rt, alloc, flags, stops, link)))
 }
 
 /// A door at which a link arrives that ends at once.

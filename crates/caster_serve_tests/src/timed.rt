@@ -1,6 +1,7 @@
 //! Links whose calls set flags and wait for flags of other links, with doors and a street of
 //! them. A link tells how often it failed, and the street how many such links came back, and
-//! nothing else. The doors tell nothing. Neither they nor the street ever fail.
+//! nothing else. The doors tell nothing. Neither they nor the street ever fail. A link notes its
+//! calls, for the tests alone.
 
 ghost use Rattle.std.specs.Prelude.{◌≡◌};
 ghost use Rattle.caster_serve_tests.specs.Untold.{counted_link, counted_street, untold_door};
@@ -27,12 +28,15 @@ pub struct Stop {
     pub awaits: usize,
 }
 
-/// A link that answers as one in memory, but for its stops.
+/// A link that answers as one in memory, but for its stops. Of each call it notes a letter: `b` where
+/// a read gave bytes, `i` where it gave nothing yet, `e` at the end, `f` where it failed, `w` for a
+/// write and `r` for a rest.
 #[derive(Drop)]
 pub struct TimedLink<'a, R: Clock> {
     rt: &'a R,
     flags: &'a [AtomicBool],
     stops: Vec<Stop>,
+    notes: Vec<u8>,
     calls: u64,
     faults: u64,
     met: bool,
@@ -75,13 +79,30 @@ fn stop_at<R: Clock>(rt: &R, flags: &[AtomicBool], stops: &[Stop], call: u64) ->
     false
 }
 
+/// The letter of what was read.
+fn letter_of(got: Got) -> u8 {
+    match got {
+        Got::Bytes(_) => b'b',
+        Got::Idle => b'i',
+        Got::End => b'e',
+        Got::Failed => b'f',
+    }
+}
+
 impl<'a, R: Clock> TimedLink<'a, R> {
     /// A link that answers as this one, with these stops.
-    pub fn new(rt: &'a R, flags: &'a [AtomicBool], stops: Vec<Stop>, link: MemLink) -> Self {
+    pub fn new(
+        rt: &'a R,
+        alloc: Global,
+        flags: &'a [AtomicBool],
+        stops: Vec<Stop>,
+        link: MemLink,
+    ) -> Self {
         TimedLink {
             rt,
             flags,
             stops,
+            notes: Vec::new(alloc),
             calls: 0,
             faults: 0,
             met: true,
@@ -104,6 +125,18 @@ impl<'a, R: Clock> TimedLink<'a, R> {
         self.faults
     }
 
+    /// The letters of its calls so far, in order. Where memory lacked some are missing.
+    pub fn notes(&self) -> &[u8] {
+        &self.notes
+    }
+
+    // Notes a call.
+    fn note(&mut self, letter: u8)
+        ensures { self.new.faults ≡ self.old.faults }
+    {
+        let _ = self.notes.push(letter);
+    }
+
     // Counts a call, and does what stands for it.
     fn stop(&mut self)
         ensures { self.new.faults ≡ self.old.faults }
@@ -121,6 +154,7 @@ impl<'a, R: Clock> Link for TimedLink<'a, R> {
     fn read(&mut self, buf: &mut [u8]) -> Got {
         self.stop();
         let got = self.link.read(buf);
+        self.note(letter_of(got));
         if let Got::Failed = got {
             self.faults = self.faults.saturating_add(1);
         }
@@ -129,6 +163,7 @@ impl<'a, R: Clock> Link for TimedLink<'a, R> {
 
     fn write(&mut self, piece: &[u8]) -> Result<(), Failed> {
         self.stop();
+        self.note(b'w');
         let Ok(()) = self.link.write(piece) else {
             self.faults = self.faults.saturating_add(1);
             return Err(Failed);
@@ -136,7 +171,9 @@ impl<'a, R: Clock> Link for TimedLink<'a, R> {
         Ok(())
     }
 
-    fn rest(&mut self) {}
+    fn rest(&mut self) {
+        self.note(b'r');
+    }
 }
 
 impl<'a, R: Clock> TimedDoor<'a, R> {
