@@ -1,5 +1,5 @@
 -- All passes of a lock: how they are dealt, and how they are taken in again.
-use Rattle.std.proofs.Common.{◌≡◌, ℕ, suc, ◌+◌, ◌<◌, ◌≤◌, ⊎_elim, Bool, List, [], ◌∷◌, ◌++◌, length, refl, sym, ◌∙◌, ap, subst, arith, append_assoc, length-append}
+use Rattle.std.proofs.Common.{◌≡◌, ℕ, suc, ◌+◌, ◌<◌, ◌≤◌, ⊎_elim, Bool, List, [], ◌∷◌, ◌++◌, length, max, refl, sym, ◌∙◌, ap, subst, arith, append_assoc, length-append}
 use Rattle.std.proofs.lemmas.List.{append-nil}
 use mathlib.Core.Option.{some}
 use lib.ListN.{get_elem?}
@@ -11,6 +11,42 @@ use Rattle.turn_log.specs.LockSteps.{Seated, met, settles}
 use Rattle.atomic_table.proofs.Lists.{at_longer, at_last}
 use Rattle.turn_log.proofs.HistoryLaws.{goes_both}
 use Rattle.turn_log.proofs.LockLists.{at_length, at_cut, one_more, times-append, times_one}
+
+-- the most that the passes after the first ys of xs, and the seat that took them in, told of how worn the lock is
+pub record WornAsFar {P : Type 0} (worn : P → ℕ) (old now : ℕ) (xs ys : List P) : Type 0 where
+  pub rest : List P
+  pub split : xs ≡ ys ++ rest
+  pub own : old ≤ now
+  pub taken : (i : ℕ) (pass : P) → get_elem? xs i ≡ some pass → length ys ≤ i → worn pass ≤ now
+
+pub worn_none : {P : Type 0} (worn : P → ℕ) (now : ℕ) (xs : List P) → WornAsFar worn now now xs xs
+worn_none worn now xs = record {
+  rest = [];
+  split = sym (append-nil xs);
+  own = omega arith;
+  taken = λ i pass at le. absurd (omega (arith, le, at_length xs i pass at));
+}
+
+pub worn_one : {P : Type 0} (worn : P → ℕ) (old now next : ℕ) (xs ys left : List P) (pass : P)
+    → WornAsFar worn old now xs ys → ys ≡ left ++ pass ∷ [] → next ≡ max now (worn pass)
+    → WornAsFar worn old next xs left
+worn_one {P} worn old now next xs ys left pass far cut is =
+    let split : xs ≡ (left ++ pass ∷ []) ++ far.rest = far.split ∙ ap (λ (l : List P). l ++ far.rest) cut in
+    record {
+      rest = pass ∷ far.rest;
+      split = split ∙ append_assoc left (pass ∷ []) far.rest;
+      own = omega (arith, far.own, is);
+      taken = λ i other at le.
+          ⊎_elim
+          (λ later. let b = ap length cut in
+          omega (
+            arith,
+            is,
+            far.taken i other at (omega (arith, b, later, length-append left (pass ∷ []))),
+          ))
+          (λ same. let e = ap worn same in omega (arith, is, e))
+          (at_cut left pass other far.rest i (ap (λ (l : List P). get_elem? l i) (sym split) ∙ at) le);
+    }
 
 -- the passes after the first ys of xs were taken in by a seat that knew so much and knows so much now
 pub record Gathered {P V C : Type 0} (number : P → ℕ) (seen : P → History C) (old now : Known C V) (xs ys : List P) :

@@ -11,7 +11,7 @@ use lib.ListN.{get_elem?}
 use Rattle.atomic_table.specs.Table.{State, Splits, Joins, opening, Final, Seen}
 use Rattle.atomic_table.proofs.Lists.{set_else, at_longer, at_snoc}
 use Rattle.turn_log.specs.declared.lock.rule.Stage.{Stage}
-use Rattle.turn_log.specs.declared.lock.rule.Stage.TheVariants.{Idle}
+use Rattle.turn_log.specs.declared.lock.rule.Stage.TheVariants.{Idle, Cleared, Waiting, AtTurn}
 use Rattle.turn_log.specs.declared.lock.rule.Known.{Known}
 use Rattle.turn_log.specs.declared.lock.rule.Held.{Held}
 use Rattle.turn_log.specs.History.{History, own, GoesOn}
@@ -265,7 +265,7 @@ module _ {V C Z : Type 0} (passes : ℕ) (stands : V → History C → Type 0) (
         fair_of serving ticket whole v was,
         record {
           about = was.about;
-          worn = was.worn;
+          worn = omega arith;
           sees = was.sees;
           hears = (whole, refl);
           below = λ n speaks. absurd (omega (arith, speaks));
@@ -298,7 +298,7 @@ module _ {V C Z : Type 0} (passes : ℕ) (stands : V → History C → Type 0) (
       (λ serving ticket whole was other_was. (
         record {
           about = was.about;
-          worn = was.worn;
+          worn = omega (arith, was.worn, other_was.worn);
           sees = was.sees;
           hears = other_was.sees;
           below = λ n speaks. dite (dec_le 1 (times n v.numbers))
@@ -381,12 +381,42 @@ module _ {V C Z : Type 0} (passes : ℕ) (stands : V → History C → Type 0) (
         );
       }
 
+  -- who has a ticket speaks for some caller
+  speaks_with : (serving ticket n : ℕ) (whole seen : History C) (numbers : List ℕ) (stage : Stage) → HasTicket stage n
+      → StageOk serving ticket whole seen numbers stage → 0 < length numbers
+  speaks_with serving ticket n whole seen numbers Idle has is = absurd has
+  speaks_with serving ticket n whole seen numbers Cleared has is = absurd has
+  speaks_with serving ticket n whole seen numbers (Waiting t) has is = is.2
+  speaks_with serving ticket n whole seen numbers (AtTurn t) has is = is.2
+
+  -- where an idle seat speaks for all, each ticket that was drawn was served
+  all_done : (id : ℕ) (v : Known C V) (s : State (Held V C) (Known C V)) (k : Rule s) → get_elem? s.views id ≡ some v
+      → v.stage ≡ Idle → passes ≤ length v.numbers → k.ticket ≤ k.serving
+  all_done id v s k here idle all = dite (dec_le k.ticket k.serving) (λ done. done)
+      (λ more.
+      let holder = k.drawn k.serving (omega arith) (omega (arith, more)) in
+      let j : ℕ = holder.0 in
+      let u : Known C V = holder.1 in
+      let else : id ≢ j = λ is. no_ticket v.stage idle k.serving
+      (subst (λ (view : Known C V). HasTicket view.stage k.serving) (sym (at_same s.views id j v u is here holder.2))
+      holder.3) in
+      absurd (omega (
+        arith,
+        all,
+        speaks_with k.serving k.ticket k.serving k.whole u.seen u.numbers u.stage holder.3
+            (k.each j u holder.2).stage,
+        two_in_sum (λ view. length (voices view)) s.views id j v u else here holder.2,
+        k.counts.parts,
+        length-append v.numbers v.brought,
+        length-append u.numbers u.brought,
+      )))
+
   -- the lock is closed by an idle seat that speaks for all
   pub closes : (id : ℕ) (v : Known C V) (words : List ℕ) (slots : List (Held V C)) → v.stage ≡ Idle
       → passes ≤ length v.numbers → Final (Seen Rule id v) words slots
       → (held : Held V C) × (whole : History C) × (get_elem? slots 0 ≡ some held) × stands held.value whole
       × (shape held.value ≡ z) × All (λ entry. entry.0 < passes) whole
-      × ((n : ℕ) → 0 < times n v.numbers → GoesOn n v.seen whole)
+      × ((n : ℕ) → 0 < times n v.numbers → GoesOn n v.seen whole) × (v.worn ≤ length whole)
   closes id v words slots idle all end =
       let s : State (Held V C) (Known C V) = end.0 in
       let k = end.1.0 in
@@ -402,6 +432,7 @@ module _ {V C Z : Type 0} (passes : ℕ) (stands : V → History C → Type 0) (
         home.3,
         k.numbered,
         (λ n speaks. (between n v.seen k.whole k.whole was.sees (begins_self k.whole) (was.own_seen n speaks)).0),
+        omega (arith, was.worn, all_done id v s k here idle all, k.long),
       ))
       (λ out.
       let j : ℕ = out.1.0 in

@@ -1,6 +1,6 @@
 -- What each step at the lock's table tells the seat that takes it, from the word that it found, and
 -- the seat before and after.
-use Rattle.std.specs.Prelude.{◌≡◌, ◌≢◌, ℕ, ◌^◌, ◌<◌, ◌≤◌, Bool, [], ◌∷◌, ◌++◌, length, take, drop, Some, None}
+use Rattle.std.specs.Prelude.{◌≡◌, ◌≢◌, ℕ, ◌^◌, ◌<◌, ◌≤◌, Bool, [], ◌∷◌, ◌++◌, length, max, take, drop, Some, None}
 use Rattle.atomic_table.specs.Table.{Me}
 use Rattle.turn_log.specs.declared.lock.rule.Stage.TheVariants.{Idle, Cleared, Waiting, AtTurn}
 use Rattle.turn_log.specs.declared.lock.rule.Known.{Known}
@@ -86,13 +86,18 @@ after_deal view = record view { numbers = drop 1 view.numbers }
 abbrev pub dealt : {C V : Type 0} → Known C V → Known C V
 dealt view = record view { numbers = take 1 view.numbers; brought = []; told = [] }
 
--- a note: the same was seen, and it speaks for nobody
+-- a note: the same was seen, and it speaks for nobody, and tells nothing of how worn the lock is
 abbrev pub noted : {C V : Type 0} → Known C V → Known C V
-noted view = record view { numbers = []; brought = []; told = [] }
+noted view = record view { numbers = []; brought = []; told = []; worn = 0 }
 
--- a seat is taken in, and nothing is left to it
+-- A seat is taken in, and nothing is left to it. The lock is as worn as the one of both tells that
+-- tells more.
 abbrev pub met : {C V : Type 0} → Known C V → Known C V → Known C V
-met view other = record view { brought = other.numbers; told = other.seen }
+met view other = record view {
+  brought = other.numbers;
+  told = other.seen;
+  worn = max view.worn other.worn;
+}
 
 abbrev pub spent : {C V : Type 0} → Known C V
 spent = record {

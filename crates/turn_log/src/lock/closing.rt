@@ -1,11 +1,11 @@
 //! A lock is closed with all its passes, and the object comes back.
-ghost use Rattle.std.specs.Prelude.{◌≡◌, ℕ, ◌<◌, ◌+◌, [], ◌∷◌, length, All};
+ghost use Rattle.std.specs.Prelude.{◌≡◌, ℕ, ◌<◌, ◌≤◌, ◌+◌, [], ◌∷◌, length, All};
 ghost use mathlib.Core.Option.{some};
 ghost use lib.ListN.{get_elem?};
 ghost use Rattle.turn_log.specs.declared.lock.rule.Stage.TheVariants.{Idle};
 ghost use Rattle.turn_log.specs.History.{History, GoesOn};
 ghost use Rattle.turn_log.specs.LockRule.{times};
-ghost use Rattle.turn_log.specs.Lock.{turn_passes, turn_value, pass_number, pass_seen, IsPassOf};
+ghost use Rattle.turn_log.specs.Lock.{turn_passes, turn_value, pass_number, pass_seen, pass_worn, IsPassOf};
 
 use super::parts::{Pass, Token, Turn};
 use super::rule::Held;
@@ -16,7 +16,8 @@ impl<V: Played> Turn<V> {
     /// Ends the lock, and gives the object back. It takes no memory.
     ///
     /// The object stands for one history that each pass has seen a beginning of. A pass has seen
-    /// all calls under its own number, and there are no calls but of the passes' numbers.
+    /// all calls under its own number, and there are no calls but of the passes' numbers. Where a
+    /// pass met so many turns that the lock was worn, as many calls were made in the end.
     pub fn close(self, mut passes: Vec<Pass<V>>) -> V
         requires here { (i : ℕ) (pass : _) → get_elem? passes.items i ≡ some pass
             → IsPassOf pass self }
@@ -25,7 +26,9 @@ impl<V: Played> Turn<V> {
         ensures whole { (whole : History V.Call) × V.stands result whole
             × All (λ entry. entry.0 < turn_passes self) whole
             × ((i : ℕ) (pass : _) → get_elem? passes.items i ≡ some pass
-            → GoesOn (pass_number pass) (pass_seen pass) whole) }
+            → GoesOn (pass_number pass) (pass_seen pass) whole)
+            × ((i : ℕ) (pass : _) → get_elem? passes.items i ≡ some pass
+            → pass_worn pass ≤ length whole) }
     {
         let Some(last) = passes.pop() else {
             unreachable!()
@@ -59,6 +62,9 @@ impl<V: Played> Turn<V> {
         ensures taken { (i : ℕ) (pass : _) → get_elem? passes.old.items i ≡ some pass
             → (0 < times (pass_number pass) token.new.me.0.numbers)
             × GoesOn (pass_number pass) (pass_seen pass) token.new.me.0.seen }
+        ensures worn { (token.old.me.0.worn ≤ token.new.me.0.worn)
+            × ((i : ℕ) (pass : _) → get_elem? passes.old.items i ≡ some pass
+            → pass_worn pass ≤ token.new.me.0.worn) }
     {
         while let Some(pass) = passes.pop() {
             let Pass {

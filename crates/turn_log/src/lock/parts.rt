@@ -45,6 +45,7 @@ pub struct Note<V: Played> {
     pub(super) token: Token<V>,
     ghost rests: { (token.me.0.stage ≡ Idle) × (length token.me.1 ≡ 0) },
     ghost mute: { (length token.me.0.numbers ≡ 0) × (length token.me.0.brought ≡ 0) },
+    ghost unworn: { token.me.0.worn ≡ 0 },
 }
 
 /// A place at the lock, for the caller number of its pass.

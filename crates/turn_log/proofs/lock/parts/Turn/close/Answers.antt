@@ -1,5 +1,5 @@
 -- All passes were taken in, so nobody is at its turn, and the object is in its slot.
-use Rattle.std.proofs.Common.{◌≡◌, ℕ, ◌<◌, ⊎_elim, [], ◌∷◌, length, refl, sym, ◌∙◌, ap, subst, arith, All, length-append}
+use Rattle.std.proofs.Common.{◌≡◌, ℕ, ◌<◌, ◌≤◌, ⊎_elim, [], ◌∷◌, length, refl, sym, ◌∙◌, ap, subst, arith, All, length-append}
 use mathlib.Core.Option.{some, some-injective}
 use lib.ListN.{get_elem?}
 use Rattle.std.specs.Slots.{slots_items}
@@ -8,7 +8,7 @@ use Rattle.atomic_table.proofs.Lists.{at_longer, at_last}
 use Rattle.turn_log.specs.declared.lock.rule.Held.{Held}
 use Rattle.turn_log.specs.History.{History, GoesOn}
 use Rattle.turn_log.specs.LockRule.{times}
-use Rattle.turn_log.specs.Lock.{pass_number, pass_seen}
+use Rattle.turn_log.specs.Lock.{pass_number, pass_seen, pass_worn}
 use Rattle.turn_log.proofs.HistoryLaws.{goes_both}
 use Rattle.turn_log.proofs.LockLists.{at_end, times_one}
 use Rattle.turn_log.proofs.LockSeats.{closes}
@@ -50,6 +50,7 @@ object : (g : Over) (c : After-close_with-closed g) (got : Held g.row.V.Denot g.
     × (g.V.Played.shape got.value ≡ g.V.Played.shape c.args.self.table.shared.key.value.value)
     × All (λ entry. entry.0 < c.args.self.table.shared.key.passes) whole
     × ((n : ℕ) → 0 < times n c.take_in_all.new.token.me.0.numbers → GoesOn n c.take_in_all.new.token.me.0.seen whole)
+    × (c.take_in_all.new.token.me.0.worn ≤ length whole)
 object g c got found =
     let key = c.args.self.table.shared.key in
     let last = c.in-Some.last in
@@ -73,6 +74,7 @@ object g c got found =
       ap (λ held. g.V.Played.shape held.value) (sym is) ∙ end.4,
       end.5,
       end.6,
+      end.7,
     )
 
 pub returns-clause-shape : goal.returns-clause-shape
@@ -93,5 +95,9 @@ returns-clause-whole g c =
           goes_both (pass_number pass) _ _ _ taken.1 (got.4 (pass_number pass) taken.0))
           (λ is. subst (λ p. GoesOn (pass_number p) (pass_seen p) got.0) is.1
           (goes_both (pass_number last) _ _ _ own_last.1 (got.4 (pass_number last) own_last.0)))
+          (at_end c.pop.new.self.items last pass i (ap (λ l. get_elem? l i) (sym c.in-Some.ensures.items) ∙ at))),
+      (λ i pass at. ⊎_elim
+          (λ before. omega (arith, c.take_in_all.ensures.worn.1 i pass before, got.5))
+          (λ is. let e = ap pass_worn is.1 in omega (arith, e, c.take_in_all.ensures.worn.0, got.5))
           (at_end c.pop.new.self.items last pass i (ap (λ l. get_elem? l i) (sym c.in-Some.ensures.items) ∙ at))),
     )

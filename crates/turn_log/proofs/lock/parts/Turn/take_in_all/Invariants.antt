@@ -1,6 +1,6 @@
 use Rattle.std.proofs.Common.{◌≡◌, []}
 use Rattle.turn_log.specs.declared.lock.rule.Stage.TheVariants.{Idle}
-use Rattle.turn_log.proofs.LockPasses.{Gathered}
+use Rattle.turn_log.proofs.LockPasses.{Gathered, WornAsFar}
 use Rattle.turn_log.proofs.lock.parts.Turn.take_in_all.Given as goal
 
 -- those that are not left were taken in
@@ -11,6 +11,8 @@ invariant-loop-pass g l = record {
   brought : l.token.me.0.brought ≡ [];
   gathered : Gathered (λ pass. pass.number) (λ pass. pass.token.me.0.seen) l.fn.token.me.0 l.token.me.0
       l.fn.passes.items l.passes.items;
+  worn : WornAsFar (λ pass. pass.token.me.0.worn) l.fn.token.me.0.worn l.token.me.0.worn l.fn.passes.items
+      l.passes.items;
 }
 
 abbrev pub decreases-loop-pass : goal.decreases-loop-pass
