@@ -1,5 +1,5 @@
 -- Passes that callers gave back, and what they say of a lock that was closed.
-use Rattle.std.proofs.Common.{◌≡◌, ◌∙◌, ◌+◌, ◌<◌, ℕ, zero, suc, Bool, IsTrue, List, [], ◌∷◌, ◌++◌, length, map, get_or, refl, sym, ap, subst, arith, All, Vec, Global, vec_len, vec_capacity}
+use Rattle.std.proofs.Common.{◌≡◌, ◌∙◌, ◌+◌, ◌<◌, ◌≤◌, ℕ, zero, suc, Bool, IsTrue, List, [], ◌∷◌, ◌++◌, length, map, get_or, refl, sym, ap, subst, arith, All, Vec, Global, vec_len, vec_capacity}
 use Rattle.std.proofs.lemmas.Bool.{eqb-true}
 use Rattle.std.proofs.lemmas.List.Elements.{All-nil, All-cons, All-append}
 use mathlib.Core.Option.{some, some-injective, some-ne-none}
@@ -9,10 +9,11 @@ use Rattle.turn_log.specs.declared.object.Played.{Ghosts}
 use Rattle.turn_log.specs.declared.lock.parts.Turn.{Turn}
 use Rattle.turn_log.specs.declared.lock.parts.Pass.{Pass}
 use Rattle.turn_log.specs.History.{History, GoesOn}
-use Rattle.turn_log.specs.Lock.{turn_passes, turn_value, turn_home, pass_number, pass_seen, HasShape, IsPassOf}
+use Rattle.turn_log.specs.Lock.{turn_passes, turn_value, turn_home, pass_number, pass_seen, pass_worn, HasShape, IsPassOf}
 use Rattle.turn_log.proofs.LockLists.{at_or}
-use Rattle.caster_places.specs.Piles.{AreMatched, AreThree, IsGivenBack, IsLeft, IsPileFrom, IsPile, AreAllOf, HasAllOf, IsWhole, HasRoom}
-use Rattle.caster_places.proofs.ListLemmas.{matched-ends, matched-snoc, three_at, map_at, same_at, all_at, all_front, all_last}
+use Rattle.session_calls.specs.Rings.{AllLater}
+use Rattle.caster_places.specs.Piles.{AreMatched, AreThree, AreWithin, IsGivenBack, IsLeft, IsPileFrom, IsPile, AreAllOf, HasAllOf, IsWhole, HasRoom}
+use Rattle.caster_places.proofs.ListLemmas.{at_back, at_front, matched-ends, matched-snoc, three_at, map_at, same_at, all_at, all_front, all_last}
 
 -- the last pile took one more, and those before it had room left
 pub room_more : {X : Type 0} (n : ℕ) (olds rest news left : List (Vec X Global)) (old new : Vec X Global)
@@ -54,11 +55,12 @@ module _ {V C A R S : Type 0} {g : Ghosts V C A R S} where
 
   -- one place gave its pass back to its pile
   pub pile_more : {T : Type 0} (speaks : T → ℕ → Bool) (seen : T → History C) (home : T → Gv) (shape : T → S)
+      (worn : T → ℕ)
       (place : T) (old new : List (Pass V C A R S g)) (lock : Turn V C A R S) (number : ℕ) (seens : List (History C))
-      → IsGivenBack speaks seen home shape place old new → IsTrue (speaks place number)
+      → IsGivenBack speaks seen home shape worn place old new → IsTrue (speaks place number)
       → home place ≡ turn_home lock → shape place ≡ g.shape (turn_value lock) → number ≡ length seens
       → IsPile seens old lock → IsPile (seens ++ seen place ∷ []) new lock
-  pile_more speaks seen home shape place old new lock number seens back says at_home fits long pile =
+  pile_more speaks seen home shape worn place old new lock number seens back says at_home fits long pile =
       subst (λ (l : List (Pass V C A R S g)). IsPile (seens ++ seen place ∷ []) l lock) (sym back.more)
       (pile-snoc 0 seens old (seen place) back.pass lock pile (record {
         numbered = sym (eqb-true number (pass_number back.pass) (sym (back.number number) ∙ says)) ∙ long
@@ -71,10 +73,11 @@ module _ {V C A R S : Type 0} {g : Ghosts V C A R S} where
 
   -- each of these places gave its pass back to the pile of its lock
   pub piles_more : {T : Type 0} (speaks : T → ℕ → Bool) (seen : T → History C) (home : T → Gv) (shape : T → S)
+      (worn : T → ℕ)
       (places : List T) (olds news : List (Vec (Pass V C A R S g) Global)) (locks : List (Turn V C A R S)) (number : ℕ)
       (seens : ℕ → List (History C))
       → AreThree (λ (place : T) (old new : Vec (Pass V C A R S g) Global).
-      IsGivenBack speaks seen home shape place old.items new.items) places olds news
+      IsGivenBack speaks seen home shape worn place old.items new.items) places olds news
       → All (λ (says : ℕ → Bool). IsTrue (says number)) (map speaks places)
       → map home places ≡ map turn_home locks
       → map shape places ≡ map (λ (lock : Turn V C A R S). g.shape (turn_value lock)) locks
@@ -84,13 +87,13 @@ module _ {V C A R S : Type 0} {g : Ghosts V C A R S} where
       → (mount : ℕ) (pile : Vec (Pass V C A R S g) Global) (lock : Turn V C A R S) → get_elem? news mount ≡ some pile
       → get_elem? locks mount ≡ some lock
       → IsPile (seens mount ++ get_or (map seen places) mount [] ∷ []) pile.items lock
-  piles_more {T} speaks seen home shape places olds news locks number seens back says homes shapes long piles mount
+  piles_more {T} speaks seen home shape worn places olds news locks number seens back says homes shapes long piles mount
       pile lock at_pile at_lock =
       let at = three_at (λ (place : T) (old new : Vec (Pass V C A R S g) Global).
-      IsGivenBack speaks seen home shape place old.items new.items) places olds news mount pile back at_pile in
+      IsGivenBack speaks seen home shape worn place old.items new.items) places olds news mount pile back at_pile in
       subst (λ (h : History C). IsPile (seens mount ++ h ∷ []) pile.items lock)
       (sym (at_or (map seen places) mount (seen at.first) [] (map_at seen places mount at.first at.at_first)))
-      (pile_more speaks seen home shape at.first at.second.items pile.items lock number (seens mount) at.fits
+      (pile_more speaks seen home shape worn at.first at.second.items pile.items lock number (seens mount) at.fits
       (all_at (λ (says : ℕ → Bool). IsTrue (says number)) (map speaks places) mount (speaks at.first) says
       (map_at speaks places mount at.first at.at_first))
       (same_at home turn_home places locks mount at.first lock homes at.at_first at_lock)
@@ -169,6 +172,16 @@ module _ {V C A R S : Type 0} {g : Ghosts V C A R S} where
 
 -- ---- several locks
 
+-- numbers that are at most those at their places
+pub later_matched : (xs bounds : List ℕ) (x bound : ℕ) → AreMatched (λ (n most : ℕ). n ≤ most) xs bounds → x ≤ bound
+    → AllLater (xs ++ x ∷ []) (bounds ++ bound ∷ [])
+later_matched [] [] x bound all one zero = one
+later_matched [] [] x bound all one (suc k) = omega arith
+later_matched [] (most ∷ bounds) x bound all one k = absurd all
+later_matched (n ∷ xs) [] x bound all one k = absurd all
+later_matched (n ∷ xs) (most ∷ bounds) x bound all one zero = all.0
+later_matched (n ∷ xs) (most ∷ bounds) x bound all one (suc k) = later_matched xs bounds x bound all.1 one k
+
 module _ {V C A R S : Type 0} {g : Ghosts V C A R S} where
   -- each of these piles has all passes of the lock at its place
   abbrev pub AllClosing : List (Vec (Pass V C A R S g) Global) → List (Turn V C A R S) → Type 0
@@ -206,8 +219,57 @@ module _ {V C A R S : Type 0} {g : Ghosts V C A R S} where
   pub has_all : (passes : List (Pass V C A R S g)) (lock : Turn V C A R S) (whole : History C)
       → AreAllOf passes lock → All (λ (entry : ℕ × C). entry.0 < turn_passes lock) whole
       → ((i : ℕ) (pass : Pass V C A R S g) → get_elem? passes i ≡ some pass
-      → GoesOn (pass_number pass) (pass_seen pass) whole) → HasAllOf passes whole
-  has_all passes lock whole are numbers each = record {
+      → GoesOn (pass_number pass) (pass_seen pass) whole) → AreWithin (length whole) passes → HasAllOf passes whole
+  has_all passes lock whole are numbers each worn = record {
     numbers = subst (λ (n : ℕ). All (λ (entry : ℕ × C). entry.0 < n) whole) (sym are.all) numbers;
     each = each;
+    worn = worn;
   }
+
+  -- ---- how worn their locks were
+
+  within_front : (most : ℕ) (old new : List (Pass V C A R S g)) (pass : Pass V C A R S g) → new ≡ old ++ pass ∷ []
+      → AreWithin most new → AreWithin most old × (pass_worn pass ≤ most)
+  within_front most old new pass is all = (
+    (λ i p at. all i p (ap (λ l. get_elem? l i) is ∙ at_front old pass p i at)),
+    all (length old) pass (ap (λ l. get_elem? l (length old)) is ∙ at_back old pass),
+  )
+
+  -- one place gave its pass back
+  pub one_within : {T : Type 0} (speaks : T → ℕ → Bool) (seen : T → History C) (home : T → Gv) (shape : T → S)
+      (worn : T → ℕ) (place : T) (old new : List (Pass V C A R S g)) (most : ℕ)
+      → IsGivenBack speaks seen home shape worn place old new → AreWithin most new
+      → AreWithin most old × (worn place ≤ most)
+  one_within speaks seen home shape worn place old new most back all =
+      let front = within_front most old new back.pass back.more all in
+      (front.0, omega (arith, front.1, back.wore))
+
+  -- each of these gave its pass back to the pile at its place
+  pub each_within : {T : Type 0} (speaks : T → ℕ → Bool) (seen : T → History C) (home : T → Gv) (shape : T → S)
+      (worn : T → ℕ) (places : List T) (olds news : List (Vec (Pass V C A R S g) Global)) (bounds : List ℕ)
+      → AreThree (λ (place : T) (old new : Vec (Pass V C A R S g) Global).
+      IsGivenBack speaks seen home shape worn place old.items new.items) places olds news
+      → AreMatched (λ (pile : Vec (Pass V C A R S g) Global) (most : ℕ). AreWithin most pile.items) news bounds
+      → AreMatched (λ (pile : Vec (Pass V C A R S g) Global) (most : ℕ). AreWithin most pile.items) olds bounds
+      × AreMatched (λ (n most : ℕ). n ≤ most) (map worn places) bounds
+  each_within speaks seen home shape worn [] [] [] [] back all = (tt, tt)
+  each_within speaks seen home shape worn [] [] [] (most ∷ bounds) back all = absurd all
+  each_within speaks seen home shape worn [] [] (new ∷ news) bounds back all = absurd back
+  each_within speaks seen home shape worn [] (old ∷ olds) news bounds back all = absurd back
+  each_within speaks seen home shape worn (place ∷ places) [] news bounds back all = absurd back
+  each_within speaks seen home shape worn (place ∷ places) (old ∷ olds) [] bounds back all = absurd back
+  each_within speaks seen home shape worn (place ∷ places) (old ∷ olds) (new ∷ news) [] back all = absurd all
+  each_within speaks seen home shape worn (place ∷ places) (old ∷ olds) (new ∷ news) (most ∷ bounds) back all =
+      let one = one_within speaks seen home shape worn place old.items new.items most back.0 all.0 in
+      let more = each_within speaks seen home shape worn places olds news bounds back.1 all.1 in
+      ((one.0, more.0), (one.1, more.1))
+
+  -- locks that were closed with these histories
+  pub closed_within : (piles : List (Vec (Pass V C A R S g) Global)) (wholes : List (History C))
+      → AllClosed piles wholes
+      → AreMatched (λ (pile : Vec (Pass V C A R S g) Global) (most : ℕ). AreWithin most pile.items) piles
+      (map length wholes)
+  closed_within [] [] all = tt
+  closed_within [] (whole ∷ wholes) all = absurd all
+  closed_within (pile ∷ piles) [] all = absurd all
+  closed_within (pile ∷ piles) (whole ∷ wholes) all = (all.0.worn, closed_within piles wholes all.1)

@@ -9,7 +9,7 @@ use Rattle.turn_log.specs.declared.object.Played.{Ghosts}
 use Rattle.turn_log.specs.declared.lock.parts.Turn.{Turn}
 use Rattle.turn_log.specs.declared.lock.parts.Pass.{Pass}
 use Rattle.turn_log.specs.History.{History, GoesOn}
-use Rattle.turn_log.specs.Lock.{turn_passes, pass_number, pass_seen, pass_home, HasShape, IsPassOf}
+use Rattle.turn_log.specs.Lock.{turn_passes, pass_number, pass_seen, pass_worn, pass_home, HasShape, IsPassOf}
 
 -- ---- lists that go together
 
@@ -38,13 +38,14 @@ HasRoom n pile = vec_len pile + n ≤ vec_capacity pile
 module _ {V C A R S : Type 0} {g : Ghosts V C A R S} where
   -- a pass came to the others, with what is known of the place that gave it back
   pub record IsGivenBack {T : Type 0} (speaks : T → ℕ → Bool) (seen : T → History C) (home : T → Gv)
-      (shape : T → S) (place : T) (old new : List (Pass V C A R S g)) : Type 0 where
+      (shape : T → S) (worn : T → ℕ) (place : T) (old new : List (Pass V C A R S g)) : Type 0 where
     pub pass : Pass V C A R S g
     pub more : new ≡ old ++ pass ∷ []
     pub number : (k : ℕ) → speaks place k ≡ (k == pass_number pass)
     pub saw : pass_seen pass ≡ seen place
     pub home_is : pass_home pass ≡ home place
     pub shape_is : HasShape pass (shape place)
+    pub wore : pass_worn pass ≡ worn place
 
   -- a pass of this lock under this number, which has seen this
   pub record IsLeft (number : ℕ) (seen : History C) (pass : Pass V C A R S g)
@@ -65,6 +66,11 @@ module _ {V C A R S : Type 0} {g : Ghosts V C A R S} where
   abbrev pub IsPile : List (History C) → List (Pass V C A R S g) → Turn V C A R S → Type 0
   IsPile seens passes lock = IsPileFrom 0 seens passes lock
 
+  -- none of these passes met its lock worn by more turns than so many
+  abbrev pub AreWithin : ℕ → List (Pass V C A R S g) → Type 0
+  AreWithin most passes =
+      (i : ℕ) (pass : Pass V C A R S g) → get_elem? passes i ≡ some pass → pass_worn pass ≤ most
+
   -- ---- closing
 
   -- these are all passes of the lock
@@ -74,11 +80,13 @@ module _ {V C A R S : Type 0} {g : Ghosts V C A R S} where
     pub all : length passes ≡ turn_passes lock
 
   -- what the lock of these passes was closed with: one history, which each of them has seen a
-  -- beginning of and after that called nothing, and no other caller called anything
+  -- beginning of and after that called nothing, and no other caller called anything; where one of
+  -- them met the lock worn by so many turns, it has as many calls
   pub record HasAllOf (passes : List (Pass V C A R S g)) (whole : History C) : Type 0 where
     pub numbers : All (λ (entry : ℕ × C). entry.0 < length passes) whole
     pub each : (i : ℕ) (pass : Pass V C A R S g) → get_elem? passes i ≡ some pass
         → GoesOn (pass_number pass) (pass_seen pass) whole
+    pub worn : AreWithin (length whole) passes
 
 -- One whole history of callers that have each seen this of it: only they are in it, and each has
 -- seen a beginning of it, after which it called nothing.

@@ -25,7 +25,7 @@ use Rattle.caster_places.specs.declared.piles.Piles.{Piles}
 use Rattle.caster_places.specs.declared.totals.Totals.{Totals}
 use Rattle.caster_places.specs.Known.{Known}
 use Rattle.caster_places.specs.Leaves.{left_in}
-use Rattle.caster_places.specs.Piles.{HasRoom, IsPile, IsWhole}
+use Rattle.caster_places.specs.Piles.{AreMatched, AreWithin, HasRoom, IsPile, IsWhole}
 
 -- the locks of the rings, in the order of the mountpoints
 abbrev pub RingLocks : Type 0
@@ -68,6 +68,12 @@ pub record ArePiles (rows : List Histories) (piles : Piles) (ring_locks : RingLo
 pub record HaveRoom (callers : ℕ) (piles : Piles) : Type 0 where
   pub rings : All (HasRoom callers) piles.rings.items
   pub book : HasRoom callers piles.book
+
+-- no pass of the piles met its lock worn by more turns than these, one number for each mountpoint
+-- and one for the book
+pub record AreWornWithin (mounts : List ℕ) (book : ℕ) (piles : Piles) : Type 0 where
+  pub rings : AreMatched (λ pile most. AreWithin most pile.items) piles.rings.items mounts
+  pub book_within : AreWithin book piles.book.items
 
 -- ---- closing
 

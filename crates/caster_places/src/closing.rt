@@ -15,7 +15,7 @@ ghost use Rattle.session_core.specs.Reports.{added, closed_of, mount_total, sums
 ghost use Rattle.session_core.specs.Run.{Histories};
 ghost use Rattle.session_core.specs.Setting.{caps, shapes};
 ghost use Rattle.caster_places.specs.Piles.{AreAllOf, AreMatched, HasAllOf};
-ghost use Rattle.caster_places.specs.Rows.{ArePiles, AreWhole, IsRoomFor, left_by};
+ghost use Rattle.caster_places.specs.Rows.{ArePiles, AreWhole, AreWornWithin, IsRoomFor, left_by};
 
 use crate::piles::Piles;
 use crate::totals::Totals;
@@ -102,6 +102,7 @@ fn close_book(
 /// There is one whole history of each lock, of which each caller has seen a beginning. Nobody else
 /// called anything, and no caller called anything after what it has seen. By these histories the
 /// mountpoints and the accounts are told, and the sums of all accounts are those of the callers.
+/// Where a caller met a lock worn by so many turns, the history of the lock has as many calls.
 pub fn close(
     config: &Config,
     rings: Vec<Turn<Ring>>,
@@ -120,7 +121,8 @@ pub fn close(
         → All (λ row. IsLegal (fits (caps config.now)) row.book) rows
         → (whole : Histories) × AreWhole rows whole (length config.now.mount)
         × (result ≡ closed_of config.now whole)
-        × (result.total ≡ added nothing (left_by 0 rows)) }
+        × (result.total ≡ added nothing (left_by 0 rows))
+        × AreWornWithin (map length whole.rings) (length whole.book) piles }
 {
     let Totals {
         mut mounts,

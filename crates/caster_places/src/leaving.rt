@@ -6,9 +6,10 @@ ghost use mathlib.Core.Option.{some};
 ghost use lib.ListN.{get_elem?};
 ghost use Rattle.turn_log.specs.History.{IsLegal};
 ghost use Rattle.caster_accounts.specs.History.{fits};
+ghost use Rattle.session_calls.specs.Rings.{AllLater};
 ghost use Rattle.session_core.specs.Run.{Histories};
 ghost use Rattle.caster_places.specs.Piles.{AreThree, HasRoom, IsGivenBack};
-ghost use Rattle.caster_places.specs.Rows.{AreAt, ArePiles, HaveRoom};
+ghost use Rattle.caster_places.specs.Rows.{AreAt, ArePiles, AreWornWithin, HaveRoom};
 
 use crate::known::AllPlaces;
 use crate::piles::Piles;
@@ -22,7 +23,7 @@ fn leave_each<V: Played, T: Leaves<V>>(mut places: Vec<T>, piles: &mut Vec<Vec<P
     requires same { length places.items ≡ length piles.old.items }
     requires room { All (HasRoom 1) piles.old.items }
     ensures back { AreThree (λ place old new.
-        IsGivenBack T.speaks T.seen T.home T.shape place old.items new.items)
+        IsGivenBack T.speaks T.seen T.home T.shape T.worn place old.items new.items)
         places.items piles.old.items piles.new.items }
     ensures room { (n : ℕ) → All (HasRoom (n + 1)) piles.old.items
         → All (HasRoom n) piles.new.items }
@@ -42,7 +43,8 @@ fn leave_each<V: Played, T: Leaves<V>>(mut places: Vec<T>, piles: &mut Vec<Vec<P
 }
 
 /// Gives the passes of these places back, each to the pile of its lock. Piles with room for the
-/// passes of so many callers have room for one less afterwards.
+/// passes of so many callers have room for one less afterwards. Where no pass of the piles met its
+/// lock worn by more turns than so many, no place was worn by more.
 pub fn leave<T: Leaves<Ring>, B: Leaves<Book>>(places: Places<T, B>, piles: &mut Piles)
     requires same { length places.rings.items ≡ length piles.old.rings.items }
     requires room { HaveRoom 1 piles.old }
@@ -52,6 +54,9 @@ pub fn leave<T: Leaves<Ring>, B: Leaves<Book>>(places: Places<T, B>, piles: &mut
         → ArePiles (rows ++ ⟦<Places<T, B> as AllPlaces>⟧.seen places ∷ []) piles.new rings book }
     ensures legal { IsLegal (fits (⟦<Places<T, B> as AllPlaces>⟧.known places).caps_are)
         (⟦<Places<T, B> as AllPlaces>⟧.seen places).book }
+    ensures worn { (mounts : List ℕ) (book : ℕ) → AreWornWithin mounts book piles.new
+        → AreWornWithin mounts book piles.old
+        × AllLater (⟦<Places<T, B> as AllPlaces>⟧.worn places) (mounts ++ book ∷ []) }
     ensures room { (callers : ℕ) → HaveRoom (callers + 1) piles.old → HaveRoom callers piles.new }
     ensures count { length piles.new.rings.items ≡ length piles.old.rings.items }
     ensures one_more { length piles.new.book.items ≡ length piles.old.book.items + 1 }

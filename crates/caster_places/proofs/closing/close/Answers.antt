@@ -7,6 +7,7 @@ use Rattle.session_core.specs.Run.{Histories}
 use Rattle.session_core.specs.Reports.{sums_from}
 use Rattle.session_core.specs.Setting.{caps}
 use Rattle.session_core.proofs.HeldLemmas.{length_shapes}
+use Rattle.caster_places.proofs.PileLemmas.{closed_within}
 use Rattle.caster_places.proofs.RowLemmas.{rings_closing, book_closing, rows_whole}
 use Rattle.caster_places.proofs.SumLemmas.{total_is, total_by_callers}
 use Rattle.caster_places.proofs.ClosedLemmas.{closed_is, from_nothing, caps_count}
@@ -47,4 +48,5 @@ returns c = λ rows are legal.
           ∙ ap (sums_from 1 whole) c.as_slice.ensures)
           (told.1 ∙ total_is whole (caps config) config.account rows (caps_count config) is.book legal),
       told.1 ∙ total_by_callers rows whole.book is.book,
+      record { rings = closed_within _ rings.0 rings.2; book_within = book.1.worn },
     )

@@ -9,5 +9,5 @@ returns c =
       closed.0,
       total_told c.published.result c.claims.result closed.0 (c.published.ensures closed.0 closed.1)
           (c.claims.ensures closed.0 closed.1),
-      has_all c.args.pile.items c.args.lock closed.0 c.requires.all closed.2 closed.3,
+      has_all c.args.pile.items c.args.lock closed.0 c.requires.all closed.2 closed.3 closed.4,
     )

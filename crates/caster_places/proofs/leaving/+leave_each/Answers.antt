@@ -13,6 +13,7 @@ returns-clause-back g t c =
       saw = c.give_back.ensures.seen;
       home_is = c.give_back.ensures.home;
       shape_is = c.give_back.ensures.shape;
+      wore = c.give_back.ensures.worn;
     })
 
 pub returns-clause-room : goal.returns-clause-room
