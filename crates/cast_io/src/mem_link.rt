@@ -309,6 +309,10 @@ impl Link for MemLink {
     fn rest(&mut self)
         ensures { self.new ≡ self.old }
     {}
+
+    fn set_mount(&mut self, _mount: u32)
+        ensures { self.new ≡ self.old }
+    {}
 }
 
 // The step at this place.

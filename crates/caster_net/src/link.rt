@@ -194,6 +194,8 @@ impl Link for TcpLink<'_> {
             Woken::Late => self.pause = self.pause.min(1),
         }
     }
+
+    fn set_mount(&mut self, _mount: u32) {}
 }
 
 // Writes some first bytes of a piece that is not empty, and waits where it must: how many were taken,

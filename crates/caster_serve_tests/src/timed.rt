@@ -174,6 +174,8 @@ impl<'a, R: Clock> Link for TimedLink<'a, R> {
     fn rest(&mut self) {
         self.note(b'r');
     }
+
+    fn set_mount(&mut self, _mount: u32) {}
 }
 
 impl<'a, R: Clock> TimedDoor<'a, R> {

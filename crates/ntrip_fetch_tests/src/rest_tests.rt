@@ -54,6 +54,8 @@ impl Link for NotedLink {
     fn rest(&mut self) {
         self.note(b'r');
     }
+
+    fn set_mount(&mut self, _mount: u32) {}
 }
 
 /// The calls of a link to a caster that sends these pieces, while two frames are fetched from it.

@@ -1,5 +1,5 @@
--- How far a rover is, for whoever gives it its turns.
-use Rattle.std.specs.Prelude.{List, [], ◌∷◌, length, Option, None, Some}
+-- How far a rover is, for whoever gives it its turns, and at which mountpoint a session is.
+use Rattle.std.specs.Prelude.{ℕ, List, [], ◌∷◌, length, Option, None, Some}
 use Rattle.ntrip_head.specs.declared.request.Version.{Version}
 use Rattle.rover_cursor.specs.declared.segment.Segment.{Segment}
 use Rattle.rover_session.specs.Standing.{Rover as RoverValue, rover_of}
@@ -33,3 +33,17 @@ state_at None (Rover account session) = state_of (rover_of session)
 
 abbrev pub rover_state : Session → Option RoverState
 rover_state session = state_at session.ended session.stage
+
+-- ---- where it is
+
+-- the mountpoint of a source or a relay, and of a rover that stands so
+abbrev pub mount_at : Stage → Option RoverState → Option ℕ
+mount_at (Head head) rover = None
+mount_at Over rover = None
+mount_at (Source mount session) rover = Some mount
+mount_at (Relay mount session) rover = Some mount
+mount_at (Rover account session) None = None
+mount_at (Rover account session) (Some rover) = Some rover.mount
+
+abbrev pub session_mount : Session → Option ℕ
+session_mount session = mount_at session.stage (rover_state session)

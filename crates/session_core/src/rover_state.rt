@@ -1,8 +1,8 @@
-//! How far a rover is.
+//! How far a rover is, and at which mountpoint a session is.
 
 ghost use Rattle.std.specs.Prelude.{◌≡◌};
 ghost use Rattle.rover_session.specs.Standing.{rover_of};
-ghost use Rattle.session_core.specs.States.{rover_state, state_of};
+ghost use Rattle.session_core.specs.States.{rover_state, session_mount, state_of};
 
 use crate::session::Session;
 use crate::stage::Stage;
@@ -50,6 +50,23 @@ impl Session {
                 },
             ) => state_of(session),
             _ => None,
+        }
+    }
+
+    /// The number of the mountpoint at which it is: that of a source or a relay, and of a rover that
+    /// goes on the one of its newest segment.
+    pub fn mount(&self) -> Option<u32>
+        ensures { result ≡ session_mount self.now }
+    {
+        match &self.stage {
+            Stage::Head(_head) => None,
+            Stage::Over => None,
+            Stage::Source { mount, session: _ } => Some(*mount),
+            Stage::Relay { mount, session: _ } => Some(*mount),
+            Stage::Rover {
+                account: _,
+                session: _,
+            } => self.rover().map(|rover| rover.mount),
         }
     }
 }
