@@ -14,6 +14,7 @@ use Rattle.caster_accounts.specs.Sums.{nothing}
 use Rattle.caster_accounts.specs.declared.account.Sum.{Sum}
 use Rattle.cast_config.specs.declared.config.Config.{Config}
 use Rattle.cast_config.specs.declared.config.Relay.{Relay}
+use Rattle.session_calls.specs.Rings.{AllLater}
 use Rattle.session_core.specs.Run.{Histories}
 use Rattle.session_core.specs.Setting.{caps}
 use Rattle.caster_street.specs.Ends.{EndTold, at_door, over_link, Kind, a_worker, a_relay, IsUnused, door_failed, kind_of, kinds, relays_from}
@@ -27,7 +28,9 @@ use Rattle.caster_serve.specs.Wear.{Wear, lacks_in, only_worn}
 use Rattle.caster_serve.specs.Works.{IsWithin}
 use Rattle.caster_serve.specs.Callers.{Caller, Served, ServedOver, IsServed, AreServed, ends_of, is_whole, is_whole_at, seen_of, uncalled}
 use Rattle.caster_serve.specs.Hands.{HandTold, HandServed, FitsEnd, MayServe}
-use Rattle.caster_serve.specs.Seated.{AreAllAt, AreLegal, AreSeated, HavePlaces, IsSeated, ends_in, rows_of}
+use Rattle.caster_serve.specs.Seated.{AreAllAt, AreBelow, AreLegal, AreSeated, HavePlaces, IsSeated, ends_in, rows_of}
+use Rattle.caster_serve.proofs.WorkLemmas.{relay_on, worked_on}
+use Rattle.caster_serve.proofs.WornLemmas.{WearsOn, later_none}
 
 -- what each hand tells of its caller
 abbrev pub callers_of : List HandTold → List Caller
@@ -153,20 +156,32 @@ slice_served c limit told olds slice news len is long same each =
     (subst (λ l. AreMatched (HandServed c limit) (map told l) (map told news)) is
     (served_each c limit told slice news same each))
 
-abbrev served_one : (shared : Shared) (limit n : ℕ) (end : EndTold) (old new : HandTold) → IsUnused end
-    → IsSeated shared n end old → HandServed shared.config.now limit old new
-    → IsServed shared.config.now limit n new.caller
-served_one shared limit n end old new unused seated served = record {
+-- what was refused by the places as they were worn then, was by the same places as they are now
+served_on : (c : Config) (limit me : ℕ) (wear later : Wear) (before after : EndTold) (old new : Caller)
+    → WearsOn wear later → ServedOver c limit me wear before after old new
+    → ServedOver c limit me later before after old new
+served_on c limit me wear later (at_door before) (at_door after) old new on served =
+    worked_on c me wear later old.seen new.seen before after old.tally new.tally limit new.served on served
+served_on c limit me wear later (at_door before) (over_link number after) old new on served = absurd served
+served_on c limit me wear later (over_link number before) (at_door after) old new on served = absurd served
+served_on c limit me wear later (over_link number before) (over_link now after) old new on served =
+    (served.0, relay_on c number me wear later old.seen new.seen after old.tally new.tally on served.1)
+
+abbrev served_one : (shared : Shared) (limit n : ℕ) (worn : List ℕ) (end : EndTold) (old new : HandTold)
+    → IsUnused end → IsSeated shared n end old → HandServed shared.config.now limit old new
+    → AllLater new.worn worn → IsServed shared.config.now limit worn n new.caller
+served_one shared limit n worn end old new unused seated served below = record {
   end = end;
   unused = unused;
-  worn = new.worn;
-  served = subst (λ (caller : Caller). Served shared.config.now limit n (only_worn new.worn) caller new.caller)
+  served = served_on shared.config.now limit n (only_worn new.worn) (only_worn worn) end new.caller.end
+      (uncalled shared.config.now end) new.caller (record { same = refl; later = below })
+      (subst (λ (caller : Caller). Served shared.config.now limit n (only_worn new.worn) caller new.caller)
       seated.fresh
       (subst (λ (k : ℕ). Served shared.config.now limit k (only_worn new.worn) old.caller new.caller) seated.numbered
       (subst (λ (lacks : Bool). Served shared.config.now limit old.number (record {
         may_lack = lacks;
         turns = new.worn;
-      }) old.caller new.caller) (ap lacks_in served.known ∙ seated.full) served.served));
+      }) old.caller new.caller) (ap lacks_in served.known ∙ seated.full) served.served)));
 }
 
 kind_kept : (c : Config) (limit me : ℕ) (wear : Wear) (before after : EndTold) (old new : Caller)
@@ -178,25 +193,31 @@ kind_kept c limit me wear (over_link number before) (over_link now after) old ne
 
 -- what is known when they served
 pub record HaveServed (shared : Shared) (limit n : ℕ) (ends : List EndTold) (hands : List HandTold) : Type 0 where
-  pub served : AreServed shared.config.now limit n (callers_of hands)
+  pub served : (worn : List ℕ) → AreBelow worn hands
+      → AreServed shared.config.now limit worn n (callers_of hands)
   pub kinds_kept : map kind_of (ends_of (callers_of hands)) ≡ map kind_of ends
   pub at : AreAllAt n hands shared.rings.items shared.book
 
 pub have_served : (shared : Shared) (limit n : ℕ) (ends : List EndTold) (olds news : List HandTold)
     → All IsUnused ends → AreSeated shared n ends olds → AreMatched (HandServed shared.config.now limit) olds news
     → HaveServed shared limit n ends news
-have_served shared limit n [] [] [] unused seated served = record { served = tt; kinds_kept = refl; at = tt }
+have_served shared limit n [] [] [] unused seated served =
+    record { served = λ worn below. tt; kinds_kept = refl; at = tt }
 have_served shared limit n [] [] (new ∷ news) unused seated served = absurd served
 have_served shared limit n [] (old ∷ olds) news unused seated served = absurd seated
 have_served shared limit n (end ∷ ends) [] news unused seated served = absurd seated
 have_served shared limit n (end ∷ ends) (old ∷ olds) [] unused seated served = absurd served
 have_served shared limit n (end ∷ ends) (old ∷ olds) (new ∷ news) unused seated served =
     let later = have_served shared limit (n + 1) ends olds news (All-tail IsUnused end ends unused) seated.1 served.1 in
-    let one = served_one shared limit n end old new (All-head IsUnused end ends unused) seated.0 served.0 in
+    let free = All-head IsUnused end ends unused in
+    let one = served_one shared limit n new.worn end old new free seated.0 served.0 (later_none new.worn) in
     record {
-      served = (one, later.served);
+      served = λ worn below. (
+        served_one shared limit n worn end old new free seated.0 served.0 below.0,
+        later.served worn below.1,
+      );
       kinds_kept = ap (λ k. k ∷ map kind_of (ends_of (callers_of news)))
-          (kind_kept shared.config.now limit n (only_worn one.worn) one.end new.caller.end (uncalled shared.config.now one.end) new.caller
+          (kind_kept shared.config.now limit n (only_worn new.worn) one.end new.caller.end (uncalled shared.config.now one.end) new.caller
           one.served)
           ∙ ap (λ l. kind_of end ∷ l) later.kinds_kept;
       at = (subst (λ known. AreAt n known shared.rings.items shared.book) (sym served.0.known) seated.0.at, later.at);
@@ -242,17 +263,18 @@ leaves_over c limit n wear (at_door before) (over_link number after) start now s
 leaves_over c limit n wear (over_link number before) (at_door after) start now served = absurd served
 leaves_over c limit n wear (over_link number before) (over_link same after) start now served = served.1.leaves
 
-pub tallies_are : (c : Config) (limit n : ℕ) (callers : List Caller) → AreServed c limit n callers
+pub tallies_are : (c : Config) (limit : ℕ) (worn : List ℕ) (n : ℕ) (callers : List Caller)
+    → AreServed c limit worn n callers
     → left_by n (seen_of callers) ≡ map (λ (caller : Caller). caller.tally) callers
-tallies_are c limit n [] served = refl
-tallies_are c limit n (caller ∷ callers) served =
+tallies_are c limit worn n [] served = refl
+tallies_are c limit worn n (caller ∷ callers) served =
     let one = served.0 in
-    let leaves = leaves_over c limit n (only_worn one.worn) one.end caller.end (uncalled c one.end) caller one.served in
+    let leaves = leaves_over c limit n (only_worn worn) one.end caller.end (uncalled c one.end) caller one.served in
     let next : n + 1 ≡ suc n = omega arith in
     ap (λ (s : Sum). s ∷ left_by (suc n) (seen_of callers))
     (ap (λ h. left_in nothing (own n h)) leaves.on ∙ sym leaves.sums)
     ∙ ap (λ l. caller.tally ∷ l)
-    (tallies_are c limit (suc n) callers (subst (λ (k : ℕ). AreServed c limit k callers) next served.1))
+    (tallies_are c limit worn (suc n) callers (subst (λ (k : ℕ). AreServed c limit worn k callers) next served.1))
 
 -- ---- a door that failed
 
@@ -268,17 +290,18 @@ failed_over c limit n wear (at_door before) (over_link number after) start now u
 failed_over c limit n wear (over_link number before) (at_door after) start now unused served short = absurd served
 failed_over c limit n wear (over_link number before) (over_link same after) start now unused served short = absurd cc
 
-pub some_failed : (c : Config) (limit n : ℕ) (callers : List Caller) → AreServed c limit n callers
+pub some_failed : (c : Config) (limit : ℕ) (worn : List ℕ) (n : ℕ) (callers : List Caller)
+    → AreServed c limit worn n callers
     → list_all (is_whole limit) callers ≡ false → IsTrue (list_any door_failed (ends_of callers))
-some_failed c limit n [] served short = absurd cc
-some_failed c limit n (caller ∷ callers) served short =
-    from (some_failed c limit (n + 1) callers served.1)
+some_failed c limit worn n [] served short = absurd cc
+some_failed c limit worn n (caller ∷ callers) served short =
+    from (some_failed c limit worn (n + 1) callers served.1)
     (and_cases (is_whole limit caller) (list_all (is_whole limit) callers) short)
   where
     from : (list_all (is_whole limit) callers ≡ false → IsTrue (list_any door_failed (ends_of callers)))
         → (is_whole limit caller ≡ false) ⊎ (list_all (is_whole limit) callers ≡ false)
         → IsTrue (list_any door_failed (ends_of (caller ∷ callers)))
     from later (inl here) = or_left (door_failed caller.end) (list_any door_failed (ends_of callers))
-        (failed_over c limit n (only_worn served.0.worn) served.0.end caller.end (uncalled c served.0.end) caller
+        (failed_over c limit n (only_worn worn) served.0.end caller.end (uncalled c served.0.end) caller
         served.0.unused served.0.served here)
     from later (inr there) = or_right (door_failed caller.end) (list_any door_failed (ends_of callers)) (later there)

@@ -14,6 +14,7 @@ use Rattle.turn_log.specs.declared.lock.parts.Turn.{Turn}
 use Rattle.turn_log.specs.declared.lock.parts.Pass.{Pass}
 use Rattle.turn_log.specs.Lock.{turn_value, pass_number, pass_seen, IsPassOf}
 use Rattle.mount_ring.specs.Kept.{ring_shape}
+use Rattle.session_calls.specs.Rings.{AllLater}
 use Rattle.session_core.specs.Run.{Histories, nothing_called}
 use Rattle.cast_config.specs.declared.config.Config.{Config}
 use Rattle.caster_street.specs.Ends.{EndTold}
@@ -25,7 +26,7 @@ use Rattle.caster_serve.specs.declared.shared.Passes.{Passes}
 use Rattle.caster_serve.specs.Sharing.{AreNewPasses, ArePassesOf, IsNewPass, IsReady, seen_by}
 use Rattle.caster_serve.specs.Callers.{Caller, uncalled}
 use Rattle.caster_serve.specs.Hands.{HandTold}
-use Rattle.caster_serve.specs.Seated.{AreSeated, IsSeated, AreAllAt, AreLegal, HaveLeft, HavePlaces, rows_of}
+use Rattle.caster_serve.specs.Seated.{AreSeated, IsSeated, AreAllAt, AreBelow, AreLegal, HaveLeft, HavePlaces, rows_of}
 use Rattle.session_core.proofs.HeldLemmas.{length_shapes}
 use Rattle.caster_places.proofs.ListLemmas.{at_front, at_back}
 use Rattle.caster_serve.proofs.SharingLemmas.{matched-weaker}
@@ -185,6 +186,23 @@ pub legal_more : {X : Type 0} (told : X → HandTold) (hands front : List X) (la
 legal_more told hands front last is all one =
     subst AreLegal (sym (ap (map told) is ∙ map-append told front (last ∷ [])))
     (legal-snoc (map told front) (told last) all one)
+
+pub below_none : {X : Type 0} (told : X → HandTold) (worn : List ℕ) (hands : List X) → length hands ≡ 0
+    → AreBelow worn (map told hands)
+below_none told worn [] none = tt
+below_none told worn (hand ∷ hands) none = absurd (omega (arith, none))
+
+below-snoc : (worn : List ℕ) (hands : List HandTold) (hand : HandTold) → AreBelow worn hands → AllLater hand.worn worn
+    → AreBelow worn (hands ++ hand ∷ [])
+below-snoc worn [] hand all one = (one, tt)
+below-snoc worn (x ∷ hands) hand all one = (all.0, below-snoc worn hands hand all.1 one)
+
+pub below_more : {X : Type 0} (told : X → HandTold) (worn : List ℕ) (hands front : List X) (last : X)
+    → hands ≡ front ++ last ∷ [] → AreBelow worn (map told front) → AllLater (told last).worn worn
+    → AreBelow worn (map told hands)
+below_more told worn hands front last is all one =
+    subst (AreBelow worn) (sym (ap (map told) is ∙ map-append told front (last ∷ [])))
+    (below-snoc worn (map told front) (told last) all one)
 
 -- ---- the passes of all callers
 

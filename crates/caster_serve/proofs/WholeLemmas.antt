@@ -23,12 +23,12 @@ use Rattle.session_core.specs.Setting.{caps}
 use Rattle.session_core.proofs.HeldLemmas.{length_shapes}
 use Rattle.caster_street.specs.Ends.{EndTold, HasAsked, HasTakenBack, IsUnused, a_worker, asked_of, doors_in, links_in, door_failed, kind_of, kinds, relays_from}
 use Rattle.caster_places.specs.declared.piles.Piles.{Piles}
-use Rattle.caster_places.specs.Rows.{AreWhole, ArePiles, left_by}
+use Rattle.caster_places.specs.Rows.{AreWhole, AreWornWithin, ArePiles, left_by}
 use Rattle.caster_serve.specs.declared.shared.Shared.{Shared}
 use Rattle.caster_serve.specs.declared.whole.ServeFault.{ServeFault}
 use Rattle.caster_serve.specs.declared.whole.ServeFault.TheVariants as faults
 use Rattle.caster_serve.specs.Sharing.{IsReady}
-use Rattle.caster_serve.specs.Callers.{Caller, ends_of, seen_of}
+use Rattle.caster_serve.specs.Callers.{Caller, calls_in, ends_of, seen_of}
 use Rattle.caster_serve.specs.Seated.{HaveCalled}
 use Rattle.caster_serve.specs.Caster.{HasGivenBack, AllServed, NoneServed, ClosedWhole, EndedEarly, Ended, Refused, HasServed}
 use Rattle.cast_io.proofs.ToldLemmas.{rose_since}
@@ -76,11 +76,12 @@ since ends old mid new doors links back = record {
 
 all_served : (shared : Shared) (limit : ℕ) (old new : StreetTold) (ends : List EndTold) (piles : Piles) (whole : Bool)
     (histories : Histories) (called : HaveCalled shared limit ends piles whole)
-    → AreWhole (seen_of called.callers) histories (length shared.config.now.mount) → HasTakenBack ends old new
+    → AreWhole (seen_of called.callers) histories (length shared.config.now.mount)
+    → AreWornWithin (map length histories.rings) (length histories.book) piles → HasTakenBack ends old new
     → AllServed shared.config.now limit old new called.callers histories
-all_served shared limit old new ends piles whole histories called is back = record {
+all_served shared limit old new ends piles whole histories called is within back = record {
   kinds_are = ap (map kind_of) (sym called.ends_are) ∙ called.kinds_are;
-  served = called.served;
+  served = called.served (map length histories.rings) (length histories.book) within;
   given_back = subst (λ (list : List EndTold). HasGivenBack list old new) called.ends_are
       (given_back ends old new back);
   whole = is;
@@ -92,6 +93,7 @@ Closes shared piles closed = (rows : List Histories) → ArePiles rows piles sha
     → All (λ (row : Histories). IsLegal (fits (caps shared.config.now)) row.book) rows
     → (whole : Histories) × AreWhole rows whole (length shared.config.now.mount)
     × (closed ≡ closed_of shared.config.now whole) × (closed.total ≡ added nothing (left_by 0 rows))
+    × AreWornWithin (map length whole.rings) (length whole.book) piles
 
 pub closed_whole : (shared : Shared) (limit : ℕ) (old new : StreetTold) (ends : List EndTold) (piles : Piles)
     (whole : Bool) (closed : Closed) → HaveCalled shared limit ends piles whole → Closes shared piles closed
@@ -100,10 +102,11 @@ closed_whole shared limit old new ends piles whole closed called closes back all
     let is = closes (seen_of called.callers) called.piles_are called.legal in record {
       callers = called.callers;
       histories = is.0;
-      all = all_served shared limit old new ends piles whole is.0 called is.1 back;
+      all = all_served shared limit old new ends piles whole is.0 called is.1 is.4 back;
       whole = sym called.whole_is ∙ all;
       closed_is = is.2;
-      total = is.3 ∙ ap (added nothing) (tallies_are shared.config.now limit 0 called.callers called.served);
+      total = is.3 ∙ ap (added nothing) (tallies_are shared.config.now limit (calls_in is.0) 0 called.callers
+          (called.served (map length is.0.rings) (length is.0.book) is.4));
     }
 
 pub ended_early : (shared : Shared) (limit : ℕ) (old new : StreetTold) (ends : List EndTold) (piles : Piles)
@@ -113,9 +116,10 @@ ended_early shared limit old new ends piles whole closed called closes back shor
     let is = closes (seen_of called.callers) called.piles_are called.legal in record {
       callers = called.callers;
       histories = is.0;
-      all = all_served shared limit old new ends piles whole is.0 called is.1 back;
+      all = all_served shared limit old new ends piles whole is.0 called is.1 is.4 back;
       rose = back.rose (subst (λ (list : List EndTold). IsTrue (list_any door_failed list)) (sym called.ends_are)
-          (some_failed shared.config.now limit 0 called.callers called.served (sym called.whole_is ∙ short)));
+          (some_failed shared.config.now limit (calls_in is.0) 0 called.callers
+          (called.served (map length is.0.rings) (length is.0.book) is.4) (sym called.whole_is ∙ short)));
     }
 
 pub none_served : (ends : List EndTold) (old new : StreetTold) → All IsUnused ends → HasTakenBack ends old new

@@ -359,3 +359,43 @@ pub worked_worn : (c : Config) (me : ℕ) (lacks : Bool) (worn : List ℕ) (star
 worked_worn c me lacks worn start now before after old new limit count never worked =
     subst (λ (b : Bool). Worked c me (record { may_lack = b; turns = worn }) start now before after old new limit count)
     never worked
+
+-- ---- the same places, as they are worn later
+
+works_on : (c : Config) (me : ℕ) (wear later : Wear) (start now : Histories) (before after : DoorTold) (old new : Sum)
+    (count : ℕ) → WearsOn wear later → Works c me wear start now before after old new count
+    → Works c me later start now before after old new count
+works_on c me wear later start now before after old new count on works = record {
+  entries = works.entries;
+  back = works.back;
+  arrived = works.arrived;
+  followed = followed_worn c me wear later works.entries start now on works.followed;
+  counted = works.counted;
+  tally = works.tally;
+  leaves = works.leaves;
+  later = works.later;
+}
+
+pub worked_on : (c : Config) (me : ℕ) (wear later : Wear) (start now : Histories) (before after : DoorTold)
+    (old new : Sum) (limit count : ℕ) → WearsOn wear later
+    → Worked c me wear start now before after old new limit count
+    → Worked c me later start now before after old new limit count
+worked_on c me wear later start now before after old new limit count on worked = record {
+  works = works_on c me wear later start now before after old new count on worked.works;
+  done = worked.done;
+  visits = worked.visits;
+  at = worked.at;
+  went_on = worked.went_on;
+  stopped = worked.stopped;
+}
+
+pub relay_on : (c : Config) (number me : ℕ) (wear later : Wear) (start now : Histories) (after : LinkTold)
+    (old new : Sum) → WearsOn wear later → RelayGoes c number me wear start now after old new
+    → RelayGoes c number me later start now after old new
+relay_on c number me wear later start now after old new on relay = record {
+  receipt = relay.receipt;
+  goes = goes_worn c (relays number) me wear later (record { link = after; receipt = relay.receipt }) start now on
+      relay.goes;
+  tally = relay.tally;
+  leaves = relay.leaves;
+}

@@ -1,6 +1,6 @@
 -- The callers of a caster, which are its workers and its relays: what each did from the first
 -- call on.
-use Rattle.std.specs.Prelude.{◌≡◌, ℕ, ◌+◌, ⊤, nat_eq, Bool, true, List, [], ◌∷◌, map}
+use Rattle.std.specs.Prelude.{◌≡◌, ℕ, ◌+◌, ⊤, nat_eq, Bool, true, List, [], ◌∷◌, ◌++◌, length, map}
 use Rattle.caster_accounts.specs.declared.account.Sum.{Sum}
 use Rattle.caster_accounts.specs.Sums.{nothing}
 use Rattle.cast_config.specs.declared.config.Config.{Config}
@@ -35,18 +35,22 @@ abbrev pub uncalled : Config → EndTold → Caller
 uncalled c end = record { seen = nothing_called c; tally = nothing; served = 0; end = end }
 
 -- The caller of this number did that from its first call on, over what nobody had used. Its places
--- never lacked memory, and were worn by so many turns when it left them.
-pub record IsServed (c : Config) (limit me : ℕ) (caller : Caller) : Type 0 where
-  pub end : EndTold
-  pub unused : IsUnused end
-  pub worn : List ℕ
-  pub served : Served c limit me (only_worn worn) (uncalled c end) caller
+-- never lacked memory, and were worn by no more turns than these.
+pub record IsServed (c : Config) (limit : ℕ) (worn : List ℕ) (me : ℕ) (caller : Caller) : Type 0
+  where
+    pub end : EndTold
+    pub unused : IsUnused end
+    pub served : Served c limit me (only_worn worn) (uncalled c end) caller
 
 -- so did each of these, numbered from this number on
-abbrev pub AreServed : Config → ℕ → ℕ → List Caller → Type 0
-AreServed c limit n [] = ⊤
-AreServed c limit n (caller ∷ callers) =
-    IsServed c limit n caller × AreServed c limit (n + 1) callers
+abbrev pub AreServed : Config → ℕ → List ℕ → ℕ → List Caller → Type 0
+AreServed c limit worn n [] = ⊤
+AreServed c limit worn n (caller ∷ callers) =
+    IsServed c limit worn n caller × AreServed c limit worn (n + 1) callers
+
+-- how many calls each of these histories has, that of the book the last
+abbrev pub calls_in : Histories → List ℕ
+calls_in histories = map length histories.rings ++ length histories.book ∷ []
 
 -- a worker that served as many links as it was to; a relay has but one
 abbrev pub is_whole_at : ℕ → ℕ → EndTold → Bool

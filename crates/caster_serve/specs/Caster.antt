@@ -12,7 +12,7 @@ use Rattle.caster_street.specs.Ends.{EndTold, IsUnused, asked_of, doors_in, link
 use Rattle.caster_places.specs.Rows.{AreWhole}
 use Rattle.caster_serve.specs.declared.whole.ServeFault.{ServeFault}
 use Rattle.caster_serve.specs.declared.whole.ServeFault.TheVariants as faults
-use Rattle.caster_serve.specs.Callers.{Caller, AreServed, ends_of, is_whole, seen_of}
+use Rattle.caster_serve.specs.Callers.{Caller, AreServed, calls_in, ends_of, is_whole, seen_of}
 
 -- these doors were shut and these links hung up, in order, as they are told
 pub record HasGivenBack (ends : List EndTold) (old new : StreetTold) : Type 0 where
@@ -21,11 +21,13 @@ pub record HasGivenBack (ends : List EndTold) (old new : StreetTold) : Type 0 wh
 
 -- All callers served: in the order of their numbers, first the workers and then the relays. Then
 -- all doors and links were given back. There is one history of each mountpoint and one of the
--- book: each caller has seen a beginning of it with all its own calls, and nobody else called.
+-- book: each caller has seen a beginning of it with all its own calls, and nobody else called. A
+-- receipt tells of a worn place, or is not settled, only where one of these histories has 2^62 calls
+-- or more.
 pub record AllServed (c : Config) (limit : ℕ) (old new : StreetTold) (callers : List Caller)
     (histories : Histories) : Type 0 where
   pub kinds_are : map kind_of (ends_of callers) ≡ kinds c
-  pub served : AreServed c limit 0 callers
+  pub served : AreServed c limit (calls_in histories) 0 callers
   pub given_back : HasGivenBack (ends_of callers) old new
   pub whole : AreWhole (seen_of callers) histories (length c.mount)
 

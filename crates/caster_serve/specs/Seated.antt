@@ -5,8 +5,9 @@ use Rattle.turn_log.specs.History.{IsLegal}
 use Rattle.caster_accounts.specs.History.{fits}
 use Rattle.caster_street.specs.Ends.{EndTold, kind_of, kinds}
 use Rattle.caster_places.specs.Known.{Fit}
-use Rattle.caster_places.specs.Rows.{AreAt, ArePiles, RingLocks, BookLock}
+use Rattle.caster_places.specs.Rows.{AreAt, ArePiles, AreWornWithin, RingLocks, BookLock}
 use Rattle.caster_places.specs.declared.piles.Piles.{Piles}
+use Rattle.session_calls.specs.Rings.{AllLater}
 use Rattle.session_core.specs.Run.{Histories}
 use Rattle.session_core.specs.Setting.{caps}
 use Rattle.caster_serve.specs.declared.shared.Shared.{Shared}
@@ -66,16 +67,23 @@ abbrev pub AreLegal : List HandTold → Type 0
 AreLegal [] = ⊤
 AreLegal (hand ∷ hands) = IsLegal (fits hand.known.caps_are) hand.caller.seen.book × AreLegal hands
 
+-- no place of theirs was worn by more turns than these
+abbrev pub AreBelow : List ℕ → List HandTold → Type 0
+AreBelow worn [] = ⊤
+AreBelow worn (hand ∷ hands) = AllLater hand.worn worn × AreBelow worn hands
+
 -- ---- all of it
 
 -- All callers served, each over its end, and left: as many as they were to or not, with the passes
--- of all in the piles of their locks.
+-- of all in the piles of their locks. What they were refused was refused as worn as these passes
+-- met the locks.
 pub record HaveCalled (shared : Shared) (limit : ℕ) (ends : List EndTold) (piles : Piles)
     (whole : Bool) : Type 0 where
   pub callers : List Caller
   pub ends_are : ends ≡ ends_of callers
   pub kinds_are : map kind_of ends ≡ kinds shared.config.now
-  pub served : AreServed shared.config.now limit 0 callers
+  pub served : (mounts : List ℕ) (book : ℕ) → AreWornWithin mounts book piles
+      → AreServed shared.config.now limit (mounts ++ book ∷ []) 0 callers
   pub whole_is : whole ≡ list_all (is_whole limit) callers
   pub piles_are : ArePiles (seen_of callers) piles shared.rings.items shared.book
   pub legal : All (λ (row : Histories). IsLegal (fits (caps shared.config.now)) row.book)

@@ -1,6 +1,6 @@
 //! The locks of a caster are closed.
 
-ghost use Rattle.std.specs.Prelude.{◌≡◌, List, length};
+ghost use Rattle.std.specs.Prelude.{◌≡◌, List, length, map};
 ghost use Rattle.std.specs.List.{All};
 ghost use Rattle.turn_log.specs.History.{IsLegal};
 ghost use Rattle.caster_accounts.specs.History.{fits};
@@ -8,7 +8,7 @@ ghost use Rattle.caster_accounts.specs.Sums.{nothing};
 ghost use Rattle.session_core.specs.Reports.{added, closed_of};
 ghost use Rattle.session_core.specs.Run.{Histories};
 ghost use Rattle.session_core.specs.Setting.{caps};
-ghost use Rattle.caster_places.specs.Rows.{ArePiles, AreWhole, IsRoomFor, left_by};
+ghost use Rattle.caster_places.specs.Rows.{ArePiles, AreWhole, AreWornWithin, IsRoomFor, left_by};
 ghost use Rattle.caster_serve.specs.Sharing.{AreOpenFor, IsReady};
 
 use crate::shared::Shared;
@@ -32,7 +32,8 @@ impl<'c> Shared<'c> {
             → (whole : Histories)
             × AreWhole rows whole (length self.entry.config.now.mount)
             × (result ≡ closed_of self.entry.config.now whole)
-            × (result.total ≡ added nothing (left_by 0 rows)) }
+            × (result.total ≡ added nothing (left_by 0 rows))
+            × AreWornWithin (map length whole.rings) (length whole.book) piles }
     {
         let Shared {
             config,

@@ -4,11 +4,11 @@ ghost use Rattle.std.specs.Prelude.{◌≡◌, ◌≤◌, ◌+◌, ◌<◌, ◌^
 ghost use Rattle.std.specs.List.{list_all};
 ghost use mathlib.Core.Option.{some};
 ghost use lib.ListN.{get_elem?};
-ghost use Rattle.caster_places.specs.Rows.{HaveRoom};
+ghost use Rattle.caster_places.specs.Rows.{AreWornWithin, HaveRoom};
 ghost use Rattle.caster_street.specs.Ends.{end_told};
 ghost use Rattle.caster_serve.specs.Callers.{is_whole};
 ghost use Rattle.caster_serve.specs.Hands.{HandTold};
-ghost use Rattle.caster_serve.specs.Seated.{AreLegal, AreSeated, HaveLeft, HavePlaces, ends_in};
+ghost use Rattle.caster_serve.specs.Seated.{AreBelow, AreLegal, AreSeated, HaveLeft, HavePlaces, ends_in};
 ghost use Rattle.caster_serve.specs.Sharing.{AreNewPasses, IsReady};
 
 use crate::hands::{Hand, Serves};
@@ -121,6 +121,10 @@ pub(crate) fn leave_all<'a, L: Link + Send, D: Door<Link = L> + Send, R: Wait + 
     ensures left { HaveLeft (map ⟦<SeatHand<'a, D, R> as Serves>⟧.told hands.entry.items)
         piles.old piles.new }
     ensures legal { AreLegal (map ⟦<SeatHand<'a, D, R> as Serves>⟧.told hands.entry.items) }
+    ensures worn { (mounts : List ℕ) (book : ℕ) → AreWornWithin mounts book piles.new
+        → AreWornWithin mounts book piles.old
+        × AreBelow (mounts ++ book ∷ [])
+        (map ⟦<SeatHand<'a, D, R> as Serves>⟧.told hands.entry.items) }
     ensures mounts { length piles.new.rings.items ≡ length piles.old.rings.items }
     ensures space { (callers : ℕ) → HaveRoom (callers + length hands.entry.items) piles.old
         → HaveRoom callers piles.new }

@@ -46,4 +46,4 @@ returns-clause-called g c =
     have_called shared c.args.limit _ _ c.args.ends.now.items c.sit_ends.new.ends.items _
     c.serve_hands.new.hands.items c.args.piles.now _ _ c.requires.ready c.in_ok-hands.ensures.taken c.requires.kinds
     served c.leave_all.ensures.ends (c.are_whole-is_whole.ensures ∙ ap (list_all _) c.deref-2.ensures.value)
-    c.leave_all.ensures.left c.leave_all.ensures.legal c.requires.empty c.requires.none c.leave_all.ensures.passes
+    c.leave_all.ensures.left c.leave_all.ensures.worn c.leave_all.ensures.legal c.requires.empty c.requires.none c.leave_all.ensures.passes

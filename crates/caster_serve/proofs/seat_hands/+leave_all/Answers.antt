@@ -1,8 +1,9 @@
 -- The last leaves behind the others.
-use Rattle.std.proofs.Common.{◌∙◌, ◌+◌, ℕ, length, sym, subst, arith}
+use Rattle.std.proofs.Common.{◌∙◌, ◌+◌, ◌++◌, ◌∷◌, [], ℕ, length, sym, subst, arith}
 use Rattle.std.proofs.lemmas.List.{length-map}
 use Rattle.caster_places.specs.Rows.{HaveRoom}
-use Rattle.caster_serve.proofs.SittingLemmas.{places_split, left_more, legal_more, less_room, one_longer}
+use Rattle.caster_serve.proofs.SharingLemmas.{zero_by}
+use Rattle.caster_serve.proofs.SittingLemmas.{below_more, below_none, places_split, left_more, legal_more, less_room, one_longer}
 use Rattle.caster_serve.proofs.seat_hands.+leave_all.Goals as goal
 
 pub leave_all-requires-clause-spare : goal.leave_all-requires-clause-spare
@@ -29,6 +30,22 @@ pub returns-clause-left : goal.returns-clause-left
 returns-clause-left g t c =
     left_more _ _ c.pop.new.self.items c.in-Some.last _ c.leave_all.new.piles _ c.in-Some.ensures.items
     c.leave_all.ensures.left c.leave.ensures.left
+
+pub returns-in_default-clause-worn : goal.returns-in_default-clause-worn
+returns-in_default-clause-worn g t c = λ mounts book within. (
+  within,
+  below_none _ (mounts ++ book ∷ []) c.args.hands.items
+      (zero_by _ (λ less. c.in_default.ensures.variant.1 (omega (arith, less, c.args.hands.ok.0)))),
+)
+
+pub returns-clause-worn : goal.returns-clause-worn
+returns-clause-worn g t c = λ mounts book within.
+    let last = c.leave.ensures.worn mounts book within in
+    let rest = c.leave_all.ensures.worn mounts book last.0 in (
+      rest.0,
+      below_more _ (mounts ++ book ∷ []) c.args.hands.items c.pop.new.self.items c.in-Some.last c.in-Some.ensures.items
+          rest.1 last.1,
+    )
 
 pub returns-clause-legal : goal.returns-clause-legal
 returns-clause-legal g t c =
