@@ -121,7 +121,7 @@ fn run<T: Turns<Ring>, B: Turns<Book>, L: Link, R: Wait>(
     let mut piece = [0u8; PIECE];
     let mut may_rest = false;
     for _ in rt.forever() {
-        let Ok(()) = send(link, out, may_rest) else {
+        let Ok(()) = send(session, link, out, may_rest) else {
             return Last::WriteFault;
         };
         if session.ended() || given >= MOST {

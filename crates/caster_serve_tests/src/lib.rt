@@ -19,6 +19,8 @@ mod fault_tests;
 #[cfg(test)]
 mod link_tests;
 #[cfg(test)]
+mod mount_tests;
+#[cfg(test)]
 mod one_caller;
 #[cfg(test)]
 mod relay_tests;
