@@ -2,7 +2,7 @@
 //! output, the file system and the sockets of std. Its status says what came of it.
 #![tactic(auto)]
 
-use caster_net::{Bell, FileStore, ReaderSource, TcpStreet, WriterSink};
+use caster_net::{Bells, FileStore, ReaderSource, TcpStreet, WriterSink};
 use caster_top::{caster, refuse_for_memory};
 use std::alloc::AllocError;
 use std::env;
@@ -29,8 +29,8 @@ fn main(rt: HostRuntime) -> ExitCode {
     let mut store = FileStore::new(&rt);
     let mut input = ReaderSource::new(rt.stdin());
     let mut out = WriterSink::new(rt.stdout());
-    let bell = Bell::new(&rt);
-    let mut street = TcpStreet::new(&rt, &bell);
+    let bells = Bells::new(&rt);
+    let mut street = TcpStreet::new(&rt, &bells);
     let status = match words(&rt) {
         Ok(words) => caster(
             &rt,

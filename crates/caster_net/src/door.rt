@@ -1,10 +1,11 @@
 //! A listener as a door.
-ghost use Rattle.std.specs.Prelude.{◌≡◌};
+ghost use Rattle.std.specs.Prelude.{◌≡◌, IfOk};
 ghost use Rattle.caster_net.specs.Untold.{door_of};
 
-use crate::bell::Bell;
+use crate::bells::Bells;
 use crate::link::TcpLink;
-use crate::waiting::{failed, rest};
+use crate::waiting::{SHORT, failed, rest};
+use crate::watch::Watch;
 use cast_io::{Arrived, Door};
 use libc::net::{SHUT_RD, shutdown};
 use std::alloc::{AllocError, Global};
@@ -27,8 +28,8 @@ const LONGEST_ENDS: u64 = 2_000;
 #[derive(Drop)]
 pub(crate) struct Porch {
     pub(crate) listener: TcpListener,
-    // A rest waits for a connection: of several doors the system wakes one for each. One door alone
-    // rests for a short while, since its worker may have more to do.
+    // A rest waits for a connection and nothing else: of several doors the system wakes one for each.
+    // One door alone rests for a short while, since its worker may have more to do.
     waits: bool,
     // No connection is taken any more.
     is_shut: AtomicBool,
@@ -70,8 +71,10 @@ impl DoorBell {
 #[derive(Drop)]
 pub struct TcpDoor<'a> {
     rt: &'a HostRuntime,
-    bell: &'a Bell,
+    bells: &'a Bells,
     pub(crate) porch: Arc<Porch, Global>,
+    // Of one door alone: what comes to the listener and to its links. None where descriptors lack.
+    watch: Option<Watch>,
     // What ended a rest, for the next accept.
     came: Option<io::Result<TcpStream>>,
     patience: Duration,
@@ -80,12 +83,13 @@ pub struct TcpDoor<'a> {
 
 impl<'a> TcpDoor<'a> {
     /// A door at this place.
-    pub(crate) fn over(rt: &'a HostRuntime, bell: &'a Bell, porch: Arc<Porch, Global>) -> Self
+    pub(crate) fn over(rt: &'a HostRuntime, bells: &'a Bells, porch: Arc<Porch, Global>) -> Self
         ensures { result.faults ≡ 0 }
     {
         TcpDoor {
             rt,
-            bell,
+            bells,
+            watch: alone_at(rt, &porch),
             porch,
             came: None,
             patience: Duration::from_millis(LONGEST_ENDS),
@@ -103,14 +107,36 @@ impl<'a> TcpDoor<'a> {
     fn take(&self) -> io::Result<TcpStream> {
         match self.porch.listener.accept() {
             Ok((stream, _)) => {
-                self.bell.note_short(false);
+                self.bells.note_short(false);
                 Ok(stream)
             }
             Err(fault) => {
-                self.bell.note_short(is_short(&fault));
+                self.bells.note_short(is_short(&fault));
                 Err(fault)
             }
         }
+    }
+
+    // A link over this connection, for whose bytes one door alone waits too.
+    fn welcome(&self, stream: TcpStream) -> io::Result<TcpLink<'a>>
+        ensures { IfOk result (λ link. link.faults ≡ 0) }
+    {
+        if let Some(watch) = &self.watch {
+            let _ = watch.join(stream.as_raw_fd());
+        }
+        TcpLink::over(self.rt, self.bells, stream)
+    }
+
+    // Waits a short while for a connection and for bytes of the links.
+    fn look(&mut self)
+        ensures { self.new.faults ≡ self.old.faults }
+    {
+        if let Some(watch) = &mut self.watch
+            && watch.wait(Duration::from_millis(SHORT)).is_ok()
+        {
+            return;
+        }
+        rest(self.rt);
     }
 
     // What ended the last rest. Where rests are short, what is at the listener.
@@ -140,7 +166,7 @@ impl<'a> Door for TcpDoor<'a> {
         match self.next() {
             Ok(stream) => {
                 self.patience = Duration::from_millis(LONGEST_ENDS);
-                match TcpLink::over(self.rt, self.bell, stream) {
+                match self.welcome(stream) {
                     Ok(link) => Arrived::Link(link),
                     Err(_) => Arrived::Idle,
                 }
@@ -153,8 +179,10 @@ impl<'a> Door for TcpDoor<'a> {
     // A connection that comes ends it. An accept that failed for a while, as where no descriptor is
     // left, may do so again at once: so it is tried again after a short rest.
     fn rest(&mut self) {
-        if self.porch.is_shut() || !self.porch.waits {
+        if self.porch.is_shut() {
             rest(self.rt);
+        } else if !self.porch.waits {
+            self.look();
         } else if self.came.is_none() {
             match self.take() {
                 Err(fault) if !is_dead(&fault) => rest(self.rt),
@@ -173,6 +201,14 @@ impl<'a> Door for TcpDoor<'a> {
         };
         self.patience = self.patience.saturating_sub(taken);
     }
+}
+
+// What one door alone waits for.
+fn alone_at(rt: &HostRuntime, porch: &Porch) -> Option<Watch> {
+    if porch.waits {
+        return None;
+    }
+    Watch::over(rt, porch.listener.as_raw_fd()).ok()
 }
 
 // The listener is no listener any more.

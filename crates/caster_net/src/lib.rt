@@ -4,7 +4,7 @@
 #![tactic(auto)]
 
 mod adapters;
-mod bell;
+mod bells;
 mod door;
 mod link;
 mod street;
@@ -12,7 +12,7 @@ mod waiting;
 mod watch;
 
 pub use adapters::{FileStore, ReaderSource, WriterSink};
-pub use bell::Bell;
+pub use bells::Bells;
 pub use door::{DoorBell, TcpDoor};
 pub use link::TcpLink;
 pub use street::TcpStreet;

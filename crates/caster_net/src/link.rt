@@ -2,7 +2,7 @@
 ghost use Rattle.std.specs.Prelude.{◌≡◌, ◌<◌, ◌≤◌, length, IfOk, IfSome};
 ghost use Rattle.caster_net.specs.Untold.{link_of};
 
-use crate::bell::Bell;
+use crate::bells::Bells;
 use crate::waiting::{LONGEST, SHORT, failed, rest, wait_ready, would_wait};
 use crate::watch::{Watch, Woken};
 use cast_io::{Failed, Got, Link};
@@ -28,12 +28,13 @@ const MOST_DRAINED: usize = 64 * 1024;
 /// A TCP connection, and how often it failed. A read does not wait for the peer; a write waits while
 /// the peer takes nothing.
 ///
-/// A link that gave the first byte of a frame is a source: it does not wait for the bell at its rests,
-/// and rings it where frames that it gave may have been published.
+/// A link that gave the first byte of a frame is a source: it waits for no bell at its rests, and rings
+/// that of its mountpoint where frames that it gave may have been published. Any other link waits for the
+/// bell of the mountpoint that it was told last, and while it was told none, for its peer alone.
 #[derive(Drop)]
 pub struct TcpLink<'a> {
     rt: &'a HostRuntime,
-    bell: &'a Bell,
+    bells: &'a Bells,
     stream: TcpStream,
     // None before the first rest, and where descriptors lack.
     watch: Option<Watch>,
@@ -41,7 +42,9 @@ pub struct TcpLink<'a> {
     // How long it sleeps before it waits, in milliseconds.
     pause: u64,
     is_source: bool,
-    // It gave bytes, and the bell was not rung for them yet.
+    // The mountpoint that it was told last.
+    mount: Option<u32>,
+    // It gave bytes, and no bell was rung for them yet.
     gave: bool,
     has_ended: bool,
     pub(crate) faults: u64,
@@ -50,23 +53,29 @@ pub struct TcpLink<'a> {
 impl<'a> TcpLink<'a> {
     /// A link over this connection, whose reads and writes do not wait from now on, and whose
     /// small pieces are sent at once.
-    pub(crate) fn over(rt: &'a HostRuntime, bell: &'a Bell, stream: TcpStream) -> io::Result<Self>
+    pub(crate) fn over(rt: &'a HostRuntime, bells: &'a Bells, stream: TcpStream) -> io::Result<Self>
         ensures { IfOk result (λ link. link.faults ≡ 0) }
     {
         stream.set_nonblocking(true)?;
         stream.set_nodelay(true)?;
         Ok(TcpLink {
             rt,
-            bell,
+            bells,
             stream,
             watch: None,
             has_rested: false,
             pause: 0,
             is_source: false,
+            mount: None,
             gave: false,
             has_ended: false,
             faults: 0,
         })
+    }
+
+    /// Whether small pieces are sent at once.
+    pub fn is_prompt(&self) -> io::Result<bool> {
+        self.stream.nodelay()
     }
 
     /// Ends the connection: first what is sent, and where the peer has not ended and no call
@@ -74,20 +83,35 @@ impl<'a> TcpLink<'a> {
     /// with bytes unread is reset, and its peer may lose what it was sent last (RFC 9112, section
     /// 9.6).
     pub(crate) fn close(mut self, limit: Duration) {
-        self.tell();
+        self.tell_last();
         let _ = self.stream.shutdown(Shutdown::Write);
         if !self.has_ended && self.faults == 0 {
             let _ = drain(self.rt, &mut self.stream, limit);
         }
     }
 
-    /// Rings the bell where this link gave frames since it was rung.
-    pub(crate) fn tell(&mut self)
+    /// Rings for what this link gave since it last did. Where it was told no mountpoint, as one that
+    /// came to its end with its first bytes, it rings all bells.
+    pub(crate) fn tell_last(&mut self)
         ensures { self.new.faults ≡ self.old.faults }
     {
+        self.tell();
         if self.gave {
             self.gave = false;
-            self.bell.ring();
+            self.bells.ring_all();
+        }
+    }
+
+    // Rings the bell of its mountpoint where this link gave frames since it last did. Before it was
+    // told one it has published none.
+    fn tell(&mut self)
+        ensures { self.new.faults ≡ self.old.faults }
+    {
+        if self.gave
+            && let Some(mount) = self.mount
+        {
+            self.gave = false;
+            self.bells.ring(mount);
         }
     }
 
@@ -98,9 +122,6 @@ impl<'a> TcpLink<'a> {
         if !self.is_source && bytes.contains(&PREAMBLE) {
             self.is_source = true;
             self.pause = 0;
-            if let (Some(watch), Some(ear)) = (&self.watch, self.bell.ear()) {
-                watch.forget(ear);
-            }
         }
         self.gave = self.is_source;
     }
@@ -110,22 +131,28 @@ impl<'a> TcpLink<'a> {
     fn prepare(&mut self)
         ensures { self.new.faults ≡ self.old.faults }
     {
-        if self.bell.is_short() {
-            self.watch = None;
-        } else if !self.has_rested {
-            self.watch = self.new_watch();
-        }
+        let may_watch = !self.bells.is_short() && (!self.has_rested || self.watch.is_some());
         self.has_rested = true;
+        if !may_watch || self.tune().is_err() {
+            self.watch = None;
+        }
     }
 
-    // A watch over the peer, and over the bell but for a source. With no bell there is none.
-    fn new_watch(&self) -> Option<Watch> {
-        let socket = self.stream.as_raw_fd();
-        if self.is_source {
-            return Watch::over(self.rt, socket, None).ok();
+    // Has the watch wait for the peer and for the bell of the present mountpoint.
+    fn tune(&mut self) -> io::Result<()>
+        ensures { self.new.faults ≡ self.old.faults }
+    {
+        let ear = match self.mount {
+            Some(mount) if !self.is_source => Some(self.bells.ear(self.rt, mount)?),
+            _ => None,
+        };
+        if let Some(watch) = &mut self.watch {
+            return watch.hear(ear);
         }
-        let ear = self.bell.ear()?;
-        Watch::over(self.rt, socket, Some(ear)).ok()
+        let mut watch = Watch::over(self.rt, self.stream.as_raw_fd())?;
+        watch.hear(ear)?;
+        self.watch = Some(watch);
+        Ok(())
     }
 
     // Waits for the peer and the bell; with no watch, a short while for the peer alone.
@@ -195,7 +222,9 @@ impl Link for TcpLink<'_> {
         }
     }
 
-    fn set_mount(&mut self, _mount: u32) {}
+    fn set_mount(&mut self, mount: u32) {
+        self.mount = Some(mount);
+    }
 }
 
 // Writes some first bytes of a piece that is not empty, and waits where it must: how many were taken,

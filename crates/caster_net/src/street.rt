@@ -3,7 +3,7 @@ ghost use Rattle.std.specs.Prelude.{◌≡◌, ◌≤◌, [], vec_len, vec_capac
 ghost use Rattle.std.specs.List.{All};
 ghost use Rattle.caster_net.specs.Untold.{street_of};
 
-use crate::bell::Bell;
+use crate::bells::Bells;
 use crate::door::{Porch, TcpDoor};
 use crate::link::TcpLink;
 use crate::waiting::failed;
@@ -22,19 +22,19 @@ const LONGEST_DIAL: u64 = 5;
 #[derive(Drop)]
 pub struct TcpStreet<'a> {
     rt: &'a HostRuntime,
-    bell: &'a Bell,
+    bells: &'a Bells,
     faults: u64,
     link_faults: u64,
 }
 
 impl<'a> TcpStreet<'a> {
-    /// The network, which has not failed yet, with the bell that its links ring and wait for.
-    pub fn new(rt: &'a HostRuntime, bell: &'a Bell) -> Self
+    /// The network, which has not failed yet, with the bells that its links ring and wait for.
+    pub fn new(rt: &'a HostRuntime, bells: &'a Bells) -> Self
         ensures { (result.faults ≡ 0) × (result.link_faults ≡ 0) }
     {
         TcpStreet {
             rt,
-            bell,
+            bells,
             faults: 0,
             link_faults: 0,
         }
@@ -58,21 +58,21 @@ impl<'a> Street for TcpStreet<'a> {
         let Ok(porch) = Arc::new(self.rt.alloc(), porch) else {
             return Err(StreetFault::Memory);
         };
-        match open_all(self.rt, self.bell, &porch, doors, &mut opened) {
+        match open_all(self.rt, self.bells, &porch, doors, &mut opened) {
             Ok(()) => Ok(opened),
             Err(AllocError) => Err(StreetFault::Memory),
         }
     }
 
     fn dial(&mut self, addr: &str) -> Result<TcpLink<'a>, StreetFault> {
-        match dialled(self.rt, self.bell, addr) {
+        match dialled(self.rt, self.bells, addr) {
             Ok(link) => Ok(link),
             Err(_) => failed(&mut self.faults, Err(StreetFault::Failed)),
         }
     }
 
     fn hang_up(&mut self, mut link: TcpLink<'a>) {
-        link.tell();
+        link.tell_last();
         self.link_faults = self.link_faults.saturating_add(link.faults.min(1));
     }
 
@@ -89,7 +89,7 @@ fn porch_at(rt: &HostRuntime, addr: &str, doors: u32) -> io::Result<Porch> {
 // Opens so many doors at this place, into a list with room for them.
 fn open_all<'a>(
     rt: &'a HostRuntime,
-    bell: &'a Bell,
+    bells: &'a Bells,
     porch: &Arc<Porch, Global>,
     doors: u32,
     opened: &mut Vec<TcpDoor<'a>>,
@@ -100,16 +100,16 @@ fn open_all<'a>(
     ensures each { OnOk result (All (λ door. door.faults ≡ 0) opened.new.items) }
 {
     for _ in 0..doors {
-        opened.push_reserved(TcpDoor::over(rt, bell, porch.clone()?));
+        opened.push_reserved(TcpDoor::over(rt, bells, porch.clone()?));
     }
     Ok(())
 }
 
 // A link over a connection to this address.
-fn dialled<'a>(rt: &'a HostRuntime, bell: &'a Bell, addr: &str) -> io::Result<TcpLink<'a>>
+fn dialled<'a>(rt: &'a HostRuntime, bells: &'a Bells, addr: &str) -> io::Result<TcpLink<'a>>
     ensures { IfOk result (λ link. link.faults ≡ 0) }
 {
-    TcpLink::over(rt, bell, reached(rt, addr)?)
+    TcpLink::over(rt, bells, reached(rt, addr)?)
 }
 
 // Connects to this address, one address of its name after the other.

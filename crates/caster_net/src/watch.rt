@@ -1,4 +1,4 @@
-//! What the rest of one link ends with.
+//! What the rest of one link, or of one door, ends with.
 use mio::unix::SourceFd;
 use mio::{Events, Interest, Poll, Token};
 use std::io;
@@ -13,36 +13,61 @@ const BELL: Token = Token(1);
 /// Why a wait ended.
 #[derive(Clone, Copy)]
 pub(crate) enum Woken {
-    /// The peer sent bytes or has ended.
+    /// A peer sent bytes, came or has ended.
     Peer,
-    /// The bell was rung, and the peer did nothing.
+    /// The bell was rung, and no peer did anything.
     Bell,
     /// It took too long.
     Late,
 }
 
-/// Waits for the peer of one socket, and for a bell. It has a descriptor of its own. What comes while
+/// Waits for what comes to sockets, and for a bell. It has a descriptor of its own. What comes while
 /// nobody waits ends the next wait.
 #[derive(Drop)]
 pub(crate) struct Watch {
     poll: Poll,
     events: Events,
+    // Where the bell is heard.
+    ear: Option<RawFd>,
 }
 
 impl Watch {
-    /// A watch over this socket, and over the bell that is heard here.
-    pub(crate) fn over(rt: &HostRuntime, socket: RawFd, ear: Option<RawFd>) -> io::Result<Watch> {
+    /// A watch over this socket.
+    pub(crate) fn over(rt: &HostRuntime, socket: RawFd) -> io::Result<Watch> {
         let poll = Poll::new(rt)?;
-        enlist(&poll, socket, ear)?;
         let Ok(events) = Events::with_capacity(rt.alloc(), 2) else {
             return Err(io::Error::from(ErrorKind::OutOfMemory));
         };
-        Ok(Watch { poll, events })
+        let watch = Watch {
+            poll,
+            events,
+            ear: None,
+        };
+        watch.join(socket)?;
+        Ok(watch)
     }
 
-    /// Does not wait for this bell any more.
-    pub(crate) fn forget(&self, ear: RawFd) {
-        let _ = self.poll.registry().deregister(&mut SourceFd(&ear));
+    /// From now on waits for this socket too, until it is closed.
+    pub(crate) fn join(&self, socket: RawFd) -> io::Result<()> {
+        let registry = self.poll.registry();
+        registry.register(&mut SourceFd(&socket), PEER, Interest::READABLE)
+    }
+
+    /// From now on waits for the bell that is heard here, and for no other. One that was rung before
+    /// ends the next wait.
+    pub(crate) fn hear(&mut self, ear: Option<RawFd>) -> io::Result<()> {
+        if ear == self.ear {
+            return Ok(());
+        }
+        let registry = self.poll.registry();
+        if let Some(before) = self.ear.take() {
+            registry.deregister(&mut SourceFd(&before))?;
+        }
+        if let Some(ear) = ear {
+            registry.register(&mut SourceFd(&ear), BELL, Interest::READABLE)?;
+        }
+        self.ear = ear;
+        Ok(())
     }
 
     /// Waits so long at most.
@@ -55,15 +80,5 @@ impl Watch {
         } else {
             Ok(Woken::Bell)
         }
-    }
-}
-
-// Has the poll wait for this socket, and for the bell that is heard here.
-fn enlist(poll: &Poll, socket: RawFd, ear: Option<RawFd>) -> io::Result<()> {
-    let registry = poll.registry();
-    registry.register(&mut SourceFd(&socket), PEER, Interest::READABLE)?;
-    match ear {
-        Some(ear) => registry.register(&mut SourceFd(&ear), BELL, Interest::READABLE),
-        None => Ok(()),
     }
 }

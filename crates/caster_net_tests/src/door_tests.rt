@@ -1,12 +1,15 @@
 //! Doors at a loopback address, and what their rests end with.
 use cast_io::{Arrived, Door, Got, Link, Street, StreetFault};
-use caster_net::{Bell, TcpDoor, TcpStreet};
-use std::io::Read;
+use caster_net::{Bells, TcpDoor, TcpStreet};
+use std::io::{ErrorKind, Read, Write};
 use std::net::{TcpListener, TcpStream};
 use std::test::Fail;
-use std::thread;
 use std::thread::Threads;
-use std::time::Duration;
+use std::time::{Duration, Instant};
+use std::{io, thread};
+
+// How often a rest is timed.
+const TIMES: u32 = 10;
 
 // An address of this machine at which nobody listens.
 fn free_place(rt: &HostRuntime) -> Result<String, Fail> {
@@ -67,8 +70,8 @@ fn is_stopped<R: Threads>(
 
 #[test]
 fn a_door_gives_each_link_once_until_its_bell_is_rung(rt: HostRuntime) -> Result<(), Fail> {
-    let bell = Bell::new(&rt);
-    let mut street = TcpStreet::new(&rt, &bell);
+    let bells = Bells::new(&rt);
+    let mut street = TcpStreet::new(&rt, &bells);
     let place = free_place(&rt)?;
     let (mut doors, is_taken) = two_doors(&rt, &mut street, &place);
     let Some(mut door) = doors.pop() else {
@@ -79,5 +82,56 @@ fn a_door_gives_each_link_once_until_its_bell_is_rung(rt: HostRuntime) -> Result
     street.shut(door);
     assert_eq!(rt; (doors.len(), is_taken, is_stopped), (1, true, true));
     assert_eq!(rt; arrivals, ([true, true, true], 0));
+    Ok(())
+}
+
+// How long a rest of a door takes, in microseconds.
+fn rest_of(rt: &HostRuntime, door: &mut TcpDoor<'_>) -> io::Result<u128> {
+    let begun = Instant::now(rt)?;
+    door.rest();
+    Ok(begun.elapsed(rt)?.as_micros())
+}
+
+// How long so many rests of one door alone take, in microseconds: where nothing comes, where a client
+// does, and where the link of one client gets a byte.
+fn rests_alone(rt: &HostRuntime, door: &mut TcpDoor<'_>, place: &str) -> Result<[u128; 3], Fail> {
+    let mut took = [0u128; 3];
+    let mut client = TcpStream::connect(rt, place)?;
+    door.rest();
+    let Arrived::Link(mut link) = door.accept() else {
+        return Err(io::Error::from(ErrorKind::NotConnected).into());
+    };
+    for _ in 0..TIMES {
+        took[0] = took[0].saturating_add(rest_of(rt, door)?);
+        let other = TcpStream::connect(rt, place)?;
+        took[1] = took[1].saturating_add(rest_of(rt, door)?);
+        let came = door.accept();
+        drop(other);
+        if let Arrived::Link(link) = came {
+            door.hang_up(link);
+        }
+        let _ = client.write(b"$")?;
+        took[2] = took[2].saturating_add(rest_of(rt, door)?);
+        let _ = link.read(&mut [0u8; 4]);
+    }
+    door.hang_up(link);
+    Ok(took)
+}
+
+#[test]
+fn a_rest_of_one_door_ends_with_a_client_and_with_bytes(rt: HostRuntime) -> Result<(), Fail> {
+    let bells = Bells::new(&rt);
+    let mut street = TcpStreet::new(&rt, &bells);
+    let place = free_place(&rt)?;
+    let Ok(mut doors) = street.open(&place, 1) else {
+        panic!(rt; "no doors");
+    };
+    let Some(mut door) = doors.pop() else {
+        panic!(rt; "no door");
+    };
+    let [quiet, came, sent] = rests_alone(&rt, &mut door, &place)?;
+    street.shut(door);
+    assert!(rt; came < quiet);
+    assert!(rt; sent < quiet);
     Ok(())
 }

@@ -10,3 +10,5 @@ mod adapter_tests;
 mod door_tests;
 #[cfg(test)]
 mod link_tests;
+#[cfg(test)]
+mod slow_tests;

@@ -1,6 +1,6 @@
 //! Links over loopback connections, and what their rests end with.
 use cast_io::{Got, Link, Street};
-use caster_net::{Bell, TcpLink, TcpStreet};
+use caster_net::{Bells, TcpLink, TcpStreet};
 use std::io;
 use std::io::{Read, Write};
 use std::net::{TcpListener, TcpStream};
@@ -8,7 +8,7 @@ use std::test::Fail;
 use std::time::Instant;
 
 // A link that was dialled, and its peer.
-fn pair<'a>(
+pub(crate) fn pair<'a>(
     rt: &HostRuntime,
     street: &mut TcpStreet<'a>,
 ) -> Result<(TcpLink<'a>, TcpStream), Fail> {
@@ -46,8 +46,8 @@ fn traffic_of(
 
 #[test]
 fn a_link_reads_what_comes_and_writes_at_once(rt: HostRuntime) -> Result<(), Fail> {
-    let bell = Bell::new(&rt);
-    let mut street = TcpStreet::new(&rt, &bell);
+    let bells = Bells::new(&rt);
+    let mut street = TcpStreet::new(&rt, &bells);
     let (mut link, peer) = pair(&rt, &mut street)?;
     let (got, came, fails) = traffic_of(&mut link, peer)?;
     street.hang_up(link);
@@ -63,28 +63,95 @@ fn is_short(rt: &HostRuntime, link: &mut TcpLink<'_>) -> io::Result<bool> {
     Ok(begun.elapsed(rt)?.as_millis() < 450)
 }
 
-// Whether the rest of a rover is short where nothing happens, where its peer sends, and where a
-// source has read once more behind a frame.
-fn rests_of(rt: &HostRuntime, street: &mut TcpStreet<'_>) -> Result<[bool; 3], Fail> {
-    let (mut rover, mut reports) = pair(rt, street)?;
-    let quiet = is_short(rt, &mut rover)?;
-    let _ = reports.write(b"$")?;
-    let reported = is_short(rt, &mut rover)?;
-    let _ = rover.read(&mut [0u8; 4]);
-    let (mut source, mut base) = pair(rt, street)?;
+// Has the source give a frame, and read once more behind it.
+fn give(source: &mut TcpLink<'_>, base: &mut TcpStream) -> io::Result<()> {
     let _ = base.write(&[0xD3])?;
     source.rest();
     for _ in 0..2 {
         let _ = source.read(&mut [0u8; 4]);
     }
-    Ok([quiet, reported, is_short(rt, &mut rover)?])
+    Ok(())
+}
+
+// Whether the rest of a rover is short when it was told its mountpoint; behind it, where nothing
+// happens; where its peer sends; and where a source at its mountpoint gave a frame.
+fn rests_of(rt: &HostRuntime, street: &mut TcpStreet<'_>) -> Result<[bool; 4], Fail> {
+    let (mut rover, mut reports) = pair(rt, street)?;
+    rover.set_mount(1);
+    let told = is_short(rt, &mut rover)?;
+    let quiet = is_short(rt, &mut rover)?;
+    let _ = reports.write(b"$")?;
+    let reported = is_short(rt, &mut rover)?;
+    let _ = rover.read(&mut [0u8; 4]);
+    let (mut source, mut base) = pair(rt, street)?;
+    source.set_mount(1);
+    give(&mut source, &mut base)?;
+    Ok([told, quiet, reported, is_short(rt, &mut rover)?])
 }
 
 #[test]
 fn a_rest_ends_with_the_peer_or_the_bell(rt: HostRuntime) -> Result<(), Fail> {
-    let bell = Bell::new(&rt);
-    let mut street = TcpStreet::new(&rt, &bell);
+    let bells = Bells::new(&rt);
+    let mut street = TcpStreet::new(&rt, &bells);
     let got = rests_of(&rt, &mut street)?;
-    assert_eq!(rt; got, [false, true, true]);
+    assert_eq!(rt; got, [true, false, true, true]);
+    Ok(())
+}
+
+// Whether the rest of a rover at one mountpoint is short where a source at another gave a frame; as
+// it is told that other one; behind it, where nothing happens; and where that source gave one more.
+fn rests_apart(rt: &HostRuntime, street: &mut TcpStreet<'_>) -> Result<[bool; 4], Fail> {
+    let (mut rover, _reports) = pair(rt, street)?;
+    let (mut source, mut base) = pair(rt, street)?;
+    source.set_mount(2);
+    rover.set_mount(1);
+    rover.rest();
+    give(&mut source, &mut base)?;
+    let apart = is_short(rt, &mut rover)?;
+    rover.set_mount(2);
+    let moved = is_short(rt, &mut rover)?;
+    let quiet = is_short(rt, &mut rover)?;
+    give(&mut source, &mut base)?;
+    Ok([apart, moved, quiet, is_short(rt, &mut rover)?])
+}
+
+#[test]
+fn each_mountpoint_has_a_bell(rt: HostRuntime) -> Result<(), Fail> {
+    let bells = Bells::new(&rt);
+    let mut street = TcpStreet::new(&rt, &bells);
+    let got = rests_apart(&rt, &mut street)?;
+    assert_eq!(rt; got, [false, true, false, true]);
+    Ok(())
+}
+
+// Whether a link that was told no mountpoint rests long where frames are given, and whether one that
+// gave a frame rings for it as it is hung up.
+fn rests_untold(rt: &HostRuntime, street: &mut TcpStreet<'_>) -> Result<[bool; 2], Fail> {
+    let (mut caller, _head) = pair(rt, street)?;
+    let (mut rover, _reports) = pair(rt, street)?;
+    let (mut source, mut base) = pair(rt, street)?;
+    rover.set_mount(3);
+    rover.rest();
+    give(&mut source, &mut base)?;
+    let untold = is_short(rt, &mut caller)?;
+    street.hang_up(source);
+    Ok([untold, is_short(rt, &mut rover)?])
+}
+
+#[test]
+fn a_link_without_a_mountpoint_rings_at_its_end(rt: HostRuntime) -> Result<(), Fail> {
+    let bells = Bells::new(&rt);
+    let mut street = TcpStreet::new(&rt, &bells);
+    let got = rests_untold(&rt, &mut street)?;
+    assert_eq!(rt; got, [false, true]);
+    Ok(())
+}
+
+#[test]
+fn small_pieces_are_sent_at_once(rt: HostRuntime) -> Result<(), Fail> {
+    let bells = Bells::new(&rt);
+    let mut street = TcpStreet::new(&rt, &bells);
+    let (link, _peer) = pair(&rt, &mut street)?;
+    assert!(rt; link.is_prompt()?);
     Ok(())
 }
