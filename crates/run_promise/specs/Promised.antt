@@ -54,23 +54,24 @@ IsBodyOf version frames body =
 -- segments have its group's filter, each is sound over the frames of its mountpoint's one history,
 -- and behind its reply it was sent exactly the frames of its segments, in order.
 pub record HasEntered (c : Config) (histories : List (History RingCall)) (told : Connection)
-    (terms : RoverTerms) (tail rest : List ℕ) (calls : List Call) : Type 0 where
+    (terms : RoverTerms) (before tail rest : List ℕ) (calls : List Call) : Type 0 where
   pub entered : told.receipt.entered ≡ true
   pub all_bytes : rest ≡ []
-  pub selects : Selects c terms.admission (option_to_list terms.first ++ reports tail) (without_reads calls)
+  pub selects : Selects c terms.admission (option_to_list terms.first ++ reports tail) calls
   pub filter : All (λ (segment : Segment). segment.cursor.filter ≡ terms.admission.group) told.receipt.segments
   pub sound : All (IsSoundIn c histories) told.receipt.segments
   pub counts : All (CountsAll c histories) told.receipt.segments
   pub body : List ℕ
-  pub bytes : told.bytes ≡ text_if terms.version replies.RoverOk [] ++ body
+  pub bytes : told.bytes ≡ before ++ text_if terms.version replies.RoverOk [] ++ body
   pub decoded : IsBodyOf (unwrap_or terms.version One)
       (kept_frames c histories told.receipt.segments) body
 
 -- one whose account was full
-pub record WasFull (told : Connection) (terms : RoverTerms) (calls : List Call) : Type 0 where
+pub record WasFull (told : Connection) (terms : RoverTerms) (before : List ℕ) (calls : List Call)
+    : Type 0 where
   pub entered : told.receipt.entered ≡ false
   pub nothing : calls ≡ []
-  pub bytes : told.bytes ≡ text_if terms.version replies.Full []
+  pub bytes : told.bytes ≡ before ++ text_if terms.version replies.Full []
 
 -- the calls without their answers
 abbrev pub asked : List Call → List (ℕ × RingCall)
@@ -113,8 +114,8 @@ pub record WasTaken (told : Connection) (terms : SourceTerms) (before : List ℕ
       ≡ record { mount = terms.mount; asked = Claim; answer = Taken caller claim } ∷ []
   pub bytes : told.bytes ≡ before ++ text_if terms.version replies.Taken []
 
--- what a connection was by its judgement, with what it sent before it was replied to: nobody else
--- calls anything, and is sent more than a reply
+-- what a connection was by its judgement, by its calls that are no reads, and with what it was sent
+-- before a reply: only rovers and sources call anything, and only rovers are sent more than a reply
 abbrev pub Was : Config → List (History RingCall) → Connection → List ℕ → List ℕ → List Call → Judged
     → Type 0
 Was c histories told before rest calls waiting =
@@ -127,7 +128,7 @@ Was c histories told before rest calls (judgements.table version) =
 Was c histories told before rest calls (source terms body) =
     HasClaimed told terms before body rest calls ⊎ WasTaken told terms before calls
 Was c histories told before rest calls (rover terms tail) =
-    HasEntered c histories told terms tail rest calls ⊎ WasFull told terms calls
+    HasEntered c histories told terms before tail rest calls ⊎ WasFull told terms before calls
 
 -- ---- one connection, and all of them
 
@@ -149,7 +150,8 @@ pub record IsAccounted (c : Config) (script : List Event) (histories : List (His
   pub segments : told.receipt.segments ≡ reverse (segments_of calls)
   pub sent : told.receipt.sent ≡ sent_in told.receipt.segments
   pub overrun : told.receipt.overrun ≡ overrun_in told.receipt.segments
-  pub was : Was c histories told (opening_text c opening) rest calls (judged c opening heading text)
+  pub was : Was c histories told (opening_text c opening) rest (without_reads calls)
+      (judged c opening heading text)
 
 -- in increasing order of number
 abbrev pub AreOrdered : ℕ → List Connection → Type 0

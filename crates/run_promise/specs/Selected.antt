@@ -54,7 +54,7 @@ Follows hysteresis filter bases present (report ∷ later) calls =
     × (map (λ (live : Base × Option ℕ). live.0) lives ≡ bases)
     × Chooses hysteresis present report (held lives) next
     × Joins filter present next joined
-    × (calls ≡ looks lives ++ joined ++ rest)
+    × (calls ≡ looks lives ++ (joined ++ rest))
     × Follows hysteresis filter bases next later rest
 
 -- of one that does not: a Join at each of its bases

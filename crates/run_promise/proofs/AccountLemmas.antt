@@ -1,0 +1,388 @@
+-- What a connection was, from its steps: by its judgement.
+use Rattle.std.proofs.Common.{◌≡◌, ◌∙◌, ◌⊎◌, ◌++◌, ℕ, ◌-◌, ◌^◌, Bool, true, false, cond, IsTrue, List, [], ◌∷◌, map, reverse, All, Option, None, Some, inl, inr, refl, sym, ap, subst, option_to_list, eqb}
+use Rattle.std.specs.Prelude.{⊤, is_none, min, unwrap_or}
+use Rattle.std.specs.List.{sum_by, concat}
+use Rattle.std.proofs.lemmas.Bool.{false≢true}
+use Rattle.std.proofs.lemmas.List.{append-nil, map-append}
+use mathlib.Core.List.{reverse-cons}
+use Rattle.std.proofs.lemmas.List.Concat.{flat_map-append}
+use Rattle.std.proofs.lemmas.List.Elements.{All-nil, All-cons, All-head, All-tail, All-append}
+use Rattle.rtcm_frame.specs.Cut.{cut}
+use Rattle.chunk_body.specs.Text.{IsOpen, IsPlain}
+use Rattle.chunk_body.specs.Machine.{read, is_ended, is_broken}
+use Rattle.turn_log.specs.History.{History}
+use Rattle.gga_read.specs.Report.{reports}
+use Rattle.mount_ring.specs.declared.call.RingCall.{RingCall}
+use Rattle.mount_ring.specs.declared.call.RingCall.TheVariants.{Claim}
+use Rattle.mount_ring.specs.declared.call.RingAnswer.TheVariants.{Given, Taken}
+use Rattle.caster_accounts.specs.declared.call.BookCall.{BookCall}
+use Rattle.caster_accounts.specs.declared.call.BookCall.TheVariants.{Enter}
+use Rattle.caster_accounts.specs.declared.call.BookAnswer.{BookAnswer}
+use Rattle.caster_accounts.specs.declared.call.BookAnswer.TheVariants.{Entered, Full}
+use Rattle.caster_accounts.specs.History.{entry_answer, inside, cap_at}
+use Rattle.caster_accounts.specs.History as books
+use Rattle.rover_cursor.specs.declared.segment.Segment.{Segment}
+use Rattle.session_calls.specs.Steps.{Ask, to_ring, to_book, of_book, Step, at_ring, at_book, answer_of}
+use Rattle.session_calls.specs.Plans.{Plan, done, asks, IsMade}
+use Rattle.source_session.specs.Body.{frames_of}
+use Rattle.rover_session.specs.Body.{body_of}
+use Rattle.rover_session.specs.Made.{segments_after, owed_among, sent_in, overrun_in}
+use Rattle.rover_session.specs.Owed.{rover_plan}
+use Rattle.rover_session.proofs.MadeLemmas.{owed-append}
+use Rattle.rover_session.proofs.LawLemmas.{body_plain, sum_reversed}
+use Rattle.upstream_relay.specs.Owed.{after_claim}
+use Rattle.ntrip_head.specs.declared.request.Version.{Version}
+use Rattle.ntrip_head.specs.declared.request.Version.TheVariants.{One, Two}
+use Rattle.ntrip_reply.specs.declared.kind.Reply.TheVariants as replies
+use Rattle.cast_config.specs.declared.config.Config.{Config}
+use Rattle.session_core.specs.declared.ending.Last.TheVariants as lasts
+use Rattle.session_core.specs.declared.report.Receipt.{Receipt}
+use Rattle.session_core.specs.declared.report.Connection.{Connection}
+use Rattle.session_core.specs.Setting.{caps, bases_at}
+use Rattle.run_promise.specs.Selected.{SelectsBy}
+use Rattle.session_core.specs.Judged.{Opening, SourceTerms, RoverTerms, Judged, waiting, refused, unanswered, table, source, rover}
+use Rattle.session_core.specs.Owed.{Received, unasked, claimed, taken, entered, full, received, received_by, if_entered, terms_of, plan_of, closing, closing_by}
+use Rattle.session_core.specs.Endings.{ended_by, claimed_ending, body_ending}
+use Rattle.session_core.specs.Replies.{text_if, opening_text, reply_of, version_of, kept_frames, sent_by}
+use Rattle.session_core.specs.Promises.{IsSoundIn, CountsAll, Keeps}
+use Rattle.session_core.specs.Reports.{receipt_of, is_entered}
+use Rattle.session_core.specs.Run.{Histories, Connected}
+use Rattle.run_promise.specs.Calls.{Call, without_reads}
+use Rattle.run_promise.specs.Promised.{Carries, IsBodyOf, HasEntered, WasFull, asked, publishes, released, IsBodyOver, HasClaimed, WasTaken, Was}
+use Rattle.run_promise.proofs.MadeLemmas.{AreAnswered, StepsOn}
+use Rattle.run_promise.proofs.CallLemmas.{call_in, calls_of, same_owed}
+use Rattle.run_promise.proofs.WalkLemmas.{IsNever, AreJoins, JoinsSuch, joins_made, joins-append, HasSuch, walk_keeps, none_such}
+use Rattle.run_promise.proofs.SelectLemmas.{IsFilter, plan_made, plan_such}
+use Rattle.run_promise.proofs.SourceLemmas.{Given_, Taken_, source_made, claim_such}
+use Rattle.run_promise.proofs.StoodLemmas.{Walked}
+use Rattle.run_promise.proofs.OwedLemmas.{answered_front, answered_owed, on_front, received_owed, IsLast, last_done, last_such, source_last, rover_last, closing_such}
+
+-- ---- a connection that is judged so
+
+-- what is told of it
+abbrev pub told_with : Config → Histories → Connected → Judged → Connection
+told_with c h d j =
+    let receipt = receipt_of j d.steps (unwrap_or d.closed lasts.End) in
+    record {
+      number = d.number;
+      receipt = receipt;
+      bytes = sent_by c h.rings d.opening j (received d.steps) receipt.segments;
+    }
+
+-- what stands of it, and of its bytes that came when it was over
+pub record Facts (c : Config) (h : Histories) (d : Connected) (j : Judged) (rest : List ℕ) : Type 0 where
+  pub walked : Walked c h d.number d.steps
+  pub first : List Step
+  pub last : List Step
+  pub split : d.steps ≡ first ++ last
+  pub made : IsMade (plan_of c j) (owed_among first)
+  pub closed : IsLast (closing j first) last
+  pub whole : (rest ≡ []) ⊎ (is_none (ended_by j (received d.steps)) ≡ false)
+  pub keeps : Keeps c h.rings d
+
+module _ (c : Config) (h : Histories) (d : Connected) (j : Judged) (rest : List ℕ) (f : Facts c h d j rest) where
+  owed_is : owed_among d.steps ≡ owed_among f.first ++ owed_among f.last
+  owed_is = ap owed_among f.split ∙ owed-append f.first f.last
+
+  pub calls_are : without_reads (calls_of d.steps) ≡ calls_of (owed_among f.first) ++ calls_of (owed_among f.last)
+  calls_are = same_owed d.steps ∙ ap calls_of owed_is
+      ∙ flat_map-append call_in (owed_among f.first) (owed_among f.last)
+
+  pub first_answered : AreAnswered c (owed_among f.first)
+  first_answered = answered_owed c f.first (answered_front c f.first f.last
+      (subst (AreAnswered c) f.split f.walked.answered))
+
+  -- how it was received
+  pub first_received : received (owed_among f.first) ≡ received f.first
+  first_received = received_owed f.first (on_front [] f.first f.last
+      (subst (λ (l : List Step). StepsOn [] l) f.split f.walked.on))
+
+  pub received_is : received d.steps ≡ received (owed_among f.first ++ owed_among f.last)
+  received_is = sym (received_owed d.steps f.walked.on) ∙ ap received owed_is
+
+  -- the filters of its segments
+  pub has_such : (IsSuch : ℕ → Type 0) → AreJoins IsSuch (owed_among f.first)
+      → All (HasSuch IsSuch) (segments_after [] d.steps)
+  has_such IsSuch such =
+      walk_keeps IsSuch c [] d.steps f.walked.answered f.walked.on
+      (subst (AreJoins IsSuch) (sym owed_is)
+      (joins-append IsSuch (owed_among f.first) (owed_among f.last) such
+      (last_such IsSuch (closing j f.first) f.last
+      (closing_such IsSuch j (received f.first) (segments_after [] f.first)) f.closed)))
+      (All-nil (HasSuch IsSuch))
+
+  pub no_segments : AreJoins IsNever (owed_among f.first) → segments_after [] d.steps ≡ []
+  no_segments none = none_such (segments_after [] d.steps) (has_such IsNever none)
+
+  -- where it has none, it was sent no more than a reply
+  pub sent_reply : AreJoins IsNever (owed_among f.first)
+      → (told_with c h d j).bytes ≡ opening_text c d.opening ++ reply_of c j (received d.steps)
+  sent_reply none =
+      ap (λ (l : List Segment). sent_by c h.rings d.opening j (received d.steps) (reverse l)) (no_segments none)
+      ∙ append-nil (opening_text c d.opening ++ reply_of c j (received d.steps))
+
+  -- the closing owes so, by how it was received
+  pub closes_so : (by : Received) → received (owed_among f.first) ≡ by
+      → IsLast (closing_by j by (segments_after [] f.first)) f.last
+  closes_so by is =
+      subst (λ (r : Received). IsLast (closing_by j r (segments_after [] f.first)) f.last) (sym first_received ∙ is)
+      f.closed
+
+-- ---- who calls nothing
+
+-- its calls, and its bytes but for the reply
+record IsQuiet (c : Config) (h : Histories) (d : Connected) (j : Judged) : Type 0 where
+  nothing : without_reads (calls_of d.steps) ≡ []
+  bytes : (told_with c h d j).bytes ≡ opening_text c d.opening ++ reply_of c j (received d.steps)
+
+quiet_so : (c : Config) (h : Histories) (d : Connected) (j : Judged) (rest : List ℕ) (f : Facts c h d j rest)
+    → owed_among f.first ≡ [] → owed_among f.last ≡ [] → IsQuiet c h d j
+quiet_so c h d j rest f first last = record {
+  nothing = calls_are c h d j rest f ∙ ap (λ (l : List Step). calls_of l ++ calls_of (owed_among f.last)) first
+      ∙ ap calls_of last;
+  bytes = sent_reply c h d j rest f (subst (AreJoins IsNever) (sym first) tt);
+}
+
+-- ---- a source
+
+over_if : (chunked : Bool) (claim : ℕ) (body : List ℕ) → is_none (claimed_ending chunked claim body) ≡ false
+    → IsBodyOver chunked body
+over_if false claim body over = absurd cc
+over_if true claim body over = over_by (is_ended (read body).phase) (is_broken (read body).phase) (read body).taken over
+  where
+    over_by : (ended broken : Bool) (before : ℕ) → is_none (body_ending claim ended broken before) ≡ false
+        → IsTrue ended ⊎ IsTrue broken
+    over_by true broken before over = inl refl
+    over_by false true before over = inr refl
+    over_by false false before over = absurd cc
+
+source_joins : (c : Config) (terms : SourceTerms) (body : List ℕ) (steps : List Step)
+    → IsMade (plan_of c (source terms body)) steps → AreJoins IsNever steps
+source_joins c terms body steps made =
+    joins_made IsNever (plan_of c (source terms body)) steps
+    (tt, claim_such terms.mount (frames_of terms.chunked body)) made
+
+given_so : (c : Config) (h : Histories) (d : Connected) (terms : SourceTerms) (body rest : List ℕ)
+    (f : Facts c h d (source terms body) rest)
+    → Given_ terms.mount (frames_of terms.chunked body) (owed_among f.first)
+    → HasClaimed (told_with c h d (source terms body)) terms (opening_text c d.opening) body rest
+    (without_reads (calls_of d.steps))
+given_so c h d terms body rest f g =
+    let j : Judged = source terms body in
+    let by : received (owed_among f.first) ≡ claimed g.claim = ap received g.steps_are in
+    let all : received d.steps ≡ claimed g.claim =
+    received_is c h d j rest f ∙ ap (λ (l : List Step). received (l ++ owed_among f.last)) g.steps_are in
+    let back = source_last terms body g.claim (segments_after [] f.first) f.last
+    (closes_so c h d j rest f (claimed g.claim) by) in
+    record {
+      all_bytes = elim f.whole [
+        | inl none ↦ inl none
+        | inr over ↦ inr (over_if terms.chunked g.claim body
+            (ap (λ (r : Received). is_none (ended_by j r)) (sym all) ∙ over))
+      ];
+      claim = g.claim;
+      later = calls_of g.rest ++ calls_of (owed_among f.last);
+      is_given = calls_are c h d j rest f
+          ∙ ap (λ (l : List Step). calls_of l ++ calls_of (owed_among f.last)) g.steps_are;
+      gives_back = back.0;
+      published = map-append (λ (call : Call). (call.mount, call.asked)) (calls_of g.rest)
+          (calls_of (owed_among f.last))
+          ∙ ap (λ (l : List (ℕ × RingCall)). l ++ asked (calls_of (owed_among f.last))) g.published
+          ∙ ap (λ (l : List (ℕ × RingCall)).
+          publishes terms.mount g.claim (frames_of terms.chunked body) ++ l) back.1;
+      bytes = sent_reply c h d j rest f (source_joins c terms body (owed_among f.first) f.made)
+          ∙ ap (λ (r : Received). opening_text c d.opening ++ reply_of c j r) all;
+    }
+
+taken_so : (c : Config) (h : Histories) (d : Connected) (terms : SourceTerms) (body rest : List ℕ)
+    (f : Facts c h d (source terms body) rest) → Taken_ terms.mount (owed_among f.first)
+    → WasTaken (told_with c h d (source terms body)) terms (opening_text c d.opening) (without_reads (calls_of d.steps))
+taken_so c h d terms body rest f t =
+    let j : Judged = source terms body in
+    let by : received (owed_among f.first) ≡ taken t.caller t.claim = ap received t.steps_are in
+    let all : received d.steps ≡ taken t.caller t.claim =
+    received_is c h d j rest f ∙ ap (λ (l : List Step). received (l ++ owed_among f.last)) t.steps_are in
+    let last : owed_among f.last ≡ [] = last_done f.last (closes_so c h d j rest f (taken t.caller t.claim) by) in
+    record {
+      caller = t.caller;
+      claim = t.claim;
+      is_taken = calls_are c h d j rest f
+          ∙ ap (λ (l : List Step). calls_of l ++ calls_of (owed_among f.last)) t.steps_are
+          ∙ ap (λ (l : List Step). call_in (at_ring terms.mount Claim (Taken t.caller t.claim)) ++ calls_of l) last;
+      bytes = sent_reply c h d j rest f (source_joins c terms body (owed_among f.first) f.made)
+          ∙ ap (λ (r : Received). opening_text c d.opening ++ reply_of c j r) all;
+    }
+
+-- ---- a rover
+
+-- it entered, and then called what is selected
+record HasEntry (c : Config) (terms : RoverTerms) (tail : List ℕ) (steps : List Step) : Type 0 where
+  call : BookCall
+  rest : List Step
+  steps_are : steps ≡ at_book call Entered ∷ rest
+  answered : AreAnswered c rest
+  made : IsMade (rover_plan (terms_of c terms.admission) terms.first tail) rest
+
+-- or its account was full
+record IsFull (steps : List Step) : Type 0 where
+  call : BookCall
+  busy : ℕ
+  cap : ℕ
+  steps_are : steps ≡ at_book call (Full busy cap) ∷ []
+
+asks_book : (x y : BookCall) → to_book x ≡ to_book y → x ≡ y
+asks_book x y e = cc
+
+entry_by : (c : Config) (terms : RoverTerms) (tail : List ℕ) (call : BookCall) (busy cap : ℕ) (full_now : Bool)
+    (rest : List Step) → AreAnswered c rest
+    → IsMade (if_entered (received_by (of_book (cond full_now (Full busy cap) Entered)))
+    (rover_plan (terms_of c terms.admission) terms.first tail)) rest
+    → HasEntry c terms tail (at_book call (cond full_now (Full busy cap) Entered) ∷ rest)
+    ⊎ IsFull (at_book call (cond full_now (Full busy cap) Entered) ∷ rest)
+entry_by c terms tail call busy cap true rest answered made = inr (record {
+  call = call;
+  busy = busy;
+  cap = cap;
+  steps_are = ap (λ (l : List Step). at_book call (Full busy cap) ∷ l) made;
+})
+entry_by c terms tail call busy cap false rest answered made = inl (record {
+  call = call;
+  rest = rest;
+  steps_are = refl;
+  answered = answered;
+  made = made;
+})
+
+entry_made : (c : Config) (terms : RoverTerms) (tail : List ℕ) (steps : List Step) → AreAnswered c steps
+    → IsMade (plan_of c (rover terms tail)) steps → HasEntry c terms tail steps ⊎ IsFull steps
+entry_made c terms tail [] answered made = absurd made
+entry_made c terms tail (at_ring at call answer ∷ rest) answered made = absurd cc
+entry_made c terms tail (at_book call answer ∷ rest) answered made =
+    let account : ℕ = terms.admission.account in
+    let cap : ℕ = cap_at (caps c) account in
+    let busy : ℕ = inside cap account answered.0.0 in
+    let told : answer ≡ cond (eqb busy cap) (Full busy cap) Entered =
+    answered.0.1 ∙ ap (λ (x : BookCall). books.answer (caps c) answered.0.0 x) (asks_book call (Enter account) made.0) in
+    subst (λ (a : BookAnswer). HasEntry c terms tail (at_book call a ∷ rest) ⊎ IsFull (at_book call a ∷ rest)) (sym told)
+    (entry_by c terms tail call busy cap (eqb busy cap) rest answered.1
+    (subst (λ (a : BookAnswer). IsMade (if_entered (received_by (of_book a))
+    (rover_plan (terms_of c terms.admission) terms.first tail)) rest) told made.1))
+
+-- the frames of its segments are what its body holds
+decoded_as : (c : Config) (histories : List (History RingCall)) (version : Version) (frames : List (List ℕ))
+    → cut (body_of One frames) ≡ record { frames = frames; junk = 0; rest = [] } → IsOpen (body_of Two frames)
+    → IsPlain (body_of Two frames) (concat frames) → IsBodyOf version frames (body_of version frames)
+decoded_as c histories One frames cuts opens plain = (body_of One frames, refl, cuts)
+decoded_as c histories Two frames cuts opens plain =
+    (concat frames, (opens, plain), ap cut (sym (body_plain frames)) ∙ cuts)
+
+all_reversed : (P : Segment → Type 0) (segments : List Segment) → All P segments → All P (reverse segments)
+all_reversed P [] all = All-nil P
+all_reversed P (segment ∷ more) all =
+    subst (All P) (sym (reverse-cons segment more))
+    (All-append P (reverse more) (segment ∷ []) (all_reversed P more (All-tail P segment more all))
+    (All-cons P segment [] (All-head P segment more all) (All-nil P)))
+
+entered_so : (c : Config) (h : Histories) (d : Connected) (terms : RoverTerms) (tail rest : List ℕ)
+    (f : Facts c h d (rover terms tail) rest) → HasEntry c terms tail (owed_among f.first)
+    → HasEntered c h.rings (told_with c h d (rover terms tail)) terms (opening_text c d.opening) tail rest
+    (without_reads (calls_of d.steps))
+entered_so c h d terms tail rest f e =
+    let j : Judged = rover terms tail in
+    let by : received (owed_among f.first) ≡ entered = ap received e.steps_are in
+    let all : received d.steps ≡ entered =
+    received_is c h d j rest f ∙ ap (λ (l : List Step). received (l ++ owed_among f.last)) e.steps_are in
+    let last : calls_of (owed_among f.last) ≡ [] = rover_last terms tail (segments_after [] f.first) f.last
+    (closes_so c h d j rest f entered by) in
+    let calls : without_reads (calls_of d.steps) ≡ calls_of e.rest =
+    calls_are c h d j rest f
+    ∙ ap (λ (l : List Step). calls_of l ++ calls_of (owed_among f.last)) e.steps_are
+    ∙ ap (λ (l : List Call). calls_of e.rest ++ l) last ∙ append-nil (calls_of e.rest) in
+    let told = option_to_list terms.first ++ reports tail in
+    let frames = kept_frames c h.rings (reverse (segments_after [] d.steps)) in
+    let version = unwrap_or terms.version One in
+    record {
+      entered = ap is_entered all;
+      all_bytes = elim f.whole [
+        | inl none ↦ none
+        | inr over ↦ absurd (false≢true (sym over ∙ ap (λ (r : Received). is_none (ended_by j r)) all))
+      ];
+      selects = subst (SelectsBy terms.admission.near c.hysteresis terms.admission.group
+          (bases_at c terms.admission.bases) told) (sym calls)
+          (plan_made c terms.admission.near (terms_of c terms.admission) told e.rest e.answered e.made);
+      filter = all_reversed (HasSuch (IsFilter terms.admission.group)) (segments_after [] d.steps)
+          (has_such c h d j rest f (IsFilter terms.admission.group)
+          (subst (AreJoins (IsFilter terms.admission.group)) (sym e.steps_are) (
+            tt,
+            joins_made (IsFilter terms.admission.group)
+                (rover_plan (terms_of c terms.admission) terms.first tail) e.rest
+                (plan_such terms.admission.near (terms_of c terms.admission) told) e.made,
+          )));
+      sound = all_reversed (IsSoundIn c h.rings) (segments_after [] d.steps) f.keeps.sound;
+      counts = all_reversed (CountsAll c h.rings) (segments_after [] d.steps) f.keeps.counts;
+      body = body_of version frames;
+      bytes = ap (λ (r : Received). opening_text c d.opening ++ reply_of c j r ++ body_of version frames) all;
+      decoded = decoded_as c h.rings version frames f.keeps.plain f.keeps.chunked f.keeps.data_is;
+    }
+
+full_so : (c : Config) (h : Histories) (d : Connected) (terms : RoverTerms) (tail rest : List ℕ)
+    (f : Facts c h d (rover terms tail) rest) → IsFull (owed_among f.first)
+    → WasFull (told_with c h d (rover terms tail)) terms (opening_text c d.opening) (without_reads (calls_of d.steps))
+full_so c h d terms tail rest f e =
+    let j : Judged = rover terms tail in
+    let by : received (owed_among f.first) ≡ full e.busy e.cap = ap received e.steps_are in
+    let all : received d.steps ≡ full e.busy e.cap =
+    received_is c h d j rest f ∙ ap (λ (l : List Step). received (l ++ owed_among f.last)) e.steps_are in
+    let last : owed_among f.last ≡ [] = last_done f.last (closes_so c h d j rest f (full e.busy e.cap) by) in
+    record {
+      entered = ap is_entered all;
+      nothing = calls_are c h d j rest f
+          ∙ ap (λ (l : List Step). calls_of l ++ calls_of (owed_among f.last)) e.steps_are
+          ∙ ap calls_of last;
+      bytes = sent_reply c h d j rest f (subst (AreJoins IsNever) (sym e.steps_are) (tt, tt))
+          ∙ ap (λ (r : Received). opening_text c d.opening ++ reply_of c j r) all;
+    }
+
+-- ---- by its judgement
+
+pub was_so : (c : Config) (h : Histories) (d : Connected) (j : Judged) (rest : List ℕ) → Facts c h d j rest
+    → Was c h.rings (told_with c h d j) (opening_text c d.opening) rest (without_reads (calls_of d.steps)) j
+was_so c h d waiting rest f =
+    let quiet = quiet_so c h d waiting rest f f.made (last_done f.last f.closed) in (
+      quiet.nothing,
+      elim f.whole [
+        | inl none ↦ none
+        | inr over ↦ absurd cc
+      ],
+      quiet.bytes ∙ append-nil (opening_text c d.opening),
+    )
+was_so c h d (refused version reply end) rest f =
+    let quiet = quiet_so c h d (refused version reply end) rest f f.made (last_done f.last f.closed) in
+    (quiet.nothing, quiet.bytes)
+was_so c h d (unanswered end) rest f =
+    let quiet = quiet_so c h d (unanswered end) rest f f.made (last_done f.last f.closed) in
+    (quiet.nothing, quiet.bytes ∙ append-nil (opening_text c d.opening))
+was_so c h d (table version) rest f =
+    let quiet = quiet_so c h d (table version) rest f f.made (last_done f.last f.closed) in
+    (quiet.nothing, quiet.bytes)
+was_so c h d (source terms body) rest f =
+    elim (source_made c terms.mount (frames_of terms.chunked body) (owed_among f.first)
+    (first_answered c h d (source terms body) rest f) f.made) [
+      | inl given ↦ inl (given_so c h d terms body rest f given)
+      | inr other ↦ inr (taken_so c h d terms body rest f other)
+    ]
+was_so c h d (rover terms tail) rest f =
+    elim (entry_made c terms tail (owed_among f.first) (first_answered c h d (rover terms tail) rest f) f.made) [
+      | inl entry ↦ inl (entered_so c h d terms tail rest f entry)
+      | inr other ↦ inr (full_so c h d terms tail rest f other)
+    ]
+
+-- ---- sums
+
+pub sent_so : (segments : List Segment) → sent_in segments ≡ sent_in (reverse segments)
+sent_so segments =
+    ap (λ (n : ℕ). min n (2 ^ 64 - 1)) (sym (sum_reversed (λ (segment : Segment). segment.sent) segments))
+
+pub overrun_so : (segments : List Segment) → overrun_in segments ≡ overrun_in (reverse segments)
+overrun_so segments =
+    ap (λ (n : ℕ). min n (2 ^ 64 - 1)) (sym (sum_reversed (λ (segment : Segment). segment.overrun) segments))

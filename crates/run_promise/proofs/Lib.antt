@@ -1,0 +1,9 @@
+pub mod MadeLemmas
+pub mod CallLemmas
+pub mod WithinLemmas
+pub mod StoodLemmas
+pub mod WalkLemmas
+pub mod SelectLemmas
+pub mod SourceLemmas
+pub mod OwedLemmas
+pub mod AccountLemmas

@@ -1,0 +1,132 @@
+-- What stands of a connection's first steps, and of those that closed it.
+use Rattle.std.proofs.Common.{◌≡◌, ◌∙◌, ◌⊎◌, ◌++◌, ℕ, Bool, true, false, cond, List, [], ◌∷◌, Option, None, Some, inl, inr, refl, sym, ap, subst}
+use Rattle.std.specs.Prelude.{⊤}
+use Rattle.mount_ring.specs.declared.call.RingCall.{RingCall}
+use Rattle.mount_ring.specs.declared.call.RingCall.TheVariants.{Claim, Release, Publish, Join, Look, Read}
+use Rattle.caster_accounts.specs.declared.call.BookCall.{BookCall}
+use Rattle.rover_cursor.specs.declared.segment.Segment.{Segment}
+use Rattle.session_calls.specs.Steps.{Ask, to_ring, to_book, Step, at_ring, at_book, ask_of}
+use Rattle.session_calls.specs.Plans.{Plan, done, asks, IsMade}
+use Rattle.rover_session.specs.Made.{after_step, is_owed, owed_among}
+use Rattle.cast_config.specs.declared.config.Config.{Config}
+use Rattle.session_core.specs.Judged.{SourceTerms, RoverTerms, Judged, waiting, refused, unanswered, table, source, rover}
+use Rattle.session_core.specs.Owed.{Received, unasked, claimed, taken, entered, full, received, closing_by}
+use Rattle.run_promise.specs.Calls.{Call}
+use Rattle.run_promise.specs.Promised.{asked, released}
+use Rattle.run_promise.proofs.MadeLemmas.{AreAnswered, StepsOn}
+use Rattle.run_promise.proofs.CallLemmas.{calls_of}
+use Rattle.run_promise.proofs.WalkLemmas.{IsJoinAsk, AreJoins, JoinsSuch, joins_made}
+
+-- ---- the first of some steps, and those that are owed
+
+pub answered_front : (c : Config) (first last : List Step) → AreAnswered c (first ++ last) → AreAnswered c first
+answered_front c [] last all = tt
+answered_front c (step ∷ first) last all = (all.0, answered_front c first last all.1)
+
+answered_if : (c : Config) (b : Bool) (step : Step) (steps : List Step) → AreAnswered c (step ∷ steps)
+    → AreAnswered c (cond b (step ∷ steps) steps)
+answered_if c true step steps all = all
+answered_if c false step steps all = all.1
+
+pub answered_owed : (c : Config) (steps : List Step) → AreAnswered c steps → AreAnswered c (owed_among steps)
+answered_owed c [] all = tt
+answered_owed c (step ∷ steps) all =
+    answered_if c (is_owed step) step (owed_among steps) (all.0, answered_owed c steps all.1)
+
+pub on_front : (segments : List Segment) (first last : List Step) → StepsOn segments (first ++ last)
+    → StepsOn segments first
+on_front segments [] last on = tt
+on_front segments (step ∷ first) last on = (on.0, on_front (after_step segments step) first last on.1)
+
+joins_if : (IsSuch : ℕ → Type 0) (b : Bool) (step : Step) (steps : List Step) → IsJoinAsk IsSuch (ask_of step)
+    → AreJoins IsSuch steps → AreJoins IsSuch (cond b (step ∷ steps) steps)
+joins_if IsSuch true step steps one all = (one, all)
+joins_if IsSuch false step steps one all = all
+
+pub joins_owed : (IsSuch : ℕ → Type 0) (steps : List Step) → AreJoins IsSuch steps
+    → AreJoins IsSuch (owed_among steps)
+joins_owed IsSuch [] all = tt
+joins_owed IsSuch (step ∷ steps) all =
+    joins_if IsSuch (is_owed step) step (owed_among steps) all.0 (joins_owed IsSuch steps all.1)
+
+-- the first step is no read, since there is no segment yet
+pub received_owed : (steps : List Step) → StepsOn [] steps → received (owed_among steps) ≡ received steps
+received_owed [] on = refl
+received_owed (at_ring mount Claim answer ∷ steps) on = refl
+received_owed (at_ring mount (Release claim) answer ∷ steps) on = refl
+received_owed (at_ring mount (Publish claim frame) answer ∷ steps) on = refl
+received_owed (at_ring mount (Join filter) answer ∷ steps) on = refl
+received_owed (at_ring mount Look answer ∷ steps) on = refl
+received_owed (at_ring mount (Read cursor budget) answer ∷ steps) on = absurd on.0
+received_owed (at_book call answer ∷ steps) on = refl
+
+-- ---- what closes a connection
+
+-- nothing, or what is owed at its end
+abbrev pub IsLast : Plan → List Step → Type 0
+IsLast plan last = (last ≡ []) ⊎ IsMade plan last
+
+pub last_done : (last : List Step) → IsLast done last → owed_among last ≡ []
+last_done last (inl none) = ap owed_among none
+last_done last (inr none) = ap owed_among none
+
+pub last_such : (IsSuch : ℕ → Type 0) (plan : Plan) (last : List Step)
+    → JoinsSuch IsSuch plan → IsLast plan last → AreJoins IsSuch (owed_among last)
+last_such IsSuch plan last such (inl none) =
+    subst (λ (l : List Step). AreJoins IsSuch (owed_among l)) (sym none) tt
+last_such IsSuch plan last such (inr made) = joins_owed IsSuch last (joins_made IsSuch plan last such made)
+
+-- a call on the book
+book_last : (call : BookCall) (last : List Step) → IsMade (asks (to_book call) (λ answer. done)) last
+    → calls_of (owed_among last) ≡ []
+book_last call [] made = absurd made
+book_last call (at_ring mount asked answer ∷ rest) made = absurd cc
+book_last call (at_book asked answer ∷ rest) made = ap (λ (l : List Step). calls_of (owed_among l)) made.1
+
+asks_mount : (m n : ℕ) (x y : RingCall) → to_ring m x ≡ to_ring n y → m ≡ n
+asks_mount m n x y e = cc
+
+asks_call : (m n : ℕ) (x y : RingCall) → to_ring m x ≡ to_ring n y → x ≡ y
+asks_call m n x y e = cc
+
+-- a claim that is given back
+release_last : (mount claim : ℕ) (last : List Step) → IsMade (asks (to_ring mount (Release claim)) (λ answer. done)) last
+    → asked (calls_of (owed_among last)) ≡ released true mount claim
+release_last mount claim [] made = absurd made
+release_last mount claim (at_ring at call answer ∷ rest) made =
+    let here : at ≡ mount = asks_mount at mount call (Release claim) made.0 in
+    let is : call ≡ Release claim = asks_call at mount call (Release claim) made.0 in
+    ap (λ (l : List Step). asked (calls_of (owed_among (at_ring at call answer ∷ l)))) made.1
+    ∙ ap (λ (x : RingCall). asked (calls_of (owed_among (at_ring at x answer ∷ [])))) is
+    ∙ ap (λ (m : ℕ). (m, Release claim) ∷ []) here
+release_last mount claim (at_book call answer ∷ rest) made = absurd cc
+
+pub source_last : (terms : SourceTerms) (body : List ℕ) (claim : ℕ) (segments : List Segment) (last : List Step)
+    → IsLast (closing_by (source terms body) (claimed claim) segments) last
+    → (b : Bool) × (asked (calls_of (owed_among last)) ≡ released b terms.mount claim)
+source_last terms body claim segments last (inl none) =
+    (false, ap (λ (l : List Step). asked (calls_of (owed_among l))) none)
+source_last terms body claim segments last (inr made) = (true, release_last terms.mount claim last made)
+
+pub rover_last : (terms : RoverTerms) (tail : List ℕ) (segments : List Segment) (last : List Step)
+    → IsLast (closing_by (rover terms tail) entered segments) last → calls_of (owed_among last) ≡ []
+rover_last terms tail segments last (inl none) = ap (λ (l : List Step). calls_of (owed_among l)) none
+rover_last terms tail segments last (inr made) = book_last _ last made
+
+-- no Join closes a connection
+pub closing_such : (IsSuch : ℕ → Type 0) (j : Judged) (by : Received) (segments : List Segment)
+    → JoinsSuch IsSuch (closing_by j by segments)
+closing_such IsSuch waiting by segments = tt
+closing_such IsSuch (refused version reply end) by segments = tt
+closing_such IsSuch (unanswered end) by segments = tt
+closing_such IsSuch (table version) by segments = tt
+closing_such IsSuch (source terms body) unasked segments = tt
+closing_such IsSuch (source terms body) (claimed claim) segments = (tt, λ answer. tt)
+closing_such IsSuch (source terms body) (taken caller claim) segments = tt
+closing_such IsSuch (source terms body) entered segments = tt
+closing_such IsSuch (source terms body) (full busy cap) segments = tt
+closing_such IsSuch (rover terms tail) unasked segments = tt
+closing_such IsSuch (rover terms tail) (claimed claim) segments = tt
+closing_such IsSuch (rover terms tail) (taken caller claim) segments = tt
+closing_such IsSuch (rover terms tail) entered segments = (tt, λ answer. tt)
+closing_such IsSuch (rover terms tail) (full busy cap) segments = tt
