@@ -7,3 +7,6 @@ pub mod SelectLemmas
 pub mod SourceLemmas
 pub mod OwedLemmas
 pub mod AccountLemmas
+pub mod RunLemmas
+pub mod ReadLemmas
+pub mod PromiseLemmas

@@ -1,0 +1,141 @@
+-- Every report of a recorded session keeps what is promised.
+use Rattle.std.proofs.Common.{◌≡◌, ◌≢◌, ◌∙◌, ◌⊎◌, ◌<◌, ◌≤◌, ◌+◌, ◌++◌, ℕ, Bool, true, false, IsTrue, List, [], ◌∷◌, length, map, reverse, All, Option, None, Some, inl, inr, refl, sym, ap, subst, arith}
+use Rattle.std.specs.Prelude.{⊤, ◌==◌, ◌||◌}
+use Rattle.std.proofs.lemmas.Bool.{cases_Bool}
+use Rattle.std.proofs.lemmas.List.Elements.{All-head, All-tail, All-cons, All-nil}
+use Rattle.turn_log.specs.History.{History}
+use Rattle.mount_ring.specs.declared.call.RingCall.{RingCall}
+use Rattle.session_script.specs.declared.Event.{Event}
+use Rattle.session_script.specs.declared.ScriptKind.{ScriptKind}
+use Rattle.session_script.specs.Script.{IsSession}
+use Rattle.session_calls.specs.Steps.{Step}
+use Rattle.session_calls.specs.Rings.{history_at}
+use Rattle.rover_session.specs.Made.{segments_after}
+use Rattle.cast_config.specs.declared.config.Config.{Config}
+use Rattle.cast_config.specs.Kept.{KeepsRules}
+use Rattle.session_core.specs.declared.report.Connection.{Connection}
+use Rattle.session_core.specs.declared.report.Report.{Report}
+use Rattle.session_core.specs.Headings.{Heading}
+use Rattle.session_core.specs.Judged.{Opening}
+use Rattle.session_core.specs.Owed.{closing}
+use Rattle.session_core.specs.Promises.{Keeps}
+use Rattle.session_core.specs.Reports.{told_of, opened_as, bytes_to, IsHeadingOf, AreHeadings, report, IsReport}
+use Rattle.session_core.specs.Run.{Histories, Connected, World, nothing_called, judged_of, is_opened, world}
+use Rattle.session_core.proofs.PromiseLemmas.{keeps_all}
+use Rattle.caster_replay.specs.Runs.{AreAbove, IsIncreasing}
+use Rattle.run_promise.specs.Promised.{IsAccounted, AreOrdered, is_told, IsPromised}
+use Rattle.run_promise.proofs.CallLemmas.{calls_of, same_segments, same_reads, all_calls}
+use Rattle.run_promise.proofs.StoodLemmas.{Stood, AllBy}
+use Rattle.run_promise.proofs.OwedLemmas.{IsLast}
+use Rattle.run_promise.proofs.AccountLemmas.{Facts, was_so, sent_so, overrun_so}
+use Rattle.run_promise.proofs.RunLemmas.{IsStood, IsRunning, nothing_at, world_runs}
+use Rattle.run_promise.proofs.ReadLemmas.{IsRead, AreAllRead, world_read}
+
+-- ---- one connection
+
+last_of : (c : Config) (heading : Heading) (h : Histories) (d : Connected) (s : Stood c heading h d)
+    → IsLast (closing (judged_of c heading d) s.first) s.last
+last_of c heading h d s = elim s.ends [
+  | inl none ↦ inl none
+  | inr (over, closed) ↦ inr closed
+]
+
+accounted : (c : Config) (headings : ℕ → Heading) (script : List Event) (h : Histories) (d : Connected)
+    → AreHeadings script headings → IsStood c headings h d → Keeps c h.rings d → IsRead c headings script d
+    → IsAccounted c script h.rings (told_of c headings h d)
+accounted c headings script h d are s keeps is =
+    let heading = headings d.number in
+    let facts : Facts c h d (judged_of c heading d) is.rest = record {
+      walked = s.walked;
+      first = s.first;
+      last = s.last;
+      split = s.split;
+      made = s.made_is;
+      closed = last_of c heading h d s;
+      whole = is.whole;
+      keeps = keeps;
+    } in
+    record {
+      opening = d.opening;
+      opened = is.opened;
+      heading = heading;
+      head = subst (λ (o : Option Opening). IsHeadingOf o (bytes_to d.number script) heading) is.opened (are d.number);
+      text = d.text;
+      rest = is.rest;
+      came = is.begins;
+      calls = calls_of d.steps;
+      all_calls = all_calls c (nothing_called c).rings h.rings d.number d.steps (nothing_at c) s.walked.went;
+      read_on = same_reads [] d.steps s.walked.on;
+      segments = ap reverse (sym (same_segments [] d.steps));
+      sent = sent_so (segments_after [] d.steps);
+      overrun = overrun_so (segments_after [] d.steps);
+      was = was_so c h d (judged_of c heading d) is.rest facts;
+    }
+
+each_accounted : (c : Config) (headings : ℕ → Heading) (script : List Event) (h : Histories) (ds : List Connected)
+    → AreHeadings script headings → All (IsStood c headings h) ds → All (Keeps c h.rings) ds
+    → All (IsRead c headings script) ds → All (IsAccounted c script h.rings) (map (told_of c headings h) ds)
+each_accounted c headings script h [] are stood keeps read = All-nil (IsAccounted c script h.rings)
+each_accounted c headings script h (d ∷ ds) are stood keeps read =
+    All-cons (IsAccounted c script h.rings) (told_of c headings h d) (map (told_of c headings h) ds)
+    (accounted c headings script h d are (All-head (IsStood c headings h) d ds stood)
+    (All-head (Keeps c h.rings) d ds keeps) (All-head (IsRead c headings script) d ds read))
+    (each_accounted c headings script h ds are (All-tail (IsStood c headings h) d ds stood)
+    (All-tail (Keeps c h.rings) d ds keeps) (All-tail (IsRead c headings script) d ds read))
+
+-- ---- all of them
+
+ordered : (c : Config) (headings : ℕ → Heading) (h : Histories) (least : ℕ) (d : Connected) (ds : List Connected)
+    → least ≤ d.number → IsIncreasing (d ∷ ds) → AreOrdered least (map (told_of c headings h) (d ∷ ds))
+ordered c headings h least d [] below order = (below, tt)
+ordered c headings h least d (e ∷ ds) below order =
+    (below, ordered c headings h (d.number + 1) e ds (omega (arith, order.0.0)) order.1)
+
+all_ordered : (c : Config) (headings : ℕ → Heading) (h : Histories) (ds : List Connected) → IsIncreasing ds
+    → AreOrdered 0 (map (told_of c headings h) ds)
+all_ordered c headings h [] order = tt
+all_ordered c headings h (d ∷ ds) order = ordered c headings h 0 d ds (omega arith) order
+
+told_same : (c : Config) (headings : ℕ → Heading) (h : Histories) (n : ℕ) (ds : List Connected)
+    → is_told n (map (told_of c headings h) ds) ≡ is_opened n ds
+told_same c headings h n [] = refl
+told_same c headings h n (d ∷ ds) = ap (λ (b : Bool). (d.number == n) || b) (told_same c headings h n ds)
+
+is_there : (script : List Event) (n : ℕ) (there : Bool) → (there ≡ false → opened_as n script ≡ None)
+    → opened_as n script ≢ None → there ≡ true
+is_there script n true none opened = refl
+is_there script n false none opened = absurd (opened (none refl))
+
+by_told : (told opened : ℕ → Bool) (h : History RingCall) → ((n : ℕ) → told n ≡ opened n) → AllBy opened h
+    → AllBy told h
+by_told told opened [] same all = All-nil (λ (entry : ℕ × RingCall). IsTrue (told entry.0))
+by_told told opened (entry ∷ h) same all =
+    All-cons (λ (entry : ℕ × RingCall). IsTrue (told entry.0)) entry h
+    (same entry.0 ∙ All-head (λ (entry : ℕ × RingCall). IsTrue (opened entry.0)) entry h all)
+    (by_told told opened h same (All-tail (λ (entry : ℕ × RingCall). IsTrue (opened entry.0)) entry h all))
+
+world_promised : (c : Config) (cap : ℕ) (kind : ScriptKind) (script : List Event) (headings : ℕ → Heading)
+    → KeepsRules cap c → IsSession kind script → AreHeadings script headings
+    → IsPromised c script (report c headings script)
+world_promised c cap kind script headings kept session are =
+    let w : World = world c headings script in
+    let run : IsRunning c headings w = world_runs c cap headings script kept in
+    let read : AreAllRead c headings script w = world_read c headings kind script session in
+    let h = w.histories in
+    let ds = w.connections in
+    record {
+      histories = h.rings;
+      one_each = run.size;
+      totals = refl;
+      ordered = all_ordered c headings h ds run.order;
+      all_told = λ n opened. told_same c headings h n ds ∙ is_there script n (is_opened n ds) (read.none n) opened;
+      accounted = each_accounted c headings script h ds are run.each (keeps_all c headings script) read.each;
+      nothing_else = λ mount.
+          by_told (λ n. is_told n (map (told_of c headings h) ds)) (λ n. is_opened n ds) (history_at h.rings mount)
+          (λ n. told_same c headings h n ds) (run.callers mount);
+    }
+
+pub promised : (c : Config) (cap : ℕ) (kind : ScriptKind) (script : List Event) (r : Report) → KeepsRules cap c
+    → IsSession kind script → IsReport c script r → IsPromised c script r
+promised c cap kind script r kept session is =
+    subst (IsPromised c script) (sym is.2) (world_promised c cap kind script is.0 kept session is.1)
