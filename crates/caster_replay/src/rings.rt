@@ -43,7 +43,7 @@ fn open_station(
 {
     let capacity = config.mount.as_slice()[number as usize].ring;
     let station = Station::new(alloc, capacity, config.filters(number))?;
-    StationPlace::new(alloc, Desk::new(station))
+    Ok(StationPlace::new(Desk::new(station)))
 }
 
 /// The place at a new ring of the mountpoint of this number, with greetings or without.

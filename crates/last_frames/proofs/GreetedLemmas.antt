@@ -1,5 +1,5 @@
 -- The greeting at a place is that of the last one who joined.
-use Rattle.std.proofs.Common.{◌≡◌, ℕ, ◌≤◌, Bool, List, [], ◌∷◌, ◌++◌, length, take, drop, refl, ap, ◌∙◌, sym, append_assoc, arith, length-append, None}
+use Rattle.std.proofs.Common.{◌≡◌, ℕ, ◌≤◌, [], ◌∷◌, ◌++◌, length, take, drop, refl, ap, ◌∙◌, sym, append_assoc, arith, length-append, None}
 use Rattle.std.proofs.lemmas.List.{take-append-le, drop-append-le, take-append-drop, append-nil}
 use Rattle.turn_log.specs.History.{History}
 use Rattle.mount_ring.specs.declared.call.RingCall.{RingCall}
@@ -8,18 +8,17 @@ use Rattle.mount_ring.specs.declared.shape.RingShape.{RingShape}
 use Rattle.mount_ring.specs.History.{Shape, State, state_of}
 use Rattle.mount_ring.specs.Shapes.{shape_of}
 use Rattle.last_frames.specs.Station.{greeting_by}
-use Rattle.last_frames.specs.Greeted.{Greeting, shown, is_greeted, greeted_by, greeted_in, greeted_since}
+use Rattle.last_frames.specs.Greeted.{Greeting, greeting_from, greeted_by, greeted_in, greeted_since}
 
--- what a call leaves in the hall is what it leaves to be shown
-pub shown_by : (shape : Shape) (state : State) (call : RingCall) (before : Bool) (greeting : List (List ℕ))
-    → shown (is_greeted call before) (greeting_by shape state call greeting)
-    ≡ greeted_by shape state call (shown before greeting)
-shown_by shape state Claim before greeting = refl
-shown_by shape state (Release claim) before greeting = refl
-shown_by shape state (Publish claim frame) before greeting = refl
-shown_by shape state (Join filter) before greeting = refl
-shown_by shape state Look before greeting = refl
-shown_by shape state (Read cursor budget) before greeting = refl
+-- what a call leaves in a new hall is what it leaves at the place
+pub greeting_taken : (shape : Shape) (state : State) (call : RingCall) (before : Greeting)
+    → greeting_from call (greeting_by shape state call []) before ≡ greeted_by shape state call before
+greeting_taken shape state Claim before = refl
+greeting_taken shape state (Release claim) before = refl
+greeting_taken shape state (Publish claim frame) before = refl
+greeting_taken shape state (Join filter) before = refl
+greeting_taken shape state Look before = refl
+greeting_taken shape state (Read cursor budget) before = refl
 
 pub greeted_in-more : (shape : Shape) (before entries : History RingCall) (entry : ℕ × RingCall) (greeting : Greeting)
     → greeted_in shape before (entries ++ entry ∷ []) greeting
@@ -46,34 +45,22 @@ greeted_since-more shape count h entry within =
     (take-append-drop count h)
 
 -- a turn that nobody else came before
-pub shown_since : (z later : RingShape) (count : ℕ) (old others now : History RingCall) (me : ℕ) (call : RingCall)
-    (before is : Bool) (greeting after : List (List ℕ)) →
-    later ≡ z → now ≡ (old ++ others) ++ (me, call) ∷ [] → others ≡ [] → count ≤ length old →
-    is ≡ is_greeted call before → after ≡ greeting_by (shape_of z) (state_of (old ++ others)) call greeting →
-    shown before greeting ≡ greeted_since (shape_of z) count old →
-    shown is after ≡ greeted_since (shape_of later) count now
-shown_since z later count old others now me call before is greeting after same goes none within joins fills stood =
+pub greeted_alone : (z later : RingShape) (count : ℕ) (old others now : History RingCall) (me : ℕ) (call : RingCall)
+    (before after : Greeting) → later ≡ z → now ≡ (old ++ others) ++ (me, call) ∷ [] → others ≡ []
+    → count ≤ length old
+    → after ≡ greeted_by (shape_of z) (state_of (old ++ others)) call before
+    → before ≡ greeted_since (shape_of z) count old
+    → after ≡ greeted_since (shape_of later) count now
+greeted_alone z later count old others now me call before after same goes none within taken stood =
     let alone : old ++ others ≡ old = ap (λ (h : History RingCall). old ++ h) none ∙ append-nil old in
     let entry : ℕ × RingCall = (me, call) in
-    ap (λ (b : Bool). shown b after) joins
-    ∙ ap (shown (is_greeted call before)) fills
-    ∙ shown_by (shape_of z) (state_of (old ++ others)) call before greeting
-    ∙ ap (λ (h : History RingCall). greeted_by (shape_of z) (state_of h) call (shown before greeting)) alone
+    taken
+    ∙ ap (λ (h : History RingCall). greeted_by (shape_of z) (state_of h) call before) alone
     ∙ ap (greeted_by (shape_of z) (state_of old) call) stood
     ∙ sym (greeted_since-more (shape_of z) count old entry within)
     ∙ ap (λ (h : History RingCall). greeted_since (shape_of z) count (h ++ entry ∷ [])) (sym alone)
     ∙ ap (greeted_since (shape_of z) count) (sym goes)
     ∙ ap (λ (s : RingShape). greeted_since (shape_of s) count now) (sym same)
-
--- a turn that others may have come before
-pub shown_then : (z : RingShape) (h : History RingCall) (call : RingCall)
-    (before is : Bool) (greeting after : List (List ℕ)) →
-    is ≡ is_greeted call before → after ≡ greeting_by (shape_of z) (state_of h) call greeting →
-    shown is after ≡ greeted_by (shape_of z) (state_of h) call (shown before greeting)
-shown_then z h call before is greeting after joins fills =
-    ap (λ (b : Bool). shown b after) joins
-    ∙ ap (shown (is_greeted call before)) fills
-    ∙ shown_by (shape_of z) (state_of h) call before greeting
 
 -- a history of more calls is longer
 pub longer : (count : ℕ) (old others now : History RingCall) (entry : ℕ × RingCall)

@@ -1,5 +1,5 @@
 -- Which greeting stands at a place, by the history.
-use Rattle.std.specs.Prelude.{ℕ, Bool, true, false, List, [], ◌∷◌, ◌++◌, take, drop, Option, None, Some}
+use Rattle.std.specs.Prelude.{ℕ, List, [], ◌∷◌, ◌++◌, take, drop, Option, None, Some}
 use Rattle.turn_log.specs.History.{History}
 use Rattle.mount_ring.specs.declared.call.RingCall.{RingCall}
 use Rattle.mount_ring.specs.declared.call.RingCall.TheVariants.{Claim, Release, Publish, Join, Look, Read}
@@ -10,19 +10,25 @@ use Rattle.last_frames.specs.Last.{last_permitted}
 abbrev pub Greeting : Type 0
 Greeting = Option (List (List ℕ))
 
--- what a place shows of the greeting in its hall
-abbrev pub shown : Bool → List (List ℕ) → Greeting
-shown true greeting = Some greeting
-shown false greeting = None
+-- the greeting at a place after a call, where its hall was new before the call and has this greeting
+-- now: that of the hall where somebody joined, else the one that there was
+abbrev pub greeting_from : RingCall → List (List ℕ) → Greeting → Greeting
+greeting_from Claim hall before = before
+greeting_from (Release claim) hall before = before
+greeting_from (Publish claim frame) hall before = before
+greeting_from (Join filter) hall before = Some hall
+greeting_from Look hall before = before
+greeting_from (Read cursor budget) hall before = before
 
--- somebody joined by this call, or did before
-abbrev pub is_greeted : RingCall → Bool → Bool
-is_greeted Claim before = before
-is_greeted (Release claim) before = before
-is_greeted (Publish claim frame) before = before
-is_greeted (Join filter) before = true
-is_greeted Look before = before
-is_greeted (Read cursor budget) before = before
+-- the frames in the room of a caller after its call, where these are in the hall now: those of a
+-- read, else the ones that there were
+abbrev pub read_from : RingCall → List (List ℕ) → List (List ℕ) → List (List ℕ)
+read_from Claim hall room = room
+read_from (Release claim) hall room = room
+read_from (Publish claim frame) hall room = room
+read_from (Join filter) hall room = room
+read_from Look hall room = room
+read_from (Read cursor budget) hall room = hall
 
 -- the greeting after a call: one who joins is greeted by the last permitted ones of all frames that
 -- were published before, and other calls change nothing of it

@@ -1,64 +1,74 @@
 //! What a caller of a station brings for what it is given.
-ghost use Rattle.std.specs.Prelude.{◌≡◌, ◌+◌, ◌<◌, ◌≤◌, ◌++◌, [], length, vec_len, vec_capacity, IfOk};
+ghost use Rattle.std.specs.Prelude.{◌≡◌, ◌<◌, ◌≤◌, ◌++◌, [], length};
 ghost use Rattle.std.specs.Option.{option_to_list};
 ghost use Rattle.type_filter.specs.Permitted.{permits};
 ghost use Rattle.last_frames.specs.Latest.{permitted_of};
+ghost use Rattle.last_frames.specs.Greeted.{greeting_from, read_from};
 
 use crate::latest::Latest;
-use mount_ring::Outbox;
+use mount_ring::{Outbox, RingCall};
 use rtcm_frame::Frame;
-use std::alloc::{AllocError, Global};
+use std::fmt;
 use std::marker::Model;
-use std::mem;
 use type_filter::Filter;
 
 /// The most frames of a greeting: one of each message number that a station keeps.
 pub(crate) const MOST_GREETING: usize = 6;
 
-/// The frames that a rover is greeted by, at most six. It has room for them from the start.
+/// The frames that a rover is greeted by, at most six, held in the greeting itself: it takes no
+/// memory.
 ///
 /// Contracts see it as the list of its frames.
-#[derive(Debug, Drop)]
+#[derive(Drop)]
 pub(crate) struct Greeting {
-    frames: Vec<Frame>,
+    frames: [Frame; MOST_GREETING],
+    len: usize,
 }
 
 impl Model for Greeting {
-    ghost use Rattle.std.specs.Prelude.{List, ℕ, ◌≤◌, vec_capacity};
+    ghost use Rattle.std.specs.Prelude.{List, ℕ, ◌≤◌, take};
 
     ghost Value = { List (List ℕ) };
 
-    ghost view = { λ g. g.frames.items };
+    ghost view = { λ g. take g.len g.frames };
 
-    ghost invariant = { λ g. 6 ≤ vec_capacity g.frames };
-}
-
-/// Adds the frame at the end, if there is one.
-fn add(frames: &mut Vec<Frame>, frame: Option<Frame>)
-    requires room { vec_len frames.old < vec_capacity frames.old }
-    ensures items { frames.new.items ≡ frames.old.items ++ option_to_list frame }
-    ensures len { vec_len frames.new ≤ vec_len frames.old + 1 }
-    ensures space { vec_capacity frames.old ≤ vec_capacity frames.new }
-{
-    if let Some(frame) = frame {
-        frames.push_reserved(frame);
-    }
+    ghost invariant = { λ g. g.len ≤ 6 };
 }
 
 impl Greeting {
-    /// A greeting with no frames, and room for six.
-    fn new(alloc: Global) -> Result<Greeting, AllocError>
-        ensures { IfOk result (λ greeting. greeting ≡ []) }
+    /// A greeting with no frames.
+    fn new() -> Greeting
+        ensures { result ≡ [] }
     {
-        let frames = Vec::with_capacity(alloc, MOST_GREETING)?;
-        Ok(Greeting { frames })
+        Greeting {
+            frames: [Frame::default(); MOST_GREETING],
+            len: 0,
+        }
     }
 
     /// The frames, in their order.
-    fn frames(&self) -> &[Frame]
+    pub(crate) fn frames(&self) -> &[Frame]
         ensures { result.now ≡ self.now }
     {
-        self.frames.as_slice()
+        &self.frames[..self.len]
+    }
+
+    /// Lets its frames go.
+    fn clear(&mut self)
+        ensures { self.new ≡ [] }
+    {
+        self.len = 0;
+    }
+
+    /// Adds the frame at the end, if there is one, of which no more than its own bytes is copied.
+    fn add(&mut self, frame: Option<Frame>)
+        requires { length self.old < 6 }
+        ensures { self.new ≡ self.old ++ option_to_list frame }
+    {
+        if let Some(frame) = frame {
+            self.frames[self.len].copy_from(&frame);
+            self.len += 1;
+        }
     }
 
     /// It gets the frames that are kept and that the filter permits, in their order.
@@ -66,15 +76,21 @@ impl Greeting {
         requires few { length kept.now ≤ 6 }
         ensures { self.new ≡ permitted_of (permits filter.now) kept.now }
     {
-        self.frames.clear();
+        self.clear();
         for latest in kept {
-            add(&mut self.frames, latest.permitted(filter));
+            self.add(latest.permitted(filter));
         }
     }
 }
 
+impl fmt::Debug for Greeting {
+    fn fmt<W: fmt::Write>(&self, f: &mut fmt::Formatter<W>) -> fmt::Result {
+        write!(f, "Greeting({:?})", self.frames())
+    }
+}
+
 /// The room that a caller of a station makes beforehand: an outbox for the frames that it reads,
-/// and one for those that it is greeted by when it joins.
+/// and one for those that it is greeted by when it joins. It takes no memory.
 ///
 /// Contracts see the frames of both.
 #[derive(Debug, Drop)]
@@ -92,17 +108,14 @@ impl Model for Hall {
 }
 
 impl Hall {
-    /// A hall with nothing in it. All its memory is taken here.
-    ///
-    /// # Errors
-    /// For want of memory.
-    pub fn new(alloc: Global) -> Result<Hall, AllocError>
-        ensures { IfOk result (λ hall. hall ≡ record { outbox = []; greeting = [] }) }
+    /// A hall with nothing in it.
+    pub fn new() -> Hall
+        ensures { result ≡ record { outbox = []; greeting = [] } }
     {
-        Ok(Hall {
+        Hall {
             outbox: Outbox::new(),
-            greeting: Greeting::new(alloc)?,
-        })
+            greeting: Greeting::new(),
+        }
     }
 
     /// The outbox, with the frames that were read last.
@@ -112,18 +125,38 @@ impl Hall {
         &self.outbox
     }
 
-    /// Changes its outbox for another.
-    pub(crate) fn swap_outbox(&mut self, room: &mut Outbox)
-        ensures hall { self.new ≡ record { outbox = room.old; greeting = self.old.greeting } }
-        ensures room { room.new ≡ self.old.outbox }
-    {
-        mem::swap(&mut self.outbox, room);
-    }
-
     /// The frames that the last one who joined was greeted by, at most six.
     pub fn greeting(&self) -> &[Frame]
         ensures { result.now ≡ self.now.greeting }
     {
         self.greeting.frames()
+    }
+
+    /// Hands over what this call put into a new hall: the greeting of one who joined, or the frames
+    /// that were read.
+    pub(crate) fn hand_over(
+        self,
+        call: &RingCall,
+        greeting: &mut Option<Greeting>,
+        room: &mut Outbox,
+    )
+        ensures greeting { greeting.new ≡ greeting_from call.now self.greeting greeting.old }
+        ensures room { room.new ≡ read_from call.now self.outbox room.old }
+    {
+        match call {
+            RingCall::Join(_) => *greeting = Some(self.greeting),
+            RingCall::Read { .. } => *room = self.outbox,
+            _ => (),
+        }
+    }
+}
+
+impl Default for Hall {
+    ghost use Rattle.std.specs.Prelude.{◌≡◌, []};
+
+    ghost is_default = { λ h. h ≡ record { outbox = []; greeting = [] } };
+
+    fn default() -> Self {
+        Hall::new()
     }
 }

@@ -4,26 +4,15 @@ ghost use Rattle.turn_log.specs.History.{History};
 ghost use Rattle.mount_ring.specs.declared.call.RingCall.{RingCall as CallValue};
 ghost use Rattle.mount_ring.specs.History.{state_of};
 ghost use Rattle.mount_ring.specs.Shapes.{shape_of};
-ghost use Rattle.last_frames.specs.Greeted.{greeted_by, greeted_since, is_greeted};
+ghost use Rattle.last_frames.specs.Greeted.{greeted_by, greeted_since};
 
-use crate::hall::Hall;
+use crate::hall::{Greeting, Hall};
 use crate::station::Station;
 use mount_ring::{Outbox, Ring, RingAnswer, RingCall};
 use rtcm_frame::Frame;
-use std::alloc::{AllocError, Global};
 use std::marker::Model;
 use std::snapshot::Snapshot;
 use turn_log::{Played, TurnFault, Turns};
-
-/// Whether somebody joined by this call, or did before.
-fn is_greeted(call: &RingCall, before: bool) -> bool
-    ensures { result ≡ is_greeted call.now before }
-{
-    match call {
-        RingCall::Join(_) => true,
-        _ => before,
-    }
-}
 
 /// A place at a station, as a place at its ring. It keeps the greeting of the last one who joined
 /// through it.
@@ -33,51 +22,45 @@ fn is_greeted(call: &RingCall, before: bool) -> bool
 #[derive(Drop)]
 pub struct StationPlace<T: Turns<Station>> {
     inner: T,
-    hall: Hall,
-    // Somebody joined since the place was made or cleared, which was then.
-    greeted: bool,
+    // Of the last one who joined since the place was made or cleared, which was then.
+    greeting: Option<Greeting>,
     since: Snapshot<T>,
 }
 
 impl<T: Turns<Station>> Model for StationPlace<T> {
     ghost use Rattle.std.specs.Prelude.{◌≡◌, ◌≤◌, length, IsTrue};
     ghost use Rattle.mount_ring.specs.Shapes.{shape_of};
-    ghost use Rattle.last_frames.specs.Greeted.{greeted_since, shown};
+    ghost use Rattle.last_frames.specs.Greeted.{greeted_since};
     ghost use Rattle.last_frames.specs.Placed.{Placed};
 
     ghost Value = { Placed T };
 
     ghost view = { λ place. record {
       inner = place.inner;
-      greeting = shown place.greeted place.hall.greeting;
+      greeting = place.greeting;
       since = length (T.seen place.since.value);
     } };
 
     // Where nobody else calls, the history tells whom the greeting is of.
     ghost invariant = { λ place. (length (T.seen place.since.value) ≤ length (T.seen place.inner))
-        × (IsTrue (T.alone place.inner) → shown place.greeted place.hall.greeting
+        × (IsTrue (T.alone place.inner) → place.greeting
         ≡ greeted_since (shape_of (T.shape place.inner)) (length (T.seen place.since.value))
         (T.seen place.inner)) };
 }
 
 impl<T: Turns<Station> + Drop> StationPlace<T> {
     /// A place at the ring of the station that this place is at. Nobody joined through it.
-    ///
-    /// # Errors
-    /// For want of memory.
-    pub fn new(alloc: Global, inner: T) -> Result<StationPlace<T>, AllocError>
-        ensures inner { IfOk result (λ place. place.inner ≡ inner) }
-        ensures none { IfOk result (λ place. place.greeting ≡ None) }
-        ensures since { IfOk result (λ place. place.since ≡ length (T.seen inner)) }
+    pub fn new(inner: T) -> StationPlace<T>
+        ensures inner { result.inner ≡ inner }
+        ensures none { result.greeting ≡ None }
+        ensures since { result.since ≡ length (T.seen inner) }
     {
-        let hall = Hall::new(alloc)?;
         let since = Snapshot::of(&inner);
-        Ok(StationPlace {
+        StationPlace {
             inner,
-            hall,
-            greeted: false,
+            greeting: None,
             since,
-        })
+        }
     }
 }
 
@@ -107,10 +90,9 @@ impl<T: Turns<Station>> StationPlace<T> {
             ≡ greeted_since (shape_of (T.shape self.now.inner)) self.now.since
             (T.seen self.now.inner) }
     {
-        if self.greeted {
-            Some(self.hall.greeting())
-        } else {
-            None
+        match &self.greeting {
+            Some(greeting) => Some(greeting.frames()),
+            None => None,
         }
     }
 
@@ -120,7 +102,7 @@ impl<T: Turns<Station>> StationPlace<T> {
         ensures none { self.new.greeting ≡ None }
         ensures since { self.new.since ≡ length (T.seen self.old.inner) }
     {
-        self.greeted = false;
+        self.greeting = None;
         self.since = Snapshot::of(&self.inner);
     }
 }
@@ -167,11 +149,9 @@ impl<T: Turns<Station>> Turns<Ring> for StationPlace<T> {
         ensures since { self.new.since ≡ self.old.since }
         ensures refused { OnErr result (self.new.greeting ≡ self.old.greeting) }
     {
-        self.hall.swap_outbox(room);
-        let answer = self.inner.turn(me, call, &mut self.hall);
-        self.hall.swap_outbox(room);
-        let answer = answer?;
-        self.greeted = is_greeted(&call, self.greeted);
+        let mut hall = Hall::new();
+        let answer = self.inner.turn(me, call, &mut hall)?;
+        hall.hand_over(&call, &mut self.greeting, room);
         Ok(answer)
     }
 

@@ -115,7 +115,7 @@ fn joined_place(
     frames: &[[u8; 8]],
 ) -> Result<StationPlace<Desk<Station>>, Fail> {
     let station = new_station(alloc, filter)?;
-    let mut place = StationPlace::new(alloc, Desk::new(station))?;
+    let mut place = StationPlace::new(Desk::new(station));
     publish_all(&mut place, 1, frames)?;
     if place.greeting().is_some() {
         return Err("a greeting before a Join".into());
@@ -226,7 +226,7 @@ fn frames_in(alloc: Global, hall: &Hall) -> Result<Frames, Fail> {
 /// again: what its hall has before it joins again and behind.
 fn hall_frames(alloc: Global, frame: Frame) -> Result<(Frames, Frames), Fail> {
     let mut desk = Desk::new(new_station(alloc, Filter::all())?);
-    let mut hall = Hall::new(alloc)?;
+    let mut hall = Hall::new();
     let RingAnswer::Joined(cursor) = desk.turn(2, RingCall::Join(0), &mut hall)? else {
         unreachable!();
     };
@@ -251,14 +251,16 @@ fn a_hall_has_what_was_read_and_the_greeting(rt: HostRuntime) -> Result<(), Fail
     Ok(())
 }
 
-// Beside its ring a station is two lists, of six frames and of filters; a place is the place
-// within, its hall and a mark. No list of all frames is kept anywhere.
+// Beside its ring a station is two lists, of six frames and of filters; a hall is an outbox and six
+// frames with their number; a place is the place within, such six frames and a mark. No list of all
+// frames is kept anywhere.
 #[test]
 fn a_station_is_its_ring_and_two_lists(rt: HostRuntime) -> Result<(), Fail> {
     let list = size_of::<Vec<Frame>>();
     let station = size_of::<Ring>() + 2 * list;
-    let hall = size_of::<Outbox>() + list;
-    let place = size_of::<Desk<Station>>() + size_of::<Hall>() + 8;
+    let greeting = size_of::<([Frame; 6], usize)>();
+    let hall = size_of::<Outbox>() + greeting;
+    let place = size_of::<Desk<Station>>() + size_of::<Option<([Frame; 6], usize)>>();
     let sizes = [
         size_of::<Station>(),
         size_of::<Hall>(),

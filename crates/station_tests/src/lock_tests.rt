@@ -17,7 +17,6 @@ use type_filter::Filter;
 
 /// Publishes a frame with this pass.
 fn publish_at<R: Wait + Sync>(
-    alloc: Global,
     turn: &Turn<Station>,
     rt: &R,
     pass: Pass<Station>,
@@ -28,7 +27,7 @@ fn publish_at<R: Wait + Sync>(
     requires me { (me == pass_number pass) ≡ true }
     ensures { IfOk result (λ pass. IsPassOf pass turn.now) }
 {
-    let mut place = StationPlace::new(alloc, turn.seat(rt, pass))?;
+    let mut place = StationPlace::new(turn.seat(rt, pass));
     publish_first(&mut place, me, frame)?;
     Ok(place.inner().leave())
 }
@@ -39,14 +38,13 @@ fn look_at<R: Wait + Sync>(
     rt: &R,
     pass: Pass<Station>,
     me: u32,
-    mut hall: Hall,
 ) -> Pass<Station>
     requires pass { IsPassOf pass turn.now }
     requires me { (me == pass_number pass) ≡ true }
     ensures { IsHanded result turn.now me }
 {
     let mut seat = turn.seat(rt, pass);
-    let _looked = seat.turn(me, RingCall::Look, &mut hall);
+    let _looked = seat.turn(me, RingCall::Look, &mut Hall::new());
     seat.leave()
 }
 
@@ -62,7 +60,7 @@ fn greeting_at<R: Wait + Sync>(
     requires me { (me == pass_number pass) ≡ true }
     requires filter { 0 < length (ring_shape (turn_value turn.now).ring).filters }
 {
-    let mut place = StationPlace::new(alloc, turn.seat(rt, pass))?;
+    let mut place = StationPlace::new(turn.seat(rt, pass));
     join_first(&mut place, me)?;
     match place.greeting() {
         Some(frames) => Ok(Vec::from_slice(alloc, frames)?),
@@ -72,13 +70,11 @@ fn greeting_at<R: Wait + Sync>(
 
 /// One thread publishes a frame with the first pass, while another looks with the second.
 fn publish_beside<R: Threads + Wait + Sync>(
-    alloc: Global,
     turn: &Turn<Station>,
     rt: &R,
     first: Pass<Station>,
     second: Pass<Station>,
     frame: Frame,
-    hall: Hall,
 ) -> (Result<Pass<Station>, Fail>, Pass<Station>)
     requires first { IsPassOf first turn.now × ((0 == pass_number first) ≡ true) }
     requires second { IsPassOf second turn.now × ((1 == pass_number second) ≡ true) }
@@ -89,10 +85,10 @@ fn publish_beside<R: Threads + Wait + Sync>(
         rt,
         move ||
             requires { IsPassOf first turn.now × ((0 == pass_number first) ≡ true) }
-        { publish_at(alloc, turn, rt, first, 0, frame) },
+        { publish_at(turn, rt, first, 0, frame) },
         move ||
             requires { IsPassOf second turn.now × ((1 == pass_number second) ≡ true) }
-        { look_at(turn, rt, second, 1, hall) },
+        { look_at(turn, rt, second, 1) },
     )
 }
 
@@ -109,8 +105,7 @@ fn tell<R: Threads + Wait + Sync>(
     requires second { IsPassOf second turn.now × (pass_number second ≡ 1) }
     requires filter { 0 < length (ring_shape (turn_value turn.now).ring).filters }
 {
-    let hall = Hall::new(alloc)?;
-    let (first, mut second) = publish_beside(alloc, turn, rt, first, second, frame, hall);
+    let (first, mut second) = publish_beside(turn, rt, first, second, frame);
     let mut first = first?;
     let note = turn.note(&mut first);
     turn.meet(&mut second, note);
