@@ -9,7 +9,11 @@ use Rattle.std.proofs.lemmas.List.Concat.{flat_map-append}
 use Rattle.std.proofs.lemmas.List.Elements.{All-nil, All-cons, All-head, All-tail, All-append}
 use Rattle.rtcm_frame.specs.Cut.{cut}
 use Rattle.chunk_body.specs.Text.{IsOpen, IsPlain}
+use Rattle.chunk_body.specs.declared.phase.Phase.{Phase}
+use Rattle.chunk_body.specs.declared.phase.Phase.TheVariants.{Ended, Broken}
 use Rattle.chunk_body.specs.Machine.{read, is_ended, is_broken}
+use Rattle.chunk_body.proofs.TextLemmas.{bad_dead}
+use Rattle.chunk_body.proofs.ReadingLemmas.{known, ended_reading, bad_reading, plain_read}
 use Rattle.turn_log.specs.History.{History}
 use Rattle.gga_read.specs.Report.{reports}
 use Rattle.mount_ring.specs.declared.call.RingCall.{RingCall}
@@ -24,7 +28,7 @@ use Rattle.caster_accounts.specs.History as books
 use Rattle.rover_cursor.specs.declared.segment.Segment.{Segment}
 use Rattle.session_calls.specs.Steps.{Ask, to_ring, to_book, of_book, Step, at_ring, at_book, answer_of}
 use Rattle.session_calls.specs.Plans.{Plan, done, asks, IsMade}
-use Rattle.source_session.specs.Body.{frames_of}
+use Rattle.source_session.specs.Body.{payload, frames_of}
 use Rattle.rover_session.specs.Body.{body_of}
 use Rattle.rover_session.specs.Made.{segments_after, owed_among, sent_in, overrun_in}
 use Rattle.rover_session.specs.Owed.{rover_plan}
@@ -39,7 +43,7 @@ use Rattle.session_core.specs.declared.ending.Last.TheVariants as lasts
 use Rattle.session_core.specs.declared.report.Receipt.{Receipt}
 use Rattle.session_core.specs.declared.report.Connection.{Connection}
 use Rattle.session_core.specs.Setting.{caps, bases_at}
-use Rattle.run_promise.specs.Selected.{SelectsBy}
+use Rattle.run_promise.specs.Selected.{Selects}
 use Rattle.session_core.specs.Judged.{Opening, SourceTerms, RoverTerms, Judged, waiting, refused, unanswered, table, source, rover}
 use Rattle.session_core.specs.Owed.{Received, unasked, claimed, taken, entered, full, received, received_by, if_entered, terms_of, plan_of, closing, closing_by}
 use Rattle.session_core.specs.Endings.{ended_by, claimed_ending, body_ending}
@@ -48,14 +52,14 @@ use Rattle.session_core.specs.Promises.{IsSoundIn, CountsAll, Keeps}
 use Rattle.session_core.specs.Reports.{receipt_of, is_entered}
 use Rattle.session_core.specs.Run.{Histories, Connected}
 use Rattle.run_promise.specs.Calls.{Call, without_reads}
-use Rattle.run_promise.specs.Promised.{Carries, IsBodyOf, HasEntered, WasFull, asked, publishes, released, IsBodyOver, HasClaimed, WasTaken, Was}
+use Rattle.run_promise.specs.Promised.{Carries, Holds, IsReplied, HasEntered, asked, publishes, HasClaimed, WasTaken, Was}
 use Rattle.run_promise.proofs.MadeLemmas.{AreAnswered, StepsOn}
 use Rattle.run_promise.proofs.CallLemmas.{call_in, calls_of, same_owed}
 use Rattle.run_promise.proofs.WalkLemmas.{IsNever, AreJoins, JoinsSuch, joins_made, joins-append, HasSuch, walk_keeps, none_such}
 use Rattle.run_promise.proofs.SelectLemmas.{IsFilter, plan_made, plan_such}
 use Rattle.run_promise.proofs.SourceLemmas.{Given_, Taken_, source_made, claim_such}
 use Rattle.run_promise.proofs.StoodLemmas.{Walked}
-use Rattle.run_promise.proofs.OwedLemmas.{answered_front, answered_owed, on_front, received_owed, IsLast, last_done, last_such, source_last, rover_last, closing_such}
+use Rattle.run_promise.proofs.OwedLemmas.{answered_front, answered_owed, on_front, received_owed, last_such, source_last, rover_last, closing_such}
 
 -- ---- a connection that is judged so
 
@@ -76,7 +80,7 @@ pub record Facts (c : Config) (h : Histories) (d : Connected) (j : Judged) (rest
   pub last : List Step
   pub split : d.steps ≡ first ++ last
   pub made : IsMade (plan_of c j) (owed_among first)
-  pub closed : IsLast (closing j first) last
+  pub closed : IsMade (closing j first) last
   pub whole : (rest ≡ []) ⊎ (is_none (ended_by j (received d.steps)) ≡ false)
   pub keeps : Keeps c h.rings d
 
@@ -123,38 +127,52 @@ module _ (c : Config) (h : Histories) (d : Connected) (j : Judged) (rest : List 
 
   -- the closing owes so, by how it was received
   pub closes_so : (by : Received) → received (owed_among f.first) ≡ by
-      → IsLast (closing_by j by (segments_after [] f.first)) f.last
+      → IsMade (closing_by j by (segments_after [] f.first)) f.last
   closes_so by is =
-      subst (λ (r : Received). IsLast (closing_by j r (segments_after [] f.first)) f.last) (sym first_received ∙ is)
+      subst (λ (r : Received). IsMade (closing_by j r (segments_after [] f.first)) f.last) (sym first_received ∙ is)
       f.closed
 
 -- ---- who calls nothing
 
--- its calls, and its bytes but for the reply
-record IsQuiet (c : Config) (h : Histories) (d : Connected) (j : Judged) : Type 0 where
-  nothing : without_reads (calls_of d.steps) ≡ []
-  bytes : (told_with c h d j).bytes ≡ opening_text c d.opening ++ reply_of c j (received d.steps)
-
 quiet_so : (c : Config) (h : Histories) (d : Connected) (j : Judged) (rest : List ℕ) (f : Facts c h d j rest)
-    → owed_among f.first ≡ [] → owed_among f.last ≡ [] → IsQuiet c h d j
-quiet_so c h d j rest f first last = record {
-  nothing = calls_are c h d j rest f ∙ ap (λ (l : List Step). calls_of l ++ calls_of (owed_among f.last)) first
-      ∙ ap calls_of last;
-  bytes = sent_reply c h d j rest f (subst (AreJoins IsNever) (sym first) tt);
-}
+    → owed_among f.first ≡ [] → owed_among f.last ≡ []
+    → IsReplied (told_with c h d j) (opening_text c d.opening) (without_reads (calls_of d.steps))
+    (reply_of c j (received d.steps))
+quiet_so c h d j rest f first last = (
+  calls_are c h d j rest f ∙ ap (λ (l : List Step). calls_of l ++ calls_of (owed_among f.last)) first
+      ∙ ap calls_of last,
+  sent_reply c h d j rest f (subst (AreJoins IsNever) (sym first) tt),
+)
 
 -- ---- a source
 
+-- a body that has ended or is broken is not open
+not_open : (body : List ℕ) (phase : Phase) → (read body).phase ≡ phase → IsTrue (is_ended phase) ⊎ IsTrue (is_broken phase)
+    → IsOpen body → ⊥
+not_open body Ended is over goes = goes.going ((ended_reading body (read body) (known body)).0 is)
+not_open body Broken is over goes =
+    bad_dead body (read body).taken ((bad_reading body (read body) (read body).taken (known body)).0 (is, refl)) goes.live
+not_open body phase is (inl ended) goes = absurd cc
+not_open body phase is (inr broken) goes = absurd cc
+
 over_if : (chunked : Bool) (claim : ℕ) (body : List ℕ) → is_none (claimed_ending chunked claim body) ≡ false
-    → IsBodyOver chunked body
+    → (chunked ≡ true) × (IsOpen body → ⊥)
 over_if false claim body over = absurd cc
-over_if true claim body over = over_by (is_ended (read body).phase) (is_broken (read body).phase) (read body).taken over
+over_if true claim body over = (
+  refl,
+  not_open body (read body).phase refl
+      (over_by (is_ended (read body).phase) (is_broken (read body).phase) (read body).taken over),
+)
   where
     over_by : (ended broken : Bool) (before : ℕ) → is_none (body_ending claim ended broken before) ≡ false
         → IsTrue ended ⊎ IsTrue broken
     over_by true broken before over = inl refl
     over_by false true before over = inr refl
     over_by false false before over = absurd cc
+
+carries_so : (chunked : Bool) (body : List ℕ) → Carries chunked body (payload chunked body)
+carries_so false body = refl
+carries_so true body = plain_read body
 
 source_joins : (c : Config) (terms : SourceTerms) (body : List ℕ) (steps : List Step)
     → IsMade (plan_of c (source terms body)) steps → AreJoins IsNever steps
@@ -182,14 +200,15 @@ given_so c h d terms body rest f g =
       ];
       claim = g.claim;
       later = calls_of g.rest ++ calls_of (owed_among f.last);
-      is_given = calls_are c h d j rest f
+      given = calls_are c h d j rest f
           ∙ ap (λ (l : List Step). calls_of l ++ calls_of (owed_among f.last)) g.steps_are;
-      gives_back = back.0;
-      published = map-append (λ (call : Call). (call.mount, call.asked)) (calls_of g.rest)
+      carried = payload terms.chunked body;
+      carries = carries_so terms.chunked body;
+      published = map-append (λ (one : Call). (one.mount, one.asked)) (calls_of g.rest)
           (calls_of (owed_among f.last))
           ∙ ap (λ (l : List (ℕ × RingCall)). l ++ asked (calls_of (owed_among f.last))) g.published
           ∙ ap (λ (l : List (ℕ × RingCall)).
-          publishes terms.mount g.claim (frames_of terms.chunked body) ++ l) back.1;
+          publishes terms.mount g.claim (frames_of terms.chunked body) ++ l) back;
       bytes = sent_reply c h d j rest f (source_joins c terms body (owed_among f.first) f.made)
           ∙ ap (λ (r : Received). opening_text c d.opening ++ reply_of c j r) all;
     }
@@ -202,16 +221,16 @@ taken_so c h d terms body rest f t =
     let by : received (owed_among f.first) ≡ taken t.caller t.claim = ap received t.steps_are in
     let all : received d.steps ≡ taken t.caller t.claim =
     received_is c h d j rest f ∙ ap (λ (l : List Step). received (l ++ owed_among f.last)) t.steps_are in
-    let last : owed_among f.last ≡ [] = last_done f.last (closes_so c h d j rest f (taken t.caller t.claim) by) in
-    record {
-      caller = t.caller;
-      claim = t.claim;
-      is_taken = calls_are c h d j rest f
+    let last : owed_among f.last ≡ [] = ap owed_among (closes_so c h d j rest f (taken t.caller t.claim) by) in
+    (
+      t.caller,
+      t.claim,
+      calls_are c h d j rest f
           ∙ ap (λ (l : List Step). calls_of l ++ calls_of (owed_among f.last)) t.steps_are
-          ∙ ap (λ (l : List Step). call_in (at_ring terms.mount Claim (Taken t.caller t.claim)) ++ calls_of l) last;
-      bytes = sent_reply c h d j rest f (source_joins c terms body (owed_among f.first) f.made)
-          ∙ ap (λ (r : Received). opening_text c d.opening ++ reply_of c j r) all;
-    }
+          ∙ ap (λ (l : List Step). call_in (at_ring terms.mount Claim (Taken t.caller t.claim)) ++ calls_of l) last,
+      sent_reply c h d j rest f (source_joins c terms body (owed_among f.first) f.made)
+          ∙ ap (λ (r : Received). opening_text c d.opening ++ reply_of c j r) all,
+    )
 
 -- ---- a rover
 
@@ -269,12 +288,11 @@ entry_made c terms tail (at_book call answer ∷ rest) answered made =
     (rover_plan (terms_of c terms.admission) terms.first tail)) rest) told made.1))
 
 -- the frames of its segments are what its body holds
-decoded_as : (c : Config) (histories : List (History RingCall)) (version : Version) (frames : List (List ℕ))
+holds_so : (version : Version) (frames : List (List ℕ))
     → cut (body_of One frames) ≡ record { frames = frames; junk = 0; rest = [] } → IsOpen (body_of Two frames)
-    → IsPlain (body_of Two frames) (concat frames) → IsBodyOf version frames (body_of version frames)
-decoded_as c histories One frames cuts opens plain = (body_of One frames, refl, cuts)
-decoded_as c histories Two frames cuts opens plain =
-    (concat frames, (opens, plain), ap cut (sym (body_plain frames)) ∙ cuts)
+    → IsPlain (body_of Two frames) (concat frames) → Holds version (body_of version frames) frames
+holds_so One frames cuts opens plain = cuts
+holds_so Two frames cuts opens plain = (concat frames, opens, plain, ap cut (sym (body_plain frames)) ∙ cuts)
 
 all_reversed : (P : Segment → Type 0) (segments : List Segment) → All P segments → All P (reverse segments)
 all_reversed P [] all = All-nil P
@@ -307,7 +325,7 @@ entered_so c h d terms tail rest f e =
         | inl none ↦ none
         | inr over ↦ absurd (false≢true (sym over ∙ ap (λ (r : Received). is_none (ended_by j r)) all))
       ];
-      selects = subst (SelectsBy terms.admission.near c.hysteresis terms.admission.group
+      selects = subst (Selects terms.admission.near c.hysteresis terms.admission.group
           (bases_at c terms.admission.bases) told) (sym calls)
           (plan_made c terms.admission.near (terms_of c terms.admission) told e.rest e.answered e.made);
       filter = all_reversed (HasSuch (IsFilter terms.admission.group)) (segments_after [] d.steps)
@@ -322,49 +340,47 @@ entered_so c h d terms tail rest f e =
       counts = all_reversed (CountsAll c h.rings) (segments_after [] d.steps) f.keeps.counts;
       body = body_of version frames;
       bytes = ap (λ (r : Received). opening_text c d.opening ++ reply_of c j r ++ body_of version frames) all;
-      decoded = decoded_as c h.rings version frames f.keeps.plain f.keeps.chunked f.keeps.data_is;
+      holds = holds_so version frames f.keeps.plain f.keeps.chunked f.keeps.data_is;
     }
 
 full_so : (c : Config) (h : Histories) (d : Connected) (terms : RoverTerms) (tail rest : List ℕ)
     (f : Facts c h d (rover terms tail) rest) → IsFull (owed_among f.first)
-    → WasFull (told_with c h d (rover terms tail)) terms (opening_text c d.opening) (without_reads (calls_of d.steps))
+    → ((told_with c h d (rover terms tail)).receipt.entered ≡ false)
+    × IsReplied (told_with c h d (rover terms tail)) (opening_text c d.opening) (without_reads (calls_of d.steps))
+    (text_if terms.version replies.Full [])
 full_so c h d terms tail rest f e =
     let j : Judged = rover terms tail in
     let by : received (owed_among f.first) ≡ full e.busy e.cap = ap received e.steps_are in
     let all : received d.steps ≡ full e.busy e.cap =
     received_is c h d j rest f ∙ ap (λ (l : List Step). received (l ++ owed_among f.last)) e.steps_are in
-    let last : owed_among f.last ≡ [] = last_done f.last (closes_so c h d j rest f (full e.busy e.cap) by) in
-    record {
-      entered = ap is_entered all;
-      nothing = calls_are c h d j rest f
-          ∙ ap (λ (l : List Step). calls_of l ++ calls_of (owed_among f.last)) e.steps_are
-          ∙ ap calls_of last;
-      bytes = sent_reply c h d j rest f (subst (AreJoins IsNever) (sym e.steps_are) (tt, tt))
-          ∙ ap (λ (r : Received). opening_text c d.opening ++ reply_of c j r) all;
-    }
+    let last : owed_among f.last ≡ [] = ap owed_among (closes_so c h d j rest f (full e.busy e.cap) by) in
+    (
+      ap is_entered all,
+      (
+        calls_are c h d j rest f
+            ∙ ap (λ (l : List Step). calls_of l ++ calls_of (owed_among f.last)) e.steps_are
+            ∙ ap calls_of last,
+        sent_reply c h d j rest f (subst (AreJoins IsNever) (sym e.steps_are) (tt, tt))
+            ∙ ap (λ (r : Received). opening_text c d.opening ++ reply_of c j r) all,
+      ),
+    )
 
 -- ---- by its judgement
 
 pub was_so : (c : Config) (h : Histories) (d : Connected) (j : Judged) (rest : List ℕ) → Facts c h d j rest
     → Was c h.rings (told_with c h d j) (opening_text c d.opening) rest (without_reads (calls_of d.steps)) j
 was_so c h d waiting rest f =
-    let quiet = quiet_so c h d waiting rest f f.made (last_done f.last f.closed) in (
-      quiet.nothing,
-      elim f.whole [
-        | inl none ↦ none
-        | inr over ↦ absurd cc
-      ],
-      quiet.bytes ∙ append-nil (opening_text c d.opening),
-    )
+    (whole_waiting f.whole, quiet_so c h d waiting rest f f.made (ap owed_among f.closed))
+  where
+    whole_waiting : (rest ≡ []) ⊎ (true ≡ false) → rest ≡ []
+    whole_waiting (inl none) = none
+    whole_waiting (inr over) = absurd cc
 was_so c h d (refused version reply end) rest f =
-    let quiet = quiet_so c h d (refused version reply end) rest f f.made (last_done f.last f.closed) in
-    (quiet.nothing, quiet.bytes)
+    quiet_so c h d (refused version reply end) rest f f.made (ap owed_among f.closed)
 was_so c h d (unanswered end) rest f =
-    let quiet = quiet_so c h d (unanswered end) rest f f.made (last_done f.last f.closed) in
-    (quiet.nothing, quiet.bytes ∙ append-nil (opening_text c d.opening))
+    quiet_so c h d (unanswered end) rest f f.made (ap owed_among f.closed)
 was_so c h d (table version) rest f =
-    let quiet = quiet_so c h d (table version) rest f f.made (last_done f.last f.closed) in
-    (quiet.nothing, quiet.bytes)
+    quiet_so c h d (table version) rest f f.made (ap owed_among f.closed)
 was_so c h d (source terms body) rest f =
     elim (source_made c terms.mount (frames_of terms.chunked body) (owed_among f.first)
     (first_answered c h d (source terms body) rest f) f.made) [

@@ -13,7 +13,7 @@ use Rattle.session_calls.specs.Rings.{history_at, answer_at, Went}
 use Rattle.rover_session.specs.Made.{after_step, segments_after, is_call_owed, is_owed, owed_among}
 use Rattle.cast_config.specs.declared.config.Config.{Config}
 use Rattle.session_core.specs.Setting.{shapes}
-use Rattle.run_promise.specs.Calls.{Call, at_one, AreAllCalls, is_no_read, without_reads, after_call, ReadOn}
+use Rattle.run_promise.specs.Calls.{Call, at_one, AreAllCalls, is_no_read, without_reads, after_one, ReadOn}
 use Rattle.run_promise.proofs.MadeLemmas.{StepsOn}
 
 abbrev pub call_in : Step → List Call
@@ -33,7 +33,7 @@ same_at mount (at_book call answer ∷ steps) = same_at mount steps
 
 -- the segments
 pub same_segments : (segments : List Segment) (steps : List Step)
-    → fold after_call segments (calls_of steps) ≡ segments_after segments steps
+    → fold after_one segments (calls_of steps) ≡ segments_after segments steps
 same_segments segments [] = refl
 same_segments segments (at_ring mount call answer ∷ steps) =
     same_segments (after_step segments (at_ring mount call answer)) steps

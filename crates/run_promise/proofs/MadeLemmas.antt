@@ -124,7 +124,7 @@ owed_all (step ∷ steps) all =
 -- ---- each read is of the newest segment
 
 abbrev pub IsStepOn : List Segment → Step → Type 0
-IsStepOn segments (at_ring mount call answer) = IsReadOn segments mount call
+IsStepOn segments (at_ring mount call answer) = IsReadOn call mount segments
 IsStepOn segments (at_book call answer) = ⊤
 
 abbrev pub StepsOn : List Segment → List Step → Type 0

@@ -12,7 +12,7 @@ use Rattle.cast_config.specs.declared.config.Config.{Config}
 use Rattle.session_core.specs.Judged.{SourceTerms, RoverTerms, Judged, waiting, refused, unanswered, table, source, rover}
 use Rattle.session_core.specs.Owed.{Received, unasked, claimed, taken, entered, full, received, closing_by}
 use Rattle.run_promise.specs.Calls.{Call}
-use Rattle.run_promise.specs.Promised.{asked, released}
+use Rattle.run_promise.specs.Promised.{asked}
 use Rattle.run_promise.proofs.MadeLemmas.{AreAnswered, StepsOn}
 use Rattle.run_promise.proofs.CallLemmas.{calls_of}
 use Rattle.run_promise.proofs.WalkLemmas.{IsJoinAsk, AreJoins, JoinsSuch, joins_made}
@@ -62,19 +62,10 @@ received_owed (at_book call answer ∷ steps) on = refl
 
 -- ---- what closes a connection
 
--- nothing, or what is owed at its end
-abbrev pub IsLast : Plan → List Step → Type 0
-IsLast plan last = (last ≡ []) ⊎ IsMade plan last
-
-pub last_done : (last : List Step) → IsLast done last → owed_among last ≡ []
-last_done last (inl none) = ap owed_among none
-last_done last (inr none) = ap owed_among none
 
 pub last_such : (IsSuch : ℕ → Type 0) (plan : Plan) (last : List Step)
-    → JoinsSuch IsSuch plan → IsLast plan last → AreJoins IsSuch (owed_among last)
-last_such IsSuch plan last such (inl none) =
-    subst (λ (l : List Step). AreJoins IsSuch (owed_among l)) (sym none) tt
-last_such IsSuch plan last such (inr made) = joins_owed IsSuch last (joins_made IsSuch plan last such made)
+    → JoinsSuch IsSuch plan → IsMade plan last → AreJoins IsSuch (owed_among last)
+last_such IsSuch plan last such made = joins_owed IsSuch last (joins_made IsSuch plan last such made)
 
 -- a call on the book
 book_last : (call : BookCall) (last : List Step) → IsMade (asks (to_book call) (λ answer. done)) last
@@ -91,7 +82,7 @@ asks_call m n x y e = cc
 
 -- a claim that is given back
 release_last : (mount claim : ℕ) (last : List Step) → IsMade (asks (to_ring mount (Release claim)) (λ answer. done)) last
-    → asked (calls_of (owed_among last)) ≡ released true mount claim
+    → asked (calls_of (owed_among last)) ≡ (mount, Release claim) ∷ []
 release_last mount claim [] made = absurd made
 release_last mount claim (at_ring at call answer ∷ rest) made =
     let here : at ≡ mount = asks_mount at mount call (Release claim) made.0 in
@@ -102,16 +93,13 @@ release_last mount claim (at_ring at call answer ∷ rest) made =
 release_last mount claim (at_book call answer ∷ rest) made = absurd cc
 
 pub source_last : (terms : SourceTerms) (body : List ℕ) (claim : ℕ) (segments : List Segment) (last : List Step)
-    → IsLast (closing_by (source terms body) (claimed claim) segments) last
-    → (b : Bool) × (asked (calls_of (owed_among last)) ≡ released b terms.mount claim)
-source_last terms body claim segments last (inl none) =
-    (false, ap (λ (l : List Step). asked (calls_of (owed_among l))) none)
-source_last terms body claim segments last (inr made) = (true, release_last terms.mount claim last made)
+    → IsMade (closing_by (source terms body) (claimed claim) segments) last
+    → asked (calls_of (owed_among last)) ≡ (terms.mount, Release claim) ∷ []
+source_last terms body claim segments last made = release_last terms.mount claim last made
 
 pub rover_last : (terms : RoverTerms) (tail : List ℕ) (segments : List Segment) (last : List Step)
-    → IsLast (closing_by (rover terms tail) entered segments) last → calls_of (owed_among last) ≡ []
-rover_last terms tail segments last (inl none) = ap (λ (l : List Step). calls_of (owed_among l)) none
-rover_last terms tail segments last (inr made) = book_last _ last made
+    → IsMade (closing_by (rover terms tail) entered segments) last → calls_of (owed_among last) ≡ []
+rover_last terms tail segments last made = book_last _ last made
 
 -- no Join closes a connection
 pub closing_such : (IsSuch : ℕ → Type 0) (j : Judged) (by : Received) (segments : List Segment)

@@ -1,14 +1,14 @@
 -- Every report of a recorded session keeps what is promised.
 use Rattle.std.proofs.Common.{◌≡◌, ◌≢◌, ◌∙◌, ◌⊎◌, ◌<◌, ◌≤◌, ◌+◌, ◌++◌, ℕ, Bool, true, false, IsTrue, List, [], ◌∷◌, length, map, reverse, All, Option, None, Some, inl, inr, refl, sym, ap, subst, arith}
 use Rattle.std.specs.Prelude.{⊤, ◌==◌, ◌||◌}
-use Rattle.std.proofs.lemmas.Bool.{cases_Bool}
+use Rattle.std.proofs.lemmas.Bool.{false≢true}
 use Rattle.std.proofs.lemmas.List.Elements.{All-head, All-tail, All-cons, All-nil}
 use Rattle.turn_log.specs.History.{History}
 use Rattle.mount_ring.specs.declared.call.RingCall.{RingCall}
 use Rattle.session_script.specs.declared.Event.{Event}
 use Rattle.session_script.specs.declared.ScriptKind.{ScriptKind}
 use Rattle.session_script.specs.Script.{IsSession}
-use Rattle.session_calls.specs.Steps.{Step}
+use Rattle.session_calls.specs.Plans.{IsMade}
 use Rattle.session_calls.specs.Rings.{history_at}
 use Rattle.rover_session.specs.Made.{segments_after}
 use Rattle.cast_config.specs.declared.config.Config.{Config}
@@ -26,24 +26,25 @@ use Rattle.caster_replay.specs.Runs.{AreAbove, IsIncreasing}
 use Rattle.run_promise.specs.Promised.{IsAccounted, AreOrdered, is_told, IsPromised}
 use Rattle.run_promise.proofs.CallLemmas.{calls_of, same_segments, same_reads, all_calls}
 use Rattle.run_promise.proofs.StoodLemmas.{Stood, AllBy}
-use Rattle.run_promise.proofs.OwedLemmas.{IsLast}
+use Rattle.run_promise.proofs.RunLemmas.{IsOver, world_over}
 use Rattle.run_promise.proofs.AccountLemmas.{Facts, was_so, sent_so, overrun_so}
 use Rattle.run_promise.proofs.RunLemmas.{IsStood, IsRunning, nothing_at, world_runs}
 use Rattle.run_promise.proofs.ReadLemmas.{IsRead, AreAllRead, world_read}
 
 -- ---- one connection
 
-last_of : (c : Config) (heading : Heading) (h : Histories) (d : Connected) (s : Stood c heading h d)
-    → IsLast (closing (judged_of c heading d) s.first) s.last
-last_of c heading h d s = elim s.ends [
-  | inl none ↦ inl none
-  | inr (over, closed) ↦ inr closed
+-- what closed it
+last_of : (c : Config) (headings : ℕ → Heading) (h : Histories) (d : Connected) (s : IsStood c headings h d)
+    → IsOver c headings d → IsMade (closing (judged_of c (headings d.number) d) s.first) s.last
+last_of c headings h d s over = elim s.ends [
+  | inl (none, goes) ↦ absurd (false≢true (sym over ∙ goes))
+  | inr (closed, is) ↦ is
 ]
 
 accounted : (c : Config) (headings : ℕ → Heading) (script : List Event) (h : Histories) (d : Connected)
-    → AreHeadings script headings → IsStood c headings h d → Keeps c h.rings d → IsRead c headings script d
-    → IsAccounted c script h.rings (told_of c headings h d)
-accounted c headings script h d are s keeps is =
+    → AreHeadings script headings → IsStood c headings h d → IsOver c headings d → Keeps c h.rings d
+    → IsRead c headings script d → IsAccounted c script h.rings (told_of c headings h d)
+accounted c headings script h d are s over keeps is =
     let heading = headings d.number in
     let facts : Facts c h d (judged_of c heading d) is.rest = record {
       walked = s.walked;
@@ -51,7 +52,7 @@ accounted c headings script h d are s keeps is =
       last = s.last;
       split = s.split;
       made = s.made_is;
-      closed = last_of c heading h d s;
+      closed = last_of c headings h d s over;
       whole = is.whole;
       keeps = keeps;
     } in
@@ -73,15 +74,15 @@ accounted c headings script h d are s keeps is =
     }
 
 each_accounted : (c : Config) (headings : ℕ → Heading) (script : List Event) (h : Histories) (ds : List Connected)
-    → AreHeadings script headings → All (IsStood c headings h) ds → All (Keeps c h.rings) ds
-    → All (IsRead c headings script) ds → All (IsAccounted c script h.rings) (map (told_of c headings h) ds)
-each_accounted c headings script h [] are stood keeps read = All-nil (IsAccounted c script h.rings)
-each_accounted c headings script h (d ∷ ds) are stood keeps read =
+    → AreHeadings script headings → All (IsStood c headings h) ds → All (IsOver c headings) ds
+    → All (Keeps c h.rings) ds → All (IsRead c headings script) ds → All (IsAccounted c script h.rings) (map (told_of c headings h) ds)
+each_accounted c headings script h [] are stood over keeps read = All-nil (IsAccounted c script h.rings)
+each_accounted c headings script h (d ∷ ds) are stood over keeps read =
     All-cons (IsAccounted c script h.rings) (told_of c headings h d) (map (told_of c headings h) ds)
     (accounted c headings script h d are (All-head (IsStood c headings h) d ds stood)
-    (All-head (Keeps c h.rings) d ds keeps) (All-head (IsRead c headings script) d ds read))
+    (All-head (IsOver c headings) d ds over) (All-head (Keeps c h.rings) d ds keeps) (All-head (IsRead c headings script) d ds read))
     (each_accounted c headings script h ds are (All-tail (IsStood c headings h) d ds stood)
-    (All-tail (Keeps c h.rings) d ds keeps) (All-tail (IsRead c headings script) d ds read))
+    (All-tail (IsOver c headings) d ds over) (All-tail (Keeps c h.rings) d ds keeps) (All-tail (IsRead c headings script) d ds read))
 
 -- ---- all of them
 
@@ -129,7 +130,8 @@ world_promised c cap kind script headings kept session are =
       totals = refl;
       ordered = all_ordered c headings h ds run.order;
       all_told = λ n opened. told_same c headings h n ds ∙ is_there script n (is_opened n ds) (read.none n) opened;
-      accounted = each_accounted c headings script h ds are run.each (keeps_all c headings script) read.each;
+      accounted = each_accounted c headings script h ds are run.each (world_over c headings script)
+          (keeps_all c headings script) read.each;
       nothing_else = λ mount.
           by_told (λ n. is_told n (map (told_of c headings h) ds)) (λ n. is_opened n ds) (history_at h.rings mount)
           (λ n. told_same c headings h n ds) (run.callers mount);

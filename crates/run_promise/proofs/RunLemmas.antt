@@ -4,6 +4,7 @@ use Rattle.std.specs.Prelude.{⊤, ◌==◌, ◌&&◌, ◌||◌, nat_lt}
 use Rattle.std.proofs.lemmas.Bool.{and_parts, cases_eq, ne_eqb}
 use Rattle.std.proofs.lemmas.List.{append-nil, length-map}
 use Rattle.std.proofs.lemmas.List.Elements.{All-head, All-tail, All-cons, All-nil}
+use Rattle.std.specs.List.{list_any}
 use Rattle.turn_log.specs.History.{History, own}
 use Rattle.turn_log.proofs.HeardLaws.{told_none}
 use Rattle.mount_ring.specs.declared.call.RingCall.{RingCall}
@@ -20,7 +21,7 @@ use Rattle.session_core.specs.Headings.{Heading}
 use Rattle.session_core.specs.Judged.{Opening, sends_head, relays, bare_source, bare_rover}
 use Rattle.session_core.specs.Owed.{Happening, arrives, takes_turn, ends}
 use Rattle.session_core.specs.Endings.{goes_on}
-use Rattle.session_core.specs.Run.{Histories, Connected, World, Moved, nothing_called, judged_of, moved, is_concerned, happens_in, happens, placed_if, placed, is_opened, opened_if, fresh, opens, after_event, after_events, closes, world}
+use Rattle.session_core.specs.Run.{Histories, Connected, World, Moved, nothing_called, judged_of, moved, moved_if, is_concerned, happens_in, happens, placed_if, placed, is_opened, opened_if, fresh, opens, after_event, after_events, closes, world}
 use Rattle.caster_replay.specs.Runs.{AreAbove, IsIncreasing}
 use Rattle.caster_replay.proofs.WorldListLemmas.{above_less, none_above, apart_first, none_later, moved_by, apart_moved, happens_nowhere}
 use Rattle.caster_replay.proofs.WorldRunLemmas.{increasing_placed}
@@ -304,6 +305,99 @@ closes_run c cap headings w [] kept run = run
 closes_run c cap headings w (number ∷ more) kept run =
     closes_run c cap headings (happens c headings w number (ends lasts.End)) more kept
     (happens_runs c cap headings w number (ends lasts.End) kept run)
+
+-- ---- at the end each is over
+
+abbrev pub IsOver : Config → (ℕ → Heading) → Connected → Type 0
+IsOver c headings d = goes_on (judged_of c (headings d.number) d) d.steps d.closed ≡ false
+
+-- it is over, or has one of these numbers
+abbrev is_among : ℕ → List ℕ → Bool
+is_among k numbers = list_any (λ n. n == k) numbers
+
+abbrev IsDue : Config → (ℕ → Heading) → List ℕ → Connected → Type 0
+IsDue c headings numbers d = IsOver c headings d ⊎ (is_among d.number numbers ≡ true)
+
+-- closed by its end, or over before
+ends_over : (concerned : Bool) (c : Config) (headings : ℕ → Heading) (h : Histories) (d : Connected)
+    → (concerned ≡ false → IsOver c headings d)
+    → IsOver c headings (moved_if concerned c (headings d.number) h d (ends lasts.End)).connection
+ends_over true c headings h d over = refl
+ends_over false c headings h d over = over refl
+
+over_from : (here goes : Bool) → here ≡ true → (here && goes) ≡ false → goes ≡ false
+over_from true goes is none = none
+over_from false goes is none = absurd cc
+
+due_apart : (c : Config) (headings : ℕ → Heading) (number : ℕ) (numbers : List ℕ) (d : Connected)
+    → number ≢ d.number → IsDue c headings (number ∷ numbers) d → IsDue c headings numbers d
+due_apart c headings number numbers d apart (inl over) = inl over
+due_apart c headings number numbers d apart (inr there) =
+    inr (sym (ap (λ (b : Bool). b || is_among d.number numbers) (ne_eqb number d.number apart)) ∙ there)
+
+due_one : (c : Config) (headings : ℕ → Heading) (number : ℕ) (numbers : List ℕ) (h : Histories) (d : Connected)
+    → IsDue c headings (number ∷ numbers) d
+    → IsDue c headings numbers (moved_by c headings number (ends lasts.End) h d).connection
+due_one c headings number numbers h d due = elim (cases_eq number d.number) [
+  | inl same ↦
+      inl (ends_over (is_concerned c (headings d.number) number d) c headings h d
+      (λ is. over_from (d.number == number) (goes_on (judged_of c (headings d.number) d) d.steps d.closed)
+      (eq-eqb d.number number (sym same)) is))
+  | inr apart ↦
+      subst (λ (m : Moved). IsDue c headings numbers m.connection)
+      (sym (apart_moved c headings number (ends lasts.End) h d (λ e. apart (sym e))))
+      (due_apart c headings number numbers d apart due)
+]
+
+due_in : (c : Config) (headings : ℕ → Heading) (number : ℕ) (numbers : List ℕ) (h : Histories) (ds : List Connected)
+    → All (IsDue c headings (number ∷ numbers)) ds
+    → All (IsDue c headings numbers) (happens_in c headings number (ends lasts.End) h ds).connections
+due_in c headings number numbers h [] all = All-nil (IsDue c headings numbers)
+due_in c headings number numbers h (d ∷ ds) all =
+    let m = moved_by c headings number (ends lasts.End) h d in
+    All-cons (IsDue c headings numbers) m.connection _
+    (due_one c headings number numbers h d (All-head (IsDue c headings (number ∷ numbers)) d ds all))
+    (due_in c headings number numbers m.histories ds (All-tail (IsDue c headings (number ∷ numbers)) d ds all))
+
+none_due : (c : Config) (headings : ℕ → Heading) (ds : List Connected) → All (IsDue c headings []) ds
+    → All (IsOver c headings) ds
+none_due c headings [] all = All-nil (IsOver c headings)
+none_due c headings (d ∷ ds) all =
+    All-cons (IsOver c headings) d ds (only_over (All-head (IsDue c headings []) d ds all))
+    (none_due c headings ds (All-tail (IsDue c headings []) d ds all))
+  where
+    only_over : IsDue c headings [] d → IsOver c headings d
+    only_over (inl over) = over
+    only_over (inr there) = absurd cc
+
+closes_over : (c : Config) (headings : ℕ → Heading) (w : World) (numbers : List ℕ)
+    → All (IsDue c headings numbers) w.connections → All (IsOver c headings) (closes c headings w numbers).connections
+closes_over c headings w [] all = none_due c headings w.connections all
+closes_over c headings w (number ∷ more) all =
+    closes_over c headings (happens c headings w number (ends lasts.End)) more
+    (due_in c headings number more w.histories w.connections all)
+
+all_due : (c : Config) (headings : ℕ → Heading) (numbers : List ℕ) (ds : List Connected)
+    → ((k : ℕ) → is_opened k ds ≡ true → is_among k numbers ≡ true) → All (IsDue c headings numbers) ds
+all_due c headings numbers [] among = All-nil (IsDue c headings numbers)
+all_due c headings numbers (d ∷ ds) among =
+    All-cons (IsDue c headings numbers) d ds
+    (inr (among d.number (ap (λ (b : Bool). b || is_opened d.number ds) (eq-eqb d.number d.number refl))))
+    (all_due c headings numbers ds (λ k there. among k (or_first (d.number == k) (is_opened k ds) there)))
+
+same_among : (k : ℕ) (ds : List Connected) → is_among k (map (λ (d : Connected). d.number) ds) ≡ is_opened k ds
+same_among k [] = refl
+same_among k (d ∷ ds) = ap (λ (b : Bool). (d.number == k) || b) (same_among k ds)
+
+pub world_over : (c : Config) (headings : ℕ → Heading) (list : List Event)
+    → All (IsOver c headings) (world c headings list).connections
+world_over c headings list =
+    let w = after_events c headings list in
+    let numbers : List ℕ = map (λ (d : Connected). d.number) w.connections in
+    closes_over c headings w numbers
+    (all_due c headings numbers w.connections (λ k there. same_among k w.connections ∙ there))
+
+-- ---- the whole run
 
 pub world_runs : (c : Config) (cap : ℕ) (headings : ℕ → Heading) (list : List Event) → KeepsRules cap c
     → IsRunning c headings (world c headings list)

@@ -23,7 +23,8 @@ use Rattle.rover_session.proofs.FollowLemmas.{choice_stays}
 use Rattle.cast_config.specs.declared.config.Config.{Config}
 use Rattle.session_core.specs.Setting.{shapes}
 use Rattle.run_promise.specs.Calls.{Call}
-use Rattle.run_promise.specs.Selected.{if_held, held, Chooses, join, Joins, Follows, JoinsEach, SelectsBy}
+use Rattle.run_promise.specs.Calls as calls
+use Rattle.run_promise.specs.Selected.{if_held, held, Chooses, Joins, Follows, JoinsEach, Selects}
 use Rattle.run_promise.specs.Selected as selected
 use Rattle.run_promise.proofs.MadeLemmas.{AreAnswered}
 use Rattle.run_promise.proofs.CallLemmas.{calls_of}
@@ -37,13 +38,10 @@ asks_mount m n x y e = cc
 asks_call : (m n : ℕ) (x y : RingCall) → to_ring m x ≡ to_ring n y → x ≡ y
 asks_call m n x y e = cc
 
-abbrev call_with : ℕ → RingCall → RingAnswer → Call
-call_with mount asked answer = record { mount = mount; asked = asked; answer = answer }
-
-same_call : (m n : ℕ) (x y : RingCall) (a b : RingAnswer) → m ≡ n → x ≡ y → a ≡ b → call_with m x a ≡ call_with n y b
+same_call : (m n : ℕ) (x y : RingCall) (a b : RingAnswer) → m ≡ n → x ≡ y → a ≡ b → calls.call m x a ≡ calls.call n y b
 same_call m n x y a b first second third =
-    ap (λ (k : ℕ). call_with k x a) first ∙ ap (λ (z : RingCall). call_with n z a) second
-    ∙ ap (call_with n y) third
+    ap (λ (k : ℕ). calls.call k x a) first ∙ ap (λ (z : RingCall). calls.call n z a) second
+    ∙ ap (calls.call n y) third
 
 -- ---- looks
 
@@ -84,7 +82,7 @@ looks_made c (base ∷ bases) these next (at_ring mount call answer ∷ steps) a
       lives = (base, live) ∷ more.lives;
       rest = more.rest;
       are = ap (λ (l : List Base). base ∷ l) more.are;
-      calls = ap (λ (l : List Call). call_with mount call answer ∷ l) more.calls
+      calls = ap (λ (l : List Call). calls.call mount call answer ∷ l) more.calls
           ∙ ap (λ (k : Call). k ∷ (selected.looks more.lives ++ calls_of more.rest))
           (same_call mount base.mount call Look answer (Looked live) here look told);
       answered = more.answered;
@@ -99,7 +97,7 @@ looks_made c (base ∷ bases) these next (at_book call answer ∷ steps) answere
 record JoinMade (c : Config) (mount filter : ℕ) (plan : Plan) (steps : List Step) : Type 0 where
   cursor : Cursor
   rest : List Step
-  calls : calls_of steps ≡ join mount filter cursor ∷ calls_of rest
+  calls : calls_of steps ≡ calls.call mount (Join filter) (Joined cursor) ∷ calls_of rest
   answered : AreAnswered c rest
   made : IsMade plan rest
 
@@ -145,7 +143,7 @@ goes_made : (c : Config) (filter : ℕ) (present : Option ℕ) (mount : ℕ) (pl
     → ChangeMade c filter present (Some mount) plan steps
 goes_made c filter present mount plan steps answered apart made =
     let one = join_made c mount filter plan steps answered made in record {
-      joined = join mount filter one.cursor ∷ [];
+      joined = calls.call mount (Join filter) (Joined one.cursor) ∷ [];
       rest = one.rest;
       joins = inr (mount, one.cursor, refl, apart, refl);
       calls = one.calls;
@@ -220,7 +218,7 @@ each_made c filter (base ∷ bases) steps answered made =
 
 pub plan_made : (c : Config) (near : Bool) (terms : Terms) (told : List Position) (steps : List Step)
     → AreAnswered c steps → IsMade (plan_by near terms told) steps
-    → SelectsBy near terms.hysteresis terms.filter terms.bases told (calls_of steps)
+    → Selects near terms.hysteresis terms.filter terms.bases told (calls_of steps)
 plan_made c false terms told steps answered made = each_made c terms.filter terms.bases steps answered made
 plan_made c true terms told steps answered made = follows_made c terms None told steps answered made
 

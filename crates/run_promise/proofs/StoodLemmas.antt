@@ -25,13 +25,14 @@ use Rattle.session_core.specs.declared.ending.Ending.{Ending}
 use Rattle.session_core.specs.declared.ending.Last.{Last}
 use Rattle.session_core.specs.Setting.{shapes}
 use Rattle.session_core.specs.Headings.{Heading}
-use Rattle.session_core.specs.Judged.{Opening, Judged, waiting, refused, unanswered, table, source, rover, judged}
-use Rattle.session_core.specs.Owed.{unasked, received, closing_by, plan_of, closing, Happening, arrives, takes_turn, ends}
+use Rattle.session_core.specs.Judged.{Opening, Judged, judged}
+use Rattle.session_core.specs.Owed.{Received, received, plan_of, closing, Happening, arrives, takes_turn, ends}
 use Rattle.session_core.specs.Endings.{ended_by, goes_on}
 use Rattle.session_core.specs.Run.{Histories, Connected, Moved, nothing_called, step_at, with_call, with_calls, made, judged_of, makes, closed_if, goes_to, with_text, with_last, moved, moved_if, fresh}
 use Rattle.session_core.proofs.GoodLemmas.{IsGood, good_left, good_plan}
 use Rattle.session_core.proofs.WellLemmas.{closing_good}
 use Rattle.session_core.proofs.GrowLemmas.{plan_grows}
+use Rattle.caster_replay.proofs.WorldClosedLemmas.{received_closed}
 use Rattle.run_promise.proofs.MadeLemmas.{made_is, IsAskWithin, IsWithin, made_went, AreAnswered, answered-append, made_answered, made_owed, owed_all, StepsOn, on-append, owed_on, turn_on}
 use Rattle.run_promise.proofs.WithinLemmas.{IsFed, plan_within, closing_within, left_within, judged_fed}
 
@@ -142,7 +143,7 @@ pub record Stood (c : Config) (heading : Heading) (h : Histories) (d : Connected
   pub last : List Step
   pub split : d.steps ≡ first ++ last
   pub made_is : IsMade (plan_of c (judged_of c heading d)) (owed_among first)
-  pub ends : (last ≡ [])
+  pub ends : ((last ≡ []) × (goes_on (judged_of c heading d) d.steps d.closed ≡ true))
       ⊎ ((goes_on (judged_of c heading d) d.steps d.closed ≡ false)
       × IsMade (closing (judged_of c heading d) first) last)
 
@@ -152,7 +153,7 @@ pub still_made : (c : Config) (heading : Heading) (h : Histories) (d : Connected
     → IsMade (plan_of c (judged_of c heading d)) (owed_among d.steps)
 still_made c heading h d s goes =
     let none : s.last ≡ [] = elim s.ends [
-      | inl none ↦ none
+      | inl (none, on) ↦ none
       | inr (over, closed) ↦ absurd (false≢true (sym over ∙ goes))
     ] in
     subst (λ (steps : List Step). IsMade (plan_of c (judged_of c heading d)) (owed_among steps))
@@ -221,30 +222,15 @@ and_false : (b : Bool) → (b && false) ≡ false
 and_false true = refl
 and_false false = refl
 
-closing_none : (j : Judged) (segments : List Segment) (steps : List Step) → IsMade (closing_by j unasked segments) steps
-    → steps ≡ []
-closing_none waiting segments steps is = is
-closing_none (refused version reply end) segments steps is = is
-closing_none (unanswered end) segments steps is = is
-closing_none (table version) segments steps is = is
-closing_none (source terms body) segments steps is = is
-closing_none (rover terms tail) segments steps is = is
-
--- closing changes nothing of how it was received
-pub received_closed : (j : Judged) (steps more : List Step) → IsMade (closing j steps) more
-    → received (steps ++ more) ≡ received steps
-received_closed j [] more is = ap received (closing_none j [] more is)
-received_closed j (step ∷ steps) more is = refl
-
 -- a connection that made all that its bytes owe, closed at once where it ended by itself
 pub closed_moves : (end : Option Ending) (c : Config) (heading : Heading) (old : Histories) (d : Connected) (m : Moved)
     (more : List Step) → IsFed c (judged_of c heading m.connection)
     → ended_by (judged_of c heading m.connection) (received m.connection.steps) ≡ end
-    → m.connection.number ≡ d.number → Adds c old m.histories d.number more
+    → is_none m.connection.closed ≡ true → m.connection.number ≡ d.number → Adds c old m.histories d.number more
     → Walked c m.histories d.number m.connection.steps
     → IsMade (plan_of c (judged_of c heading m.connection)) (owed_among m.connection.steps)
     → Moves c heading old d (closed_if end c (judged_of c heading m.connection) m)
-closed_moves None c heading old d m more fed is number adds walked owes = record {
+closed_moves None c heading old d m more fed is uncut number adds walked owes = record {
   number = number;
   size = adds.size;
   others = λ me apart. others_after c old m.histories d.number me more adds apart;
@@ -255,10 +241,14 @@ closed_moves None c heading old d m more fed is number adds walked owes = record
     last = [];
     split = sym (append-nil m.connection.steps);
     made_is = owes;
-    ends = inl refl;
+    ends = inl (
+      refl,
+      ap (λ (b : Bool). b && is_none (ended_by (judged_of c heading m.connection) (received m.connection.steps))) uncut
+          ∙ ap is_none is,
+    );
   };
 }
-closed_moves (Some end) c heading old d m more fed is number adds walked owes =
+closed_moves (Some end) c heading old d m more fed is uncut number adds walked owes =
     let j = judged_of c heading m.connection in
     let steps = m.connection.steps in
     let me = m.connection.number in
@@ -299,17 +289,18 @@ closed_moves (Some end) c heading old d m more fed is number adds walked owes =
 
 -- bytes came in, and what they owe was made
 pub comes : (c : Config) (cap : ℕ) (heading : Heading) (h : Histories) (d now : Connected) (plan : Plan)
-    → KeepsRules cap c → now.number ≡ d.number → Walked c h d.number now.steps → IsGood plan
+    → KeepsRules cap c → is_none now.closed ≡ true → now.number ≡ d.number → Walked c h d.number now.steps
+    → IsGood plan
     → IsWithin (length c.mount) plan
     → IsMade (plan_of c (judged_of c heading now)) (owed_among (now.steps ++ made c now.number h plan))
     → Moves c heading h d (goes_to c heading h now plan)
-comes c cap heading h d now plan kept number walked good within owes =
+comes c cap heading h d now plan kept uncut number walked good within owes =
     let mine = subst (λ (n : ℕ). Walked c h n now.steps) (sym number) walked in
     let steps = made c now.number h plan in
     let m = makes c h now plan in
     let adds = plan_adds c h now.number plan mine.size within in
     closed_moves (ended_by (judged_of c heading now) (received m.connection.steps)) c heading h d m steps
-    (judged_fed c cap now.opening heading now.text kept) refl number
+    (judged_fed c cap now.opening heading now.text kept) refl uncut number
     (subst (λ (n : ℕ). Adds c h m.histories n steps) number adds)
     (subst (λ (n : ℕ). Walked c m.histories n (now.steps ++ steps)) number
     (walked_on c h now.number now.steps plan mine within
@@ -317,6 +308,12 @@ comes c cap heading h d now plan kept number walked good within owes =
     owes
 
 -- ---- whatever happens
+
+-- one that goes on was not closed
+uncut_going : (c : Config) (heading : Heading) (d : Connected)
+    → goes_on (judged_of c heading d) d.steps d.closed ≡ true → is_none d.closed ≡ true
+uncut_going c heading d goes =
+    (and_parts (is_none d.closed) (is_none (ended_by (judged_of c heading d) (received d.steps))) goes).0
 
 pub moved_moves : (c : Config) (cap : ℕ) (heading : Heading) (h : Histories) (d : Connected) (what : Happening)
     → KeepsRules cap c → Stood c heading h d → goes_on (judged_of c heading d) d.steps d.closed ≡ true
@@ -327,7 +324,7 @@ moved_moves c cap heading h d (arrives more) kept s goes =
     let plan = left later (owed_among d.steps) in
     let steps = made c d.number h plan in
     let good = good_left later (owed_among d.steps) (good_plan c (judged c d.opening heading (d.text ++ more))) in
-    comes c cap heading h d now plan kept refl s.walked good
+    comes c cap heading h d now plan kept (uncut_going c heading d goes) refl s.walked good
     (left_within (length c.mount) later (owed_among d.steps)
     (plan_within c (judged c d.opening heading (d.text ++ more))
     (judged_fed c cap d.opening heading (d.text ++ more) kept)))
@@ -359,10 +356,19 @@ moved_moves c cap heading h d (takes_turn budget) kept s goes =
             ∙ ap (λ (l : List Step). owed_among d.steps ++ l) (none_owed c d.number h segments budget)
             ∙ append-nil (owed_among d.steps)))
             (still_made c heading h d s goes);
-        ends = inl refl;
+        ends = inl (refl, going_turned (judged_of c heading d) d.closed (received d.steps)
+            (received (d.steps ++ steps)) (received_turned c d.number h d.steps budget) goes);
       };
     }
   where
+    going_turned : (j : Judged) (closed : Option Last) (before after : Received) → after ≡ before
+        → (is_none closed && is_none (ended_by j before)) ≡ true → (is_none closed && is_none (ended_by j after)) ≡ true
+    going_turned j closed before after same goes =
+        ap (λ (r : Received). is_none closed && is_none (ended_by j r)) same ∙ goes
+    received_turned : (c : Config) (me : ℕ) (h : Histories) (steps : List Step) (budget : ℕ)
+        → received (steps ++ made c me h (reads budget (segments_after [] steps))) ≡ received steps
+    received_turned c me h [] budget = refl
+    received_turned c me h (step ∷ steps) budget = refl
     none_owed : (c : Config) (me : ℕ) (h : Histories) (segments : List Segment) (budget : ℕ)
         → owed_among (made c me h (reads budget segments)) ≡ []
     none_owed c me h [] budget = refl
@@ -400,7 +406,7 @@ fresh_moves c cap heading h number o kept walked =
     let plan = left (plan_of c j) [] in
     let steps = made c number h plan in
     let good = good_left (plan_of c j) [] (good_plan c j) in
-    comes c cap heading h (fresh number o) (with_text (fresh number o) []) plan kept refl walked good
+    comes c cap heading h (fresh number o) (with_text (fresh number o) []) plan kept refl refl walked good
     (left_within (length c.mount) (plan_of c j) [] (plan_within c j (judged_fed c cap o heading [] kept)))
     (subst (IsMade (plan_of c j)) (sym (owed_all steps (made_owed c number h plan good)))
     (subst (λ (p : Plan). IsMade p steps) (left_none (plan_of c j)) (made_is c number h plan)))

@@ -3,9 +3,8 @@ use Rattle.std.specs.Prelude.{◌≡◌, ℕ, ◌==◌, ⊤, Bool, true, false, 
 use Rattle.std.specs.List.{filter, flat_map}
 use Rattle.turn_log.specs.History.{History}
 use Rattle.turn_log.specs.Heard.{told}
-use Rattle.mount_ring.specs.declared.cursor.Cursor.{Cursor}
 use Rattle.mount_ring.specs.declared.call.RingCall.{RingCall}
-use Rattle.mount_ring.specs.declared.call.RingCall.TheVariants.{Claim, Release, Publish, Join, Look, Read}
+use Rattle.mount_ring.specs.declared.call.RingCall.TheVariants.{Read}
 use Rattle.mount_ring.specs.declared.call.RingAnswer.{RingAnswer}
 use Rattle.rover_cursor.specs.declared.segment.Segment.{Segment}
 use Rattle.rover_cursor.specs.Segments.{after_answer}
@@ -19,10 +18,13 @@ pub record Call : Type 0 where
   pub asked : RingCall
   pub answer : RingAnswer
 
+abbrev pub call : ℕ → RingCall → RingAnswer → Call
+call mount asked answer = record { mount = mount; asked = asked; answer = answer }
+
 -- those of these calls that were made at one mountpoint
 abbrev pub at_one : ℕ → List Call → List (RingCall × RingAnswer)
 at_one mount calls =
-    flat_map (λ (call : Call). if call.mount == mount then (call.asked, call.answer) ∷ [] else []) calls
+    flat_map (λ (one : Call). if one.mount == mount then (one.asked, one.answer) ∷ [] else []) calls
 
 -- at every mountpoint these are, in order, all calls that its history has of this caller, each with
 -- the answer at its own point of that history
@@ -33,38 +35,28 @@ AreAllCalls c histories me calls =
 
 -- the calls that are no reads
 abbrev pub is_no_read : RingCall → Bool
-is_no_read Claim = true
-is_no_read (Release claim) = true
-is_no_read (Publish claim frame) = true
-is_no_read (Join filter) = true
-is_no_read Look = true
 is_no_read (Read cursor budget) = false
+is_no_read _ = true
 
 abbrev pub without_reads : List Call → List Call
-without_reads calls = filter (λ (call : Call). is_no_read call.asked) calls
+without_reads calls = filter (λ (one : Call). is_no_read one.asked) calls
 
--- the segments that the answers give, the newest first: each Join begins one, and each Read goes on
--- with the newest
-abbrev pub after_call : List Segment → Call → List Segment
-after_call segments call = after_answer call.mount segments call.answer
+-- the segments that the answers give, the newest first: each Join begins one at the end of what was
+-- published, and each Read goes on with the newest
+abbrev pub after_one : List Segment → Call → List Segment
+after_one segments one = after_answer one.mount segments one.answer
 
 abbrev pub segments_of : List Call → List Segment
-segments_of calls = fold after_call [] calls
+segments_of calls = fold after_one [] calls
 
 -- each Read is one at the newest segment's mountpoint, from where that segment stands
-abbrev pub IsNewest : List Segment → ℕ → Cursor → Type 0
-IsNewest [] mount cursor = ⊥
-IsNewest (segment ∷ older) mount cursor = (mount ≡ segment.mount) × (cursor ≡ segment.cursor)
-
-abbrev pub IsReadOn : List Segment → ℕ → RingCall → Type 0
-IsReadOn segments mount Claim = ⊤
-IsReadOn segments mount (Release claim) = ⊤
-IsReadOn segments mount (Publish claim frame) = ⊤
-IsReadOn segments mount (Join filter) = ⊤
-IsReadOn segments mount Look = ⊤
-IsReadOn segments mount (Read cursor budget) = IsNewest segments mount cursor
+abbrev pub IsReadOn : RingCall → ℕ → List Segment → Type 0
+IsReadOn (Read cursor budget) mount [] = ⊥
+IsReadOn (Read cursor budget) mount (newest ∷ older) =
+    (mount ≡ newest.mount) × (cursor ≡ newest.cursor)
+IsReadOn _ mount segments = ⊤
 
 abbrev pub ReadOn : List Segment → List Call → Type 0
 ReadOn segments [] = ⊤
-ReadOn segments (call ∷ calls) =
-    IsReadOn segments call.mount call.asked × ReadOn (after_call segments call) calls
+ReadOn segments (one ∷ later) =
+    IsReadOn one.asked one.mount segments × ReadOn (after_one segments one) later

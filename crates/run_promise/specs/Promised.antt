@@ -4,16 +4,13 @@ use Rattle.std.specs.Prelude.{◌≡◌, ◌≢◌, ℕ, ◌≤◌, ◌+◌, ◌
 use Rattle.std.specs.List.{All, list_any}
 use Rattle.rtcm_frame.specs.Cut.{cut}
 use Rattle.chunk_body.specs.Text.{IsOpen, IsPlain}
-use Rattle.chunk_body.specs.Machine.{read, is_ended, is_broken}
 use Rattle.turn_log.specs.History.{History}
 use Rattle.gga_read.specs.Report.{reports}
 use Rattle.mount_ring.specs.declared.call.RingCall.{RingCall}
 use Rattle.mount_ring.specs.declared.call.RingCall.TheVariants.{Claim, Release, Publish}
-use Rattle.mount_ring.specs.declared.call.RingAnswer.{RingAnswer}
-use Rattle.mount_ring.specs.declared.call.RingAnswer.TheVariants.{Given, Taken, At, Released}
+use Rattle.mount_ring.specs.declared.call.RingAnswer.TheVariants.{Given, Taken}
 use Rattle.rover_cursor.specs.declared.segment.Segment.{Segment}
 use Rattle.session_calls.specs.Rings.{history_at}
-use Rattle.source_session.specs.Body.{frames_of}
 use Rattle.rover_session.specs.Made.{sent_in, overrun_in}
 use Rattle.ntrip_head.specs.declared.request.Version.{Version}
 use Rattle.ntrip_head.specs.declared.request.Version.TheVariants.{One, Two}
@@ -24,117 +21,105 @@ use Rattle.cast_config.specs.declared.config.Config.{Config}
 use Rattle.session_core.specs.declared.report.Receipt.{Receipt}
 use Rattle.session_core.specs.declared.report.Connection.{Connection}
 use Rattle.session_core.specs.declared.report.Report.{Report}
-use Rattle.session_core.specs.Setting.{table}
+use Rattle.session_core.specs.Setting.{bases_at}
+use Rattle.session_core.specs.Setting as setting
 use Rattle.session_core.specs.Headings.{Heading}
-use Rattle.session_core.specs.Judged.{Opening, SourceTerms, RoverTerms, Judged, waiting, refused, unanswered, source, rover, judged}
-use Rattle.session_core.specs.Judged as judgements
+use Rattle.session_core.specs.Judged.{Opening, SourceTerms, RoverTerms, Judged, waiting, refused, unanswered, table, source, rover, judged}
 use Rattle.session_core.specs.Replies.{text_if, opening_text, kept_frames}
 use Rattle.session_core.specs.Promises.{IsSoundIn, CountsAll}
 use Rattle.session_core.specs.Reports.{opened_as, bytes_to, IsHeadingOf, mount_total}
-use Rattle.run_promise.specs.Calls.{Call, AreAllCalls, without_reads, segments_of, ReadOn}
+use Rattle.run_promise.specs.Calls.{Call, call, AreAllCalls, without_reads, segments_of, ReadOn}
 use Rattle.run_promise.specs.Selected.{Selects}
 
--- ---- a rover's body
+-- ---- bodies
 
--- the data of a body: all of it under NTRIP 1.0 (RTCM 10410.0), and under NTRIP 2.0 (RTCM 10410.1)
--- what the chunks of a body that goes on hold (RFC 9112, section 7.1)
-abbrev pub Carries : Version → List ℕ → List ℕ → Type 0
-Carries One body carried = carried ≡ body
-Carries Two body carried = IsOpen body × IsPlain body carried
+-- the bytes that a source's body carries: all of it, or what its chunks hold so far
+abbrev pub Carries : Bool → List ℕ → List ℕ → Type 0
+Carries false body carried = carried ≡ body
+Carries true body carried = IsPlain body carried
 
--- it is cut into exactly these frames (RTCM 10403.3, transport layer)
-abbrev pub IsBodyOf : Version → List (List ℕ) → List ℕ → Type 0
-IsBodyOf version frames body =
-    (carried : List ℕ) × Carries version body carried
+-- A rover's body holds exactly these frames: under NTRIP 1.0 (RTCM 10410.0) it is cut into them
+-- (RTCM 10403.3, transport layer), and under NTRIP 2.0 (RTCM 10410.1) it is a chunked body that goes
+-- on (RFC 9112, section 7.1), whose data are.
+abbrev pub Holds : Version → List ℕ → List (List ℕ) → Type 0
+Holds One body frames = cut body ≡ record { frames = frames; junk = 0; rest = [] }
+Holds Two body frames =
+    (carried : List ℕ) × IsOpen body × IsPlain body carried
     × (cut carried ≡ record { frames = frames; junk = 0; rest = [] })
 
--- ---- each kind of connection, with its calls
+-- ---- each kind of connection, with its calls that are no reads
 
--- A rover that entered: its calls are those that its admission and its reports select, all its
--- segments have its group's filter, each is sound over the frames of its mountpoint's one history,
--- and behind its reply it was sent exactly the frames of its segments, in order.
+-- it called nothing, and was sent this reply behind what was sent before
+abbrev pub IsReplied : Connection → List ℕ → List Call → List ℕ → Type 0
+IsReplied told before calls reply = (calls ≡ []) × (told.bytes ≡ before ++ reply)
+
+-- A rover that was let in: its calls are those that its reports select among its bases. Each of its
+-- segments has its group's filter and is sound over the frames of its mountpoint's one history: the
+-- frames sent and those counted as overrun are together the permitted ones from its joining to its
+-- last read. Behind its reply it was sent exactly the frames of its segments, in order.
 pub record HasEntered (c : Config) (histories : List (History RingCall)) (told : Connection)
     (terms : RoverTerms) (before tail rest : List ℕ) (calls : List Call) : Type 0 where
   pub entered : told.receipt.entered ≡ true
   pub all_bytes : rest ≡ []
-  pub selects : Selects c terms.admission (option_to_list terms.first ++ reports tail) calls
-  pub filter : All (λ (segment : Segment). segment.cursor.filter ≡ terms.admission.group) told.receipt.segments
+  pub selects : Selects terms.admission.near c.hysteresis terms.admission.group
+      (bases_at c terms.admission.bases) (option_to_list terms.first ++ reports tail) calls
+  pub filter : All (λ (segment : Segment). segment.cursor.filter ≡ terms.admission.group)
+      told.receipt.segments
   pub sound : All (IsSoundIn c histories) told.receipt.segments
   pub counts : All (CountsAll c histories) told.receipt.segments
   pub body : List ℕ
   pub bytes : told.bytes ≡ before ++ text_if terms.version replies.RoverOk [] ++ body
-  pub decoded : IsBodyOf (unwrap_or terms.version One)
-      (kept_frames c histories told.receipt.segments) body
+  pub holds : Holds (unwrap_or terms.version One) body
+      (kept_frames c histories told.receipt.segments)
 
--- one whose account was full
-pub record WasFull (told : Connection) (terms : RoverTerms) (before : List ℕ) (calls : List Call)
-    : Type 0 where
-  pub entered : told.receipt.entered ≡ false
-  pub nothing : calls ≡ []
-  pub bytes : told.bytes ≡ before ++ text_if terms.version replies.Full []
-
--- the calls without their answers
+-- calls without their answers, and those that publish these frames under a claim
 abbrev pub asked : List Call → List (ℕ × RingCall)
-asked calls = map (λ (call : Call). (call.mount, call.asked)) calls
+asked calls = map (λ (one : Call). (one.mount, one.asked)) calls
 
--- these frames are published under this claim
 abbrev pub publishes : ℕ → ℕ → List (List ℕ) → List (ℕ × RingCall)
 publishes mount claim frames = map (λ frame. (mount, Publish claim frame)) frames
 
--- a claim is given back, or not yet
-abbrev pub released : Bool → ℕ → ℕ → List (ℕ × RingCall)
-released false mount claim = []
-released true mount claim = (mount, Release claim) ∷ []
-
--- a chunked body that has ended, or that is broken
-abbrev pub IsBodyOver : Bool → List ℕ → Type 0
-IsBodyOver false body = ⊥
-IsBodyOver true body = IsTrue (is_ended (read body).phase) ⊎ IsTrue (is_broken (read body).phase)
-
--- A source, or a relay, that was given its claim: it publishes under it, at its mountpoint, each
--- frame of what its body carries, in order, and nothing else.
+-- A source or a relay that was given its claim: it published under it, at its mountpoint, each frame
+-- of what its body carries, in order, and gave it back.
 pub record HasClaimed (told : Connection) (terms : SourceTerms) (before body rest : List ℕ)
     (calls : List Call) : Type 0 where
-  pub all_bytes : (rest ≡ []) ⊎ IsBodyOver terms.chunked body
+  -- all its bytes came in, or its chunked body had ended or was broken
+  pub all_bytes : (rest ≡ []) ⊎ ((terms.chunked ≡ true) × (IsOpen body → ⊥))
   pub claim : ℕ
   pub later : List Call
-  pub is_given : calls
-      ≡ record { mount = terms.mount; asked = Claim; answer = Given claim } ∷ later
-  pub gives_back : Bool
+  pub given : calls ≡ call terms.mount Claim (Given claim) ∷ later
+  pub carried : List ℕ
+  pub carries : Carries terms.chunked body carried
   pub published : asked later
-      ≡ publishes terms.mount claim (frames_of terms.chunked body) ++ released gives_back terms.mount claim
+      ≡ publishes terms.mount claim (cut carried).frames ++ (terms.mount, Release claim) ∷ []
   pub bytes : told.bytes ≡ before ++ text_if terms.version replies.SourceOk []
 
--- one whose mountpoint another caller holds
-pub record WasTaken (told : Connection) (terms : SourceTerms) (before : List ℕ) (calls : List Call)
-    : Type 0 where
-  pub caller : ℕ
-  pub claim : ℕ
-  pub is_taken : calls
-      ≡ record { mount = terms.mount; asked = Claim; answer = Taken caller claim } ∷ []
-  pub bytes : told.bytes ≡ before ++ text_if terms.version replies.Taken []
+-- one whose mountpoint another caller held
+abbrev pub WasTaken : Connection → SourceTerms → List ℕ → List Call → Type 0
+WasTaken told terms before calls =
+    (caller claim : ℕ) × (calls ≡ call terms.mount Claim (Taken caller claim) ∷ [])
+    × (told.bytes ≡ before ++ text_if terms.version replies.Taken [])
 
--- what a connection was by its judgement, by its calls that are no reads, and with what it was sent
--- before a reply: only rovers and sources call anything, and only rovers are sent more than a reply
+-- what a connection was, by its judgement
 abbrev pub Was : Config → List (History RingCall) → Connection → List ℕ → List ℕ → List Call → Judged
     → Type 0
-Was c histories told before rest calls waiting =
-    (calls ≡ []) × (rest ≡ []) × (told.bytes ≡ before)
+Was c histories told before rest calls waiting = (rest ≡ []) × IsReplied told before calls []
 Was c histories told before rest calls (refused version reply end) =
-    (calls ≡ []) × (told.bytes ≡ before ++ text_if version reply (table c))
-Was c histories told before rest calls (unanswered end) = (calls ≡ []) × (told.bytes ≡ before)
-Was c histories told before rest calls (judgements.table version) =
-    (calls ≡ []) × (told.bytes ≡ before ++ reply_text version replies.Table (table c))
+    IsReplied told before calls (text_if version reply (setting.table c))
+Was c histories told before rest calls (unanswered end) = IsReplied told before calls []
+Was c histories told before rest calls (table version) =
+    IsReplied told before calls (reply_text version replies.Table (setting.table c))
 Was c histories told before rest calls (source terms body) =
     HasClaimed told terms before body rest calls ⊎ WasTaken told terms before calls
 Was c histories told before rest calls (rover terms tail) =
-    HasEntered c histories told terms before tail rest calls ⊎ WasFull told terms before calls
+    HasEntered c histories told terms before tail rest calls
+    ⊎ ((told.receipt.entered ≡ false)
+    × IsReplied told before calls (text_if terms.version replies.Full []))
 
 -- ---- one connection, and all of them
 
--- Of its bytes the first part came in while it went on: all, unless it ended by itself. By its head
--- and this part it was judged. Its calls are all that the histories have of it, and give its
--- segments.
+-- By the head of its bytes, and by those that came in before it was over, it was judged. Its calls
+-- are all that the histories have of it, and they give its segments, whose sums are told.
 pub record IsAccounted (c : Config) (script : List Event) (histories : List (History RingCall))
     (told : Connection) : Type 0 where
   pub opening : Opening

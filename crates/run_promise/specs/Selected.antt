@@ -7,16 +7,12 @@ use Rattle.base_select.specs.Choice.{IsChoice}
 use Rattle.mount_ring.specs.declared.cursor.Cursor.{Cursor}
 use Rattle.mount_ring.specs.declared.call.RingCall.TheVariants.{Join, Look}
 use Rattle.mount_ring.specs.declared.call.RingAnswer.TheVariants.{Joined, Looked}
-use Rattle.cast_config.specs.declared.config.Config.{Config}
-use Rattle.access_groups.specs.declared.admission.Admission.{Admission}
-use Rattle.session_core.specs.Setting.{bases_at}
-use Rattle.run_promise.specs.Calls.{Call}
+use Rattle.run_promise.specs.Calls.{Call, call}
 
 -- a Look on each of these bases, in order, each answered with the claim under which a source holds
 -- the base, if one does
 abbrev pub looks : List (Base × Option ℕ) → List Call
-looks lives = map (λ (live : Base × Option ℕ).
-    record { mount = live.0.mount; asked = Look; answer = Looked live.1 }) lives
+looks lives = map (λ (live : Base × Option ℕ). call live.0.mount Look (Looked live.1)) lives
 
 -- the base, where it is held
 abbrev pub if_held : Base → Option ℕ → List Base
@@ -34,16 +30,13 @@ Chooses hysteresis present at [] next = next ≡ present
 Chooses hysteresis present at (base ∷ bases) next =
     (mount : ℕ) × (next ≡ Some mount) × IsChoice present at (base ∷ bases) hysteresis mount
 
--- a Join at this mountpoint with the filter of this number
-abbrev pub join : ℕ → ℕ → Cursor → Call
-join mount filter cursor = record { mount = mount; asked = Join filter; answer = Joined cursor }
-
--- one Join where the choice is another than the present mountpoint, and none where it is the same
+-- one Join, with the filter of this number, where the choice is another than the present mountpoint,
+-- and none where it is the same
 abbrev pub Joins : ℕ → Option ℕ → Option ℕ → List Call → Type 0
 Joins filter present next calls =
     ((next ≡ present) × (calls ≡ []))
     ⊎ ((mount : ℕ) × (cursor : Cursor) × (next ≡ Some mount) × (next ≢ present)
-    × (calls ≡ join mount filter cursor ∷ []))
+    × (calls ≡ call mount (Join filter) (Joined cursor) ∷ []))
 
 -- of a rover that takes the nearest of these bases: for each report a Look on each base, and then a
 -- Join where the choice changed
@@ -61,16 +54,12 @@ Follows hysteresis filter bases present (report ∷ later) calls =
 abbrev pub JoinsEach : ℕ → List Base → List Call → Type 0
 JoinsEach filter [] calls = calls ≡ []
 JoinsEach filter (base ∷ bases) calls =
-    (cursor : Cursor) × (rest : List Call) × (calls ≡ join base.mount filter cursor ∷ rest)
+    (cursor : Cursor) × (rest : List Call) × (calls ≡ call base.mount (Join filter) (Joined cursor) ∷ rest)
     × JoinsEach filter bases rest
 
--- the calls that this admission and these reports select: each Join is with the filter of the
--- admission's group, and at one of the admission's bases
-abbrev pub SelectsBy : Bool → ℕ → ℕ → List Base → List Position → List Call → Type 0
-SelectsBy true hysteresis filter bases reports calls =
+-- the calls that a rover's reports select, where it takes the nearest of its bases or does not: each
+-- Join is at one of them, with its filter
+abbrev pub Selects : Bool → ℕ → ℕ → List Base → List Position → List Call → Type 0
+Selects true hysteresis filter bases reports calls =
     Follows hysteresis filter bases None reports calls
-SelectsBy false hysteresis filter bases reports calls = JoinsEach filter bases calls
-
-abbrev pub Selects : Config → Admission → List Position → List Call → Type 0
-Selects c admission reports calls =
-    SelectsBy admission.near c.hysteresis admission.group (bases_at c admission.bases) reports calls
+Selects false hysteresis filter bases reports calls = JoinsEach filter bases calls
