@@ -1,7 +1,7 @@
 -- What a connection was, from its steps: by its judgement.
-use Rattle.std.proofs.Common.{◌≡◌, ◌∙◌, ◌⊎◌, ◌++◌, ℕ, ◌-◌, ◌^◌, Bool, true, false, cond, IsTrue, List, [], ◌∷◌, map, reverse, All, Option, None, Some, inl, inr, refl, sym, ap, subst, option_to_list, eqb}
-use Rattle.std.specs.Prelude.{⊤, is_none, min, unwrap_or}
-use Rattle.std.specs.List.{sum_by, concat}
+use Rattle.std.proofs.Common.{◌≡◌, ◌∙◌, ◌⊎◌, ◌++◌, ℕ, ◌-◌, ◌^◌, Bool, true, false, cond, IsTrue, List, [], ◌∷◌, reverse, All, inl, inr, refl, sym, ap, subst, option_to_list, eqb}
+use Rattle.std.specs.Prelude.{is_none, min, unwrap_or}
+use Rattle.std.specs.List.{concat}
 use Rattle.std.proofs.lemmas.Bool.{false≢true}
 use Rattle.std.proofs.lemmas.List.{append-nil, map-append}
 use mathlib.Core.List.{reverse-cons}
@@ -14,11 +14,10 @@ use Rattle.chunk_body.specs.declared.phase.Phase.TheVariants.{Ended, Broken}
 use Rattle.chunk_body.specs.Machine.{read, is_ended, is_broken}
 use Rattle.chunk_body.proofs.TextLemmas.{bad_dead}
 use Rattle.chunk_body.proofs.ReadingLemmas.{known, ended_reading, bad_reading, plain_read}
-use Rattle.turn_log.specs.History.{History}
 use Rattle.gga_read.specs.Report.{reports}
 use Rattle.mount_ring.specs.declared.call.RingCall.{RingCall}
 use Rattle.mount_ring.specs.declared.call.RingCall.TheVariants.{Claim}
-use Rattle.mount_ring.specs.declared.call.RingAnswer.TheVariants.{Given, Taken}
+use Rattle.mount_ring.specs.declared.call.RingAnswer.TheVariants.{Taken}
 use Rattle.caster_accounts.specs.declared.call.BookCall.{BookCall}
 use Rattle.caster_accounts.specs.declared.call.BookCall.TheVariants.{Enter}
 use Rattle.caster_accounts.specs.declared.call.BookAnswer.{BookAnswer}
@@ -26,28 +25,26 @@ use Rattle.caster_accounts.specs.declared.call.BookAnswer.TheVariants.{Entered, 
 use Rattle.caster_accounts.specs.History.{entry_answer, inside, cap_at}
 use Rattle.caster_accounts.specs.History as books
 use Rattle.rover_cursor.specs.declared.segment.Segment.{Segment}
-use Rattle.session_calls.specs.Steps.{Ask, to_ring, to_book, of_book, Step, at_ring, at_book, answer_of}
-use Rattle.session_calls.specs.Plans.{Plan, done, asks, IsMade}
+use Rattle.session_calls.specs.Steps.{to_book, of_book, Step, at_ring, at_book}
+use Rattle.session_calls.specs.Plans.{IsMade}
 use Rattle.source_session.specs.Body.{payload, frames_of}
 use Rattle.rover_session.specs.Body.{body_of}
 use Rattle.rover_session.specs.Made.{segments_after, owed_among, sent_in, overrun_in}
 use Rattle.rover_session.specs.Owed.{rover_plan}
 use Rattle.rover_session.proofs.MadeLemmas.{owed-append}
 use Rattle.rover_session.proofs.LawLemmas.{body_plain, sum_reversed}
-use Rattle.upstream_relay.specs.Owed.{after_claim}
 use Rattle.ntrip_head.specs.declared.request.Version.{Version}
 use Rattle.ntrip_head.specs.declared.request.Version.TheVariants.{One, Two}
 use Rattle.ntrip_reply.specs.declared.kind.Reply.TheVariants as replies
 use Rattle.cast_config.specs.declared.config.Config.{Config}
 use Rattle.session_core.specs.declared.ending.Last.TheVariants as lasts
-use Rattle.session_core.specs.declared.report.Receipt.{Receipt}
 use Rattle.session_core.specs.declared.report.Connection.{Connection}
 use Rattle.session_core.specs.Setting.{caps, bases_at}
 use Rattle.run_promise.specs.Selected.{Selects}
-use Rattle.session_core.specs.Judged.{Opening, SourceTerms, RoverTerms, Judged, waiting, refused, unanswered, table, source, rover}
-use Rattle.session_core.specs.Owed.{Received, unasked, claimed, taken, entered, full, received, received_by, if_entered, terms_of, plan_of, closing, closing_by}
+use Rattle.session_core.specs.Judged.{SourceTerms, RoverTerms, Judged, waiting, refused, unanswered, table, source, rover}
+use Rattle.session_core.specs.Owed.{Received, claimed, taken, entered, full, received, received_by, if_entered, terms_of, plan_of, closing, closing_by}
 use Rattle.session_core.specs.Endings.{ended_by, claimed_ending, body_ending}
-use Rattle.session_core.specs.Replies.{text_if, opening_text, reply_of, version_of, kept_frames, sent_by}
+use Rattle.session_core.specs.Replies.{text_if, opening_text, reply_of, kept_frames, sent_by}
 use Rattle.session_core.specs.Promises.{IsSoundIn, CountsAll, Keeps}
 use Rattle.session_core.specs.Reports.{receipt_of, is_entered}
 use Rattle.session_core.specs.Run.{Histories, Connected}
@@ -55,7 +52,7 @@ use Rattle.run_promise.specs.Calls.{Call, without_reads}
 use Rattle.run_promise.specs.Promised.{Carries, Holds, IsReplied, HasEntered, asked, publishes, HasClaimed, WasTaken, Was}
 use Rattle.run_promise.proofs.MadeLemmas.{AreAnswered, StepsOn}
 use Rattle.run_promise.proofs.CallLemmas.{call_in, calls_of, same_owed}
-use Rattle.run_promise.proofs.WalkLemmas.{IsNever, AreJoins, JoinsSuch, joins_made, joins-append, HasSuch, walk_keeps, none_such}
+use Rattle.run_promise.proofs.WalkLemmas.{IsNever, AreJoins, joins_made, joins-append, HasSuch, walk_keeps, none_such}
 use Rattle.run_promise.proofs.SelectLemmas.{IsFilter, plan_made, plan_such}
 use Rattle.run_promise.proofs.SourceLemmas.{Given_, Taken_, source_made, claim_such}
 use Rattle.run_promise.proofs.StoodLemmas.{Walked}
@@ -221,8 +218,7 @@ taken_so c h d terms body rest f t =
     let by : received (owed_among f.first) ≡ taken t.caller t.claim = ap received t.steps_are in
     let all : received d.steps ≡ taken t.caller t.claim =
     received_is c h d j rest f ∙ ap (λ (l : List Step). received (l ++ owed_among f.last)) t.steps_are in
-    let last : owed_among f.last ≡ [] = ap owed_among (closes_so c h d j rest f (taken t.caller t.claim) by) in
-    (
+    let last : owed_among f.last ≡ [] = ap owed_among (closes_so c h d j rest f (taken t.caller t.claim) by) in (
       t.caller,
       t.claim,
       calls_are c h d j rest f
@@ -353,8 +349,7 @@ full_so c h d terms tail rest f e =
     let by : received (owed_among f.first) ≡ full e.busy e.cap = ap received e.steps_are in
     let all : received d.steps ≡ full e.busy e.cap =
     received_is c h d j rest f ∙ ap (λ (l : List Step). received (l ++ owed_among f.last)) e.steps_are in
-    let last : owed_among f.last ≡ [] = ap owed_among (closes_so c h d j rest f (full e.busy e.cap) by) in
-    (
+    let last : owed_among f.last ≡ [] = ap owed_among (closes_so c h d j rest f (full e.busy e.cap) by) in (
       ap is_entered all,
       (
         calls_are c h d j rest f

@@ -1,6 +1,6 @@
 -- The calls at mountpoints among a connection's steps.
-use Rattle.std.proofs.Common.{◌≡◌, ◌∙◌, ◌++◌, ℕ, Bool, true, false, cond, List, [], ◌∷◌, fold, refl, sym, ap, subst}
-use Rattle.std.specs.Prelude.{⊤, ◌==◌, if◌then◌else◌}
+use Rattle.std.proofs.Common.{◌≡◌, ◌∙◌, ◌++◌, ℕ, Bool, true, false, cond, List, [], ◌∷◌, fold, refl, sym, ap}
+use Rattle.std.specs.Prelude.{◌==◌, if◌then◌else◌}
 use Rattle.std.specs.List.{flat_map}
 use Rattle.turn_log.specs.History.{History}
 use Rattle.turn_log.specs.Heard.{told}
@@ -10,7 +10,7 @@ use Rattle.mount_ring.specs.declared.call.RingAnswer.{RingAnswer}
 use Rattle.rover_cursor.specs.declared.segment.Segment.{Segment}
 use Rattle.session_calls.specs.Steps.{Step, at_ring, at_book, on_ring}
 use Rattle.session_calls.specs.Rings.{history_at, answer_at, Went}
-use Rattle.rover_session.specs.Made.{after_step, segments_after, is_call_owed, is_owed, owed_among}
+use Rattle.rover_session.specs.Made.{after_step, segments_after, is_call_owed, owed_among}
 use Rattle.cast_config.specs.declared.config.Config.{Config}
 use Rattle.session_core.specs.Setting.{shapes}
 use Rattle.run_promise.specs.Calls.{Call, at_one, AreAllCalls, is_no_read, without_reads, after_one, ReadOn}

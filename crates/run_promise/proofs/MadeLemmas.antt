@@ -1,6 +1,6 @@
 -- What a plan becomes where nobody else calls in between: its calls, with their answers, are all that
 -- the histories have more.
-use Rattle.std.proofs.Common.{◌≡◌, ◌∙◌, ◌<◌, ◌++◌, ℕ, Bool, true, false, cond, List, [], ◌∷◌, length, fold, set, refl, sym, ap, subst}
+use Rattle.std.proofs.Common.{◌≡◌, ◌∙◌, ◌<◌, ◌++◌, ℕ, Bool, true, cond, List, [], ◌∷◌, length, fold, refl, sym, ap, subst}
 use Rattle.std.specs.Prelude.{⊤}
 use Rattle.turn_log.specs.History.{History}
 use Rattle.turn_log.proofs.HeardLaws.{heard_call}

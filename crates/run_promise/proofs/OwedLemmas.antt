@@ -1,17 +1,15 @@
 -- What stands of a connection's first steps, and of those that closed it.
-use Rattle.std.proofs.Common.{◌≡◌, ◌∙◌, ◌⊎◌, ◌++◌, ℕ, Bool, true, false, cond, List, [], ◌∷◌, Option, None, Some, inl, inr, refl, sym, ap, subst}
-use Rattle.std.specs.Prelude.{⊤}
+use Rattle.std.proofs.Common.{◌≡◌, ◌∙◌, ◌++◌, ℕ, Bool, true, false, cond, List, [], ◌∷◌, refl, ap}
 use Rattle.mount_ring.specs.declared.call.RingCall.{RingCall}
 use Rattle.mount_ring.specs.declared.call.RingCall.TheVariants.{Claim, Release, Publish, Join, Look, Read}
 use Rattle.caster_accounts.specs.declared.call.BookCall.{BookCall}
 use Rattle.rover_cursor.specs.declared.segment.Segment.{Segment}
-use Rattle.session_calls.specs.Steps.{Ask, to_ring, to_book, Step, at_ring, at_book, ask_of}
+use Rattle.session_calls.specs.Steps.{to_ring, to_book, Step, at_ring, at_book, ask_of}
 use Rattle.session_calls.specs.Plans.{Plan, done, asks, IsMade}
 use Rattle.rover_session.specs.Made.{after_step, is_owed, owed_among}
 use Rattle.cast_config.specs.declared.config.Config.{Config}
 use Rattle.session_core.specs.Judged.{SourceTerms, RoverTerms, Judged, waiting, refused, unanswered, table, source, rover}
 use Rattle.session_core.specs.Owed.{Received, unasked, claimed, taken, entered, full, received, closing_by}
-use Rattle.run_promise.specs.Calls.{Call}
 use Rattle.run_promise.specs.Promised.{asked}
 use Rattle.run_promise.proofs.MadeLemmas.{AreAnswered, StepsOn}
 use Rattle.run_promise.proofs.CallLemmas.{calls_of}
@@ -61,7 +59,6 @@ received_owed (at_ring mount (Read cursor budget) answer ∷ steps) on = absurd 
 received_owed (at_book call answer ∷ steps) on = refl
 
 -- ---- what closes a connection
-
 
 pub last_such : (IsSuch : ℕ → Type 0) (plan : Plan) (last : List Step)
     → JoinsSuch IsSuch plan → IsMade plan last → AreJoins IsSuch (owed_among last)

@@ -1,6 +1,6 @@
 -- Every report of a recorded session keeps what is promised.
-use Rattle.std.proofs.Common.{◌≡◌, ◌≢◌, ◌∙◌, ◌⊎◌, ◌<◌, ◌≤◌, ◌+◌, ◌++◌, ℕ, Bool, true, false, IsTrue, List, [], ◌∷◌, length, map, reverse, All, Option, None, Some, inl, inr, refl, sym, ap, subst, arith}
-use Rattle.std.specs.Prelude.{⊤, ◌==◌, ◌||◌}
+use Rattle.std.proofs.Common.{◌≡◌, ◌≢◌, ◌∙◌, ◌≤◌, ◌+◌, ℕ, Bool, true, false, IsTrue, List, [], ◌∷◌, map, reverse, All, Option, None, inl, inr, refl, sym, ap, subst, arith}
+use Rattle.std.specs.Prelude.{◌==◌, ◌||◌}
 use Rattle.std.proofs.lemmas.Bool.{false≢true}
 use Rattle.std.proofs.lemmas.List.Elements.{All-head, All-tail, All-cons, All-nil}
 use Rattle.turn_log.specs.History.{History}
@@ -13,7 +13,6 @@ use Rattle.session_calls.specs.Rings.{history_at}
 use Rattle.rover_session.specs.Made.{segments_after}
 use Rattle.cast_config.specs.declared.config.Config.{Config}
 use Rattle.cast_config.specs.Kept.{KeepsRules}
-use Rattle.session_core.specs.declared.report.Connection.{Connection}
 use Rattle.session_core.specs.declared.report.Report.{Report}
 use Rattle.session_core.specs.Headings.{Heading}
 use Rattle.session_core.specs.Judged.{Opening}
@@ -22,10 +21,10 @@ use Rattle.session_core.specs.Promises.{Keeps}
 use Rattle.session_core.specs.Reports.{told_of, opened_as, bytes_to, IsHeadingOf, AreHeadings, report, IsReport}
 use Rattle.session_core.specs.Run.{Histories, Connected, World, nothing_called, judged_of, is_opened, world}
 use Rattle.session_core.proofs.PromiseLemmas.{keeps_all}
-use Rattle.caster_replay.specs.Runs.{AreAbove, IsIncreasing}
+use Rattle.caster_replay.specs.Runs.{IsIncreasing}
 use Rattle.run_promise.specs.Promised.{IsAccounted, AreOrdered, is_told, IsPromised}
 use Rattle.run_promise.proofs.CallLemmas.{calls_of, same_segments, same_reads, all_calls}
-use Rattle.run_promise.proofs.StoodLemmas.{Stood, AllBy}
+use Rattle.run_promise.proofs.StoodLemmas.{AllBy}
 use Rattle.run_promise.proofs.RunLemmas.{IsOver, world_over}
 use Rattle.run_promise.proofs.AccountLemmas.{Facts, was_so, sent_so, overrun_so}
 use Rattle.run_promise.proofs.RunLemmas.{IsStood, IsRunning, nothing_at, world_runs}

@@ -1,8 +1,8 @@
 -- What a script says of each connection of its run: how it opened, and that its text is all its bytes,
 -- unless it ended by itself.
-use Rattle.std.proofs.Common.{◌≡◌, ◌≢◌, ◌∙◌, ◌⊎◌, ◌++◌, ℕ, Bool, true, false, List, [], ◌∷◌, length, map, fold, All, Option, None, Some, inl, inr, refl, sym, ap, subst, eq-eqb, append_assoc}
-use Rattle.std.specs.Prelude.{⊤, ◌==◌, ◌&&◌, is_none, nat_lt}
-use Rattle.std.proofs.lemmas.Bool.{cases_eq, cases_Bool}
+use Rattle.std.proofs.Common.{◌≡◌, ◌∙◌, ◌⊎◌, ◌++◌, ℕ, Bool, true, false, List, [], ◌∷◌, map, All, Option, None, Some, inl, inr, refl, sym, ap, subst, eq-eqb, append_assoc}
+use Rattle.std.specs.Prelude.{◌&&◌, is_none, nat_lt}
+use Rattle.std.proofs.lemmas.Bool.{cases_eq}
 use Rattle.std.proofs.lemmas.List.{append-nil}
 use Rattle.std.proofs.lemmas.List.Elements.{All-head, All-tail, All-cons, All-nil}
 use Rattle.session_script.specs.declared.Event.{Event}
@@ -18,12 +18,12 @@ use Rattle.session_core.specs.Judged.{Opening, sends_head, relays, bare_source, 
 use Rattle.session_core.specs.Owed.{received, closing, Happening, arrives, takes_turn, ends, owed}
 use Rattle.session_core.specs.Endings.{ended_by, goes_on}
 use Rattle.session_core.specs.Reports.{opened_as, bytes_to}
-use Rattle.session_core.specs.Run.{Histories, Connected, World, Moved, nothing_called, made, judged_of, makes, closed_if, with_text, with_last, moved, moved_if, is_concerned, happens_in, happens, placed_if, placed, is_opened, opened_if, fresh, opens, after_event, after_events, closes, world}
-use Rattle.caster_replay.specs.Runs.{is_cut, IsKnown, AreKnown}
+use Rattle.session_core.specs.Run.{Histories, Connected, World, Moved, made, judged_of, makes, closed_if, with_text, moved, moved_if, is_concerned, happens_in, happens, placed_if, placed, is_opened, opened_if, fresh, opens, after_event, after_events, closes, world}
+use Rattle.caster_replay.specs.Runs.{IsKnown, AreKnown}
 use Rattle.caster_replay.proofs.WorldHeadingLemmas.{bytes-append, bytes_stay, unless_cut}
 use Rattle.caster_replay.proofs.WorldClosedLemmas.{received_closed}
 use Rattle.caster_replay.proofs.WorldListLemmas.{moved_by, apart_moved}
-use Rattle.caster_replay.proofs.WorldKnownLemmas.{IsClean, Tells, Starts, bytes_of, bytes_same, opened_same, known_happens, known_opened, tells_in, tells_turn, tells_break, tells_end, starts_open, starts_relay, starts_source, starts_rover}
+use Rattle.caster_replay.proofs.WorldKnownLemmas.{IsClean, Tells, Starts, bytes_same, opened_same, known_happens, known_opened, tells_in, tells_turn, tells_break, tells_end, starts_open, starts_relay, starts_source, starts_rover}
 use Rattle.caster_replay.proofs.WorldRunnerLemmas.{after_one}
 use Rattle.caster_replay.proofs.WorldSessionLemmas.{session_clean}
 use Rattle.run_promise.proofs.MadeLemmas.{made_is}

@@ -1,6 +1,6 @@
 -- What stands of every connection of a run, and that no entry of a history is of anybody else.
-use Rattle.std.proofs.Common.{◌≡◌, ◌≢◌, ◌∙◌, ◌⊎◌, ◌++◌, ℕ, zero, suc, Bool, true, false, cond, ◌<◌, IsTrue, List, [], ◌∷◌, length, map, fold, All, Option, None, Some, inl, inr, refl, sym, ap, subst, eq-eqb}
-use Rattle.std.specs.Prelude.{⊤, ◌==◌, ◌&&◌, ◌||◌, nat_lt}
+use Rattle.std.proofs.Common.{◌≡◌, ◌≢◌, ◌∙◌, ◌⊎◌, ◌++◌, ℕ, zero, suc, Bool, true, false, cond, ◌<◌, IsTrue, List, [], ◌∷◌, length, map, fold, All, inl, inr, refl, sym, ap, subst, eq-eqb}
+use Rattle.std.specs.Prelude.{◌==◌, ◌&&◌, ◌||◌, nat_lt}
 use Rattle.std.proofs.lemmas.Bool.{and_parts, cases_eq, ne_eqb}
 use Rattle.std.proofs.lemmas.List.{append-nil, length-map}
 use Rattle.std.proofs.lemmas.List.Elements.{All-head, All-tail, All-cons, All-nil}
@@ -23,10 +23,10 @@ use Rattle.session_core.specs.Owed.{Happening, arrives, takes_turn, ends}
 use Rattle.session_core.specs.Endings.{goes_on}
 use Rattle.session_core.specs.Run.{Histories, Connected, World, Moved, nothing_called, judged_of, moved, moved_if, is_concerned, happens_in, happens, placed_if, placed, is_opened, opened_if, fresh, opens, after_event, after_events, closes, world}
 use Rattle.caster_replay.specs.Runs.{AreAbove, IsIncreasing}
-use Rattle.caster_replay.proofs.WorldListLemmas.{above_less, none_above, apart_first, none_later, moved_by, apart_moved, happens_nowhere}
+use Rattle.caster_replay.proofs.WorldListLemmas.{none_above, moved_by, apart_moved, happens_nowhere}
 use Rattle.caster_replay.proofs.WorldRunLemmas.{increasing_placed}
 use Rattle.caster_replay.proofs.WorldKnownLemmas.{opened_same}
-use Rattle.run_promise.proofs.StoodLemmas.{Walked, Stood, AllBy, Moves, stood_on, fresh_moves, moved_if_moves}
+use Rattle.run_promise.proofs.StoodLemmas.{Walked, Stood, AllBy, stood_on, fresh_moves, moved_if_moves}
 
 -- what stands of a connection with these headings
 abbrev pub IsStood : Config → (ℕ → Heading) → Histories → Connected → Type 0

@@ -1,9 +1,8 @@
 -- What was made of a rover's plan are the calls that its reports and its admission select.
-use Rattle.std.proofs.Common.{◌≡◌, ◌≢◌, ◌∙◌, ◌⊎◌, ◌++◌, ℕ, Bool, true, false, cond, List, [], ◌∷◌, map, Option, None, Some, inl, inr, refl, sym, ap, subst, append_assoc}
-use Rattle.std.specs.Prelude.{⊤, ◌==◌, slice_index}
-use Rattle.std.proofs.lemmas.Bool.{cases_Bool, eqb-true, eqb-false}
+use Rattle.std.proofs.Common.{◌≡◌, ◌≢◌, ◌∙◌, ◌++◌, ℕ, Bool, true, false, cond, List, [], ◌∷◌, map, Option, None, Some, inl, inr, refl, sym, ap, subst, append_assoc}
+use Rattle.std.specs.Prelude.{◌==◌, slice_index}
+use Rattle.std.proofs.lemmas.Bool.{eqb-true, eqb-false}
 use Rattle.std.proofs.lemmas.List.{append-nil}
-use Rattle.turn_log.specs.History.{History}
 use Rattle.gga_read.specs.declared.Position.{Position}
 use Rattle.base_select.specs.declared.Base.{Base}
 use Rattle.base_select.specs.Choice.{measures, mounts, nearest_of, chosen, place_of}
@@ -14,8 +13,8 @@ use Rattle.mount_ring.specs.declared.call.RingCall.TheVariants.{Join, Look}
 use Rattle.mount_ring.specs.declared.call.RingAnswer.{RingAnswer}
 use Rattle.mount_ring.specs.declared.call.RingAnswer.TheVariants.{Joined, Looked}
 use Rattle.mount_ring.specs.History.{state_of, live_claim, joined}
-use Rattle.session_calls.specs.Steps.{Ask, to_ring, to_book, Step, at_ring, at_book, of_ring, answer_of}
-use Rattle.session_calls.specs.Plans.{Plan, done, asks, IsMade}
+use Rattle.session_calls.specs.Steps.{to_ring, Step, at_ring, at_book, of_ring}
+use Rattle.session_calls.specs.Plans.{Plan, asks, IsMade}
 use Rattle.session_calls.specs.Rings.{answer_at, shape_at}
 use Rattle.rover_session.specs.Owed.{Terms, if_live, if_looked, looks, chooses, changed, joins, follows, joins_each, plan_by}
 use Rattle.rover_session.specs.Owed as rover

@@ -1,22 +1,18 @@
 -- What was made of a source's plan: a claim, and where it was given each frame published under it.
-use Rattle.std.proofs.Common.{◌≡◌, ◌∙◌, ◌⊎◌, ◌+◌, ◌++◌, ℕ, List, [], ◌∷◌, map, Option, None, Some, inl, inr, refl, sym, ap, subst}
-use Rattle.std.specs.Prelude.{⊤}
-use Rattle.turn_log.specs.History.{History}
+use Rattle.std.proofs.Common.{◌≡◌, ◌∙◌, ◌⊎◌, ◌+◌, ℕ, List, [], ◌∷◌, Option, None, Some, inl, inr, refl, sym, ap, subst}
 use Rattle.mount_ring.specs.declared.call.RingCall.{RingCall}
-use Rattle.mount_ring.specs.declared.call.RingCall.TheVariants.{Claim, Release, Publish}
+use Rattle.mount_ring.specs.declared.call.RingCall.TheVariants.{Claim, Publish}
 use Rattle.mount_ring.specs.declared.call.RingAnswer.{RingAnswer}
 use Rattle.mount_ring.specs.declared.call.RingAnswer.TheVariants.{Given, Taken}
 use Rattle.mount_ring.specs.declared.call.RingAnswer.TheVariants as answers
 use Rattle.mount_ring.specs.declared.call.Holder.{Holder}
 use Rattle.mount_ring.specs.History.{State, state_of, claim_answer}
-use Rattle.session_calls.specs.Steps.{Ask, to_ring, to_book, Answer, of_ring, of_book, Step, at_ring, at_book, answer_of}
-use Rattle.session_calls.specs.Plans.{Plan, done, asks, IsMade}
+use Rattle.session_calls.specs.Steps.{to_ring, Answer, of_ring, of_book, Step, at_ring, at_book}
+use Rattle.session_calls.specs.Plans.{asks, IsMade}
 use Rattle.session_calls.specs.Rings.{answer_at}
 use Rattle.upstream_relay.specs.Owed.{publishing, after_claim}
 use Rattle.cast_config.specs.declared.config.Config.{Config}
 use Rattle.session_core.specs.Setting.{shapes}
-use Rattle.session_core.specs.Owed.{Received, claimed, taken, received}
-use Rattle.run_promise.specs.Calls.{Call}
 use Rattle.run_promise.specs.Promised.{asked, publishes}
 use Rattle.run_promise.proofs.MadeLemmas.{AreAnswered}
 use Rattle.run_promise.proofs.CallLemmas.{calls_of}

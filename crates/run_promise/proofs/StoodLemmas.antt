@@ -1,5 +1,5 @@
 -- What stands of one connection of a run, after whatever happened to it.
-use Rattle.std.proofs.Common.{◌≡◌, ◌≢◌, ◌∙◌, ◌<◌, ◌⊎◌, ◌++◌, ℕ, Bool, true, false, IsTrue, List, [], ◌∷◌, length, map, All, Option, None, Some, inl, inr, refl, sym, ap, subst, append_assoc}
+use Rattle.std.proofs.Common.{◌≡◌, ◌≢◌, ◌∙◌, ◌<◌, ◌⊎◌, ◌++◌, ℕ, Bool, true, false, IsTrue, List, [], ◌∷◌, length, All, Option, None, Some, inl, inr, refl, sym, ap, subst}
 use Rattle.std.specs.Prelude.{⊤, ◌&&◌, is_none}
 use Rattle.std.proofs.lemmas.Bool.{and_parts, false≢true}
 use Rattle.std.proofs.lemmas.List.{append-nil}
@@ -12,10 +12,10 @@ use Rattle.mount_ring.specs.declared.call.RingAnswer.{RingAnswer}
 use Rattle.mount_ring.specs.declared.call.RingAnswer.TheVariants.{Given, Taken, Released, At, Joined, Looked, Read}
 use Rattle.rover_cursor.specs.declared.segment.Segment.{Segment}
 use Rattle.session_calls.specs.Steps.{Ask, to_ring, to_book, Step, at_ring, at_book, answer_of, on_ring}
-use Rattle.session_calls.specs.Plans.{Plan, done, asks, left, IsMade, Begins}
+use Rattle.session_calls.specs.Plans.{Plan, done, asks, left, IsMade}
 use Rattle.session_calls.specs.Rings.{history_at, answer_at, Went, WentOn}
 use Rattle.session_calls.proofs.PlanLemmas.{made_both}
-use Rattle.session_calls.proofs.WentLemmas.{went_none, went_both, went_less, went_on, alone_entries}
+use Rattle.session_calls.proofs.WentLemmas.{went_both, went_less, went_on, alone_entries}
 use Rattle.rover_session.specs.Owed.{reads}
 use Rattle.rover_session.specs.Made.{after_step, segments_after, owed_among}
 use Rattle.rover_session.proofs.MadeLemmas.{owed-append}
@@ -60,9 +60,10 @@ made_within : (c : Config) (count me : ℕ) (h : Histories) (plan : Plan) → Is
     → AreStepsWithin count (made c me h plan)
 made_within c count me h done within = tt
 made_within c count me h (asks ask next) within =
-    let step = step_at c me h ask in
-    (one_within c count me h ask within.0,
-    made_within c count me (with_call me h ask) (next (answer_of step)) (within.1 (answer_of step)))
+    let step = step_at c me h ask in (
+      one_within c count me h ask within.0,
+      made_within c count me (with_call me h ask) (next (answer_of step)) (within.1 (answer_of step)),
+    )
 
 -- and so are its segments
 abbrev IsBelow : ℕ → Segment → Type 0
@@ -356,8 +357,11 @@ moved_moves c cap heading h d (takes_turn budget) kept s goes =
             ∙ ap (λ (l : List Step). owed_among d.steps ++ l) (none_owed c d.number h segments budget)
             ∙ append-nil (owed_among d.steps)))
             (still_made c heading h d s goes);
-        ends = inl (refl, going_turned (judged_of c heading d) d.closed (received d.steps)
-            (received (d.steps ++ steps)) (received_turned c d.number h d.steps budget) goes);
+        ends = inl (
+          refl,
+          going_turned (judged_of c heading d) d.closed (received d.steps)
+              (received (d.steps ++ steps)) (received_turned c d.number h d.steps budget) goes,
+        );
       };
     }
   where
@@ -365,10 +369,12 @@ moved_moves c cap heading h d (takes_turn budget) kept s goes =
         → (is_none closed && is_none (ended_by j before)) ≡ true → (is_none closed && is_none (ended_by j after)) ≡ true
     going_turned j closed before after same goes =
         ap (λ (r : Received). is_none closed && is_none (ended_by j r)) same ∙ goes
+
     received_turned : (c : Config) (me : ℕ) (h : Histories) (steps : List Step) (budget : ℕ)
         → received (steps ++ made c me h (reads budget (segments_after [] steps))) ≡ received steps
     received_turned c me h [] budget = refl
     received_turned c me h (step ∷ steps) budget = refl
+
     none_owed : (c : Config) (me : ℕ) (h : Histories) (segments : List Segment) (budget : ℕ)
         → owed_among (made c me h (reads budget segments)) ≡ []
     none_owed c me h [] budget = refl
@@ -399,7 +405,7 @@ moved_moves c cap heading h d (ends last) kept s goes =
 
 -- one that just opened
 pub fresh_moves : (c : Config) (cap : ℕ) (heading : Heading) (h : Histories) (number : ℕ) (o : Opening)
-    → KeepsRules cap c → Walked c h number [] 
+    → KeepsRules cap c → Walked c h number []
     → Moves c heading h (fresh number o) (moved c heading h (fresh number o) (arrives []))
 fresh_moves c cap heading h number o kept walked =
     let j = judged c o heading [] in

@@ -1,23 +1,17 @@
 -- The segments of a connection have the filters of its Joins, and one that joined nothing has none.
-use Rattle.std.proofs.Common.{◌≡◌, ◌∙◌, ◌++◌, ℕ, Bool, true, List, [], ◌∷◌, All, Option, None, Some, refl, sym, ap, subst}
+use Rattle.std.proofs.Common.{◌≡◌, ◌++◌, ℕ, List, [], ◌∷◌, All, Option, None, Some, refl, sym, subst}
 use Rattle.std.specs.Prelude.{⊤}
-use Rattle.std.proofs.lemmas.List.Elements.{All-head, All-tail, All-cons, All-nil}
-use Rattle.turn_log.specs.History.{History}
+use Rattle.std.proofs.lemmas.List.Elements.{All-head, All-tail, All-cons}
 use Rattle.mount_ring.specs.declared.call.RingCall.{RingCall}
 use Rattle.mount_ring.specs.declared.call.RingCall.TheVariants.{Claim, Release, Publish, Join, Look, Read}
 use Rattle.mount_ring.specs.declared.call.RingAnswer.{RingAnswer}
-use Rattle.mount_ring.specs.declared.call.RingAnswer.TheVariants as answers
 use Rattle.mount_ring.specs.declared.call.Holder.{Holder}
-use Rattle.mount_ring.specs.declared.cursor.ReadReport.{ReadReport}
 use Rattle.mount_ring.specs.History.{State, state_of, claim_answer}
 use Rattle.rover_cursor.specs.declared.segment.Segment.{Segment}
-use Rattle.rover_cursor.specs.Segments.{begun, read_on}
 use Rattle.session_calls.specs.Steps.{Ask, to_ring, to_book, Step, at_ring, at_book, ask_of, answer_of}
 use Rattle.session_calls.specs.Plans.{Plan, done, asks, IsMade}
-use Rattle.session_calls.specs.Rings.{answer_at}
 use Rattle.rover_session.specs.Made.{after_step, segments_after, owed_among}
 use Rattle.cast_config.specs.declared.config.Config.{Config}
-use Rattle.session_core.specs.Setting.{shapes}
 use Rattle.run_promise.proofs.MadeLemmas.{IsAnswered, AreAnswered, IsStepOn, StepsOn}
 
 -- ---- joins with such filters

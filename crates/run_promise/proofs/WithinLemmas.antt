@@ -1,5 +1,5 @@
 -- Under a configuration that keeps its rules, what a connection owes is at mountpoints that there are.
-use Rattle.std.proofs.Common.{◌≡◌, ◌∙◌, ◌<◌, ◌≤◌, ◌+◌, ◌++◌, ℕ, zero, suc, Bool, true, false, cond, List, [], ◌∷◌, length, All, Option, None, Some, Result, Ok, Err, refl, sym, ap, subst, arith, option_to_list, length-append}
+use Rattle.std.proofs.Common.{◌≡◌, ◌<◌, ◌+◌, ◌++◌, ℕ, suc, Bool, true, false, cond, List, [], ◌∷◌, length, All, Option, None, Some, Result, Ok, Err, refl, subst, arith, option_to_list}
 use Rattle.std.specs.Prelude.{⊤, IfSome, nat_le, drop, slice_get, slice_index}
 use Rattle.std.specs.List.{position_from}
 use Rattle.std.specs.Str.{bytes_eq}
@@ -11,7 +11,6 @@ use Rattle.gga_read.specs.Report.{reports}
 use Rattle.base_select.specs.declared.Base.{Base}
 use Rattle.base_select.specs.Choice.{measures, mounts, nearest_of, chosen, place_of}
 use Rattle.base_select.proofs.NearestLemmas.{choice_is_of}
-use Rattle.mount_ring.specs.declared.call.RingAnswer.{RingAnswer}
 use Rattle.mount_ring.specs.declared.call.RingAnswer.TheVariants as rings
 use Rattle.rover_cursor.specs.declared.segment.Segment.{Segment}
 use Rattle.session_calls.specs.Steps.{Answer, of_ring, of_book, Step, answer_of}
@@ -126,9 +125,10 @@ follows_within count terms present (report ∷ later) below =
 each_within : (count filter : ℕ) (bases : List Base) → AreWithin count bases
     → IsWithin count (joins_each filter bases)
 each_within count filter [] below = tt
-each_within count filter (base ∷ bases) below =
-    (All-head (IsBelow count) base bases below,
-    λ answer. each_within count filter bases (All-tail (IsBelow count) base bases below))
+each_within count filter (base ∷ bases) below = (
+  All-head (IsBelow count) base bases below,
+  λ answer. each_within count filter bases (All-tail (IsBelow count) base bases below),
+)
 
 by_within : (count : ℕ) (near : Bool) (terms : Terms) (told : List Position) → AreWithin count terms.bases
     → IsWithin count (plan_by near terms told)

@@ -1,6 +1,6 @@
 -- What is promised of the report of a recorded run: each connection's segments, frames and bytes, by
 -- what its bytes say and by one history for each mountpoint.
-use Rattle.std.specs.Prelude.{◌≡◌, ◌≢◌, ℕ, ◌≤◌, ◌+◌, ◌⊎◌, ⊤, Bool, true, false, IsTrue, ◌==◌, List, [], ◌∷◌, ◌++◌, length, map, reverse, option_to_list, unwrap_or, Option, None, Some}
+use Rattle.std.specs.Prelude.{◌≡◌, ◌≢◌, ℕ, ◌≤◌, ◌+◌, ◌⊎◌, ⊤, Bool, true, false, IsTrue, ◌==◌, List, [], ◌∷◌, ◌++◌, length, map, reverse, option_to_list, unwrap_or, None, Some}
 use Rattle.std.specs.List.{All, list_any}
 use Rattle.rtcm_frame.specs.Cut.{cut}
 use Rattle.chunk_body.specs.Text.{IsOpen, IsPlain}
@@ -18,7 +18,6 @@ use Rattle.ntrip_reply.specs.declared.kind.Reply.TheVariants as replies
 use Rattle.ntrip_reply.specs.Text.{reply_text}
 use Rattle.session_script.specs.declared.Event.{Event}
 use Rattle.cast_config.specs.declared.config.Config.{Config}
-use Rattle.session_core.specs.declared.report.Receipt.{Receipt}
 use Rattle.session_core.specs.declared.report.Connection.{Connection}
 use Rattle.session_core.specs.declared.report.Report.{Report}
 use Rattle.session_core.specs.Setting.{bases_at}
