@@ -9,4 +9,5 @@ pub mod OwedLemmas
 pub mod AccountLemmas
 pub mod RunLemmas
 pub mod ReadLemmas
+pub mod OrderLemmas
 pub mod PromiseLemmas

@@ -1,13 +1,16 @@
 -- Every report of a recorded session keeps what is promised.
-use Rattle.std.proofs.Common.{◌≡◌, ◌≢◌, ◌∙◌, ◌≤◌, ◌+◌, ℕ, Bool, true, false, IsTrue, List, [], ◌∷◌, map, reverse, All, Option, None, inl, inr, refl, sym, ap, subst, arith}
-use Rattle.std.specs.Prelude.{◌==◌, ◌||◌}
-use Rattle.std.proofs.lemmas.Bool.{false≢true}
+use Rattle.std.proofs.Common.{◌≡◌, ◌≢◌, ◌∙◌, ◌≤◌, ◌+◌, ◌++◌, ℕ, Bool, true, false, IsTrue, List, [], ◌∷◌, map, reverse, All, Option, None, inl, inr, refl, sym, ap, subst, arith}
+use Rattle.std.specs.Prelude.{◌==◌, ◌||◌, ◌&&◌}
+use Rattle.std.proofs.lemmas.Bool.{false≢true, and_parts, and_from}
 use Rattle.std.proofs.lemmas.List.Elements.{All-head, All-tail, All-cons, All-nil}
 use Rattle.turn_log.specs.History.{History}
 use Rattle.mount_ring.specs.declared.call.RingCall.{RingCall}
 use Rattle.session_script.specs.declared.Event.{Event}
 use Rattle.session_script.specs.declared.ScriptKind.{ScriptKind}
-use Rattle.session_script.specs.Script.{IsSession}
+use Rattle.session_script.specs.Numbers.{Numbers, no_numbers}
+use Rattle.session_script.specs.Line.{is_event}
+use Rattle.session_script.specs.Script.{may_follow, is_session_after, IsSession}
+use Rattle.session_script.specs.Script as scripts
 use Rattle.session_calls.specs.Plans.{IsMade}
 use Rattle.session_calls.specs.Rings.{history_at}
 use Rattle.rover_session.specs.Made.{segments_after}
@@ -17,17 +20,18 @@ use Rattle.session_core.specs.declared.report.Report.{Report}
 use Rattle.session_core.specs.Headings.{Heading}
 use Rattle.session_core.specs.Judged.{Opening}
 use Rattle.session_core.specs.Owed.{closing}
-use Rattle.session_core.specs.Promises.{Keeps}
+use Rattle.session_core.specs.Promises as core
 use Rattle.session_core.specs.Reports.{told_of, opened_as, bytes_to, IsHeadingOf, AreHeadings, report, IsReport}
 use Rattle.session_core.specs.Run.{Histories, Connected, World, nothing_called, judged_of, is_opened, world}
 use Rattle.session_core.proofs.PromiseLemmas.{keeps_all}
 use Rattle.caster_replay.specs.Runs.{IsIncreasing}
-use Rattle.run_promise.specs.Promised.{IsAccounted, AreOrdered, is_told, IsPromised}
+use Rattle.run_promise.specs.Promised.{IsAccounted, AreOrdered, is_told, Keeps, AreEarlier, IsPromised}
 use Rattle.run_promise.proofs.CallLemmas.{calls_of, same_segments, same_reads, all_calls}
 use Rattle.run_promise.proofs.StoodLemmas.{AllBy}
 use Rattle.run_promise.proofs.RunLemmas.{IsOver, world_over}
 use Rattle.run_promise.proofs.AccountLemmas.{Facts, was_so, sent_so, overrun_so}
 use Rattle.run_promise.proofs.RunLemmas.{IsStood, IsRunning, nothing_at, world_runs}
+use Rattle.run_promise.proofs.OrderLemmas.{earlier}
 use Rattle.run_promise.proofs.ReadLemmas.{IsRead, AreAllRead, world_read}
 
 -- ---- one connection
@@ -41,9 +45,9 @@ last_of c headings h d s over = elim s.ends [
 ]
 
 accounted : (c : Config) (headings : ℕ → Heading) (script : List Event) (h : Histories) (d : Connected)
-    → AreHeadings script headings → IsStood c headings h d → IsOver c headings d → Keeps c h.rings d
-    → IsRead c headings script d → IsAccounted c script h.rings (told_of c headings h d)
-accounted c headings script h d are s over keeps is =
+    → IsStood c headings h d → IsOver c headings d → core.Keeps c h.rings d
+    → IsRead c headings script d → IsAccounted c headings script h.rings (told_of c headings h d)
+accounted c headings script h d s over keeps is =
     let heading = headings d.number in
     let facts : Facts c h d (judged_of c heading d) is.rest = record {
       walked = s.walked;
@@ -58,8 +62,6 @@ accounted c headings script h d are s over keeps is =
     record {
       opening = d.opening;
       opened = is.opened;
-      heading = heading;
-      head = subst (λ (o : Option Opening). IsHeadingOf o (bytes_to d.number script) heading) is.opened (are d.number);
       text = d.text;
       rest = is.rest;
       came = is.begins;
@@ -73,15 +75,15 @@ accounted c headings script h d are s over keeps is =
     }
 
 each_accounted : (c : Config) (headings : ℕ → Heading) (script : List Event) (h : Histories) (ds : List Connected)
-    → AreHeadings script headings → All (IsStood c headings h) ds → All (IsOver c headings) ds
-    → All (Keeps c h.rings) ds → All (IsRead c headings script) ds → All (IsAccounted c script h.rings) (map (told_of c headings h) ds)
-each_accounted c headings script h [] are stood over keeps read = All-nil (IsAccounted c script h.rings)
-each_accounted c headings script h (d ∷ ds) are stood over keeps read =
-    All-cons (IsAccounted c script h.rings) (told_of c headings h d) (map (told_of c headings h) ds)
-    (accounted c headings script h d are (All-head (IsStood c headings h) d ds stood)
-    (All-head (IsOver c headings) d ds over) (All-head (Keeps c h.rings) d ds keeps) (All-head (IsRead c headings script) d ds read))
-    (each_accounted c headings script h ds are (All-tail (IsStood c headings h) d ds stood)
-    (All-tail (IsOver c headings) d ds over) (All-tail (Keeps c h.rings) d ds keeps) (All-tail (IsRead c headings script) d ds read))
+    → All (IsStood c headings h) ds → All (IsOver c headings) ds
+    → All (core.Keeps c h.rings) ds → All (IsRead c headings script) ds → All (IsAccounted c headings script h.rings) (map (told_of c headings h) ds)
+each_accounted c headings script h [] stood over keeps read = All-nil (IsAccounted c headings script h.rings)
+each_accounted c headings script h (d ∷ ds) stood over keeps read =
+    All-cons (IsAccounted c headings script h.rings) (told_of c headings h d) (map (told_of c headings h) ds)
+    (accounted c headings script h d (All-head (IsStood c headings h) d ds stood)
+    (All-head (IsOver c headings) d ds over) (All-head (core.Keeps c h.rings) d ds keeps) (All-head (IsRead c headings script) d ds read))
+    (each_accounted c headings script h ds (All-tail (IsStood c headings h) d ds stood)
+    (All-tail (IsOver c headings) d ds over) (All-tail (core.Keeps c h.rings) d ds keeps) (All-tail (IsRead c headings script) d ds read))
 
 -- ---- all of them
 
@@ -114,27 +116,54 @@ by_told told opened (entry ∷ h) same all =
     (same entry.0 ∙ All-head (λ (entry : ℕ × RingCall). IsTrue (opened entry.0)) entry h all)
     (by_told told opened h same (All-tail (λ (entry : ℕ × RingCall). IsTrue (opened entry.0)) entry h all))
 
-world_promised : (c : Config) (cap : ℕ) (kind : ScriptKind) (script : List Event) (headings : ℕ → Heading)
-    → KeepsRules cap c → IsSession kind script → AreHeadings script headings
-    → IsPromised c script (report c headings script)
-world_promised c cap kind script headings kept session are =
+world_keeps : (c : Config) (cap : ℕ) (kind : ScriptKind) (script : List Event) (headings : ℕ → Heading)
+    → KeepsRules cap c → IsSession kind script
+    → Keeps c headings script (world c headings script).histories.rings (report c headings script)
+world_keeps c cap kind script headings kept session =
     let w : World = world c headings script in
     let run : IsRunning c headings w = world_runs c cap headings script kept in
     let read : AreAllRead c headings script w = world_read c headings kind script session in
     let h = w.histories in
     let ds = w.connections in
     record {
-      histories = h.rings;
       one_each = run.size;
       totals = refl;
       ordered = all_ordered c headings h ds run.order;
       all_told = λ n opened. told_same c headings h n ds ∙ is_there script n (is_opened n ds) (read.none n) opened;
-      accounted = each_accounted c headings script h ds are run.each (world_over c headings script)
+      accounted = each_accounted c headings script h ds run.each (world_over c headings script)
           (keeps_all c headings script) read.each;
       nothing_else = λ mount.
           by_told (λ n. is_told n (map (told_of c headings h) ds)) (λ n. is_opened n ds) (history_at h.rings mount)
           (λ n. told_same c headings h n ds) (run.callers mount);
     }
+
+-- the beginning of a session is one
+first_session : (kind : ScriptKind) (numbers : Numbers) (first later : List Event)
+    → is_session_after kind numbers (first ++ later) ≡ true → is_session_after kind numbers first ≡ true
+first_session kind numbers [] later is = refl
+first_session kind numbers (event ∷ first) later is =
+    let fits = is_event kind event && may_follow kind numbers event in
+    let next = scripts.after_event numbers event in
+    let both = and_parts fits (is_session_after kind next (first ++ later)) is in
+    and_from fits (is_session_after kind next first) both.0 (first_session kind next first later both.1)
+
+world_promised : (c : Config) (cap : ℕ) (kind : ScriptKind) (script : List Event) (headings : ℕ → Heading)
+    → KeepsRules cap c → IsSession kind script → AreHeadings script headings
+    → IsPromised c script (report c headings script)
+world_promised c cap kind script headings kept session are = record {
+  heads = headings;
+  are_heads = are;
+  histories = (world c headings script).histories.rings;
+  keeps = world_keeps c cap kind script headings kept session;
+  in_order = λ first later split. (
+    (world c headings first).histories.rings,
+    report c headings first,
+    world_keeps c cap kind first headings kept
+        (first_session kind no_numbers first later (subst (IsSession kind) split session)),
+    subst (λ (l : List Event). AreEarlier (world c headings first).histories.rings
+    (world c headings l).histories.rings) (sym split) (earlier c cap headings first later kept),
+  );
+}
 
 pub promised : (c : Config) (cap : ℕ) (kind : ScriptKind) (script : List Event) (r : Report) → KeepsRules cap c
     → IsSession kind script → IsReport c script r → IsPromised c script r

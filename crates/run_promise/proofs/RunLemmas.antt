@@ -26,7 +26,7 @@ use Rattle.caster_replay.specs.Runs.{AreAbove, IsIncreasing}
 use Rattle.caster_replay.proofs.WorldListLemmas.{none_above, moved_by, apart_moved, happens_nowhere}
 use Rattle.caster_replay.proofs.WorldRunLemmas.{increasing_placed}
 use Rattle.caster_replay.proofs.WorldKnownLemmas.{opened_same}
-use Rattle.run_promise.proofs.StoodLemmas.{Walked, Stood, AllBy, stood_on, fresh_moves, moved_if_moves}
+use Rattle.run_promise.proofs.StoodLemmas.{Extends, extends_same, Walked, Stood, AllBy, stood_on, fresh_moves, moved_if_moves}
 
 -- what stands of a connection with these headings
 abbrev pub IsStood : Config → (ℕ → Heading) → Histories → Connected → Type 0
@@ -59,6 +59,7 @@ record Happened (c : Config) (headings : ℕ → Heading) (number : ℕ) (h : Hi
     : Type 0 where
   size : length w.histories.rings ≡ length h.rings
   others : (me : ℕ) → me ≢ number → WentOn h.rings w.histories.rings me
+  later : Extends h.rings w.histories.rings
   each : AreStood c headings w.histories w.connections
   above : (n : ℕ) → AreAbove n ds → AreAbove n w.connections
   order : IsIncreasing w.connections
@@ -97,6 +98,7 @@ happens_here c cap headings number what h d ds kept same order all =
     subst (Happened c headings number h (d ∷ ds)) (sym is) (record {
       size = moves.size;
       others = λ me apart. moves.others me (λ e. apart (e ∙ sym same));
+      later = moves.later;
       each = All-cons (IsStood c headings m.histories) m.connection ds
           (subst (λ (n : ℕ). Stood c (headings n) m.histories m.connection) (sym moves.number) moves.stood)
           (stay_stood c headings h m.histories ds
@@ -115,6 +117,7 @@ happens_all : (c : Config) (cap : ℕ) (headings : ℕ → Heading) (number : �
 happens_all c cap headings number what h [] kept order all = record {
   size = refl;
   others = λ me apart. went_on_none h.rings me;
+  later = extends_same h.rings;
   each = All-nil (IsStood c headings h);
   above = λ n above. above;
   order = tt;
@@ -129,6 +132,7 @@ happens_all c cap headings number what h (d ∷ ds) kept order all = elim (cases
       (sym (apart_moved c headings number what h d (λ e. apart (sym e)))) (record {
         size = rest.size;
         others = rest.others;
+        later = rest.later;
         each = All-cons (IsStood c headings w.histories) d w.connections
             (stood_on c (headings d.number) h w.histories d (rest.others d.number (λ e. apart (sym e)))
             (All-head (IsStood c headings h) d ds all)) rest.each;
@@ -162,6 +166,12 @@ happens_runs c cap headings w number what kept run =
           (fun_ext (λ (n : ℕ). sym (opened_same c headings n number what w.histories w.connections)))
           (done.callers (λ n. is_opened n w.connections) (λ there. there) mount (run.callers mount));
     }
+
+pub happens_extends : (c : Config) (cap : ℕ) (headings : ℕ → Heading) (w : World) (number : ℕ) (what : Happening)
+    → KeepsRules cap c → IsRunning c headings w
+    → Extends w.histories.rings (happens c headings w number what).histories.rings
+happens_extends c cap headings w number what kept run =
+    (happens_all c cap headings number what w.histories w.connections kept run.order run.each).later
 
 -- one is placed among the others
 all_placed : (P : Connected → Type 0) (d : Connected) (ds : List Connected) → P d → All P ds → All P (placed d ds)
@@ -270,12 +280,26 @@ opened_runs false c cap headings w number o kept is run =
           (λ n there. here n ∙ or_first (number == n) (is_opened n ds) there) (run.callers mount));
     }
 
+opened_extends : (known : Bool) (c : Config) (cap : ℕ) (headings : ℕ → Heading) (w : World) (number : ℕ)
+    (o : Opening) → KeepsRules cap c → is_opened number w.connections ≡ known → IsRunning c headings w
+    → Extends w.histories.rings
+    (opened_if known w (moved c (headings number) w.histories (fresh number o) (arrives []))).histories.rings
+opened_extends true c cap headings w number o kept is run = extends_same w.histories.rings
+opened_extends false c cap headings w number o kept is run =
+    (fresh_moves c cap (headings number) w.histories number o kept (new_walked c headings w number is run)).later
+
+pub opens_extends : (c : Config) (cap : ℕ) (headings : ℕ → Heading) (w : World) (number : ℕ) (o : Opening)
+    → KeepsRules cap c → IsRunning c headings w
+    → Extends w.histories.rings (opens c headings w number o).histories.rings
+opens_extends c cap headings w number o kept run =
+    opened_extends (is_opened number w.connections) c cap headings w number o kept refl run
+
 pub opens_runs : (c : Config) (cap : ℕ) (headings : ℕ → Heading) (w : World) (number : ℕ) (o : Opening)
     → KeepsRules cap c → IsRunning c headings w → IsRunning c headings (opens c headings w number o)
 opens_runs c cap headings w number o kept run =
     opened_runs (is_opened number w.connections) c cap headings w number o kept refl run
 
-event_runs : (c : Config) (cap : ℕ) (headings : ℕ → Heading) (w : World) (event : Event) → KeepsRules cap c
+pub event_runs : (c : Config) (cap : ℕ) (headings : ℕ → Heading) (w : World) (event : Event) → KeepsRules cap c
     → IsRunning c headings w → IsRunning c headings (after_event c headings w event)
 event_runs c cap headings w (events.Source number mount) kept run =
     opens_runs c cap headings w number (bare_source mount) kept run
@@ -399,15 +423,20 @@ world_over c headings list =
 
 -- ---- the whole run
 
-pub world_runs : (c : Config) (cap : ℕ) (headings : ℕ → Heading) (list : List Event) → KeepsRules cap c
-    → IsRunning c headings (world c headings list)
-world_runs c cap headings list kept =
-    closes_run c cap headings (after_events c headings list)
-    (map (λ (d : Connected). d.number) (after_events c headings list).connections) kept
-    (events_run c cap headings (record { connections = []; histories = nothing_called c }) list kept (record {
+pub events_runs : (c : Config) (cap : ℕ) (headings : ℕ → Heading) (list : List Event) → KeepsRules cap c
+    → IsRunning c headings (after_events c headings list)
+events_runs c cap headings list kept =
+    events_run c cap headings (record { connections = []; histories = nothing_called c }) list kept (record {
       size = length-map c.mount (λ (mount : Mount). []);
       order = tt;
       each = All-nil (IsStood c headings (nothing_called c));
       callers = λ mount. subst (AllBy (λ n. false)) (sym (nothing_at c mount))
           (All-nil (λ (entry : ℕ × RingCall). IsTrue false));
-    }))
+    })
+
+pub world_runs : (c : Config) (cap : ℕ) (headings : ℕ → Heading) (list : List Event) → KeepsRules cap c
+    → IsRunning c headings (world c headings list)
+world_runs c cap headings list kept =
+    closes_run c cap headings (after_events c headings list)
+    (map (λ (d : Connected). d.number) (after_events c headings list).connections) kept
+    (events_runs c cap headings list kept)

@@ -164,6 +164,13 @@ still_made c heading h d s goes =
 abbrev pub AllBy : (ℕ → Bool) → History RingCall → Type 0
 AllBy is_such h = All (λ (entry : ℕ × RingCall). IsTrue (is_such entry.0)) h
 
+-- the histories went on
+abbrev pub Extends : List (History RingCall) → List (History RingCall) → Type 0
+Extends old now = (mount : ℕ) → (more : History RingCall) × (history_at now mount ≡ history_at old mount ++ more)
+
+pub extends_same : (h : List (History RingCall)) → Extends h h
+extends_same h mount = ([], sym (append-nil (history_at h mount)))
+
 -- what becomes of it and of the histories
 pub record Moves (c : Config) (heading : Heading) (old : Histories) (d : Connected) (m : Moved) : Type 0 where
   pub number : m.connection.number ≡ d.number
@@ -171,6 +178,7 @@ pub record Moves (c : Config) (heading : Heading) (old : Histories) (d : Connect
   pub others : (me : ℕ) → me ≢ d.number → WentOn old.rings m.histories.rings me
   pub callers : (is_such : ℕ → Bool) → IsTrue (is_such d.number) → (mount : ℕ)
       → AllBy is_such (history_at old.rings mount) → AllBy is_such (history_at m.histories.rings mount)
+  pub later : Extends old.rings m.histories.rings
   pub stood : Stood c heading m.histories m.connection
 
 -- ---- what calls of one caller leave
@@ -182,6 +190,10 @@ others_after c old now by me steps adds apart = record {
   rings = λ mount. heard_others (answer_at (shapes c) mount) me by (history_at old.rings mount)
       (history_at now.rings mount) (on_ring mount steps) (λ e. apart (sym e)) (adds.went.rings mount);
 }
+
+extends_by : (c : Config) (old now : Histories) (me : ℕ) (steps : List Step) → Adds c old now me steps
+    → Extends old.rings now.rings
+extends_by c old now me steps adds mount = ((adds.went.rings mount).more, (adds.went.rings mount).seen)
 
 all_entries : (is_such : ℕ → Bool) (me : ℕ) (calls : List RingCall) → IsTrue (is_such me)
     → AllBy is_such (entries_of me calls)
@@ -236,6 +248,7 @@ closed_moves None c heading old d m more fed is uncut number adds walked owes = 
   size = adds.size;
   others = λ me apart. others_after c old m.histories d.number me more adds apart;
   callers = callers_after c old m.histories d.number more adds;
+  later = extends_by c old m.histories d.number more adds;
   stood = record {
     walked = subst (λ (n : ℕ). Walked c m.histories n m.connection.steps) (sym number) walked;
     first = m.connection.steps;
@@ -272,6 +285,7 @@ closed_moves (Some end) c heading old d m more fed is uncut number adds walked o
       size = both.size;
       others = λ me apart. others_after c old now d.number me (more ++ last) both apart;
       callers = callers_after c old now d.number (more ++ last) both;
+      later = extends_by c old now d.number (more ++ last) both;
       stood = record {
         walked = walked_on c m.histories me steps plan mine within
             (owed_on (segments_after [] steps) last (made_owed c me m.histories plan (closing_good j steps)));
@@ -347,6 +361,7 @@ moved_moves c cap heading h d (takes_turn budget) kept s goes =
       size = adds.size;
       others = λ me apart. others_after c h m.histories d.number me steps adds apart;
       callers = callers_after c h m.histories d.number steps adds;
+      later = extends_by c h m.histories d.number steps adds;
       stood = record {
         walked = walked_on c h d.number d.steps plan s.walked within (turn_on c d.number h segments budget);
         first = d.steps ++ steps;
@@ -392,6 +407,7 @@ moved_moves c cap heading h d (ends last) kept s goes =
       size = adds.size;
       others = λ me apart. others_after c h m.histories d.number me steps adds apart;
       callers = callers_after c h m.histories d.number steps adds;
+      later = extends_by c h m.histories d.number steps adds;
       stood = record {
         walked = walked_on c h d.number d.steps plan s.walked within
             (owed_on (segments_after [] d.steps) steps (made_owed c d.number h plan (closing_good j d.steps)));
@@ -431,5 +447,6 @@ moved_if_moves false c cap heading h d what kept s goes = record {
   size = refl;
   others = λ me apart. record { size = refl; rings = λ mount. ([], sym (append-nil (history_at h.rings mount)), refl) };
   callers = λ is_such is mount all. all;
+  later = extends_same h.rings;
   stood = s;
 }

@@ -26,7 +26,7 @@ use Rattle.session_core.specs.Headings.{Heading}
 use Rattle.session_core.specs.Judged.{Opening, SourceTerms, RoverTerms, Judged, waiting, refused, unanswered, table, source, rover, judged}
 use Rattle.session_core.specs.Replies.{text_if, opening_text, kept_frames}
 use Rattle.session_core.specs.Promises.{IsSoundIn, CountsAll}
-use Rattle.session_core.specs.Reports.{opened_as, bytes_to, IsHeadingOf, mount_total}
+use Rattle.session_core.specs.Reports.{opened_as, bytes_to, AreHeadings, mount_total}
 use Rattle.run_promise.specs.Calls.{Call, call, AreAllCalls, without_reads, segments_of, ReadOn}
 use Rattle.run_promise.specs.Selected.{Selects}
 
@@ -117,14 +117,12 @@ Was c histories told before rest calls (rover terms tail) =
 
 -- ---- one connection, and all of them
 
--- By the head of its bytes, and by those that came in before it was over, it was judged. Its calls
+-- By what its head says, and by its bytes that came in before it was over, it was judged. Its calls
 -- are all that the histories have of it, and they give its segments, whose sums are told.
-pub record IsAccounted (c : Config) (script : List Event) (histories : List (History RingCall))
-    (told : Connection) : Type 0 where
+pub record IsAccounted (c : Config) (heads : ℕ → Heading) (script : List Event)
+    (histories : List (History RingCall)) (told : Connection) : Type 0 where
   pub opening : Opening
   pub opened : opened_as told.number script ≡ Some opening
-  pub heading : Heading
-  pub head : IsHeadingOf (Some opening) (bytes_to told.number script) heading
   pub text : List ℕ
   pub rest : List ℕ
   pub came : bytes_to told.number script ≡ text ++ rest
@@ -135,7 +133,7 @@ pub record IsAccounted (c : Config) (script : List Event) (histories : List (His
   pub sent : told.receipt.sent ≡ sent_in told.receipt.segments
   pub overrun : told.receipt.overrun ≡ overrun_in told.receipt.segments
   pub was : Was c histories told (opening_text c opening) rest (without_reads calls)
-      (judged c opening heading text)
+      (judged c opening (heads told.number) text)
 
 -- in increasing order of number
 abbrev pub AreOrdered : ℕ → List Connection → Type 0
@@ -146,15 +144,41 @@ AreOrdered least (told ∷ more) = (least ≤ told.number) × AreOrdered (told.n
 abbrev pub is_told : ℕ → List Connection → Bool
 is_told number connections = list_any (λ (told : Connection). told.number == number) connections
 
--- There is one history for each mountpoint, with the published frames and the claims that the report
--- counts. Each number that the script opens is told of once, with what is promised of it, and no
--- entry of a history is of another.
-pub record IsPromised (c : Config) (script : List Event) (r : Report) : Type 0 where
-  pub histories : List (History RingCall)
+-- The histories, one for each mountpoint, have the published frames and the claims that the report
+-- counts. Each number that the script opens is told of once, with all of this, and no entry of a
+-- history is of another.
+pub record Keeps (c : Config) (heads : ℕ → Heading) (script : List Event)
+    (histories : List (History RingCall)) (r : Report) : Type 0 where
   pub one_each : length histories ≡ length c.mount
   pub totals : r.closed.mounts ≡ map mount_total histories
   pub ordered : AreOrdered 0 r.connections
   pub all_told : (n : ℕ) → opened_as n script ≢ None → IsTrue (is_told n r.connections)
-  pub accounted : All (IsAccounted c script histories) r.connections
+  pub accounted : All (IsAccounted c heads script histories) r.connections
   pub nothing_else : (mount : ℕ) → All (λ (entry : ℕ × RingCall).
       IsTrue (is_told entry.0 r.connections)) (history_at histories mount)
+
+-- ---- in the order of the script
+
+-- whether a call gives a claim back
+abbrev pub is_release : RingCall → Bool
+is_release (Release claim) = true
+is_release _ = false
+
+-- each of the early histories is a beginning of the later one, but for claims that are given back
+abbrev pub AreEarlier : List (History RingCall) → List (History RingCall) → Type 0
+AreEarlier early histories =
+    (mount : ℕ) → (first back later : History RingCall)
+    × (history_at early mount ≡ first ++ back)
+    × All (λ (entry : ℕ × RingCall). IsTrue (is_release entry.1)) back
+    × (history_at histories mount ≡ first ++ later)
+
+-- The report keeps it with some histories. They come about in the order of the script: whatever
+-- beginning of it were all, some report would keep it with the beginnings of these histories.
+pub record IsPromised (c : Config) (script : List Event) (r : Report) : Type 0 where
+  pub heads : ℕ → Heading
+  pub are_heads : AreHeadings script heads
+  pub histories : List (History RingCall)
+  pub keeps : Keeps c heads script histories r
+  pub in_order : (first later : List Event) → script ≡ first ++ later
+      → (early : List (History RingCall)) × (so_far : Report) × Keeps c heads first early so_far
+      × AreEarlier early histories

@@ -1,0 +1,195 @@
+-- The histories of a run come about in the order of its events.
+use Rattle.std.proofs.Common.{◌≡◌, ◌∙◌, ◌++◌, ℕ, Bool, true, false, cond, IsTrue, List, [], ◌∷◌, length, map, fold, All, inl, inr, refl, sym, ap, subst, append_assoc}
+use Rattle.std.specs.Prelude.{◌==◌, ◌&&◌}
+use Rattle.std.proofs.lemmas.Bool.{and_parts, cases_eq}
+use Rattle.std.proofs.lemmas.List.{append-nil}
+use Rattle.std.proofs.lemmas.List.Sums.{fold-append}
+use Rattle.std.proofs.lemmas.List.Elements.{All-head, All-tail, All-cons, All-nil, All-append}
+use Rattle.turn_log.specs.History.{History, entries_of}
+use Rattle.turn_log.specs.Heard.{calls_in}
+use Rattle.mount_ring.specs.declared.call.RingCall.{RingCall}
+use Rattle.mount_ring.specs.declared.call.RingCall.TheVariants.{Release}
+use Rattle.mount_ring.specs.declared.call.RingAnswer.{RingAnswer}
+use Rattle.rover_cursor.specs.declared.segment.Segment.{Segment}
+use Rattle.session_script.specs.declared.Event.{Event}
+use Rattle.session_script.specs.declared.Event.TheVariants as events
+use Rattle.session_calls.specs.Steps.{on_ring}
+use Rattle.session_calls.specs.Rings.{history_at}
+use Rattle.session_calls.proofs.WentLemmas.{alone_entries}
+use Rattle.cast_config.specs.declared.config.Config.{Config}
+use Rattle.cast_config.specs.Kept.{KeepsRules}
+use Rattle.session_core.specs.declared.ending.Last.{Last}
+use Rattle.session_core.specs.declared.ending.Last.TheVariants as lasts
+use Rattle.session_core.specs.Setting.{shapes}
+use Rattle.session_core.specs.Headings.{Heading}
+use Rattle.session_core.specs.Judged.{Opening, sends_head, relays, bare_source, bare_rover, Judged, waiting, refused, unanswered, table, source, rover}
+use Rattle.session_core.specs.Owed.{Received, unasked, claimed, taken, entered, full, received, closing, closing_by, Happening, arrives, takes_turn, ends}
+use Rattle.session_core.specs.Endings.{goes_on}
+use Rattle.rover_session.specs.Made.{segments_after}
+use Rattle.session_core.specs.Run.{Histories, Connected, World, Moved, nothing_called, made, judged_of, with_last, moved, moved_if, is_concerned, happens_in, happens, is_opened, opened_if, fresh, opens, after_event, after_events, closes, world}
+use Rattle.caster_replay.specs.Runs.{IsIncreasing}
+use Rattle.caster_replay.proofs.WorldListLemmas.{none_above, moved_by, apart_moved, happens_nowhere}
+use Rattle.run_promise.specs.Promised.{is_release, AreEarlier}
+use Rattle.run_promise.proofs.WithinLemmas.{closing_within, judged_fed}
+use Rattle.run_promise.proofs.StoodLemmas.{Stood, Extends, extends_same, plan_adds, fresh_moves}
+use Rattle.run_promise.proofs.RunLemmas.{IsStood, IsRunning, happens_extends, happens_runs, opens_extends, opens_runs, event_runs, events_runs}
+
+-- ---- histories that went on
+
+extends_both : (a b c : List (History RingCall)) → Extends a b → Extends b c → Extends a c
+extends_both a b c first second mount =
+    let one = first mount in let two = second mount in
+    (one.0 ++ two.0, two.1 ∙ ap (λ (h : History RingCall). h ++ two.0) one.1 ∙ append_assoc (history_at a mount) one.0 two.0)
+
+event_extends : (c : Config) (cap : ℕ) (headings : ℕ → Heading) (w : World) (event : Event) → KeepsRules cap c
+    → IsRunning c headings w → Extends w.histories.rings (after_event c headings w event).histories.rings
+event_extends c cap headings w (events.Source number mount) kept run =
+    opens_extends c cap headings w number (bare_source mount) kept run
+event_extends c cap headings w (events.Rover number mount) kept run =
+    opens_extends c cap headings w number (bare_rover mount) kept run
+event_extends c cap headings w (events.Open number) kept run = opens_extends c cap headings w number sends_head kept run
+event_extends c cap headings w (events.Relay number relay) kept run =
+    opens_extends c cap headings w number (relays relay) kept run
+event_extends c cap headings w (events.In number bytes) kept run =
+    happens_extends c cap headings w number (arrives bytes) kept run
+event_extends c cap headings w (events.Turn number budget) kept run =
+    happens_extends c cap headings w number (takes_turn budget) kept run
+event_extends c cap headings w (events.Break number) kept run =
+    happens_extends c cap headings w number (ends lasts.ReadFault) kept run
+event_extends c cap headings w (events.End number) kept run =
+    happens_extends c cap headings w number (ends lasts.End) kept run
+
+events_extend : (c : Config) (cap : ℕ) (headings : ℕ → Heading) (w : World) (list : List Event) → KeepsRules cap c
+    → IsRunning c headings w → Extends w.histories.rings (fold (after_event c headings) w list).histories.rings
+events_extend c cap headings w [] kept run = extends_same w.histories.rings
+events_extend c cap headings w (event ∷ more) kept run =
+    let next = after_event c headings w event in
+    extends_both w.histories.rings next.histories.rings (fold (after_event c headings) next more).histories.rings
+    (event_extends c cap headings w event kept run)
+    (events_extend c cap headings next more kept (event_runs c cap headings w event kept run))
+
+-- ---- what closes connections gives claims back, and nothing else
+
+abbrev IsBack : ℕ × RingCall → Type 0
+IsBack entry = IsTrue (is_release entry.1)
+
+abbrev Backs : List (History RingCall) → List (History RingCall) → Type 0
+Backs old now =
+    (mount : ℕ) → (back : History RingCall) × (history_at now mount ≡ history_at old mount ++ back) × All IsBack back
+
+backs_same : (h : List (History RingCall)) → Backs h h
+backs_same h mount = ([], sym (append-nil (history_at h mount)), All-nil IsBack)
+
+backs_both : (a b c : List (History RingCall)) → Backs a b → Backs b c → Backs a c
+backs_both a b c first second mount =
+    let one = first mount in let two = second mount in (
+      one.0 ++ two.0,
+      two.1 ∙ ap (λ (h : History RingCall). h ++ two.0) one.1 ∙ append_assoc (history_at a mount) one.0 two.0,
+      All-append IsBack one.0 two.0 one.2 two.2,
+    )
+
+-- all these calls give claims back
+abbrev AreBack : List RingCall → Type 0
+AreBack calls = All (λ call. IsTrue (is_release call)) calls
+
+entries_back : (me : ℕ) (calls : List RingCall) → AreBack calls → All IsBack (entries_of me calls)
+entries_back me [] all = All-nil IsBack
+entries_back me (call ∷ calls) all =
+    All-cons IsBack (me, call) (entries_of me calls) (All-head (λ call. IsTrue (is_release call)) call calls all)
+    (entries_back me calls (All-tail (λ call. IsTrue (is_release call)) call calls all))
+
+release_if : (here : Bool) (claim : ℕ) (answer : RingAnswer)
+    → AreBack (calls_in (cond here ((Release claim, answer) ∷ []) [] ++ []))
+release_if true claim answer = All-cons (λ call. IsTrue (is_release call)) (Release claim) [] refl
+    (All-nil (λ call. IsTrue (is_release call)))
+release_if false claim answer = All-nil (λ call. IsTrue (is_release call))
+
+closing_back : (c : Config) (me : ℕ) (h : Histories) (j : Judged) (by : Received) (segments : List Segment) (mount : ℕ)
+    → AreBack (calls_in (on_ring mount (made c me h (closing_by j by segments))))
+closing_back c me h waiting by segments mount = All-nil (λ call. IsTrue (is_release call))
+closing_back c me h (refused version reply end) by segments mount = All-nil (λ call. IsTrue (is_release call))
+closing_back c me h (unanswered end) by segments mount = All-nil (λ call. IsTrue (is_release call))
+closing_back c me h (table version) by segments mount = All-nil (λ call. IsTrue (is_release call))
+closing_back c me h (source terms body) unasked segments mount = All-nil (λ call. IsTrue (is_release call))
+closing_back c me h (source terms body) (claimed claim) segments mount =
+    release_if (terms.mount == mount) claim _
+closing_back c me h (source terms body) (taken caller claim) segments mount = All-nil (λ call. IsTrue (is_release call))
+closing_back c me h (source terms body) entered segments mount = All-nil (λ call. IsTrue (is_release call))
+closing_back c me h (source terms body) (full busy cap) segments mount = All-nil (λ call. IsTrue (is_release call))
+closing_back c me h (rover terms tail) unasked segments mount = All-nil (λ call. IsTrue (is_release call))
+closing_back c me h (rover terms tail) (claimed claim) segments mount = All-nil (λ call. IsTrue (is_release call))
+closing_back c me h (rover terms tail) (taken caller claim) segments mount = All-nil (λ call. IsTrue (is_release call))
+closing_back c me h (rover terms tail) entered segments mount = All-nil (λ call. IsTrue (is_release call))
+closing_back c me h (rover terms tail) (full busy cap) segments mount = All-nil (λ call. IsTrue (is_release call))
+
+one_backs : (concerned : Bool) (c : Config) (cap : ℕ) (heading : Heading) (h : Histories) (d : Connected) (last : Last)
+    → KeepsRules cap c → Stood c heading h d
+    → Backs h.rings (moved_if concerned c heading h d (ends last)).histories.rings
+one_backs false c cap heading h d last kept s = backs_same h.rings
+one_backs true c cap heading h d last kept s = λ mount.
+    let j = judged_of c heading d in
+    let plan = closing j d.steps in
+    let steps = made c d.number h plan in
+    let adds = plan_adds c h d.number plan s.walked.size
+    (closing_within c j (received d.steps) (segments_after [] d.steps) (judged_fed c cap d.opening heading d.text kept)) in
+    let now = (moved c heading h d (ends last)).histories in
+    let calls = calls_in (on_ring mount steps) in (
+      entries_of d.number calls,
+      alone_entries (shapes c) h.rings now.rings d.number steps mount adds.went,
+      entries_back d.number calls
+          (closing_back c d.number h j (received d.steps) (segments_after [] d.steps) mount),
+    )
+
+backs_in : (c : Config) (cap : ℕ) (headings : ℕ → Heading) (number : ℕ) (last : Last) (h : Histories)
+    (ds : List Connected) → KeepsRules cap c → IsIncreasing ds → All (IsStood c headings h) ds
+    → Backs h.rings (happens_in c headings number (ends last) h ds).histories.rings
+backs_in c cap headings number last h [] kept order all = backs_same h.rings
+backs_in c cap headings number last h (d ∷ ds) kept order all = elim (cases_eq number d.number) [
+  | inl same ↦
+      let m = moved_by c headings number (ends last) h d in
+      let none : is_opened number ds ≡ false =
+      subst (λ (n : ℕ). is_opened n ds ≡ false) (sym same) (none_above d.number ds order.0) in
+      subst (λ (w : World). Backs h.rings w.histories.rings)
+      (sym (happens_nowhere c headings number (ends last) m.histories ds none))
+      (one_backs (is_concerned c (headings d.number) number d) c cap (headings d.number) h d last kept
+      (All-head (IsStood c headings h) d ds all))
+  | inr apart ↦
+      subst (λ (m : Moved). Backs h.rings (happens_in c headings number (ends last) m.histories ds).histories.rings)
+      (sym (apart_moved c headings number (ends last) h d (λ e. apart (sym e))))
+      (backs_in c cap headings number last h ds kept order.1 (All-tail (IsStood c headings h) d ds all))
+]
+
+closes_back : (c : Config) (cap : ℕ) (headings : ℕ → Heading) (w : World) (numbers : List ℕ) → KeepsRules cap c
+    → IsRunning c headings w → Backs w.histories.rings (closes c headings w numbers).histories.rings
+closes_back c cap headings w [] kept run = backs_same w.histories.rings
+closes_back c cap headings w (number ∷ more) kept run =
+    let next = happens c headings w number (ends lasts.End) in
+    backs_both w.histories.rings next.histories.rings (closes c headings next more).histories.rings
+    (backs_in c cap headings number lasts.End w.histories w.connections kept run.order run.each)
+    (closes_back c cap headings next more kept (happens_runs c cap headings w number (ends lasts.End) kept run))
+
+-- ---- a beginning of the script
+
+pub earlier : (c : Config) (cap : ℕ) (headings : ℕ → Heading) (first later : List Event) → KeepsRules cap c
+    → AreEarlier (world c headings first).histories.rings (world c headings (first ++ later)).histories.rings
+earlier c cap headings first later kept mount =
+    let numbers : World → List ℕ = λ w. map (λ (d : Connected). d.number) w.connections in
+    let early = after_events c headings first in
+    let late = after_events c headings (first ++ later) in
+    let run = events_runs c cap headings first kept in
+    let back = closes_back c cap headings early (numbers early) kept run mount in
+    let on = events_extend c cap headings early later kept run mount in
+    let after = closes_back c cap headings late (numbers late) kept (events_runs c cap headings (first ++ later) kept) mount in
+    let split : late ≡ fold (after_event c headings) early later =
+    fold-append (after_event c headings) (record { connections = []; histories = nothing_called c }) first later in
+    (
+      history_at early.histories.rings mount,
+      back.0,
+      on.0 ++ after.0,
+      back.1,
+      back.2,
+      after.1
+          ∙ ap (λ (w : World). history_at w.histories.rings mount ++ after.0) split
+          ∙ ap (λ (h : History RingCall). h ++ after.0) on.1
+          ∙ append_assoc (history_at early.histories.rings mount) on.0 after.0,
+    )
