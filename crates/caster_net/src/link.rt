@@ -9,7 +9,7 @@ use cast_io::{Failed, Got, Link};
 use libc::net::{POLLIN, POLLOUT};
 use std::io::{Read, Write};
 use std::net::{Shutdown, TcpStream};
-use std::os::fd::AsRawFd;
+use std::os::fd::{AsRawFd, RawFd};
 use std::time::{Duration, Instant};
 use std::{io, thread};
 
@@ -142,17 +142,22 @@ impl<'a> TcpLink<'a> {
     fn tune(&mut self) -> io::Result<()>
         ensures { self.new.faults ≡ self.old.faults }
     {
-        let ear = match self.mount {
-            Some(mount) if !self.is_source => Some(self.bells.ear(self.rt, mount)?),
-            _ => None,
-        };
-        if let Some(watch) = &mut self.watch {
-            return watch.hear(ear);
+        let ear = self.ear()?;
+        if self.watch.is_none() {
+            self.watch = Some(Watch::over(self.rt, self.stream.as_raw_fd())?);
         }
-        let mut watch = Watch::over(self.rt, self.stream.as_raw_fd())?;
-        watch.hear(ear)?;
-        self.watch = Some(watch);
-        Ok(())
+        match &mut self.watch {
+            Some(watch) => watch.hear(ear),
+            None => Ok(()),
+        }
+    }
+
+    // Where the bell is heard that it waits for, if it does for one.
+    fn ear(&self) -> io::Result<Option<RawFd>> {
+        match self.mount {
+            Some(mount) if !self.is_source => Ok(Some(self.bells.ear(self.rt, mount)?)),
+            _ => Ok(None),
+        }
     }
 
     // Waits for the peer and the bell; with no watch, a short while for the peer alone.
