@@ -171,20 +171,27 @@ script_end start c read events end h ends =
     subst (λ (r : Result (List Event) ScriptFault). EndsSo (ending_of_script start c r) end) h ends
 
 -- the outcome of a bare script is the report of its run
-pub script_run : (words : List (List ℕ)) (left : Option (List ℕ)) (files : Files) (old new : Option (List ℕ))
+pub script_report : (words : List (List ℕ)) (left : Option (List ℕ)) (files : Files) (old new : Option (List ℕ))
     (status capacity : ℕ) (bytes : List ℕ) (events : List Event) → FollowsOutcome words left files status old new
     → AreBare words capacity → left ≡ Some bytes → script_of Bare bytes ≡ Ok events
-    → (status ≡ 0) × Appends old new (report (settings.bare capacity) events)
-script_run words left files old new status capacity bytes events follows are told script =
+    → (status ≡ 0) × (text : List ℕ) × IsReportText Cold (settings.bare capacity) events text × Appends old new text
+script_report words left files old new status capacity bytes events follows are told script =
     let c = settings.bare capacity in
     let run = read_run words left files old new status (Some (bare capacity)) follows
     (form_of-form words (bare capacity) are) in
     let same = told_bytes left run.0.script bytes run.2 told in
     let read : script_of Bare run.0.script ≡ Ok events = ap (λ b. script_of Bare b) (sym same) ∙ script in
-    let all = report_end Cold c events status old new run.1
-    (script_end Cold c (script_of Bare run.0.script) events run.1 read run.3) run.4 in
+    report_end Cold c events status old new run.1
+    (script_end Cold c (script_of Bare run.0.script) events run.1 read run.3) run.4
+
+pub script_run : (words : List (List ℕ)) (left : Option (List ℕ)) (files : Files) (old new : Option (List ℕ))
+    (status capacity : ℕ) (bytes : List ℕ) (events : List Event) → FollowsOutcome words left files status old new
+    → AreBare words capacity → left ≡ Some bytes → script_of Bare bytes ≡ Ok events
+    → (status ≡ 0) × Appends old new (report (settings.bare capacity) events)
+script_run words left files old new status capacity bytes events follows are told script =
+    let all = script_report words left files old new status capacity bytes events follows are told script in
     let session = (script_read Bare bytes events script).session in
-    let text = bare_text c events all.1 session all.2 in
+    let text = bare_text (settings.bare capacity) events all.1 session all.2 in
     (all.0, subst (λ (t : List ℕ). Appends old new t) text all.3)
 
 -- words have one form

@@ -12,4 +12,5 @@ pub mod FetchClauseLemmas
 pub mod PieceLemmas
 mod CastingLemmas
 pub mod OfflineLemmas
+mod PromiseLemmas
 pub mod RunLemmas

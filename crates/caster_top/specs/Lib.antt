@@ -7,3 +7,4 @@ pub mod Casting
 pub mod Recording
 pub mod Fetching
 pub mod Running
+pub mod Promised

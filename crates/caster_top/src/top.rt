@@ -25,6 +25,7 @@ ghost use Rattle.caster_top.specs.Outcome.{memory_exit, network_exit, one_line, 
 ghost use Rattle.caster_top.specs.Told.{FollowsOutcome, HaveCome, HaveFault, IsAsked, IsConfigAt, IsFaultyConfig, IsFaultyScript, IsSessionAt, IsStatus, IsTooLong, IsWhole, WritesPart};
 ghost use Rattle.caster_top.specs.Answers.{exit_of, Writes};
 ghost use Rattle.caster_top.specs.Casting.{HasCast, HasCasting, IsUnserved, no_network};
+ghost use Rattle.caster_top.specs.Promised.{KeepPromise};
 ghost use Rattle.caster_top.specs.Recording.{HasRecorded};
 ghost use Rattle.caster_top.specs.Fetching.{HasFetched, HasFetching};
 ghost use Rattle.caster_top.specs.Running.{EndsByAnswer, HasRun};
@@ -191,6 +192,11 @@ where
         → (c : Config) × (events : List Event) × IsConfigAt (S.store store.old).files config c
         × HasRecorded c addr limit (N.told street.old) (N.told street.new) events
         × Appends (O.taken out.old) (O.taken out.new) (script_text events) }
+
+    // And what the sessions promise that were reported, or recorded.
+    ensures promised { result ≡ 0 → KeepPromise (texts words.now) (I.left input.old)
+        (S.store store.old).files (N.told street.old) (N.told street.new)
+        (O.taken out.old) (O.taken out.new) }
     ensures network_fault { result ≡ 6 → (task : Task) × (config addr : List ℕ) × (limit : ℕ)
         × (c : Config) × AreCasting task (texts words.now) config addr limit
         × IsConfigAt (S.store store.old).files config c

@@ -1,6 +1,6 @@
 -- The clauses of the call, from how the run of its words ended.
 use Rattle.caster_top.specs.declared.command.Start.TheVariants.{Cold, Warm}
-use Rattle.caster_top.proofs.RunLemmas.{HasRun-report, HasRun-complete, HasRun-checked, HasRun-tabled, HasRun-migrated, HasRun-complete_over, HasRun-played, HasRun-complete_played, HasRun-made, HasRun-complete_make, HasRun-casting, HasRun-served, HasRun-recorded, HasRun-network_fault, HasRun-complete_cast, HasRun-fetching, HasRun-fetched, HasRun-fetch_torn, HasRun-fetch_memory, HasRun-too_few, HasRun-unserved, HasRun-status, HasRun-whole, HasRun-usage, HasRun-no_form, HasRun-no_config, HasRun-no_session, HasRun-read_fault, HasRun-write_fault, HasRun-too_long, HasRun-outcome, HasRun-undisturbed, HasRun-fault_line, HasRun-memory_line, HasRun-torn}
+use Rattle.caster_top.proofs.RunLemmas.{HasRun-report, HasRun-complete, HasRun-checked, HasRun-tabled, HasRun-migrated, HasRun-complete_over, HasRun-played, HasRun-complete_played, HasRun-made, HasRun-complete_make, HasRun-casting, HasRun-served, HasRun-recorded, HasRun-promised, HasRun-network_fault, HasRun-complete_cast, HasRun-fetching, HasRun-fetched, HasRun-fetch_torn, HasRun-fetch_memory, HasRun-too_few, HasRun-unserved, HasRun-status, HasRun-whole, HasRun-usage, HasRun-no_form, HasRun-no_config, HasRun-no_session, HasRun-read_fault, HasRun-write_fault, HasRun-too_long, HasRun-outcome, HasRun-undisturbed, HasRun-fault_line, HasRun-memory_line, HasRun-torn}
 use Rattle.caster_top.proofs.top.caster.Goals as goal
 
 pub returns-clause-report : goal.returns-clause-report
@@ -51,6 +51,9 @@ returns-clause-served g c = HasRun-served c.run_words.ensures.run
 
 pub returns-clause-recorded : goal.returns-clause-recorded
 returns-clause-recorded g c = HasRun-recorded c.run_words.ensures.run
+
+pub returns-clause-promised : goal.returns-clause-promised
+returns-clause-promised g c = HasRun-promised c.run_words.ensures.run
 
 pub returns-clause-network_fault : goal.returns-clause-network_fault
 returns-clause-network_fault g c = HasRun-network_fault c.run_words.ensures.run

@@ -1,0 +1,39 @@
+-- What is promised of the recorded sessions that a command reports or writes.
+use Rattle.std.specs.Prelude.{◌≡◌, ℕ, List, Option, Some, Ok}
+use Rattle.std.specs.Io.KnownBytes.{Appends}
+use Rattle.cast_io.specs.Told.{StreetTold}
+use Rattle.session_script.specs.declared.Event.{Event}
+use Rattle.session_script.specs.declared.ScriptKind.TheVariants.{Bare}
+use Rattle.session_script.specs.Script.{script_of}
+use Rattle.session_script.specs.Writing.{script_text}
+use Rattle.cast_config.specs.declared.config.Config.{Config}
+use Rattle.cast_config.specs.Bare as settings
+use Rattle.session_core.specs.declared.report.Report.{Report}
+use Rattle.session_core.specs.Text.{report_text}
+use Rattle.run_promise.specs.Promised.{IsPromised}
+use Rattle.caster_top.specs.Command.{AreBare, AreReplay, AreRecord}
+use Rattle.caster_top.specs.Told.{Files, IsConfigAt, IsSessionAt}
+use Rattle.caster_top.specs.Recording.{HasRecorded}
+
+-- the text is that of a report of these events that keeps the promise of recorded sessions
+pub record IsPromisedText (c : Config) (events : List Event) (text : List ℕ) : Type 0 where
+  pub report : Report
+  pub promised : IsPromised c events report
+  pub text_is : text ≡ report_text c report
+
+-- What these words came to keeps the promise: the report of a bare session, that of a session over a
+-- configuration, and the one that a replay of a recorded session's script gives.
+pub record KeepPromise (words : List (List ℕ)) (left : Option (List ℕ)) (files : Files)
+    (before after : StreetTold) (old new : Option (List ℕ)) : Type 0 where
+  pub bare : (capacity : ℕ) (bytes : List ℕ) (events : List Event) → AreBare words capacity
+      → left ≡ Some bytes → script_of Bare bytes ≡ Ok events
+      → (text : List ℕ) × IsPromisedText (settings.bare capacity) events text
+      × Appends old new text
+  pub replayed : (config session : List ℕ) → AreReplay words config session
+      → (c : Config) × (events : List Event) × (text : List ℕ) × IsConfigAt files config c
+      × IsSessionAt files session c events × IsPromisedText c events text
+      × Appends old new text
+  pub recorded : (config addr : List ℕ) (limit : ℕ) → AreRecord words config addr limit
+      → (c : Config) × (events : List Event)
+      × (recorded : HasRecorded c addr limit before after events) × IsConfigAt files config c
+      × IsPromised c events recorded.session.report × Appends old new (script_text events)
