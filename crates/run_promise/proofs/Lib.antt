@@ -10,4 +10,5 @@ pub mod AccountLemmas
 pub mod RunLemmas
 pub mod ReadLemmas
 pub mod OrderLemmas
+pub mod BegunLemmas
 pub mod PromiseLemmas

@@ -1,7 +1,7 @@
 -- The histories of a run come about in the order of its events.
-use Rattle.std.proofs.Common.{◌≡◌, ◌∙◌, ◌++◌, ℕ, Bool, true, false, cond, IsTrue, List, [], ◌∷◌, length, map, fold, All, inl, inr, refl, sym, ap, subst, append_assoc}
-use Rattle.std.specs.Prelude.{◌==◌, ◌&&◌}
-use Rattle.std.proofs.lemmas.Bool.{and_parts, cases_eq}
+use Rattle.std.proofs.Common.{◌≡◌, ◌∙◌, ◌++◌, ℕ, Bool, true, false, cond, IsTrue, List, [], ◌∷◌, map, fold, All, inl, inr, refl, sym, ap, subst, append_assoc}
+use Rattle.std.specs.Prelude.{◌==◌}
+use Rattle.std.proofs.lemmas.Bool.{cases_eq}
 use Rattle.std.proofs.lemmas.List.{append-nil}
 use Rattle.std.proofs.lemmas.List.Sums.{fold-append}
 use Rattle.std.proofs.lemmas.List.Elements.{All-head, All-tail, All-cons, All-nil, All-append}
@@ -22,17 +22,16 @@ use Rattle.session_core.specs.declared.ending.Last.{Last}
 use Rattle.session_core.specs.declared.ending.Last.TheVariants as lasts
 use Rattle.session_core.specs.Setting.{shapes}
 use Rattle.session_core.specs.Headings.{Heading}
-use Rattle.session_core.specs.Judged.{Opening, sends_head, relays, bare_source, bare_rover, Judged, waiting, refused, unanswered, table, source, rover}
-use Rattle.session_core.specs.Owed.{Received, unasked, claimed, taken, entered, full, received, closing, closing_by, Happening, arrives, takes_turn, ends}
-use Rattle.session_core.specs.Endings.{goes_on}
+use Rattle.session_core.specs.Judged.{sends_head, relays, bare_source, bare_rover, Judged, waiting, refused, unanswered, table, source, rover}
+use Rattle.session_core.specs.Owed.{Received, unasked, claimed, taken, entered, full, received, closing, closing_by, arrives, takes_turn, ends}
 use Rattle.rover_session.specs.Made.{segments_after}
-use Rattle.session_core.specs.Run.{Histories, Connected, World, Moved, nothing_called, made, judged_of, with_last, moved, moved_if, is_concerned, happens_in, happens, is_opened, opened_if, fresh, opens, after_event, after_events, closes, world}
+use Rattle.session_core.specs.Run.{Histories, Connected, World, Moved, nothing_called, made, judged_of, moved, moved_if, is_concerned, happens_in, happens, is_opened, after_event, after_events, closes, world}
 use Rattle.caster_replay.specs.Runs.{IsIncreasing}
 use Rattle.caster_replay.proofs.WorldListLemmas.{none_above, moved_by, apart_moved, happens_nowhere}
 use Rattle.run_promise.specs.Promised.{is_release, AreEarlier}
 use Rattle.run_promise.proofs.WithinLemmas.{closing_within, judged_fed}
-use Rattle.run_promise.proofs.StoodLemmas.{Stood, Extends, extends_same, plan_adds, fresh_moves}
-use Rattle.run_promise.proofs.RunLemmas.{IsStood, IsRunning, happens_extends, happens_runs, opens_extends, opens_runs, event_runs, events_runs}
+use Rattle.run_promise.proofs.StoodLemmas.{Stood, Extends, extends_same, plan_adds}
+use Rattle.run_promise.proofs.RunLemmas.{IsStood, IsRunning, happens_extends, happens_runs, opens_extends, event_runs, events_runs}
 
 -- ---- histories that went on
 
@@ -181,8 +180,7 @@ earlier c cap headings first later kept mount =
     let on = events_extend c cap headings early later kept run mount in
     let after = closes_back c cap headings late (numbers late) kept (events_runs c cap headings (first ++ later) kept) mount in
     let split : late ≡ fold (after_event c headings) early later =
-    fold-append (after_event c headings) (record { connections = []; histories = nothing_called c }) first later in
-    (
+    fold-append (after_event c headings) (record { connections = []; histories = nothing_called c }) first later in (
       history_at early.histories.rings mount,
       back.0,
       on.0 ++ after.0,

@@ -1,5 +1,5 @@
 -- Every report of a recorded session keeps what is promised.
-use Rattle.std.proofs.Common.{◌≡◌, ◌≢◌, ◌∙◌, ◌≤◌, ◌+◌, ◌++◌, ℕ, Bool, true, false, IsTrue, List, [], ◌∷◌, map, reverse, All, Option, None, inl, inr, refl, sym, ap, subst, arith}
+use Rattle.std.proofs.Common.{◌≡◌, ◌≢◌, ◌∙◌, ◌≤◌, ◌+◌, ◌++◌, ℕ, Bool, true, false, IsTrue, List, [], ◌∷◌, map, reverse, All, None, inl, inr, refl, sym, ap, subst, arith}
 use Rattle.std.specs.Prelude.{◌==◌, ◌||◌, ◌&&◌}
 use Rattle.std.proofs.lemmas.Bool.{false≢true, and_parts, and_from}
 use Rattle.std.proofs.lemmas.List.Elements.{All-head, All-tail, All-cons, All-nil}
@@ -18,14 +18,13 @@ use Rattle.cast_config.specs.declared.config.Config.{Config}
 use Rattle.cast_config.specs.Kept.{KeepsRules}
 use Rattle.session_core.specs.declared.report.Report.{Report}
 use Rattle.session_core.specs.Headings.{Heading}
-use Rattle.session_core.specs.Judged.{Opening}
 use Rattle.session_core.specs.Owed.{closing}
 use Rattle.session_core.specs.Promises as core
-use Rattle.session_core.specs.Reports.{told_of, opened_as, bytes_to, IsHeadingOf, AreHeadings, report, IsReport}
+use Rattle.session_core.specs.Reports.{told_of, opened_as, AreHeadings, report, IsReport}
 use Rattle.session_core.specs.Run.{Histories, Connected, World, nothing_called, judged_of, is_opened, world}
 use Rattle.session_core.proofs.PromiseLemmas.{keeps_all}
 use Rattle.caster_replay.specs.Runs.{IsIncreasing}
-use Rattle.run_promise.specs.Promised.{IsAccounted, AreOrdered, is_told, Keeps, AreEarlier, IsPromised}
+use Rattle.run_promise.specs.Promised.{IsAccounted, AreOrdered, is_told, IsKept, AreEarlier, IsPromised}
 use Rattle.run_promise.proofs.CallLemmas.{calls_of, same_segments, same_reads, all_calls}
 use Rattle.run_promise.proofs.StoodLemmas.{AllBy}
 use Rattle.run_promise.proofs.RunLemmas.{IsOver, world_over}
@@ -118,7 +117,7 @@ by_told told opened (entry ∷ h) same all =
 
 world_keeps : (c : Config) (cap : ℕ) (kind : ScriptKind) (script : List Event) (headings : ℕ → Heading)
     → KeepsRules cap c → IsSession kind script
-    → Keeps c headings script (world c headings script).histories.rings (report c headings script)
+    → IsKept c headings script (world c headings script).histories.rings (report c headings script)
 world_keeps c cap kind script headings kept session =
     let w : World = world c headings script in
     let run : IsRunning c headings w = world_runs c cap headings script kept in
@@ -154,14 +153,14 @@ world_promised c cap kind script headings kept session are = record {
   heads = headings;
   are_heads = are;
   histories = (world c headings script).histories.rings;
-  keeps = world_keeps c cap kind script headings kept session;
+  kept = world_keeps c cap kind script headings kept session;
   in_order = λ first later split. (
     (world c headings first).histories.rings,
     report c headings first,
     world_keeps c cap kind first headings kept
         (first_session kind no_numbers first later (subst (IsSession kind) split session)),
     subst (λ (l : List Event). AreEarlier (world c headings first).histories.rings
-    (world c headings l).histories.rings) (sym split) (earlier c cap headings first later kept),
+        (world c headings l).histories.rings) (sym split) (earlier c cap headings first later kept),
   );
 }
 

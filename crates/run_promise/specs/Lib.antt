@@ -1,3 +1,4 @@
 pub mod Calls
 pub mod Selected
 pub mod Promised
+pub mod Begun

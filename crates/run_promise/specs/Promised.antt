@@ -1,5 +1,5 @@
--- What is promised of the report of a recorded run: each connection's segments, frames and bytes, by
--- what its bytes say and by one history for each mountpoint.
+-- What is promised of the report of a recorded run: each connection's segments, frames and bytes,
+-- by what came in on it and by one history for each mountpoint.
 use Rattle.std.specs.Prelude.{◌≡◌, ◌≢◌, ℕ, ◌≤◌, ◌+◌, ◌⊎◌, ⊤, Bool, true, false, IsTrue, ◌==◌, List, [], ◌∷◌, ◌++◌, length, map, reverse, option_to_list, unwrap_or, None, Some}
 use Rattle.std.specs.List.{All, list_any}
 use Rattle.rtcm_frame.specs.Cut.{cut}
@@ -37,9 +37,9 @@ abbrev pub Carries : Bool → List ℕ → List ℕ → Type 0
 Carries false body carried = carried ≡ body
 Carries true body carried = IsPlain body carried
 
--- A rover's body holds exactly these frames: under NTRIP 1.0 (RTCM 10410.0) it is cut into them
--- (RTCM 10403.3, transport layer), and under NTRIP 2.0 (RTCM 10410.1) it is a chunked body that goes
--- on (RFC 9112, section 7.1), whose data are.
+-- A rover's body holds exactly these frames: under NTRIP 1.0 (RTCM 10410.0) it is cut into them,
+-- with no junk and no rest (RTCM 10403.3, transport layer), and under NTRIP 2.0 (RTCM 10410.1) it is
+-- a chunked body that goes on (RFC 9112, section 7.1), whose data are.
 abbrev pub Holds : Version → List ℕ → List (List ℕ) → Type 0
 Holds One body frames = cut body ≡ record { frames = frames; junk = 0; rest = [] }
 Holds Two body frames =
@@ -78,8 +78,8 @@ asked calls = map (λ (one : Call). (one.mount, one.asked)) calls
 abbrev pub publishes : ℕ → ℕ → List (List ℕ) → List (ℕ × RingCall)
 publishes mount claim frames = map (λ frame. (mount, Publish claim frame)) frames
 
--- A source or a relay that was given its claim: it published under it, at its mountpoint, each frame
--- of what its body carries, in order, and gave it back.
+-- A source or a relay that was given its claim: it published under it, at its mountpoint, each
+-- whole frame of what its body carries, in order, and nothing else, and gave the claim back.
 pub record HasClaimed (told : Connection) (terms : SourceTerms) (before body rest : List ℕ)
     (calls : List Call) : Type 0 where
   -- all its bytes came in, or its chunked body had ended or was broken
@@ -99,9 +99,10 @@ WasTaken told terms before calls =
     (caller claim : ℕ) × (calls ≡ call terms.mount Claim (Taken caller claim) ∷ [])
     × (told.bytes ≡ before ++ text_if terms.version replies.Taken [])
 
--- what a connection was, by its judgement
-abbrev pub Was : Config → List (History RingCall) → Connection → List ℕ → List ℕ → List Call → Judged
-    → Type 0
+-- What a connection was, by its judgement, with what it was sent before a reply and those of its
+-- bytes that came in when it was over.
+abbrev pub Was : Config → List (History RingCall) → Connection → List ℕ → List ℕ → List Call
+    → Judged → Type 0
 Was c histories told before rest calls waiting = (rest ≡ []) × IsReplied told before calls []
 Was c histories told before rest calls (refused version reply end) =
     IsReplied told before calls (text_if version reply (setting.table c))
@@ -147,7 +148,7 @@ is_told number connections = list_any (λ (told : Connection). told.number == nu
 -- The histories, one for each mountpoint, have the published frames and the claims that the report
 -- counts. Each number that the script opens is told of once, with all of this, and no entry of a
 -- history is of another.
-pub record Keeps (c : Config) (heads : ℕ → Heading) (script : List Event)
+pub record IsKept (c : Config) (heads : ℕ → Heading) (script : List Event)
     (histories : List (History RingCall)) (r : Report) : Type 0 where
   pub one_each : length histories ≡ length c.mount
   pub totals : r.closed.mounts ≡ map mount_total histories
@@ -178,7 +179,7 @@ pub record IsPromised (c : Config) (script : List Event) (r : Report) : Type 0 w
   pub heads : ℕ → Heading
   pub are_heads : AreHeadings script heads
   pub histories : List (History RingCall)
-  pub keeps : Keeps c heads script histories r
+  pub kept : IsKept c heads script histories r
   pub in_order : (first later : List Event) → script ≡ first ++ later
-      → (early : List (History RingCall)) × (so_far : Report) × Keeps c heads first early so_far
+      → (early : List (History RingCall)) × (so_far : Report) × IsKept c heads first early so_far
       × AreEarlier early histories

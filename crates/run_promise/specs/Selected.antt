@@ -30,8 +30,8 @@ Chooses hysteresis present at [] next = next ≡ present
 Chooses hysteresis present at (base ∷ bases) next =
     (mount : ℕ) × (next ≡ Some mount) × IsChoice present at (base ∷ bases) hysteresis mount
 
--- one Join, with the filter of this number, where the choice is another than the present mountpoint,
--- and none where it is the same
+-- one Join, with the filter of this number, where the choice is another than the present
+-- mountpoint, and none where it is the same
 abbrev pub Joins : ℕ → Option ℕ → Option ℕ → List Call → Type 0
 Joins filter present next calls =
     ((next ≡ present) × (calls ≡ []))
@@ -54,11 +54,12 @@ Follows hysteresis filter bases present (report ∷ later) calls =
 abbrev pub JoinsEach : ℕ → List Base → List Call → Type 0
 JoinsEach filter [] calls = calls ≡ []
 JoinsEach filter (base ∷ bases) calls =
-    (cursor : Cursor) × (rest : List Call) × (calls ≡ call base.mount (Join filter) (Joined cursor) ∷ rest)
+    (cursor : Cursor) × (rest : List Call)
+    × (calls ≡ call base.mount (Join filter) (Joined cursor) ∷ rest)
     × JoinsEach filter bases rest
 
--- the calls that a rover's reports select, where it takes the nearest of its bases or does not: each
--- Join is at one of them, with its filter
+-- the calls that a rover's reports select, where it takes the nearest of its bases and where it
+-- does not: each Join is at one of them, with its filter
 abbrev pub Selects : Bool → ℕ → ℕ → List Base → List Position → List Call → Type 0
 Selects true hysteresis filter bases reports calls =
     Follows hysteresis filter bases None reports calls
