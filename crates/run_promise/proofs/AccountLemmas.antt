@@ -4,9 +4,9 @@ use Rattle.std.specs.Prelude.{is_none, min, unwrap_or}
 use Rattle.std.specs.List.{concat}
 use Rattle.std.proofs.lemmas.Bool.{false≢true}
 use Rattle.std.proofs.lemmas.List.{append-nil, map-append}
-use mathlib.Core.List.{reverse-cons}
+use Rattle.std.proofs.lemmas.List.Sorted.{All-permutation, IsPermutation-reverse}
 use Rattle.std.proofs.lemmas.List.Concat.{flat_map-append}
-use Rattle.std.proofs.lemmas.List.Elements.{All-nil, All-cons, All-head, All-tail, All-append}
+use Rattle.std.proofs.lemmas.List.Elements.{All-nil}
 use Rattle.rtcm_frame.specs.Cut.{cut}
 use Rattle.chunk_body.specs.Text.{IsOpen, IsPlain}
 use Rattle.chunk_body.specs.declared.phase.Phase.{Phase}
@@ -291,11 +291,8 @@ holds_so One frames cuts opens plain = cuts
 holds_so Two frames cuts opens plain = (concat frames, opens, plain, ap cut (sym (body_plain frames)) ∙ cuts)
 
 all_reversed : (P : Segment → Type 0) (segments : List Segment) → All P segments → All P (reverse segments)
-all_reversed P [] all = All-nil P
-all_reversed P (segment ∷ more) all =
-    subst (All P) (sym (reverse-cons segment more))
-    (All-append P (reverse more) (segment ∷ []) (all_reversed P more (All-tail P segment more all))
-    (All-cons P segment [] (All-head P segment more all) (All-nil P)))
+all_reversed P segments all =
+    All-permutation P segments (reverse segments) (IsPermutation-reverse segments) all
 
 entered_so : (c : Config) (h : Histories) (d : Connected) (terms : RoverTerms) (tail rest : List ℕ)
     (f : Facts c h d (rover terms tail) rest) → HasEntry c terms tail (owed_among f.first)

@@ -8,7 +8,7 @@ pub mod SourceLemmas
 pub mod OwedLemmas
 pub mod AccountLemmas
 pub mod RunLemmas
-pub mod ReadLemmas
 pub mod OrderLemmas
+pub mod ReadLemmas
 pub mod BegunLemmas
 pub mod PromiseLemmas

@@ -22,6 +22,13 @@ use Rattle.session_core.specs.Run.{Histories, with_call, with_calls, step_at, ma
 use Rattle.session_core.proofs.GoodLemmas.{IsGoodAsk, IsGood}
 use Rattle.run_promise.specs.Calls.{IsReadOn}
 
+-- what two equal calls ask, and where
+pub asks_mount : (m n : ℕ) (x y : RingCall) → to_ring m x ≡ to_ring n y → m ≡ n
+asks_mount m n x y e = cc
+
+pub asks_call : (m n : ℕ) (x y : RingCall) → to_ring m x ≡ to_ring n y → x ≡ y
+asks_call m n x y e = cc
+
 -- a step asks what was asked
 asked_same : (c : Config) (me : ℕ) (h : Histories) (ask : Ask) → ask_of (step_at c me h ask) ≡ ask
 asked_same c me h (to_ring mount call) = refl

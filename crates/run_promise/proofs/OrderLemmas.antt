@@ -16,6 +16,7 @@ use Rattle.session_script.specs.declared.Event.TheVariants as events
 use Rattle.session_calls.specs.Steps.{on_ring}
 use Rattle.session_calls.specs.Rings.{history_at}
 use Rattle.session_calls.proofs.WentLemmas.{alone_entries}
+use Rattle.rover_session.proofs.SegmentLemmas.{Extends}
 use Rattle.cast_config.specs.declared.config.Config.{Config}
 use Rattle.cast_config.specs.Kept.{KeepsRules}
 use Rattle.session_core.specs.declared.ending.Last.{Last}
@@ -30,7 +31,7 @@ use Rattle.caster_replay.specs.Runs.{IsIncreasing}
 use Rattle.caster_replay.proofs.WorldListLemmas.{none_above, moved_by, apart_moved, happens_nowhere}
 use Rattle.run_promise.specs.Promised.{is_release, AreEarlier}
 use Rattle.run_promise.proofs.WithinLemmas.{closing_within, judged_fed}
-use Rattle.run_promise.proofs.StoodLemmas.{Stood, Extends, extends_same, plan_adds}
+use Rattle.run_promise.proofs.StoodLemmas.{Stood, extends_same, plan_adds}
 use Rattle.run_promise.proofs.RunLemmas.{IsStood, IsRunning, happens_extends, happens_runs, opens_extends, event_runs, events_runs}
 
 -- ---- histories that went on

@@ -11,7 +11,7 @@ use Rattle.cast_config.specs.declared.config.Config.{Config}
 use Rattle.session_core.specs.Judged.{SourceTerms, RoverTerms, Judged, waiting, refused, unanswered, table, source, rover}
 use Rattle.session_core.specs.Owed.{Received, unasked, claimed, taken, entered, full, received, closing_by}
 use Rattle.run_promise.specs.Promised.{asked}
-use Rattle.run_promise.proofs.MadeLemmas.{AreAnswered, StepsOn}
+use Rattle.run_promise.proofs.MadeLemmas.{asks_mount, asks_call, AreAnswered, StepsOn}
 use Rattle.run_promise.proofs.CallLemmas.{calls_of}
 use Rattle.run_promise.proofs.WalkLemmas.{IsJoinAsk, AreJoins, JoinsSuch, joins_made}
 
@@ -70,12 +70,6 @@ book_last : (call : BookCall) (last : List Step) → IsMade (asks (to_book call)
 book_last call [] made = absurd made
 book_last call (at_ring mount asked answer ∷ rest) made = absurd cc
 book_last call (at_book asked answer ∷ rest) made = ap (λ (l : List Step). calls_of (owed_among l)) made.1
-
-asks_mount : (m n : ℕ) (x y : RingCall) → to_ring m x ≡ to_ring n y → m ≡ n
-asks_mount m n x y e = cc
-
-asks_call : (m n : ℕ) (x y : RingCall) → to_ring m x ≡ to_ring n y → x ≡ y
-asks_call m n x y e = cc
 
 -- a claim that is given back
 release_last : (mount claim : ℕ) (last : List Step) → IsMade (asks (to_ring mount (Release claim)) (λ answer. done)) last

@@ -1,7 +1,7 @@
 -- What a script says of each connection of its run: how it opened, and that its text is all its bytes,
 -- unless it ended by itself.
 use Rattle.std.proofs.Common.{◌≡◌, ◌∙◌, ◌⊎◌, ◌++◌, ℕ, Bool, true, false, List, [], ◌∷◌, map, All, Option, None, Some, inl, inr, refl, sym, ap, subst, eq-eqb, append_assoc}
-use Rattle.std.specs.Prelude.{◌&&◌, is_none, nat_lt}
+use Rattle.std.specs.Prelude.{◌&&◌, is_none}
 use Rattle.std.proofs.lemmas.Bool.{cases_eq}
 use Rattle.std.proofs.lemmas.List.{append-nil}
 use Rattle.std.proofs.lemmas.List.Elements.{All-head, All-tail, All-cons, All-nil}
@@ -18,7 +18,7 @@ use Rattle.session_core.specs.Judged.{Opening, sends_head, relays, bare_source, 
 use Rattle.session_core.specs.Owed.{received, closing, Happening, arrives, takes_turn, ends, owed}
 use Rattle.session_core.specs.Endings.{ended_by, goes_on}
 use Rattle.session_core.specs.Reports.{opened_as, bytes_to}
-use Rattle.session_core.specs.Run.{Histories, Connected, World, Moved, made, judged_of, makes, closed_if, with_text, moved, moved_if, is_concerned, happens_in, happens, placed_if, placed, is_opened, opened_if, fresh, opens, after_event, after_events, closes, world}
+use Rattle.session_core.specs.Run.{Histories, Connected, World, Moved, made, judged_of, makes, closed_if, with_text, moved, moved_if, is_concerned, happens_in, happens, is_opened, opened_if, fresh, opens, after_event, after_events, closes, world}
 use Rattle.caster_replay.specs.Runs.{IsKnown, AreKnown}
 use Rattle.caster_replay.proofs.WorldHeadingLemmas.{bytes-append, bytes_stay, unless_cut}
 use Rattle.caster_replay.proofs.WorldClosedLemmas.{received_closed}
@@ -27,6 +27,7 @@ use Rattle.caster_replay.proofs.WorldKnownLemmas.{IsClean, Tells, Starts, bytes_
 use Rattle.caster_replay.proofs.WorldRunnerLemmas.{after_one}
 use Rattle.caster_replay.proofs.WorldSessionLemmas.{session_clean}
 use Rattle.run_promise.proofs.MadeLemmas.{made_is}
+use Rattle.run_promise.proofs.RunLemmas.{all_placed}
 
 -- ---- all its bytes
 
@@ -125,14 +126,6 @@ module _ (c : Config) (headings : ℕ → Heading) where
       (All-tail (IsWhole list) d ds whole))
 
   -- ---- one opens
-
-  all_placed : (P : Connected → Type 0) (d : Connected) (ds : List Connected) → P d → All P ds → All P (placed d ds)
-  all_placed P d [] one all = All-cons P d [] one all
-  all_placed P d (e ∷ ds) one all =
-      elim (nat_lt e.number d.number) as (λ b. All P (placed_if b d e ds (placed d ds))) [
-        | true ↦ All-cons P e (placed d ds) (All-head P e ds all) (all_placed P d ds one (All-tail P e ds all))
-        | false ↦ All-cons P d (e ∷ ds) one all
-      ]
 
   all_same : (list : List Event) (event : Event) (ds : List Connected)
       → ((n : ℕ) → bytes_to n (event ∷ []) ≡ []) → All (IsWhole list) ds → All (IsWhole (list ++ event ∷ [])) ds

@@ -12,6 +12,7 @@ use Rattle.session_script.specs.declared.Event.{Event}
 use Rattle.session_script.specs.declared.Event.TheVariants as events
 use Rattle.session_calls.specs.Rings.{history_at, answer_at, WentOn}
 use Rattle.std.proofs.Math.Path.{fun_ext}
+use Rattle.rover_session.proofs.SegmentLemmas.{Extends}
 use Rattle.cast_config.specs.declared.config.Config.{Config}
 use Rattle.cast_config.specs.declared.config.Mount.{Mount}
 use Rattle.cast_config.specs.Kept.{KeepsRules}
@@ -26,7 +27,7 @@ use Rattle.caster_replay.specs.Runs.{AreAbove, IsIncreasing}
 use Rattle.caster_replay.proofs.WorldListLemmas.{none_above, moved_by, apart_moved, happens_nowhere}
 use Rattle.caster_replay.proofs.WorldRunLemmas.{increasing_placed}
 use Rattle.caster_replay.proofs.WorldKnownLemmas.{opened_same}
-use Rattle.run_promise.proofs.StoodLemmas.{Extends, extends_same, Walked, Stood, AllBy, stood_on, fresh_moves, moved_if_moves}
+use Rattle.run_promise.proofs.StoodLemmas.{extends_same, Walked, Stood, AllBy, stood_on, fresh_moves, moved_if_moves}
 
 -- what stands of a connection with these headings
 abbrev pub IsStood : Config → (ℕ → Heading) → Histories → Connected → Type 0
@@ -66,11 +67,9 @@ record Happened (c : Config) (headings : ℕ → Heading) (number : ℕ) (h : Hi
   callers : (is_such : ℕ → Bool) → (is_opened number ds ≡ true → IsTrue (is_such number)) → (mount : ℕ)
       → AllBy is_such (history_at h.rings mount) → AllBy is_such (history_at w.histories.rings mount)
 
-abbrev onto : Connected → World → World
-onto d w = record { connections = d ∷ w.connections; histories = w.histories }
-
-abbrev behind : Config → (ℕ → Heading) → ℕ → Happening → Moved → List Connected → World
-behind c headings number what m ds = onto m.connection (happens_in c headings number what m.histories ds)
+-- the first of several connections, with what becomes of the others
+abbrev with_first : Connected → World → World
+with_first d w = record { connections = d ∷ w.connections; histories = w.histories }
 
 went_on_none : (rings : List (History RingCall)) (me : ℕ) → WentOn rings rings me
 went_on_none rings me =
@@ -94,7 +93,7 @@ happens_here c cap headings number what h d ds kept same order all =
     (λ is. (and_parts (d.number == number) (goes_on (judged_of c (headings d.number) d) d.steps d.closed) is).1) in
     let none : is_opened number ds ≡ false =
     subst (λ (n : ℕ). is_opened n ds ≡ false) (sym same) (none_above d.number ds order.0) in
-    let is = ap (onto m.connection) (happens_nowhere c headings number what m.histories ds none) in
+    let is = ap (with_first m.connection) (happens_nowhere c headings number what m.histories ds none) in
     subst (Happened c headings number h (d ∷ ds)) (sym is) (record {
       size = moves.size;
       others = λ me apart. moves.others me (λ e. apart (e ∙ sym same));
@@ -128,7 +127,8 @@ happens_all c cap headings number what h (d ∷ ds) kept order all = elim (cases
   | inr apart ↦
       let rest = happens_all c cap headings number what h ds kept order.1 (All-tail (IsStood c headings h) d ds all) in
       let w = happens_in c headings number what h ds in
-      subst (λ (m : Moved). Happened c headings number h (d ∷ ds) (behind c headings number what m ds))
+      subst (λ (m : Moved). Happened c headings number h (d ∷ ds)
+      (with_first m.connection (happens_in c headings number what m.histories ds)))
       (sym (apart_moved c headings number what h d (λ e. apart (sym e)))) (record {
         size = rest.size;
         others = rest.others;
@@ -174,7 +174,7 @@ happens_extends c cap headings w number what kept run =
     (happens_all c cap headings number what w.histories w.connections kept run.order run.each).later
 
 -- one is placed among the others
-all_placed : (P : Connected → Type 0) (d : Connected) (ds : List Connected) → P d → All P ds → All P (placed d ds)
+pub all_placed : (P : Connected → Type 0) (d : Connected) (ds : List Connected) → P d → All P ds → All P (placed d ds)
 all_placed P d [] one all = All-cons P d [] one all
 all_placed P d (e ∷ ds) one all =
     elim (nat_lt e.number d.number) as (λ b. All P (placed_if b d e ds (placed d ds))) [

@@ -25,17 +25,9 @@ use Rattle.run_promise.specs.Calls.{Call}
 use Rattle.run_promise.specs.Calls as calls
 use Rattle.run_promise.specs.Selected.{if_held, held, Chooses, Joins, Follows, JoinsEach, Selects}
 use Rattle.run_promise.specs.Selected as selected
-use Rattle.run_promise.proofs.MadeLemmas.{AreAnswered}
+use Rattle.run_promise.proofs.MadeLemmas.{asks_mount, asks_call, AreAnswered}
 use Rattle.run_promise.proofs.CallLemmas.{calls_of}
 use Rattle.run_promise.proofs.WalkLemmas.{JoinsSuch}
-
--- ---- injectivity of what is asked
-
-asks_mount : (m n : ℕ) (x y : RingCall) → to_ring m x ≡ to_ring n y → m ≡ n
-asks_mount m n x y e = cc
-
-asks_call : (m n : ℕ) (x y : RingCall) → to_ring m x ≡ to_ring n y → x ≡ y
-asks_call m n x y e = cc
 
 same_call : (m n : ℕ) (x y : RingCall) (a b : RingAnswer) → m ≡ n → x ≡ y → a ≡ b → calls.call m x a ≡ calls.call n y b
 same_call m n x y a b first second third =

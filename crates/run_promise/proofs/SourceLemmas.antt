@@ -14,15 +14,9 @@ use Rattle.upstream_relay.specs.Owed.{publishing, after_claim}
 use Rattle.cast_config.specs.declared.config.Config.{Config}
 use Rattle.session_core.specs.Setting.{shapes}
 use Rattle.run_promise.specs.Promised.{asked, publishes}
-use Rattle.run_promise.proofs.MadeLemmas.{AreAnswered}
+use Rattle.run_promise.proofs.MadeLemmas.{asks_mount, asks_call, AreAnswered}
 use Rattle.run_promise.proofs.CallLemmas.{calls_of}
 use Rattle.run_promise.proofs.WalkLemmas.{JoinsSuch, IsNever}
-
-asks_mount : (m n : ℕ) (x y : RingCall) → to_ring m x ≡ to_ring n y → m ≡ n
-asks_mount m n x y e = cc
-
-asks_call : (m n : ℕ) (x y : RingCall) → to_ring m x ≡ to_ring n y → x ≡ y
-asks_call m n x y e = cc
 
 -- ---- each frame is published
 

@@ -19,6 +19,7 @@ use Rattle.session_calls.proofs.WentLemmas.{went_both, went_less, went_on, alone
 use Rattle.rover_session.specs.Owed.{reads}
 use Rattle.rover_session.specs.Made.{after_step, segments_after, owed_among}
 use Rattle.rover_session.proofs.MadeLemmas.{owed-append}
+use Rattle.rover_session.proofs.SegmentLemmas.{Extends, went_extends}
 use Rattle.cast_config.specs.declared.config.Config.{Config}
 use Rattle.cast_config.specs.Kept.{KeepsRules}
 use Rattle.session_core.specs.declared.ending.Ending.{Ending}
@@ -164,10 +165,7 @@ still_made c heading h d s goes =
 abbrev pub AllBy : (ℕ → Bool) → History RingCall → Type 0
 AllBy is_such h = All (λ (entry : ℕ × RingCall). IsTrue (is_such entry.0)) h
 
--- the histories went on
-abbrev pub Extends : List (History RingCall) → List (History RingCall) → Type 0
-Extends old now = (mount : ℕ) → (more : History RingCall) × (history_at now mount ≡ history_at old mount ++ more)
-
+-- histories that did not go on
 pub extends_same : (h : List (History RingCall)) → Extends h h
 extends_same h mount = ([], sym (append-nil (history_at h mount)))
 
@@ -190,10 +188,6 @@ others_after c old now by me steps adds apart = record {
   rings = λ mount. heard_others (answer_at (shapes c) mount) me by (history_at old.rings mount)
       (history_at now.rings mount) (on_ring mount steps) (λ e. apart (sym e)) (adds.went.rings mount);
 }
-
-extends_by : (c : Config) (old now : Histories) (me : ℕ) (steps : List Step) → Adds c old now me steps
-    → Extends old.rings now.rings
-extends_by c old now me steps adds mount = ((adds.went.rings mount).more, (adds.went.rings mount).seen)
 
 all_entries : (is_such : ℕ → Bool) (me : ℕ) (calls : List RingCall) → IsTrue (is_such me)
     → AllBy is_such (entries_of me calls)
@@ -248,7 +242,7 @@ closed_moves None c heading old d m more fed is uncut number adds walked owes = 
   size = adds.size;
   others = λ me apart. others_after c old m.histories d.number me more adds apart;
   callers = callers_after c old m.histories d.number more adds;
-  later = extends_by c old m.histories d.number more adds;
+  later = went_extends (shapes c) true old.rings m.histories.rings d.number more adds.went;
   stood = record {
     walked = subst (λ (n : ℕ). Walked c m.histories n m.connection.steps) (sym number) walked;
     first = m.connection.steps;
@@ -285,7 +279,7 @@ closed_moves (Some end) c heading old d m more fed is uncut number adds walked o
       size = both.size;
       others = λ me apart. others_after c old now d.number me (more ++ last) both apart;
       callers = callers_after c old now d.number (more ++ last) both;
-      later = extends_by c old now d.number (more ++ last) both;
+      later = went_extends (shapes c) true old.rings now.rings d.number (more ++ last) both.went;
       stood = record {
         walked = walked_on c m.histories me steps plan mine within
             (owed_on (segments_after [] steps) last (made_owed c me m.histories plan (closing_good j steps)));
@@ -361,7 +355,7 @@ moved_moves c cap heading h d (takes_turn budget) kept s goes =
       size = adds.size;
       others = λ me apart. others_after c h m.histories d.number me steps adds apart;
       callers = callers_after c h m.histories d.number steps adds;
-      later = extends_by c h m.histories d.number steps adds;
+      later = went_extends (shapes c) true h.rings m.histories.rings d.number steps adds.went;
       stood = record {
         walked = walked_on c h d.number d.steps plan s.walked within (turn_on c d.number h segments budget);
         first = d.steps ++ steps;
@@ -407,7 +401,7 @@ moved_moves c cap heading h d (ends last) kept s goes =
       size = adds.size;
       others = λ me apart. others_after c h m.histories d.number me steps adds apart;
       callers = callers_after c h m.histories d.number steps adds;
-      later = extends_by c h m.histories d.number steps adds;
+      later = went_extends (shapes c) true h.rings m.histories.rings d.number steps adds.went;
       stood = record {
         walked = walked_on c h d.number d.steps plan s.walked within
             (owed_on (segments_after [] d.steps) steps (made_owed c d.number h plan (closing_good j d.steps)));

@@ -38,8 +38,8 @@ Carries false body carried = carried ≡ body
 Carries true body carried = IsPlain body carried
 
 -- A rover's body holds exactly these frames: under NTRIP 1.0 (RTCM 10410.0) it is cut into them,
--- with no junk and no rest (RTCM 10403.3, transport layer), and under NTRIP 2.0 (RTCM 10410.1) it is
--- a chunked body that goes on (RFC 9112, section 7.1), whose data are.
+-- with no junk and no rest (RTCM 10403.3, transport layer), and under NTRIP 2.0 (RTCM 10410.1) it
+-- is a chunked body that goes on (RFC 9112, section 7.1), whose data are.
 abbrev pub Holds : Version → List ℕ → List (List ℕ) → Type 0
 Holds One body frames = cut body ≡ record { frames = frames; junk = 0; rest = [] }
 Holds Two body frames =
