@@ -1,5 +1,5 @@
 -- The recorded sessions that a command reports or writes keep the promise.
-use Rattle.std.proofs.Common.{◌≡◌, ℕ, List, length, Option, Ok}
+use Rattle.std.proofs.Common.{◌≡◌, ℕ, List, [], ◌∷◌, length, map, Option, Ok, refl, sym, ◌∙◌, ap}
 use Rattle.std.specs.Io.KnownBytes.{Appends}
 use Rattle.cast_io.specs.Told.{StreetTold}
 use Rattle.session_script.specs.declared.Event.{Event}
@@ -12,14 +12,19 @@ use Rattle.cast_config.specs.declared.config.Config.{Config}
 use Rattle.cast_config.specs.Bare as settings
 use Rattle.cast_config.specs.Kept.{KeepsRules}
 use Rattle.cast_config.proofs.KeptLemmas.{bare_keeps_rules, keeps_rules}
+use Rattle.session_core.specs.declared.report.Connection.{Connection}
+use Rattle.session_core.specs.declared.report.Receipt.{Receipt}
+use Rattle.session_core.specs.declared.report.Report.{Report}
+use Rattle.session_core.specs.Reports as reports
+use Rattle.caster_warm.specs.Warm.{told_with, warm_report}
 use Rattle.run_promise.specs.Promised.{IsPromised}
 use Rattle.run_promise.proofs.PromiseLemmas.{promised}
-use Rattle.run_texts.specs.Texts.{IsRunText}
+use Rattle.run_texts.specs.Texts.{IsRunText, IsWarmText}
 use Rattle.caster_record.specs.Recording.{kind_of}
 use Rattle.caster_top.specs.Command.{AreBare}
 use Rattle.caster_top.specs.Told.{Files, IsConfigAt, IsSessionAt}
 use Rattle.caster_top.specs.Recording.{HasRecorded}
-use Rattle.caster_top.specs.Promised.{IsPromisedText}
+use Rattle.caster_top.specs.Promised.{IsGreetedText, IsPromisedText, receipt_in}
 
 -- the configuration in a file keeps the rules
 config_keeps : (files : Files) (path : List ℕ) (c : Config) → IsConfigAt files path c → KeepsRules 1000000 c
@@ -47,6 +52,27 @@ replay_promised files config session c events text at is run =
     let kind = Replay (length c.relay) in
     text_promised c 1000000 kind events text (config_keeps files config c at) (script_read kind is.0 events is.2).session
     run
+
+receipts_with : (sent : ℕ → List ℕ) (connections : List Connection)
+    → map receipt_in (map (told_with sent) connections) ≡ map receipt_in connections
+receipts_with sent [] = refl
+receipts_with sent (told ∷ more) = ap (λ (l : List (ℕ × Receipt)). receipt_in told ∷ l) (receipts_with sent more)
+
+pub warm_promised : (files : Files) (config session : List ℕ) (c : Config) (events : List Event) (text : List ℕ)
+    → IsConfigAt files config c → IsSessionAt files session c events → IsWarmText c events text
+    → IsGreetedText c events text
+warm_promised files config session c events text at is run =
+    let kind = Replay (length c.relay) in
+    let plain : Report = reports.report c run.is.0 events in
+    record {
+      report = run.report;
+      plain = plain;
+      promised = promised c 1000000 kind events plain (config_keeps files config c at)
+          (script_read kind is.0 events is.2).session (run.is.0, run.is.1, refl);
+      closed = ap (λ (r : Report). r.closed) run.is.2;
+      receipts = ap (λ (r : Report). map receipt_in r.connections) run.is.2 ∙ receipts_with _ plain.connections;
+      text_is = run.text_is;
+    }
 
 pub record_promised : (files : Files) (config addr : List ℕ) (limit : ℕ) (before after : StreetTold) (c : Config)
     (events : List Event) (recorded : HasRecorded c addr limit before after events) → IsConfigAt files config c

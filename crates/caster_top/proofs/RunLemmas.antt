@@ -27,7 +27,7 @@ use Rattle.caster_top.specs.declared.answers.Answer.TheVariants.{Done, Valid, No
 use Rattle.caster_top.specs.declared.command.Aim.{Aim}
 use Rattle.caster_top.specs.declared.command.Aim.TheVariants.{Check, Table, Migrate}
 use Rattle.caster_top.specs.declared.command.Start.{Start}
-use Rattle.caster_top.specs.declared.command.Start.TheVariants.{Cold}
+use Rattle.caster_top.specs.declared.command.Start.TheVariants.{Cold, Warm}
 use Rattle.caster_top.specs.declared.command.Task.{Task}
 use Rattle.caster_top.specs.declared.command.Task.TheVariants.{Serve, Record}
 use Rattle.caster_top.specs.Command.{Form, casting, fetching, AreBare, AreCasting, AreFetch, AreMake, AreOfNoForm, AreOver, AreRecord, AreServe, ArePlayed, WriteAtEnd}
@@ -42,7 +42,7 @@ use Rattle.caster_top.specs.Running.{HasRun}
 use Rattle.caster_top.proofs.StatusLemmas.{IsOfCaster, network_form, whole_form, faulty_config_form, faulty_script_form, too_long_form}
 use Rattle.caster_top.proofs.ScriptLemmas.{status_of}
 use Rattle.caster_top.proofs.ClauseLemmas.{undisturbed_run, decided_run, have_come, no_form_run, script_report, script_run, usage_run, bare_fault, over_fault, replay_fault, make_fault, over_run, config_run, replay_run, session_run, made_run}
-use Rattle.caster_top.proofs.PromiseLemmas.{bare_promised, replay_promised, record_promised}
+use Rattle.caster_top.proofs.PromiseLemmas.{bare_promised, replay_promised, warm_promised, record_promised}
 use Rattle.caster_top.proofs.CastingLemmas.{casting_written, served_run, recorded_run, lost_run, network_rose, complete_run, unserved_run, of_caster}
 use Rattle.caster_top.proofs.FetchClauseLemmas.{fetch_alone, fetch_follows, fetch_never, fetch_of_words, fetch_rose, fetch_status, fetch_unserved, fetched_run, never_nine, torn_run, wanting_run}
 
@@ -319,8 +319,7 @@ module _ {words : List (List ℕ)} {left : Option (List ℕ)} {files : Files} {o
         let run = script_report words left files old new status capacity bytes events (whole zero) are told read in
         (run.1, bare_promised words capacity bytes events run.1 are read run.2, run.3);
     replayed = λ config session are.
-        let run = HasRun-played Cold zero config session are in
-        (
+        let run = HasRun-played Cold zero config session are in (
           run.0,
           run.1,
           run.2,
@@ -329,9 +328,18 @@ module _ {words : List (List ℕ)} {left : Option (List ℕ)} {files : Files} {o
           replay_promised files config session run.0 run.1 run.2 run.3 run.4 run.5,
           run.6,
         );
+    warmed = λ config session are.
+        let run = HasRun-played Warm zero config session are in (
+          run.0,
+          run.1,
+          run.2,
+          run.3,
+          run.4,
+          warm_promised files config session run.0 run.1 run.2 run.3 run.4 run.5,
+          run.6,
+        );
     recorded = λ config addr limit are.
-        let run = HasRun-recorded zero config addr limit are in
-        (
+        let run = HasRun-recorded zero config addr limit are in (
           run.0,
           run.1,
           run.3,

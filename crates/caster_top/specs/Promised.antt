@@ -1,5 +1,5 @@
 -- What is promised of the recorded sessions that a command reports or writes.
-use Rattle.std.specs.Prelude.{◌≡◌, ℕ, List, Option, Some, Ok}
+use Rattle.std.specs.Prelude.{◌≡◌, ℕ, List, map, Option, Some, Ok}
 use Rattle.std.specs.Io.KnownBytes.{Appends}
 use Rattle.cast_io.specs.Told.{StreetTold}
 use Rattle.session_script.specs.declared.Event.{Event}
@@ -8,10 +8,12 @@ use Rattle.session_script.specs.Script.{script_of}
 use Rattle.session_script.specs.Writing.{script_text}
 use Rattle.cast_config.specs.declared.config.Config.{Config}
 use Rattle.cast_config.specs.Bare as settings
+use Rattle.session_core.specs.declared.report.Connection.{Connection}
+use Rattle.session_core.specs.declared.report.Receipt.{Receipt}
 use Rattle.session_core.specs.declared.report.Report.{Report}
 use Rattle.session_core.specs.Text.{report_text}
 use Rattle.run_promise.specs.Promised.{IsPromised}
-use Rattle.caster_top.specs.Command.{AreBare, AreReplay, AreRecord}
+use Rattle.caster_top.specs.Command.{AreBare, AreReplay, AreRecord, AreWarm}
 use Rattle.caster_top.specs.Told.{Files, IsConfigAt, IsSessionAt}
 use Rattle.caster_top.specs.Recording.{HasRecorded}
 
@@ -21,8 +23,23 @@ pub record IsPromisedText (c : Config) (events : List Event) (text : List ℕ) :
   pub promised : IsPromised c events report
   pub text_is : text ≡ report_text c report
 
+-- a connection's number and what it came to
+abbrev pub receipt_in : Connection → ℕ × Receipt
+receipt_in told = (told.number, told.receipt)
+
+-- The text is that of a report with greetings: but for the bytes of its connections it is one of
+-- these events that keeps the promise.
+pub record IsGreetedText (c : Config) (events : List Event) (text : List ℕ) : Type 0 where
+  pub report : Report
+  pub plain : Report
+  pub promised : IsPromised c events plain
+  pub closed : report.closed ≡ plain.closed
+  pub receipts : map receipt_in report.connections ≡ map receipt_in plain.connections
+  pub text_is : text ≡ report_text c report
+
 -- What these words came to keeps the promise: the report of a bare session, that of a session over a
--- configuration, and the one that a replay of a recorded session's script gives.
+-- configuration, with greetings or without, and the one that a replay of a recorded session's script
+-- gives.
 pub record KeepPromise (words : List (List ℕ)) (left : Option (List ℕ)) (files : Files)
     (before after : StreetTold) (old new : Option (List ℕ)) : Type 0 where
   pub bare : (capacity : ℕ) (bytes : List ℕ) (events : List Event) → AreBare words capacity
@@ -32,6 +49,10 @@ pub record KeepPromise (words : List (List ℕ)) (left : Option (List ℕ)) (fil
   pub replayed : (config session : List ℕ) → AreReplay words config session
       → (c : Config) × (events : List Event) × (text : List ℕ) × IsConfigAt files config c
       × IsSessionAt files session c events × IsPromisedText c events text
+      × Appends old new text
+  pub warmed : (config session : List ℕ) → AreWarm words config session
+      → (c : Config) × (events : List Event) × (text : List ℕ) × IsConfigAt files config c
+      × IsSessionAt files session c events × IsGreetedText c events text
       × Appends old new text
   pub recorded : (config addr : List ℕ) (limit : ℕ) → AreRecord words config addr limit
       → (c : Config) × (events : List Event)
