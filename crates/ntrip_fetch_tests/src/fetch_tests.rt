@@ -3,8 +3,9 @@
 use crate::fakes::{CHUNKED, FRAME_A, FRAME_B, ICY, joined, street_of, tried};
 use crate::runs::tried_two;
 use cast_io::MemStreet;
-use ntrip_fetch::Left;
+use ntrip_fetch::{Left, Try};
 use std::alloc::Global;
+use std::sync::Wait;
 use std::test::Fail;
 
 /// The frames of both casters.
@@ -18,19 +19,30 @@ fn two_casters(alloc: Global) -> Result<MemStreet, Fail> {
     Ok(street_of(alloc, &[&[&both], &[&chunk]])?)
 }
 
+/// So many frames are fetched from these two. Their tries are these, the last link is left after so
+/// many steps, and both links come back.
+fn is_second<R: Wait>(
+    rt: &R,
+    alloc: Global,
+    frames: u64,
+    tries: [Try; 2],
+    steps: usize,
+) -> Result<bool, Fail> {
+    let run = tried_two(rt, alloc, frames, two_casters(alloc)?)?;
+    let came_back = run.links == 2 && run.steps == Some(steps);
+    Ok(came_back && run.tried(&tries) && run.wrote(THREE, b"a:1 b:2 "))
+}
+
 // The first caster gives two frames, and the second one. Its link is left for this after so many
-// steps, and both links come back.
+// steps.
 #[test]
 fn a_second_caster_gives_the_frames_that_are_left(rt: HostRuntime) -> Result<(), Fail> {
     for (frames, left, steps) in [(3, Left::Enough, 1), (4, Left::End, 2)] {
-        let run = tried_two(&rt, rt.alloc(), frames, two_casters(rt.alloc())?)?;
-        let wanted = [tried(2, Left::End), tried(1, left)];
-        assert_eq!(rt;
-            (run.answer?.as_slice(), run.written.as_slice()),
-            (wanted.as_slice(), THREE)
+        let tries = [tried(2, Left::End), tried(1, left)];
+        assert!(rt;
+            is_second(&rt, rt.alloc(), frames, tries, steps)?,
+            "{frames} frames"
         );
-        assert_eq!(rt; run.dialled.as_slice(), b"a:1 b:2 ".as_slice());
-        assert_eq!(rt; (run.links, run.steps), (2, Some(steps)));
     }
     Ok(())
 }
@@ -40,23 +52,22 @@ fn a_refusal_and_a_failed_dial_write_nothing(rt: HostRuntime) -> Result<(), Fail
     let street = street_of(rt.alloc(), &[&[b"HTTP/1.1 401 Unauthorized\r\n\r\n"]])?;
     let run = tried_two(&rt, rt.alloc(), 1, street)?;
     let wanted = [tried(0, Left::Status(401)), tried(0, Left::Dial)];
-    assert_eq!(rt; run.answer?.as_slice(), wanted.as_slice());
-    assert_eq!(rt;
-        (run.written.as_slice(), run.dialled.as_slice()),
-        (b"".as_slice(), b"a:1 b:2 ".as_slice())
-    );
+    assert!(rt; run.tried(&wanted));
+    assert!(rt; run.wrote(b"", b"a:1 b:2 "));
     Ok(())
+}
+
+/// Two casters that send a frame each.
+fn two_of_one(alloc: Global) -> Result<MemStreet, Fail> {
+    let one = joined(alloc, &[ICY, FRAME_A])?;
+    Ok(street_of(alloc, &[&[&one], &[&one]])?)
 }
 
 #[test]
 fn no_caster_is_dialled_once_enough_frames_came(rt: HostRuntime) -> Result<(), Fail> {
-    let one = joined(rt.alloc(), &[ICY, FRAME_A])?;
-    let street = street_of(rt.alloc(), &[&[&one], &[&one]])?;
+    let street = two_of_one(rt.alloc())?;
     let run = tried_two(&rt, rt.alloc(), 1, street)?;
-    assert_eq!(rt; run.answer?.as_slice(), [tried(1, Left::Enough)].as_slice());
-    assert_eq!(rt;
-        (run.written.as_slice(), run.dialled.as_slice()),
-        (FRAME_A, b"a:1 ".as_slice())
-    );
+    assert!(rt; run.tried(&[tried(1, Left::Enough)]));
+    assert!(rt; run.wrote(FRAME_A, b"a:1 "));
     Ok(())
 }

@@ -1,11 +1,11 @@
 //! When a link rests that is fetched from.
 
-ghost use Rattle.std.specs.Prelude.{◌≡◌, ◌≤◌};
+ghost use Rattle.std.specs.Prelude.{◌≡◌};
 ghost use Rattle.cast_io.specs.FakeLinks.{link_told};
 
-use crate::fakes::{FRAME_B, link_of, target_of};
+use crate::fakes::{FRAME_B, link_of};
+use crate::runs::answer_of;
 use cast_io::{Failed, Got, Link, MemLink, MemSink};
-use ntrip_fetch::fetch_link;
 use std::alloc::Global;
 use std::sync::Wait;
 use std::test::Fail;
@@ -60,13 +60,12 @@ impl Link for NotedLink {
 
 /// The calls of a link to a caster that sends these pieces, while two frames are fetched from it.
 fn calls<R: Wait>(rt: &R, alloc: Global, pieces: &[&[u8]]) -> Result<Vec<u8>, Fail> {
-    let target = target_of(alloc, 1, "a:1")?;
     let mut link = NotedLink {
         link: link_of(alloc, pieces, &[])?,
         calls: Vec::new(alloc),
     };
     let mut out = MemSink::new(alloc, Vec::new(alloc));
-    let _ = fetch_link(rt, alloc, &target, 2, &mut link, &mut out)?;
+    let _ = answer_of(rt, alloc, 2, &mut link, &mut out)??;
     Ok(link.calls)
 }
 
@@ -82,8 +81,7 @@ fn a_link_rests_where_it_gives_nothing(rt: HostRuntime) -> Result<(), Fail> {
         (whole.as_slice(), b"irbirirb".as_slice()),
         (short.as_slice(), b"birbe".as_slice()),
     ] {
-        let calls = calls(&rt, rt.alloc(), pieces)?;
-        assert!(rt; calls.as_slice() == wanted);
+        assert!(rt; calls(&rt, rt.alloc(), pieces)?.as_slice() == wanted);
     }
     Ok(())
 }

@@ -3,7 +3,7 @@
 ghost use Rattle.std.specs.Prelude.{◌≤◌};
 
 use crate::fakes::{target_of, three_targets, two_targets};
-use cast_io::{Asked, MemLink, MemSink, MemStreet};
+use cast_io::{Asked, Link, MemLink, MemSink, MemStreet};
 use ntrip_fetch::{FetchFault, Try, fetch, fetch_link};
 use std::alloc::{AllocError, Global};
 use std::sync::Wait;
@@ -19,6 +19,47 @@ pub(crate) struct LinkRun {
     pub(crate) steps: Option<usize>,
 }
 
+impl LinkRun {
+    /// The link was left so, after so many steps.
+    pub(crate) fn left(&self, answer: Result<Try, FetchFault>, steps: usize) -> bool {
+        self.answer == answer && self.steps == Some(steps)
+    }
+
+    /// This was written, and this was asked.
+    pub(crate) fn wrote(&self, written: &[u8], asked: &[u8]) -> bool {
+        self.written.as_slice() == written && self.asked.as_slice() == asked
+    }
+}
+
+/// The answer of a fetch of so many frames, 1 to 4, over this link into this sink.
+pub(crate) fn answer_of<L: Link, R: Wait>(
+    rt: &R,
+    alloc: Global,
+    most: u64,
+    link: &mut L,
+    out: &mut MemSink,
+) -> Result<Result<Try, FetchFault>, Fail> {
+    let target = target_of(alloc, 1, "a:1")?;
+    Ok(fetch_link(rt, alloc, &target, most.max(1).min(4), link, out))
+}
+
+/// What came of a fetch that was answered so over this link into this sink.
+fn link_run(
+    alloc: Global,
+    answer: Result<Try, FetchFault>,
+    link: &MemLink,
+    out: &MemSink,
+) -> Result<LinkRun, AllocError> {
+    let written = out.bytes().to_vec(alloc)?;
+    let asked = link.bytes().to_vec(alloc)?;
+    Ok(LinkRun {
+        answer,
+        written,
+        asked,
+        steps: link.taken().map(|taken| taken.len()),
+    })
+}
+
 /// A fetch of so many frames, 1 to 4, over this link into this sink.
 pub(crate) fn fetched<R: Wait>(
     rt: &R,
@@ -27,15 +68,8 @@ pub(crate) fn fetched<R: Wait>(
     mut link: MemLink,
     mut out: MemSink,
 ) -> Result<LinkRun, Fail> {
-    let target = target_of(alloc, 1, "a:1")?;
-    let most = most.max(1).min(4);
-    let answer = fetch_link(rt, alloc, &target, most, &mut link, &mut out);
-    Ok(LinkRun {
-        answer,
-        written: out.bytes().to_vec(alloc)?,
-        asked: link.bytes().to_vec(alloc)?,
-        steps: link.taken().map(|taken| taken.len()),
-    })
+    let answer = answer_of(rt, alloc, most, &mut link, &mut out)?;
+    Ok(link_run(alloc, answer, &link, &out)?)
 }
 
 /// What came of a fetch from several casters: the answer, what was written, the addresses that were
@@ -48,6 +82,26 @@ pub(crate) struct StreetRun {
     pub(crate) dialled: Vec<u8>,
     pub(crate) links: usize,
     pub(crate) steps: Option<usize>,
+}
+
+impl StreetRun {
+    /// The casters were tried so.
+    pub(crate) fn tried(&self, tries: &[Try]) -> bool {
+        match &self.answer {
+            Ok(answer) => answer.as_slice() == tries,
+            Err(_) => false,
+        }
+    }
+
+    /// The fault was this, and so many links came back.
+    pub(crate) fn faulted(&self, fault: FetchFault, links: usize) -> bool {
+        matches!(&self.answer, Err(found) if *found == fault) && self.links == links
+    }
+
+    /// This was written, and these addresses were dialled.
+    pub(crate) fn wrote(&self, written: &[u8], dialled: &[u8]) -> bool {
+        self.written.as_slice() == written && self.dialled.as_slice() == dialled
+    }
 }
 
 /// The addresses that a street was asked to dial. Where it was asked for doors, they are a mark.

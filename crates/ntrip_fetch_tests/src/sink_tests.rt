@@ -1,8 +1,8 @@
 //! Sinks that fail.
 
 use crate::fakes::{CHUNKED, FRAME_A, FRAME_B, ICY, joined, link_of, street_of};
-use crate::runs::{LinkRun, fetched, tried_three};
-use cast_io::MemSink;
+use crate::runs::{LinkRun, StreetRun, fetched, tried_three};
+use cast_io::{MemSink, MemStreet};
 use ntrip_fetch::FetchFault;
 use std::alloc::Global;
 use std::sync::Wait;
@@ -20,6 +20,19 @@ const CHUNKS: &[u8] = b"HTTP/1.1 200 OK\r\nTransfer-Encoding: chunked\r\n\r\n\
 fn torn<R: Wait>(rt: &R, alloc: Global, pieces: &[&[u8]], write: u64) -> Result<LinkRun, Fail> {
     let out = MemSink::torn(alloc, [(write, 3)].to_vec(alloc)?);
     fetched(rt, alloc, 4, link_of(alloc, pieces, &[])?, out)
+}
+
+/// The fault of that write comes after so many steps of the link, and this was written.
+fn is_torn<R: Wait>(
+    rt: &R,
+    alloc: Global,
+    pieces: &[&[u8]],
+    write: u64,
+    steps: usize,
+    written: &[u8],
+) -> Result<bool, Fail> {
+    let run = torn(rt, alloc, pieces, write)?;
+    Ok(run.left(Err(FetchFault::Sink), steps) && run.written.as_slice() == written)
 }
 
 // The fault comes at once, with so many steps of the link taken, and the frames before it are
@@ -51,27 +64,30 @@ fn a_sink_fails_at_each_of_its_writes(rt: HostRuntime) -> Result<(), Fail> {
             b"\xD3\x00\x02\x3E\xD0\xA4\xE0\x00\xD3\x00\x02\x43\x50\x06\xA2\x7E\xD3\x00\x02",
         ),
     ] {
-        let run = torn(&rt, rt.alloc(), pieces, write)?;
-        assert_eq!(rt;
-            (run.answer, run.steps),
-            (Err(FetchFault::Sink), Some(steps))
-        );
-        assert_eq!(rt; run.written.as_slice(), written);
+        let is_so = is_torn(&rt, rt.alloc(), pieces, write, steps, written)?;
+        assert!(rt; is_so, "write {write}");
     }
     Ok(())
 }
 
+/// Three casters that send a frame each, the second one in a chunk.
+fn three_casters(alloc: Global) -> Result<MemStreet, Fail> {
+    let one = joined(alloc, &[ICY, FRAME_A])?;
+    let chunk = joined(alloc, &[CHUNKED, b"8\r\n", FRAME_A])?;
+    Ok(street_of(alloc, &[&[&one], &[&chunk], &[&one]])?)
+}
+
+/// A fetch from these into a sink whose second write fails.
+fn hung_up<R: Wait>(rt: &R, alloc: Global) -> Result<StreetRun, Fail> {
+    let street = three_casters(alloc)?;
+    let out = MemSink::new(alloc, [2].to_vec(alloc)?);
+    tried_three(rt, alloc, street, out)
+}
+
 #[test]
 fn a_link_is_hung_up_before_a_fault_is_answered(rt: HostRuntime) -> Result<(), Fail> {
-    let one = joined(rt.alloc(), &[ICY, FRAME_A])?;
-    let chunk = joined(rt.alloc(), &[CHUNKED, b"8\r\n", FRAME_A])?;
-    let street = street_of(rt.alloc(), &[&[&one], &[&chunk], &[&one]])?;
-    let out = MemSink::new(rt.alloc(), [2].to_vec(rt.alloc())?);
-    let run = tried_three(&rt, rt.alloc(), street, out)?;
-    assert_eq!(rt; (run.answer.err(), run.links), (Some(FetchFault::Sink), 2));
-    assert_eq!(rt;
-        (run.written.as_slice(), run.dialled.as_slice()),
-        (FRAME_A, b"a:1 b:2 ".as_slice())
-    );
+    let run = hung_up(&rt, rt.alloc())?;
+    assert!(rt; run.faulted(FetchFault::Sink, 2));
+    assert!(rt; run.wrote(FRAME_A, b"a:1 b:2 "));
     Ok(())
 }
