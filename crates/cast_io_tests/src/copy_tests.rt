@@ -1,4 +1,5 @@
 //! Runs of a caller that sends back what it reads.
+use crate::expecting::expect_eq;
 use crate::link_tests::steps;
 use crate::sending::send_back;
 use cast_io::{Failed, MemLink};
@@ -28,7 +29,7 @@ fn sent_back(
 fn all_that_is_read_is_sent_back(rt: HostRuntime) -> Result<(), Fail> {
     for (reads, bytes) in [(9, b"abcdef".as_slice()), (2, b"abcd")] {
         let (answer, sent) = sent_back(rt.alloc(), reads, None, None)?;
-        assert_eq!(rt; (answer, sent.as_slice()), (Ok(()), bytes));
+        expect_eq(&rt, (answer, sent.as_slice()), (Ok(()), bytes));
     }
     Ok(())
 }
@@ -41,7 +42,7 @@ fn a_fault_ends_the_sending(rt: HostRuntime) -> Result<(), Fail> {
         (None, Some(3), b"abcd"),
     ] {
         let (answer, sent) = sent_back(rt.alloc(), 9, torn, fails)?;
-        assert_eq!(rt; (answer, sent.as_slice()), (Err(Failed), bytes));
+        expect_eq(&rt, (answer, sent.as_slice()), (Err(Failed), bytes));
     }
     Ok(())
 }

@@ -8,6 +8,8 @@
 #[cfg(test)]
 mod copy_tests;
 #[cfg(test)]
+mod expecting;
+#[cfg(test)]
 mod link_tests;
 #[cfg(test)]
 mod read_tests;

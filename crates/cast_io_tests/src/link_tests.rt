@@ -3,6 +3,7 @@ ghost use Rattle.std.specs.Prelude.{◌≡◌, IfOk, IsTrue};
 ghost use Rattle.std.specs.List.{list_all};
 ghost use Rattle.cast_io.specs.FakeLinks.{has_bytes};
 
+use crate::expecting::expect_eq;
 use crate::runs::{run_link, run_sink};
 use cast_io::{ByteString, LinkStep, MemLink, MemSink, Step};
 use std::alloc::Global;
@@ -24,7 +25,11 @@ pub(crate) fn steps(alloc: Global) -> Result<Vec<LinkStep>, Fail>
 fn each_kind_of_step_is_read(rt: HostRuntime) -> Result<(), Fail> {
     let mut link = MemLink::new(rt.alloc(), steps(rt.alloc())?, Vec::new(rt.alloc()));
     let answers = run_link(rt.alloc(), &mut link, "3 3 3 3 3 3")?;
-    assert_eq!(rt; answers.as_slice(), b"abc d idle ef end end ".as_slice());
+    expect_eq(
+        &rt,
+        answers.as_slice(),
+        b"abc d idle ef end end ".as_slice(),
+    );
     Ok(())
 }
 
@@ -37,22 +42,31 @@ fn steps_taken(alloc: Global) -> Result<Vec<Step>, Fail> {
     Ok(steps)
 }
 
-// A run of which the second and the third call fail, a read and a write: its answers, what the link
-// took, how many faults it had, and whether it tells just those steps.
-fn failing_run(alloc: Global) -> Result<(Vec<u8>, Vec<u8>, u64, bool), Fail> {
-    let mut link = MemLink::new(alloc, steps(alloc)?, [2, 3].to_vec(alloc)?);
-    let answers = run_link(alloc, &mut link, "one 8 two 8 three")?;
+// Whether a link took this, had so many faults, and tells just those steps.
+fn has_taken(alloc: Global, link: &MemLink, bytes: &[u8], faults: u64) -> Result<bool, Fail> {
     let wanted = steps_taken(alloc)?;
     let told = link.taken() == Some(wanted.as_slice());
-    Ok((answers, link.bytes().to_vec(alloc)?, link.faults(), told))
+    Ok(told && link.bytes() == bytes && link.faults() == faults)
+}
+
+// A run of which the second and the third call fail, a read and a write: its answers, and whether
+// the link took the other writes, had two faults and tells just those steps.
+fn failing_run(alloc: Global) -> Result<(Vec<u8>, bool), Fail> {
+    let mut link = MemLink::new(alloc, steps(alloc)?, [2, 3].to_vec(alloc)?);
+    let answers = run_link(alloc, &mut link, "one 8 two 8 three")?;
+    let told = has_taken(alloc, &link, b"onethree", 2)?;
+    Ok((answers, told))
 }
 
 #[test]
 fn calls_fail_by_their_number(rt: HostRuntime) -> Result<(), Fail> {
-    let (answers, bytes, faults, told) = failing_run(rt.alloc())?;
-    assert_eq!(rt; answers.as_slice(), b"ok failed failed abcd ok ".as_slice());
-    assert_eq!(rt; bytes.as_slice(), b"onethree".as_slice());
-    assert_eq!(rt; (faults, told), (2, true));
+    let (answers, told) = failing_run(rt.alloc())?;
+    expect_eq(
+        &rt,
+        answers.as_slice(),
+        b"ok failed failed abcd ok ".as_slice(),
+    );
+    assert!(rt; told);
     Ok(())
 }
 
@@ -81,7 +95,7 @@ fn writes_of_a_link_are_torn(rt: HostRuntime) -> Result<(), Fail> {
         (2, b"ok abcd failed ok abcdef"),
         (9, b"ok abcd failed ok abcdef"),
     ] {
-        assert_eq!(rt; torn_link(rt.alloc(), most)?.as_slice(), told);
+        expect_eq(&rt, torn_link(rt.alloc(), most)?.as_slice(), told);
     }
     Ok(())
 }
@@ -94,7 +108,7 @@ fn writes_of_a_sink_are_torn(rt: HostRuntime) -> Result<(), Fail> {
         (2, b"ok failed ok abcdef"),
         (9, b"ok failed ok abcdef"),
     ] {
-        assert_eq!(rt; torn_sink(rt.alloc(), most)?.as_slice(), told);
+        expect_eq(&rt, torn_sink(rt.alloc(), most)?.as_slice(), told);
     }
     Ok(())
 }

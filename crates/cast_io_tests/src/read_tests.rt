@@ -1,4 +1,5 @@
 //! Runs with a read or a write that fails, and the limit of `read_all`.
+use crate::expecting::expect_eq;
 use crate::runs::{run_sink, run_source};
 use cast_io::{MemSink, MemSource, ReadAllFault, read_all};
 use std::alloc::Global;
@@ -9,6 +10,12 @@ fn source_of(alloc: Global, bytes: &[u8], failing: u64) -> Result<MemSource, Fai
     Ok(MemSource::new(bytes.to_vec(alloc)?, [failing].to_vec(alloc)?))
 }
 
+// What five reads of three bytes answer, of which the one of this number fails.
+fn reads(alloc: Global, failing: u64) -> Result<Vec<u8>, Fail> {
+    let mut source = source_of(alloc, b"abcdefgh", failing)?;
+    Ok(run_source(alloc, &mut source, &[3; 5])?)
+}
+
 // After a read that failed the next one goes on where the last one ended.
 #[test]
 fn a_read_fails_where_it_is_told_and_loses_nothing(rt: HostRuntime) -> Result<(), Fail> {
@@ -17,9 +24,7 @@ fn a_read_fails_where_it_is_told_and_loses_nothing(rt: HostRuntime) -> Result<()
         (2, b"abc failed def gh  "),
         (3, b"abc def failed gh  "),
     ] {
-        let mut source = source_of(rt.alloc(), b"abcdefgh", failing)?;
-        let answers = run_source(rt.alloc(), &mut source, &[3; 5])?;
-        assert_eq!(rt; answers.as_slice(), told);
+        expect_eq(&rt, reads(rt.alloc(), failing)?.as_slice(), told);
     }
     Ok(())
 }
@@ -41,7 +46,7 @@ fn a_write_fails_where_it_is_told_and_takes_nothing(rt: HostRuntime) -> Result<(
         (3, b"ok ok failed abcd"),
         (4, b"ok ok ok abcdef"),
     ] {
-        assert_eq!(rt; writes(rt.alloc(), failing)?.as_slice(), told);
+        expect_eq(&rt, writes(rt.alloc(), failing)?.as_slice(), told);
     }
     Ok(())
 }
@@ -68,7 +73,7 @@ fn all_is_read_up_to_the_limit(rt: HostRuntime) -> Result<(), Fail> {
         (b"fives", 4, Err(ReadAllFault::Long)),
         (b"", 0, Ok(true)),
     ] {
-        assert_eq!(rt; all_is_read(rt.alloc(), bytes, 0, limit)?, wanted);
+        expect_eq(&rt, all_is_read(rt.alloc(), bytes, 0, limit)?, wanted);
     }
     Ok(())
 }
@@ -79,8 +84,8 @@ fn a_failing_read_ends_the_reading(rt: HostRuntime) -> Result<(), Fail> {
     let bytes = [7u8; 10_000];
     for failing in 1..=4u64 {
         let answer = all_is_read(rt.alloc(), &bytes, failing, 10_000)?;
-        assert_eq!(rt; answer, Err(ReadAllFault::Failed));
+        expect_eq(&rt, answer, Err(ReadAllFault::Failed));
     }
-    assert_eq!(rt; all_is_read(rt.alloc(), &bytes, 5, 10_000)?, Ok(true));
+    expect_eq(&rt, all_is_read(rt.alloc(), &bytes, 5, 10_000)?, Ok(true));
     Ok(())
 }

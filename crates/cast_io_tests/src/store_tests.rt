@@ -1,4 +1,5 @@
 //! Runs of a store in memory: files by their paths, and calls that fail.
+use crate::expecting::expect_eq;
 use crate::runs::{read_source, say, say_taken};
 use cast_io::{ByteString, MemStore, Store, read_all};
 use std::alloc::{AllocError, Global};
@@ -58,24 +59,26 @@ fn plain_run(alloc: Global, calls: &str) -> Result<Vec<u8>, Fail> {
 #[test]
 fn the_file_opened_last_is_read_from_its_first_byte(rt: HostRuntime) -> Result<(), Fail> {
     let told = plain_run(rt.alloc(), "3 a 3 b 3 a 8")?;
-    assert_eq!(rt; told.as_slice(), b" ok abc ok xy ok abcde ".as_slice());
+    expect_eq(&rt, told.as_slice(), b" ok abc ok xy ok abcde ".as_slice());
     Ok(())
 }
 
 #[test]
 fn the_first_file_of_a_path_is_read(rt: HostRuntime) -> Result<(), Fail> {
-    assert_eq!(rt;
+    expect_eq(
+        &rt,
         plain_run(rt.alloc(), "b a all")?.as_slice(),
-        b"ok ok abcde ".as_slice()
+        b"ok ok abcde ".as_slice(),
     );
     Ok(())
 }
 
 #[test]
 fn nothing_is_left_after_a_refused_open(rt: HostRuntime) -> Result<(), Fail> {
-    assert_eq!(rt;
+    expect_eq(
+        &rt,
         plain_run(rt.alloc(), "b c 3")?.as_slice(),
-        b"ok failed  ".as_slice()
+        b"ok failed  ".as_slice(),
     );
     Ok(())
 }
@@ -100,7 +103,11 @@ fn failing_run(alloc: Global) -> Result<(Vec<u8>, bool), Fail> {
 #[test]
 fn calls_of_a_store_fail_by_their_number(rt: HostRuntime) -> Result<(), Fail> {
     let (answers, told) = failing_run(rt.alloc())?;
-    assert_eq!(rt; answers.as_slice(), b"ok failed abcde failed  ".as_slice());
+    expect_eq(
+        &rt,
+        answers.as_slice(),
+        b"ok failed abcde failed  ".as_slice(),
+    );
     assert!(rt; told);
     Ok(())
 }

@@ -20,29 +20,28 @@ fn link_of(alloc: Global, fails: &[u64]) -> Result<MemLink, Fail>
 fn two_links(alloc: Global) -> Result<Vec<MemLink>, Fail>
     ensures { IfOk result (λ links. IsTrue (list_all is_new_link links.items)) }
 {
-    let mut links = Vec::new(alloc);
-    links.push(link_of(alloc, &[])?)?;
-    links.push(link_of(alloc, &[2])?)?;
-    Ok(links)
+    let first = link_of(alloc, &[])?;
+    let second = link_of(alloc, &[2])?;
+    Ok(vec![in alloc; first, second]?)
 }
 
 // A door at which one link arrives, then nothing, then another one.
 pub(crate) fn door_of(alloc: Global, fails: &[u64]) -> Result<MemDoor, Fail>
     ensures { IfOk result (λ door. IsTrue (is_new_door door)) }
 {
-    let mut arrivals = Vec::new(alloc);
-    arrivals.push(Some(link_of(alloc, &[])?))?;
-    arrivals.push(None)?;
-    arrivals.push(Some(link_of(alloc, &[])?))?;
+    let first = link_of(alloc, &[])?;
+    let second = link_of(alloc, &[])?;
+    let arrivals = vec![in alloc; Some(first), None, Some(second)]?;
     Ok(MemDoor::new(alloc, arrivals, fails.to_vec(alloc)?)?)
 }
 
 // A street of two doors, of which the first fails at its first accept, and of two links.
 pub(crate) fn street_of(alloc: Global, fails: &[u64]) -> Result<MemStreet, Fail> {
-    let mut doors = Vec::new(alloc);
-    doors.push(door_of(alloc, &[1])?)?;
-    doors.push(door_of(alloc, &[])?)?;
-    Ok(MemStreet::new(alloc, doors, two_links(alloc)?, fails.to_vec(alloc)?)?)
+    let first = door_of(alloc, &[1])?;
+    let second = door_of(alloc, &[])?;
+    let doors = vec![in alloc; first, second]?;
+    let links = two_links(alloc)?;
+    Ok(MemStreet::new(alloc, doors, links, fails.to_vec(alloc)?)?)
 }
 
 // Appends a number below ten.

@@ -1,8 +1,9 @@
 //! Runs of doors and streets in memory: what they give, what came back, and calls that fail.
 ghost use Rattle.std.specs.Prelude.{◌≡◌};
 
+use crate::expecting::expect_eq;
 use crate::street_runs::{door_of, run_door, run_street, street_of};
-use cast_io::{Arrived, Asked, ByteString, Door, MemDoor};
+use cast_io::{Arrived, Asked, ByteString, Door, MemDoor, MemStreet};
 use std::alloc::Global;
 use std::test::Fail;
 
@@ -34,7 +35,11 @@ fn a_door_gives_what_arrives(rt: HostRuntime) -> Result<(), Fail> {
         door,
         "accept accept accept accept accept faults",
     )?;
-    assert_eq!(rt; told.as_slice(), b"ok failed idle ok idle 1 ".as_slice());
+    expect_eq(
+        &rt,
+        told.as_slice(),
+        b"ok failed idle ok idle 1 ".as_slice(),
+    );
     assert!(rt; gives_there(door_of(rt.alloc(), &[2])?));
     Ok(())
 }
@@ -44,8 +49,15 @@ fn a_door_gives_what_arrives(rt: HostRuntime) -> Result<(), Fail> {
 fn a_door_tells_what_came_back(rt: HostRuntime) -> Result<(), Fail> {
     let door = door_of(rt.alloc(), &[])?;
     let told = run_door(rt.alloc(), door, "accept back marks stray marks")?;
-    assert_eq!(rt; told.as_slice(), b"ok 1 none ".as_slice());
+    expect_eq(&rt, told.as_slice(), b"ok 1 none ".as_slice());
     Ok(())
+}
+
+// What these calls answer of a street of two doors and two links, of which those of these numbers
+// fail.
+fn answers(alloc: Global, fails: &[u64], calls: &str) -> Result<Vec<u8>, Fail> {
+    let mut street = street_of(alloc, fails)?;
+    run_street(alloc, &mut street, calls)
 }
 
 // The calls and the answers of streets of two doors and two links. The first door fails at its
@@ -66,18 +78,20 @@ fn streets_answer_so(rt: HostRuntime) -> Result<(), Fail> {
         // doors come back as they are then, and are told until one more came back than it gave
         ("1 fail shut doors stray-door doors", b"1 failed 1 none "),
     ] {
-        let mut street = street_of(rt.alloc(), &[])?;
-        let answers = run_street(rt.alloc(), &mut street, calls)?;
-        assert_eq!(rt; answers.as_slice(), told, "{calls}");
+        let answers = answers(rt.alloc(), &[], calls)?;
+        expect_eq(&rt, (calls, answers.as_slice()), (calls, told));
     }
     Ok(())
 }
 
 #[test]
 fn calls_of_a_street_fail_by_their_number(rt: HostRuntime) -> Result<(), Fail> {
-    let mut street = street_of(rt.alloc(), &[2, 3])?;
-    let answers = run_street(rt.alloc(), &mut street, "1 dial 1 1 faults")?;
-    assert_eq!(rt; answers.as_slice(), b"1 failed failed 1 2 0 ".as_slice());
+    let answers = answers(rt.alloc(), &[2, 3], "1 dial 1 1 faults")?;
+    expect_eq(
+        &rt,
+        answers.as_slice(),
+        b"1 failed failed 1 2 0 ".as_slice(),
+    );
     Ok(())
 }
 
@@ -91,19 +105,25 @@ fn two_calls(alloc: Global) -> Result<Vec<Asked>, Fail> {
     Ok(calls)
 }
 
+// Whether a street tells just these two calls.
+fn tells_both(alloc: Global, street: &MemStreet) -> Result<bool, Fail> {
+    let wanted = two_calls(alloc)?;
+    Ok(street.asked() == Some(wanted.as_slice()))
+}
+
 // A run of a street of two doors whose second call fails: its answers, and whether it tells just
 // what it was asked for.
 fn refused_run(alloc: Global) -> Result<(Vec<u8>, bool), Fail> {
     let mut street = street_of(alloc, &[2])?;
     let answers = run_street(alloc, &mut street, "3 dial")?;
-    let wanted = two_calls(alloc)?;
-    Ok((answers, street.asked() == Some(wanted.as_slice())))
+    let told = tells_both(alloc, &street)?;
+    Ok((answers, told))
 }
 
 #[test]
 fn what_was_asked_is_told_where_it_was_refused_too(rt: HostRuntime) -> Result<(), Fail> {
     let (answers, told) = refused_run(rt.alloc())?;
-    assert_eq!(rt; answers.as_slice(), b"failed failed ".as_slice());
+    expect_eq(&rt, answers.as_slice(), b"failed failed ".as_slice());
     assert!(rt; told);
     Ok(())
 }
