@@ -19,12 +19,17 @@ fn noted_door(alloc: Global) -> Result<NotedDoor, Fail> {
     Ok(NotedDoor::new(alloc, door))
 }
 
-/// The calls of that door while its two links are recorded.
-fn calls<R: Wait>(rt: &R, alloc: Global) -> Result<Vec<u8>, Fail> {
+/// The caster of the file records two links that come to this door.
+fn is_recorded<R: Wait>(rt: &R, alloc: Global, door: &mut NotedDoor) -> Result<bool, Fail> {
     let config = read_config(alloc, FILE)?;
+    Ok(record(rt, alloc, &config, 2, door).is_ok())
+}
+
+/// The calls of that door while its two links are recorded.
+fn calls<R: Wait>(rt: &R, alloc: Global) -> Result<(bool, Vec<u8>), Fail> {
     let mut door = noted_door(alloc)?;
-    let _ = record(rt, alloc, &config, 2, &mut door)?;
-    Ok(door.calls().to_vec(alloc)?)
+    let recorded = is_recorded(rt, alloc, &mut door)?;
+    Ok((recorded, door.calls().to_vec(alloc)?))
 }
 
 // Seven rounds. The source comes, and its head is read. Nobody comes, the source sends nothing, and
@@ -32,7 +37,8 @@ fn calls<R: Wait>(rt: &R, alloc: Global) -> Result<Vec<u8>, Fail> {
 // source ends. The rover sends nothing, and the door rests. The rover ends.
 #[test]
 fn a_door_rests_where_nothing_happened(rt: HostRuntime) -> Result<(), Fail> {
-    let calls = calls(&rt, rt.alloc())?;
+    let (recorded, calls) = calls(&rt, rt.alloc())?;
+    assert!(rt; recorded);
     assert!(rt; calls.as_slice() == b"lnrnlr".as_slice());
     Ok(())
 }

@@ -7,7 +7,6 @@ use caster_accounts::Sum;
 use caster_serve::{ServeFault, serve};
 use session_core::{Closed, MountTotal};
 use std::alloc::Global;
-use std::process::Abort;
 use std::sync::Wait;
 use std::test::Fail;
 use std::thread::Threads;
@@ -26,6 +25,23 @@ pub(crate) fn sum(sessions: u64, sent: u128, overrun: u128) -> Sum {
     }
 }
 
+/// What ALPHA and BRAVO came to, and the sums of rover1, of rover2, and of these two.
+pub(crate) type Totals = ([MountTotal; 2], [Sum; 2], Sum);
+
+/// What a caster came to.
+pub(crate) type Answer = Result<Totals, ServeFault>;
+
+/// These totals are of two mountpoints and two accounts.
+fn totals_of(closed: &Closed) -> Option<Totals> {
+    let [alpha, bravo] = closed.mounts.as_slice() else {
+        return None;
+    };
+    let [first, second] = closed.accounts.as_slice() else {
+        return None;
+    };
+    Some(([*alpha, *bravo], [*first, *second], closed.total))
+}
+
 /// What a caster came to over this street that serves so many links at each door. Its configuration
 /// has this behind it.
 pub(crate) fn cast<N: Street, R: Threads + Wait + Sync>(
@@ -34,13 +50,16 @@ pub(crate) fn cast<N: Street, R: Threads + Wait + Sync>(
     more: &[u8],
     limit: u64,
     street: &mut N,
-) -> Result<Result<Closed, ServeFault>, Fail>
+) -> Result<Answer, Fail>
 where
     N::Door: Send,
     N::Link: Send,
 {
     let config = config_of(alloc, more)?;
-    Ok(serve(rt, alloc, &config, ADDRESS, limit, street))
+    match serve(rt, alloc, &config, ADDRESS, limit, street) {
+        Ok(closed) => Ok(Ok(totals_of(&closed).ok_or("totals of others")?)),
+        Err(fault) => Ok(Err(fault)),
+    }
 }
 
 /// What a caster came to over this street in memory, and what came back to it.
@@ -50,70 +69,53 @@ pub(crate) fn carry_out<R: Threads + Wait + Sync>(
     more: &[u8],
     limit: u64,
     mut street: MemStreet,
-) -> Result<(Result<Closed, ServeFault>, Back), Fail> {
+) -> Result<(Answer, Back), Fail> {
     let answer = cast(rt, alloc, more, limit, &mut street)?;
     Ok((answer, back_to(alloc, &street)?))
 }
 
 /// The caster came to these totals of ALPHA and BRAVO, and of rover1 and rover2, and to the sums of
 /// these two.
-pub(crate) fn expect_closed(
-    rt: &impl Abort,
-    answer: &Result<Closed, ServeFault>,
+pub(crate) fn is_closed(
+    answer: Answer,
     mounts: [MountTotal; 2],
     accounts: [Sum; 2],
     total: Sum,
-) {
-    let Ok(closed) = answer else {
-        panic!(rt; "no totals");
-    };
-    assert_eq!(rt; closed.mounts.as_slice(), mounts.as_slice());
-    assert_eq!(rt; closed.accounts.as_slice(), accounts.as_slice());
-    assert_eq!(rt; closed.total, total);
+) -> bool {
+    answer == Ok((mounts, accounts, total))
 }
 
 /// The caster met a fault of the network.
-pub(crate) fn expect_network(rt: &impl Abort, answer: &Result<Closed, ServeFault>) {
-    let Err(fault) = answer else {
-        panic!(rt; "no fault");
-    };
-    assert_eq!(rt; *fault, ServeFault::Network);
+pub(crate) fn is_network(answer: Answer) -> bool {
+    matches!(answer, Err(ServeFault::Network))
 }
 
 /// So many doors and links came back to the street. It was asked this, and failed so often.
-pub(crate) fn expect_back(
-    rt: &impl Abort,
+pub(crate) fn came_back(
     back: &Back,
     doors: usize,
     links: usize,
     asked: &[u8],
     faults: u64,
-) {
-    assert_eq!(rt; back.doors.len(), doors);
-    assert_eq!(rt; back.links.len(), links);
-    assert_eq!(rt; back.asked.as_slice(), asked);
-    assert_eq!(rt; back.faults, faults);
+) -> bool {
+    back.doors.len() == doors
+        && back.links.len() == links
+        && back.asked.as_slice() == asked
+        && back.faults == faults
 }
 
 /// Of these links the one of this number, from 0, was sent this and took so many steps.
-pub(crate) fn expect_ended(
-    rt: &impl Abort,
-    links: &[Ended],
-    number: usize,
-    bytes: &[u8],
-    steps: usize,
-) {
-    let Some(link) = links.get(number) else {
-        panic!(rt; "no link");
-    };
-    assert_eq!(rt; link.bytes.as_slice(), bytes);
-    assert_eq!(rt; link.steps, steps);
+pub(crate) fn has_ended(links: &[Ended], number: usize, bytes: &[u8], steps: usize) -> bool {
+    match links.get(number) {
+        Some(link) => link.is(bytes, steps),
+        None => false,
+    }
 }
 
-/// The links of the door of this number, from 0.
-pub(crate) fn links_at<'a>(rt: &impl Abort, back: &'a Back, door: usize) -> &'a [Ended] {
-    let Some(links) = back.doors.get(door) else {
-        panic!(rt; "no door");
-    };
-    links
+/// The links of the door of this number, from 0, none where no such door came back.
+pub(crate) fn links_at(back: &Back, door: usize) -> &[Ended] {
+    match back.doors.get(door) {
+        Some(links) => links,
+        None => &[],
+    }
 }

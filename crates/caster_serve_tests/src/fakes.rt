@@ -84,10 +84,7 @@ pub(crate) fn door_of(
     requires second { IsTrue (is_new_link second) }
     ensures { IfOk result (λ door. IsTrue (is_new_door door)) }
 {
-    let mut arrivals = Vec::new(alloc);
-    arrivals.push(Some(first))?;
-    arrivals.push(None)?;
-    arrivals.push(Some(second))?;
+    let arrivals = vec![in alloc; Some(first), None, Some(second)]?;
     MemDoor::new(alloc, arrivals, fails.to_vec(alloc)?)
 }
 
@@ -121,11 +118,26 @@ pub(crate) fn links_of(alloc: Global, peers: &[&[&[u8]]]) -> Result<Vec<MemLink>
 pub(crate) fn street_at(alloc: Global, door: MemDoor) -> Result<MemStreet, AllocError>
     requires { IsTrue (is_new_door door) }
 {
-    let mut doors = Vec::new(alloc);
-    doors.push(door)?;
-    doors.push(door_with(alloc, &[], &[])?)?;
-    doors.push(door_with(alloc, &[], &[])?)?;
+    let second = door_with(alloc, &[], &[])?;
+    let third = door_with(alloc, &[], &[])?;
+    let doors = vec![in alloc; door, second, third]?;
     MemStreet::new(alloc, doors, Vec::new(alloc), Vec::new(alloc))
+}
+
+/// Three doors at each of which a link with such a peer arrives and then one that ends at once. The
+/// second door fails at the accepts of these numbers.
+fn doors_of(
+    alloc: Global,
+    arriving: [&[&[u8]]; 3],
+    accepts: &[u64],
+) -> Result<Vec<MemDoor>, AllocError>
+    ensures { IfOk result (λ doors. IsTrue (list_all is_new_door doors.items)) }
+{
+    let [first, second, third] = arriving;
+    let first = door_with(alloc, first, &[])?;
+    let second = door_with(alloc, second, accepts)?;
+    let third = door_with(alloc, third, &[])?;
+    Ok(vec![in alloc; first, second, third]?)
 }
 
 /// A street of three doors at each of which a link with such a peer arrives and then one that
@@ -138,15 +150,7 @@ pub(crate) fn street_of(
     accepts: &[u64],
     calls: &[u64],
 ) -> Result<MemStreet, AllocError> {
-    let [first, second, third] = arriving;
-    let mut doors = Vec::new(alloc);
-    doors.push(door_with(alloc, first, &[])?)?;
-    doors.push(door_with(alloc, second, accepts)?)?;
-    doors.push(door_with(alloc, third, &[])?)?;
-    MemStreet::new(
-        alloc,
-        doors,
-        links_of(alloc, dialled)?,
-        calls.to_vec(alloc)?,
-    )
+    let doors = doors_of(alloc, arriving, accepts)?;
+    let links = links_of(alloc, dialled)?;
+    MemStreet::new(alloc, doors, links, calls.to_vec(alloc)?)
 }

@@ -1,26 +1,38 @@
 //! Clients whose link fails once, at each call in turn, or that end in the midst of what they send:
 //! how they end, what they were sent, and that the next one of their kind is let in.
 
-use crate::casting::{carry_out, expect_closed, links_at, mount, sum};
+use crate::casting::{Answer, carry_out, is_closed, links_at, mount, sum};
 use crate::fakes::{Failing, door_of, failing_link, link_of, street_at};
-use crate::link_tests::expect_told;
 use crate::one_caller::{Told, told_of};
 use crate::setting::{FRAME_A, FRAME_B, ICY, ROVER_ALPHA, SOURCE_ALPHA};
-use crate::telling::Back;
-use caster_serve::{Role, ServeFault};
-use session_core::{Closed, Ending};
+use crate::telling::{Back, Ended};
+use caster_serve::Role;
+use session_core::Ending;
 use std::alloc::Global;
-use std::process::Abort;
 use std::sync::Wait;
 use std::test::Fail;
 use std::thread::Threads;
 
 /// What came of a client whose link fails, and of a caster at which the next one sends the same.
-#[derive(Debug, Drop)]
+#[derive(Drop)]
 struct Came {
     told: Told,
-    answer: Result<Closed, ServeFault>,
+    answer: Answer,
     back: Back,
+}
+
+/// What a caster came to at which a client sends these pieces and ends, whose link fails so, and
+/// another one follows, which sends the same and ends.
+fn followed<R: Threads + Wait + Sync>(
+    rt: &R,
+    alloc: Global,
+    pieces: &[&[u8]],
+    failing: Failing,
+) -> Result<(Answer, Back), Fail> {
+    let first = failing_link(alloc, pieces, failing)?;
+    let next = link_of(alloc, pieces, &[])?;
+    let street = street_at(alloc, door_of(alloc, first, next, &[])?)?;
+    carry_out(rt, alloc, b"", 2, street)
 }
 
 /// A client sends these pieces and ends, and its link fails so. At the caster another one follows,
@@ -33,49 +45,39 @@ fn failing_client<R: Threads + Wait + Sync>(
 ) -> Result<Came, Fail> {
     let link = failing_link(alloc, pieces, failing)?;
     let told = told_of(rt, alloc, b"", Role::Caller, link)?;
-    let first = failing_link(alloc, pieces, failing)?;
-    let next = link_of(alloc, pieces, &[])?;
-    let street = street_at(alloc, door_of(alloc, first, next, &[])?)?;
-    let (answer, back) = carry_out(rt, alloc, b"", 2, street)?;
+    let (answer, back) = followed(rt, alloc, pieces, failing)?;
     Ok(Came { told, answer, back })
 }
 
-/// It ended so, and was sent this in so many steps, of which so many failed. The next one was sent
-/// this.
-fn expect_came(
-    rt: &impl Abort,
-    came: &Came,
-    ending: Ending,
-    bytes: &[u8],
-    steps: usize,
-    faults: u64,
-    next: &[u8],
-) {
-    expect_told(rt, &came.told, ending, bytes, steps);
-    assert_eq!(rt; came.told.link.faults, faults);
-    let links = links_at(rt, &came.back, 0);
-    assert_eq!(rt; links.len(), 2);
-    assert_eq!(rt; links[0].bytes.as_slice(), bytes);
-    assert_eq!(rt; links[1].bytes.as_slice(), next);
+/// These two links were sent this.
+fn are_sent(links: &[Ended], first: &[u8], second: &[u8]) -> bool {
+    match links {
+        [one, other] => one.bytes.as_slice() == first && other.bytes.as_slice() == second,
+        _ => false,
+    }
 }
 
-/// ALPHA came to so many frames under so many claims, and nothing else was served.
-fn expect_published(rt: &impl Abort, came: &Came, published: u64, claims: u64) {
-    let none = sum(0, 0, 0);
-    let mounts = [mount(published, claims), mount(0, 0)];
-    expect_closed(rt, &came.answer, mounts, [none, none], none);
-}
+impl Came {
+    /// It ended so, and was sent this in so many steps, of which so many failed. The next one was
+    /// sent this.
+    fn is(&self, ending: Ending, bytes: &[u8], steps: usize, faults: u64, next: &[u8]) -> bool {
+        self.told.is(ending, bytes, steps)
+            && self.told.link.faults == faults
+            && are_sent(links_at(&self.back, 0), bytes, next)
+    }
 
-/// Of the account that takes one rover at a time so many came in, one after the other.
-fn expect_entered(rt: &impl Abort, came: &Came, sessions: u64) {
-    let (none, all) = (sum(0, 0, 0), sum(sessions, 0, 0));
-    expect_closed(
-        rt,
-        &came.answer,
-        [mount(0, 0), mount(0, 0)],
-        [all, none],
-        all,
-    );
+    /// ALPHA came to so many frames under so many claims, and nothing else was served.
+    fn has_published(&self, published: u64, claims: u64) -> bool {
+        let none = sum(0, 0, 0);
+        let mounts = [mount(published, claims), mount(0, 0)];
+        is_closed(self.answer, mounts, [none, none], none)
+    }
+
+    /// Of the account that takes one rover at a time so many came in, one after the other.
+    fn has_entered(&self, sessions: u64) -> bool {
+        let (none, all) = (sum(0, 0, 0), sum(sessions, 0, 0));
+        is_closed(self.answer, [mount(0, 0), mount(0, 0)], [all, none], all)
+    }
 }
 
 // The calls of the rover are a read, a write of the reply, and reads.
@@ -91,8 +93,8 @@ fn each_call_of_a_rover_fails_once(rt: HostRuntime) -> Result<(), Fail> {
     ] {
         let pieces = [ROVER_ALPHA, b"", b""];
         let came = failing_client(&rt, rt.alloc(), &pieces, Failing::Call(call))?;
-        expect_came(&rt, &came, ending, bytes, steps, u64::from(call < 6), ICY);
-        expect_entered(&rt, &came, sessions);
+        assert!(rt; came.is(ending, bytes, steps, u64::from(call < 6), ICY));
+        assert!(rt; came.has_entered(sessions));
     }
     Ok(())
 }
@@ -108,8 +110,8 @@ fn the_reply_to_a_rover_is_torn(rt: HostRuntime) -> Result<(), Fail> {
     ] {
         let failing = Failing::Write(write, most);
         let came = failing_client(&rt, rt.alloc(), &[ROVER_ALPHA], failing)?;
-        expect_came(&rt, &came, ending, bytes, 2, faults, ICY);
-        expect_entered(&rt, &came, 2);
+        assert!(rt; came.is(ending, bytes, 2, faults, ICY));
+        assert!(rt; came.has_entered(2));
     }
     Ok(())
 }
@@ -128,8 +130,8 @@ fn each_call_of_a_source_fails_once(rt: HostRuntime) -> Result<(), Fail> {
     ] {
         let pieces = [SOURCE_ALPHA, FRAME_A, FRAME_B];
         let came = failing_client(&rt, rt.alloc(), &pieces, Failing::Call(call))?;
-        expect_came(&rt, &came, ending, bytes, steps, u64::from(call < 6), ICY);
-        expect_published(&rt, &came, published, claims);
+        assert!(rt; came.is(ending, bytes, steps, u64::from(call < 6), ICY));
+        assert!(rt; came.has_published(published, claims));
     }
     Ok(())
 }
@@ -142,8 +144,8 @@ fn a_rover_whose_head_is_not_whole_enters_no_account(rt: HostRuntime) -> Result<
     for size in 0..ROVER_ALPHA.len() {
         let (front, _) = ROVER_ALPHA.split_at(size);
         let came = failing_client(&rt, rt.alloc(), &[front], NEVER)?;
-        expect_came(&rt, &came, Ending::NoHead, b"", 2, 0, b"");
-        expect_entered(&rt, &came, 0);
+        assert!(rt; came.is(Ending::NoHead, b"", 2, 0, b""));
+        assert!(rt; came.has_entered(0));
     }
     Ok(())
 }
@@ -164,8 +166,8 @@ fn a_frame_is_published_once_its_part_of_a_chunk_has_come(rt: HostRuntime) -> Re
     for size in 0..=CHUNK.len() {
         let (front, _) = CHUNK.split_at(size);
         let came = failing_client(&rt, rt.alloc(), &[CHUNKED, front], NEVER)?;
-        expect_came(&rt, &came, Ending::SourceEnd { claim: 1 }, HTTP, 3, 0, HTTP);
-        expect_published(&rt, &came, if size < 11 { 0 } else { 2 }, 2);
+        assert!(rt; came.is(Ending::SourceEnd { claim: 1 }, HTTP, 3, 0, HTTP));
+        assert!(rt; came.has_published(if size < 11 { 0 } else { 2 }, 2));
     }
     Ok(())
 }

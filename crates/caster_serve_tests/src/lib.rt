@@ -4,10 +4,6 @@
 //! They stand in a crate of their own, so that the crate that they try is proved once.
 #![tactic(auto)]
 
-mod timed;
-
-pub use timed::{Stop, TimedDoor, TimedLink, TimedStreet};
-
 #[cfg(test)]
 mod casting;
 #[cfg(test)]
@@ -36,3 +32,5 @@ mod street_tests;
 mod telling;
 #[cfg(test)]
 mod thread_tests;
+#[cfg(test)]
+mod timed;

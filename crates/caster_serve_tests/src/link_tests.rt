@@ -1,6 +1,6 @@
 //! One connection over its link: how it ends, what it is sent, and what a worker counts.
 
-use crate::casting::{expect_ended, sum};
+use crate::casting::{has_ended, sum};
 use crate::fakes::{door_of, link_of, torn_link};
 use crate::one_caller::{Told, told_at, told_of};
 use crate::setting::{FRAMES_AB, ICY, RELAY, REQUEST, ROVER_ALPHA, ROVER_BRAVO, SOURCE_ALPHA};
@@ -8,23 +8,8 @@ use crate::telling::Ended;
 use caster_serve::{Role, Tally};
 use session_core::Ending;
 use std::alloc::Global;
-use std::process::Abort;
 use std::sync::Wait;
 use std::test::Fail;
-
-/// A connection ended so, and its link was sent this and took so many steps.
-pub(crate) fn expect_told(
-    rt: &impl Abort,
-    told: &Told,
-    ending: Ending,
-    bytes: &[u8],
-    steps: usize,
-) {
-    assert_eq!(rt; told.ending, ending);
-    assert!(rt; told.settled);
-    assert_eq!(rt; told.link.bytes.as_slice(), bytes);
-    assert_eq!(rt; told.link.steps, steps);
-}
 
 /// What is told of a client that sends these pieces and ends.
 fn client<R: Wait + Sync>(rt: &R, alloc: Global, pieces: &[&[u8]]) -> Result<Told, Fail> {
@@ -38,17 +23,24 @@ const NEVER: u64 = 0;
 // Behind a head that is refused nothing is read.
 #[test]
 fn connections_are_served_to_their_end(rt: HostRuntime) -> Result<(), Fail> {
-    let alloc = rt.alloc();
-    let told = client(&rt, alloc, &[])?;
-    expect_told(&rt, &told, Ending::NoHead, b"", 1);
-    let told = client(&rt, alloc, &[SOURCE_ALPHA, FRAMES_AB])?;
-    expect_told(&rt, &told, Ending::SourceEnd { claim: 1 }, ICY, 3);
     let (front, rest) = ROVER_ALPHA.split_at(9);
-    let told = client(&rt, alloc, &[front, b"", rest, b""])?;
-    expect_told(&rt, &told, Ending::RoverEnd, ICY, 5);
-    let told = client(&rt, alloc, &[b"SOURCE wrong ALPHA\r\n\r\n", FRAMES_AB])?;
-    let refused = b"ERROR - Bad Password\r\n";
-    expect_told(&rt, &told, Ending::SourcePassword, refused, 1);
+    let source: &[&[u8]] = &[SOURCE_ALPHA, FRAMES_AB];
+    let rover: &[&[u8]] = &[front, b"", rest, b""];
+    let wrong: &[&[u8]] = &[b"SOURCE wrong ALPHA\r\n\r\n", FRAMES_AB];
+    for (pieces, ending, bytes, steps) in [
+        ([].as_slice(), Ending::NoHead, b"".as_slice(), 1),
+        (source, Ending::SourceEnd { claim: 1 }, ICY, 3),
+        (rover, Ending::RoverEnd, ICY, 5),
+        (
+            wrong,
+            Ending::SourcePassword,
+            b"ERROR - Bad Password\r\n".as_slice(),
+            1,
+        ),
+    ] {
+        let told = client(&rt, rt.alloc(), pieces)?;
+        assert!(rt; told.is(ending, bytes, steps));
+    }
     Ok(())
 }
 
@@ -62,8 +54,8 @@ pub(crate) fn relay<R: Wait + Sync>(rt: &R, alloc: Global, pieces: &[&[u8]]) -> 
 #[test]
 fn a_relay_asks_and_publishes(rt: HostRuntime) -> Result<(), Fail> {
     let told = relay(&rt, rt.alloc(), &[b"ICY 200 OK\r\n\r\n", FRAMES_AB])?;
-    expect_told(&rt, &told, Ending::SourceEnd { claim: 1 }, REQUEST, 3);
-    assert_eq!(rt; told.junk, 2);
+    assert!(rt; told.is(Ending::SourceEnd { claim: 1 }, REQUEST, 3));
+    assert!(rt; told.junk == 2);
     Ok(())
 }
 
@@ -81,6 +73,13 @@ fn worker<R: Wait + Sync>(
     told_at(rt, alloc, door, limit.min(2))
 }
 
+/// So many of these two rovers were served to their end.
+fn are_served(ended: &[Ended], links: u64) -> bool {
+    ended.len() as u64 == links
+        && (links < 1 || has_ended(ended, 0, b"ICY", 2))
+        && (links < 2 || has_ended(ended, 1, ICY, 3))
+}
+
 // Both entered their account. The accepts are a link, nothing, and a link.
 #[test]
 fn a_worker_counts_the_rovers_of_its_door(rt: HostRuntime) -> Result<(), Fail> {
@@ -93,14 +92,8 @@ fn a_worker_counts_the_rovers_of_its_door(rt: HostRuntime) -> Result<(), Fail> {
         (3, 2, 1),
     ] {
         let (tally, ended) = worker(&rt, rt.alloc(), fails, limit)?;
-        assert_eq!(rt; tally, sum(links, 0, 0));
-        assert_eq!(rt; ended.len() as u64, links);
-        if links > 0 {
-            expect_ended(&rt, &ended, 0, b"ICY", 2);
-        }
-        if links > 1 {
-            expect_ended(&rt, &ended, 1, ICY, 3);
-        }
+        assert!(rt; tally == sum(links, 0, 0));
+        assert!(rt; are_served(&ended, links));
     }
     Ok(())
 }

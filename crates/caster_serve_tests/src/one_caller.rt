@@ -8,7 +8,7 @@ ghost use Rattle.caster_serve.specs.Sharing.{AreNewPasses, IsReady};
 
 use crate::setting::{config_of, is_there};
 use crate::telling::{Ended, ended_at, ended_of};
-use cast_io::{Link, MemDoor, MemLink};
+use cast_io::{Door, Link, MemDoor, MemLink};
 use caster_accounts::Book;
 use caster_places::AllPlaces;
 use caster_serve::{Passes, Role, Shared, Tally, Worker, serve_link, work};
@@ -46,6 +46,26 @@ pub(crate) fn sit_down<'a, R: Wait + Sync>(
     Ok((me, places))
 }
 
+/// What a connection over this link came to that is served so at the last of these passes.
+fn serve_at<L: Link, R: Wait + Sync>(
+    rt: &R,
+    alloc: Global,
+    shared: &Shared,
+    list: &mut Vec<Passes>,
+    role: Role,
+    link: &mut L,
+) -> Result<Receipt, Fail>
+    requires ready { IsReady shared.now }
+    requires each { (number : ℕ) (passes : _) → get_elem? list.old.items number ≡ some passes
+        → AreNewPasses number passes shared.now }
+    requires few { length list.old.items < 2 ^ 32 }
+    requires relay { (number : ℕ) → role ≡ Role.Relay number
+        → number < length shared.now.config.now.relay }
+{
+    let (me, mut places) = sit_down(rt, alloc, shared, list)?;
+    Ok(serve_link(rt, alloc, shared, me, &mut places, role, link))
+}
+
 /// What a connection over this link came to that is served so. The configuration has this behind
 /// it.
 pub(crate) fn serve_as<L: Link, R: Wait + Sync>(
@@ -60,36 +80,62 @@ pub(crate) fn serve_as<L: Link, R: Wait + Sync>(
         return Err(Fail::from("no such relay"));
     }
     let (shared, mut list) = Shared::new(alloc, &config, 1)?;
-    let (me, mut places) = sit_down(rt, alloc, &shared, &mut list)?;
-    Ok(serve_link(rt, alloc, &shared, me, &mut places, role, link))
+    serve_at(rt, alloc, &shared, &mut list, role, link)
 }
 
-/// This door after a worker served so many of its links, and what the worker counted.
-fn work_at<R: Wait + Sync>(
+/// This door after a worker with the last of these passes served so many of its links, and what the
+/// worker counted.
+fn worked<D: Door + Drop, R: Wait + Sync>(
     rt: &R,
     alloc: Global,
-    door: MemDoor,
+    shared: &Shared,
+    list: &mut Vec<Passes>,
+    door: D,
     limit: u64,
-) -> Result<(MemDoor, Tally), Fail>
-    requires { limit < 2 ^ 63 }
+) -> Result<(D, Tally), Fail>
+    requires ready { IsReady shared.now }
+    requires each { (number : ℕ) (passes : _) → get_elem? list.old.items number ≡ some passes
+        → AreNewPasses number passes shared.now }
+    requires few { length list.old.items < 2 ^ 32 }
+    requires limit { limit < 2 ^ 63 }
 {
-    let config = config_of(alloc, b"")?;
-    let (shared, mut list) = Shared::new(alloc, &config, 1)?;
-    let (me, places) = sit_down(rt, alloc, &shared, &mut list)?;
+    let (me, places) = sit_down(rt, alloc, shared, list)?;
     let mut worker = Worker::new(me, places, door);
-    work(rt, alloc, &shared, &mut worker, limit);
+    work(rt, alloc, shared, &mut worker, limit);
     let tally = worker.tally();
     let (_places, door) = worker.into_parts();
     Ok((door, tally))
 }
 
+/// This door after a worker served so many of its links, and what the worker counted.
+pub(crate) fn work_at<D: Door + Drop, R: Wait + Sync>(
+    rt: &R,
+    alloc: Global,
+    door: D,
+    limit: u64,
+) -> Result<(D, Tally), Fail>
+    requires { limit < 2 ^ 63 }
+{
+    let config = config_of(alloc, b"")?;
+    let (shared, mut list) = Shared::new(alloc, &config, 1)?;
+    worked(rt, alloc, &shared, &mut list, door, limit)
+}
+
 /// What was told of a connection: how it ended, how much junk came, and what its link came to.
-#[derive(Debug, Drop)]
+#[derive(Drop)]
 pub(crate) struct Told {
     pub(crate) ending: Ending,
     pub(crate) settled: bool,
     pub(crate) junk: u64,
     pub(crate) link: Ended,
+}
+
+impl Told {
+    /// It ended so, each turn that closed it was taken, and its link was sent this and took so many
+    /// steps.
+    pub(crate) fn is(&self, ending: Ending, bytes: &[u8], steps: usize) -> bool {
+        self.ending == ending && self.settled && self.link.is(bytes, steps)
+    }
 }
 
 /// What is told of a connection over this link that is served so.

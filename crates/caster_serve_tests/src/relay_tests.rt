@@ -1,12 +1,11 @@
 //! Relays whose upstream caster refuses.
 
-use crate::casting::{carry_out, expect_back, expect_closed, expect_ended, mount, sum};
+use crate::casting::{Answer, came_back, carry_out, has_ended, is_closed, mount, sum};
 use crate::fakes::street_of;
 use crate::link_tests::relay;
 use crate::setting::{FRAME_A, RELAY, REQUEST};
 use crate::telling::Back;
-use caster_serve::ServeFault;
-use session_core::{Closed, Ending};
+use session_core::Ending;
 use std::alloc::Global;
 use std::sync::Wait;
 use std::test::Fail;
@@ -17,7 +16,7 @@ fn answered<R: Threads + Wait + Sync>(
     rt: &R,
     alloc: Global,
     answer: &[u8],
-) -> Result<(Result<Closed, ServeFault>, Back), Fail> {
+) -> Result<(Answer, Back), Fail> {
     let street = street_of(alloc, [&[], &[], &[]], &[&[answer, FRAME_A]], &[], &[])?;
     carry_out(rt, alloc, RELAY, 1, street)
 }
@@ -31,10 +30,10 @@ fn a_refused_relay_publishes_nothing(rt: HostRuntime) -> Result<(), Fail> {
     ] {
         let (answer, back) = answered(&rt, rt.alloc(), answer)?;
         let none = sum(0, 0, 0);
-        expect_closed(&rt, &answer, [mount(0, 0), mount(0, 0)], [none, none], none);
+        assert!(rt; is_closed(answer, [mount(0, 0), mount(0, 0)], [none, none], none));
         let asked = b"three at 127.0.0.1:0\ndial 127.0.0.1:2101\n";
-        expect_back(&rt, &back, 3, 1, asked, 0);
-        expect_ended(&rt, &back.links, 0, REQUEST, 1);
+        assert!(rt; came_back(&back, 3, 1, asked, 0));
+        assert!(rt; has_ended(&back.links, 0, REQUEST, 1));
     }
     Ok(())
 }
@@ -54,7 +53,7 @@ fn the_receipt_of_a_relay_has_the_refusal(rt: HostRuntime) -> Result<(), Fail> {
         (b"ERROR - Bad Password\r\n".as_slice(), Ending::BadHead),
     ] {
         let told = relay(&rt, rt.alloc(), &[answer, FRAME_A])?;
-        assert_eq!(rt; told.ending, ending);
+        assert!(rt; told.ending == ending);
     }
     Ok(())
 }

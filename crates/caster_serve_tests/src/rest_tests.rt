@@ -4,13 +4,13 @@ ghost use Rattle.std.specs.Prelude.{◌≡◌};
 ghost use Rattle.cast_io.specs.FakeDoors.{door_told};
 
 use crate::fakes::{door_with, link_of};
-use crate::one_caller::{serve_as, sit_down};
-use crate::setting::{ADDRESS, FRAME_A, FRAMES_AB, ROVER_ALPHA, SOURCE_ALPHA, config_of};
+use crate::one_caller::{serve_as, work_at};
+use crate::setting::{ADDRESS, FRAME_A, FRAMES_AB, ROVER_ALPHA, SOURCE_ALPHA};
 use crate::thread_tests::{NONE, timed_door};
-use crate::{Stop, TimedLink, TimedStreet};
+use crate::timed::{Stop, TimedLink, TimedStreet};
 use cast_config::read_config;
 use cast_io::{Arrived, Door, MemDoor, MemLink};
-use caster_serve::{Role, Shared, Worker, serve, work};
+use caster_serve::{Role, serve};
 use std::alloc::Global;
 use std::sync::Wait;
 use std::sync::atomic::AtomicBool;
@@ -109,6 +109,24 @@ fn street_of<'a, R: Clock>(
     Ok(TimedStreet::new(alloc, doors))
 }
 
+/// The caster of the file serves one link at each door of this street.
+fn serve_file<R: Clock + Threads + Wait + Sync>(
+    rt: &R,
+    alloc: Global,
+    street: &mut TimedStreet<R>,
+) -> Result<(), Fail> {
+    let config = read_config(alloc, FILE)?;
+    let _closed = serve(rt, alloc, &config, ADDRESS, 1, street);
+    Ok(())
+}
+
+/// What the link notes that came back to the first door of this street.
+fn first_notes<R: Clock>(alloc: Global, street: &TimedStreet<R>) -> Result<Vec<u8>, Fail> {
+    let door = street.back().first().ok_or("no door")?;
+    let link = door.back().ok_or("no link came back")?;
+    Ok(link.notes().to_vec(alloc)?)
+}
+
 /// What the rover's link notes over such a street.
 fn rover_notes<R: Clock + Threads + Wait + Sync>(
     rt: &R,
@@ -117,11 +135,8 @@ fn rover_notes<R: Clock + Threads + Wait + Sync>(
 ) -> Result<Vec<u8>, Fail> {
     let flags = [AtomicBool::new(false), AtomicBool::new(false)];
     let mut street = street_of(rt, alloc, &flags, count)?;
-    let config = read_config(alloc, FILE)?;
-    let _closed = serve(rt, alloc, &config, ADDRESS, 1, &mut street);
-    let door = street.back().first().ok_or("no door")?;
-    let link = door.back().ok_or("no link came back")?;
-    Ok(link.notes().to_vec(alloc)?)
+    serve_file(rt, alloc, &mut street)?;
+    first_notes(alloc, &street)
 }
 
 // A turn takes 16 frames. Behind one that found fewer the link rests once they are written; behind
@@ -189,12 +204,7 @@ fn door_notes<R: Wait + Sync>(rt: &R, alloc: Global) -> Result<Vec<u8>, Fail> {
         door: door_with(alloc, &[], &[])?,
         notes: Vec::new(alloc),
     };
-    let config = config_of(alloc, b"")?;
-    let (shared, mut list) = Shared::new(alloc, &config, 1)?;
-    let (me, places) = sit_down(rt, alloc, &shared, &mut list)?;
-    let mut worker = Worker::new(me, places, door);
-    work(rt, alloc, &shared, &mut worker, 2);
-    let (_places, door) = worker.into_parts();
+    let (door, _tally) = work_at(rt, alloc, door, 2)?;
     Ok(door.notes)
 }
 

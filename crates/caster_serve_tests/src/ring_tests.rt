@@ -108,8 +108,8 @@ fn a_caller_reads_its_own_frame_back(rt: HostRuntime) -> Result<(), Fail> {
     let frame = Frame::of(FRAME_A).ok_or("no frame")?;
     let mut out = Outbox::new();
     let (report, cursor) = tell(&rt, rt.alloc(), frame, &mut out)?;
-    assert_eq!(rt; report.lapped, None);
-    assert_eq!(rt; out.frames(), [frame].as_slice());
-    assert_eq!(rt; cursor.next, 1);
+    assert!(rt; report.lapped.is_none());
+    assert!(rt; out.frames() == [frame].as_slice());
+    assert!(rt; cursor.next == 1);
     Ok(())
 }

@@ -1,17 +1,14 @@
 //! Casters over a street in memory: what they come to, and calls of the street that fail.
 
 use crate::casting::{
-    carry_out, expect_back, expect_closed, expect_ended, expect_network, links_at, mount, sum,
+    Answer, came_back, carry_out, has_ended, is_closed, is_network, links_at, mount, sum,
 };
 use crate::fakes::street_of;
 use crate::setting::{
     FRAME_A, FRAMES_AB, ICY, ICY_A, RELAY, REQUEST, ROVER_BRAVO, SOURCE_BRAVO, TWO_RELAYS,
 };
-use crate::telling::Back;
-use caster_serve::ServeFault;
-use session_core::Closed;
+use crate::telling::{Back, Ended};
 use std::alloc::Global;
-use std::process::Abort;
 use std::sync::Wait;
 use std::test::Fail;
 use std::thread::Threads;
@@ -36,7 +33,7 @@ fn busy<R: Threads + Wait + Sync>(
     more: &[u8],
     dialled: &[&[&[u8]]],
     call: u64,
-) -> Result<(Result<Closed, ServeFault>, Back), Fail> {
+) -> Result<(Answer, Back), Fail> {
     let street = street_of(
         alloc,
         [&source(), &rover(), &rover()],
@@ -47,25 +44,27 @@ fn busy<R: Threads + Wait + Sync>(
     carry_out(rt, alloc, more, 1, street)
 }
 
-/// How many frames the rover at this door was sent behind its reply, of which it may hear one.
-fn frames_sent(rt: &impl Abort, back: &Back, door: usize) -> u128 {
-    let Some(link) = links_at(rt, back, door).first() else {
-        panic!(rt; "no link");
-    };
-    if link.bytes.as_slice() == ICY_A {
-        return 1;
+/// How many frames the rover of this link was sent behind its reply, of which it may hear one.
+fn frames_sent(links: &[Ended]) -> Option<u128> {
+    let bytes = links.first()?.bytes.as_slice();
+    if bytes == ICY_A {
+        return Some(1);
     }
-    assert_eq!(rt; link.bytes.as_slice(), ICY);
-    0
+    if bytes == ICY { Some(0) } else { None }
 }
 
 /// The source and the two rovers were served, and ALPHA came to so many frames, each under a claim.
-fn expect_three(rt: &impl Abort, answer: &Result<Closed, ServeFault>, back: &Back, alpha: u64) {
-    expect_ended(rt, links_at(rt, back, 0), 0, ICY, 3);
-    let sent = frames_sent(rt, back, 1).saturating_add(frames_sent(rt, back, 2));
-    let rovers = sum(2, sent, 0);
+fn are_three(answer: Answer, back: &Back, alpha: u64) -> bool {
+    let Some(first) = frames_sent(links_at(back, 1)) else {
+        return false;
+    };
+    let Some(second) = frames_sent(links_at(back, 2)) else {
+        return false;
+    };
+    let rovers = sum(2, first.saturating_add(second), 0);
     let mounts = [mount(alpha, alpha), mount(2, 1)];
-    expect_closed(rt, answer, mounts, [sum(0, 0, 0), rovers], rovers);
+    has_ended(links_at(back, 0), 0, ICY, 3)
+        && is_closed(answer, mounts, [sum(0, 0, 0), rovers], rovers)
 }
 
 /// No call.
@@ -74,8 +73,8 @@ const NEVER: u64 = 0;
 #[test]
 fn a_source_and_two_rovers_are_served(rt: HostRuntime) -> Result<(), Fail> {
     let (answer, back) = busy(&rt, rt.alloc(), b"", &[], NEVER)?;
-    expect_three(&rt, &answer, &back, 0);
-    expect_back(&rt, &back, 3, 0, b"three at 127.0.0.1:0\n", 0);
+    assert!(rt; are_three(answer, &back, 0));
+    assert!(rt; came_back(&back, 3, 0, b"three at 127.0.0.1:0\n", 0));
     Ok(())
 }
 
@@ -83,10 +82,10 @@ fn a_source_and_two_rovers_are_served(rt: HostRuntime) -> Result<(), Fail> {
 fn a_relay_is_served_beside_them(rt: HostRuntime) -> Result<(), Fail> {
     let upstream: &[&[u8]] = &[b"ICY 200 OK\r\n", FRAME_A];
     let (answer, back) = busy(&rt, rt.alloc(), RELAY, &[upstream], NEVER)?;
-    expect_three(&rt, &answer, &back, 1);
+    assert!(rt; are_three(answer, &back, 1));
     let asked = b"three at 127.0.0.1:0\ndial 127.0.0.1:2101\n";
-    expect_back(&rt, &back, 3, 1, asked, 0);
-    expect_ended(&rt, &back.links, 0, REQUEST, 3);
+    assert!(rt; came_back(&back, 3, 1, asked, 0));
+    assert!(rt; has_ended(&back.links, 0, REQUEST, 3));
     Ok(())
 }
 
@@ -95,7 +94,7 @@ fn refused<R: Threads + Wait + Sync>(
     rt: &R,
     alloc: Global,
     call: u64,
-) -> Result<(Result<Closed, ServeFault>, Back), Fail> {
+) -> Result<(Answer, Back), Fail> {
     let refusal: &[&[u8]] = &[b"HTTP/1.1 404 Not Found\r\n\r\n"];
     busy(rt, alloc, TWO_RELAYS, &[refusal, refusal], call)
 }
@@ -105,6 +104,12 @@ const DOORS: &[u8] = b"three at 127.0.0.1:0\n";
 const ONE_LINK: &[u8] = b"three at 127.0.0.1:0\ndial 127.0.0.1:2101\n";
 
 const TWO_LINKS: &[u8] = b"three at 127.0.0.1:0\ndial 127.0.0.1:2101\ndial localhost:2102\n";
+
+/// No link arrived at a door, and the first of so many that were dialled took nothing.
+fn is_unserved(back: &Back, links: usize) -> bool {
+    back.doors.iter().all(|door| door.is_empty())
+        && (links < 1 || has_ended(&back.links, 0, b"", 0))
+}
 
 // What had been given came back as it was given: no link arrived at a door, and the link that was
 // dialled took nothing.
@@ -116,12 +121,9 @@ fn each_call_of_the_street_fails_once(rt: HostRuntime) -> Result<(), Fail> {
         (3, 3, 1, TWO_LINKS),
     ] {
         let (answer, back) = refused(&rt, rt.alloc(), call)?;
-        expect_network(&rt, &answer);
-        expect_back(&rt, &back, doors, links, asked, 1);
-        assert!(rt; back.doors.iter().all(|door| door.is_empty()));
-        if links > 0 {
-            expect_ended(&rt, &back.links, 0, b"", 0);
-        }
+        assert!(rt; is_network(answer));
+        assert!(rt; came_back(&back, doors, links, asked, 1));
+        assert!(rt; is_unserved(&back, links));
     }
     Ok(())
 }
@@ -129,7 +131,7 @@ fn each_call_of_the_street_fails_once(rt: HostRuntime) -> Result<(), Fail> {
 #[test]
 fn there_is_no_fourth_call_of_the_street(rt: HostRuntime) -> Result<(), Fail> {
     let (answer, back) = refused(&rt, rt.alloc(), 4)?;
-    expect_three(&rt, &answer, &back, 0);
-    expect_back(&rt, &back, 3, 2, TWO_LINKS, 0);
+    assert!(rt; are_three(answer, &back, 0));
+    assert!(rt; came_back(&back, 3, 2, TWO_LINKS, 0));
     Ok(())
 }

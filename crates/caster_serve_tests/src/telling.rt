@@ -5,16 +5,23 @@ use std::alloc::Global;
 use std::test::Fail;
 
 /// What a link came to: what it was sent, how many steps it took, and how often it failed.
-#[derive(Debug, Drop)]
+#[derive(Drop)]
 pub(crate) struct Ended {
     pub(crate) bytes: Vec<u8>,
     pub(crate) steps: usize,
     pub(crate) faults: u64,
 }
 
+impl Ended {
+    /// It was sent this, and took so many steps.
+    pub(crate) fn is(&self, bytes: &[u8], steps: usize) -> bool {
+        self.bytes.as_slice() == bytes && self.steps == steps
+    }
+}
+
 /// What came back to a street: the links of each door, and those that were dialled, in order. And
 /// what it was asked, a line each, and how often it failed.
-#[derive(Debug, Drop)]
+#[derive(Drop)]
 pub(crate) struct Back {
     pub(crate) doors: Vec<Vec<Ended>>,
     pub(crate) links: Vec<Ended>,

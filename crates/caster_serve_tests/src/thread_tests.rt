@@ -1,13 +1,12 @@
 //! Links that meet links of other workers within their calls.
 
-use crate::casting::{cast, expect_closed, mount, sum};
+use crate::casting::{Answer, cast, is_closed, mount, sum};
 use crate::fakes::{Failing, failing_link, link_of};
 use crate::setting::{ICY, ROVER_ALPHA, ROVER_BRAVO, SOURCE_ALPHA};
-use crate::{Stop, TimedDoor, TimedLink, TimedStreet};
+use crate::timed::{Stop, TimedDoor, TimedLink, TimedStreet};
 use cast_io::MemLink;
 use caster_accounts::Sum;
 use std::alloc::Global;
-use std::process::Abort;
 use std::sync::Wait;
 use std::sync::atomic::AtomicBool;
 use std::test::Fail;
@@ -39,30 +38,40 @@ fn silent_door<'a, R: Clock>(
     timed_door(rt, alloc, flags, &[], silent)
 }
 
-/// The link that came back to this door met all that it waited for, and was sent this.
-fn expect_met<R: Clock>(
-    rt: &impl Abort,
-    street: &TimedStreet<R>,
-    door: usize,
-    bytes: &[u8],
-) -> Result<(), Fail> {
-    let door = street.back().get(door).ok_or("no such door")?;
-    let link = door.back().ok_or("no link came back")?;
-    assert!(rt; link.met());
-    assert_eq!(rt; link.bytes(), bytes);
-    Ok(())
+/// What a link came to: whether it met all that it waited for, what it was sent, and how often it
+/// failed.
+#[derive(Drop)]
+struct Met {
+    met: bool,
+    bytes: Vec<u8>,
+    faults: u64,
 }
 
-/// The link that came back to the first door of this street failed so often.
-fn expect_faults<R: Clock>(
-    rt: &impl Abort,
-    street: &TimedStreet<R>,
-    faults: u64,
-) -> Result<(), Fail> {
-    let door = street.back().first().ok_or("no door")?;
+/// What the link came to that came back to this door.
+fn met_at<R: Clock>(alloc: Global, door: &TimedDoor<R>) -> Result<Met, Fail> {
     let link = door.back().ok_or("no link came back")?;
-    assert_eq!(rt; link.faults(), faults);
-    Ok(())
+    Ok(Met {
+        met: link.met(),
+        bytes: link.bytes().to_vec(alloc)?,
+        faults: link.faults(),
+    })
+}
+
+/// What the links came to that came back to this street, one at each door.
+fn all_met<R: Clock>(alloc: Global, street: &TimedStreet<R>) -> Result<Vec<Met>, Fail> {
+    let mut met = Vec::new(alloc);
+    for door in street.back() {
+        met.push(met_at(alloc, door)?)?;
+    }
+    Ok(met)
+}
+
+/// The link of this number, from 0, met all that it waited for, was sent this, and failed so often.
+fn has_met(links: &[Met], number: usize, bytes: &[u8], faults: u64) -> bool {
+    match links.get(number) {
+        Some(link) => link.met && link.bytes.as_slice() == bytes && link.faults == faults,
+        None => false,
+    }
 }
 
 /// A street of two rovers of BRAVO, and of a link that ends at once. The second read of each rover
@@ -87,17 +96,26 @@ fn meeting_street<'a, R: Clock>(
     Ok(TimedStreet::new(alloc, doors))
 }
 
+/// What a caster came to over that street, and its links.
+fn meeting<R: Clock + Threads + Wait + Sync>(
+    rt: &R,
+    alloc: Global,
+) -> Result<(Answer, Vec<Met>), Fail> {
+    let flags = [AtomicBool::new(false), AtomicBool::new(false)];
+    let mut street = meeting_street(rt, alloc, &flags)?;
+    let answer = cast(rt, alloc, b"", 1, &mut street)?;
+    Ok((answer, all_met(alloc, &street)?))
+}
+
 #[test]
 fn two_sessions_see_each_other_within_a_read(rt: HostRuntime) -> Result<(), Fail> {
-    let alloc = rt.alloc();
-    let flags = [AtomicBool::new(false), AtomicBool::new(false)];
-    let mut street = meeting_street(&rt, alloc, &flags)?;
-    let answer = cast(&rt, alloc, b"", 1, &mut street)?;
+    let (answer, links) = meeting(&rt, rt.alloc())?;
     let (none, two) = (sum(0, 0, 0), sum(2, 0, 0));
-    expect_closed(&rt, &answer, [mount(0, 0), mount(0, 0)], [none, two], two);
-    expect_met(&rt, &street, 0, ICY)?;
-    expect_met(&rt, &street, 1, ICY)?;
-    expect_met(&rt, &street, 2, b"")
+    assert!(rt; is_closed(answer, [mount(0, 0), mount(0, 0)], [none, two], two));
+    for (number, bytes) in [(0, ICY), (1, ICY), (2, b"")] {
+        assert!(rt; has_met(&links, number, bytes, 0));
+    }
+    Ok(())
 }
 
 /// What a rover is sent that is slow: its reply, and the last four of six frames.
@@ -153,27 +171,28 @@ fn slow_street<'a, R: Clock>(
     Ok(TimedStreet::new(alloc, doors))
 }
 
-/// A rover whose link fails so leaves ALPHA, of which six frames came, with these sums, and its
-/// link was sent so many bytes of what is owed and failed so often. The source waits for this
+/// What a caster came to with a rover whose link fails so, and its links. The source waits for this
 /// flag.
-fn expect_late<R: Abort + Clock + Threads + Wait + Sync>(
+fn late<R: Clock + Threads + Wait + Sync>(
     rt: &R,
     alloc: Global,
     failing: Failing,
     begins: usize,
-    size: usize,
-    left: Sum,
-    faults: u64,
-) -> Result<(), Fail> {
+) -> Result<(Answer, Vec<Met>), Fail> {
     let flags = [AtomicBool::new(false), AtomicBool::new(false)];
     let rover = failing_link(alloc, &[ROVER_ALPHA, b""], failing)?;
     let mut street = slow_street(rt, alloc, &flags, rover, begins)?;
     let answer = cast(rt, alloc, b"", 1, &mut street)?;
+    Ok((answer, all_met(alloc, &street)?))
+}
+
+/// The rover left ALPHA, of which six frames came, with these sums, and its link was sent so many
+/// bytes of what is owed and failed so often.
+fn is_late(answer: Answer, links: &[Met], size: usize, left: Sum, faults: u64) -> bool {
     let none = sum(0, 0, 0);
-    expect_closed(rt, &answer, [mount(6, 1), mount(0, 0)], [left, none], left);
-    expect_met(rt, &street, 0, &LATE[..size.min(LATE.len())])?;
-    expect_met(rt, &street, 1, ICY)?;
-    expect_faults(rt, &street, faults)
+    is_closed(answer, [mount(6, 1), mount(0, 0)], [left, none], left)
+        && has_met(links, 0, &LATE[..size.min(LATE.len())], faults)
+        && has_met(links, 1, ICY, 0)
 }
 
 // The ring keeps four frames. The reads of the rover are of its head, of nothing and of its end.
@@ -186,15 +205,8 @@ fn a_read_fails_of_a_rover_that_is_lapped(rt: HostRuntime) -> Result<(), Fail> {
         (5, 0, 46, sum(1, 4, 2), 1),
         (7, 0, 46, sum(1, 4, 2), 0),
     ] {
-        expect_late(
-            &rt,
-            rt.alloc(),
-            Failing::Call(call),
-            begins,
-            size,
-            left,
-            faults,
-        )?;
+        let (answer, links) = late(&rt, rt.alloc(), Failing::Call(call), begins)?;
+        assert!(rt; is_late(answer, &links, size, left, faults));
     }
     Ok(())
 }
@@ -212,15 +224,8 @@ fn a_write_is_torn_to_a_rover_that_is_lapped(rt: HostRuntime) -> Result<(), Fail
         (2, 32, 46, lapped, 1),
         (3, 0, 46, lapped, 0),
     ] {
-        expect_late(
-            &rt,
-            rt.alloc(),
-            Failing::Write(write, most),
-            0,
-            size,
-            left,
-            faults,
-        )?;
+        let (answer, links) = late(&rt, rt.alloc(), Failing::Write(write, most), 0)?;
+        assert!(rt; is_late(answer, &links, size, left, faults));
     }
     Ok(())
 }

@@ -18,21 +18,21 @@ const LOOKS: u32 = 10_000;
 
 /// What a link does within one of its calls, before the call is answered: it sets a flag and waits
 /// for another one. A number without a flag stands for none.
-#[derive(Clone, Copy, Debug, PartialEq, Eq)]
-pub struct Stop {
+#[derive(Clone, Copy)]
+pub(crate) struct Stop {
     /// The number of the call, from 1 over reads and writes alike.
-    pub call: u64,
+    pub(crate) call: u64,
     /// The flag that it sets.
-    pub sets: usize,
+    pub(crate) sets: usize,
     /// The flag that it waits for.
-    pub awaits: usize,
+    pub(crate) awaits: usize,
 }
 
 /// A link that answers as one in memory, but for its stops. Of each call it notes a letter: `b` where
 /// a read gave bytes, `i` where it gave nothing yet, `e` at the end, `f` where it failed, `w` for a
 /// write and `r` for a rest.
 #[derive(Drop)]
-pub struct TimedLink<'a, R: Clock> {
+pub(crate) struct TimedLink<'a, R: Clock> {
     rt: &'a R,
     flags: &'a [AtomicBool],
     stops: Vec<Stop>,
@@ -45,14 +45,14 @@ pub struct TimedLink<'a, R: Clock> {
 
 /// A door at which one link arrives.
 #[derive(Drop)]
-pub struct TimedDoor<'a, R: Clock> {
+pub(crate) struct TimedDoor<'a, R: Clock> {
     left: Option<TimedLink<'a, R>>,
     back: Option<TimedLink<'a, R>>,
 }
 
 /// A street of such doors, which are all opened at once. It dials nobody.
 #[derive(Drop)]
-pub struct TimedStreet<'a, R: Clock> {
+pub(crate) struct TimedStreet<'a, R: Clock> {
     alloc: Global,
     doors: Vec<TimedDoor<'a, R>>,
     back: Vec<TimedDoor<'a, R>>,
@@ -91,7 +91,7 @@ fn letter_of(got: Got) -> u8 {
 
 impl<'a, R: Clock> TimedLink<'a, R> {
     /// A link that answers as this one, with these stops.
-    pub fn new(
+    pub(crate) fn new(
         rt: &'a R,
         alloc: Global,
         flags: &'a [AtomicBool],
@@ -111,22 +111,22 @@ impl<'a, R: Clock> TimedLink<'a, R> {
     }
 
     /// Whether each flag came so far that it waited for.
-    pub fn met(&self) -> bool {
+    pub(crate) fn met(&self) -> bool {
         self.met
     }
 
     /// All bytes that it took so far.
-    pub fn bytes(&self) -> &[u8] {
+    pub(crate) fn bytes(&self) -> &[u8] {
         self.link.bytes()
     }
 
     /// How often it failed so far.
-    pub fn faults(&self) -> u64 {
+    pub(crate) fn faults(&self) -> u64 {
         self.faults
     }
 
     /// The letters of its calls so far, in order. Where memory lacked some are missing.
-    pub fn notes(&self) -> &[u8] {
+    pub(crate) fn notes(&self) -> &[u8] {
         &self.notes
     }
 
@@ -180,7 +180,7 @@ impl<'a, R: Clock> Link for TimedLink<'a, R> {
 
 impl<'a, R: Clock> TimedDoor<'a, R> {
     /// A door at which this link arrives.
-    pub fn new(link: TimedLink<'a, R>) -> Self {
+    pub(crate) fn new(link: TimedLink<'a, R>) -> Self {
         TimedDoor {
             left: Some(link),
             back: None,
@@ -188,7 +188,7 @@ impl<'a, R: Clock> TimedDoor<'a, R> {
     }
 
     /// The link, where it came back.
-    pub fn back(&self) -> Option<&TimedLink<'a, R>> {
+    pub(crate) fn back(&self) -> Option<&TimedLink<'a, R>> {
         self.back.as_ref()
     }
 }
@@ -218,7 +218,7 @@ impl<'a, R: Clock> Door for TimedDoor<'a, R> {
 
 impl<'a, R: Clock> TimedStreet<'a, R> {
     /// A street of these doors.
-    pub fn new(alloc: Global, doors: Vec<TimedDoor<'a, R>>) -> Self {
+    pub(crate) fn new(alloc: Global, doors: Vec<TimedDoor<'a, R>>) -> Self {
         TimedStreet {
             alloc,
             doors,
@@ -228,7 +228,7 @@ impl<'a, R: Clock> TimedStreet<'a, R> {
     }
 
     /// The doors that were shut, in order.
-    pub fn back(&self) -> &[TimedDoor<'a, R>] {
+    pub(crate) fn back(&self) -> &[TimedDoor<'a, R>] {
         &self.back
     }
 }
