@@ -55,7 +55,6 @@ use Rattle.run_promise.proofs.CallLemmas.{call_in, calls_of, same_owed}
 use Rattle.run_promise.proofs.WalkLemmas.{IsNever, AreJoins, joins_made, joins-append, HasSuch, walk_keeps, none_such}
 use Rattle.run_promise.proofs.SelectLemmas.{IsFilter, plan_made, plan_such}
 use Rattle.run_promise.proofs.SourceLemmas.{Given_, Taken_, source_made, claim_such}
-use Rattle.run_promise.proofs.StoodLemmas.{Walked}
 use Rattle.run_promise.proofs.OwedLemmas.{answered_front, answered_owed, on_front, received_owed, last_such, source_last, rover_last, closing_such}
 
 -- ---- a connection that is judged so
@@ -72,7 +71,8 @@ told_with c h d j =
 
 -- what stands of it, and of its bytes that came when it was over
 pub record Facts (c : Config) (h : Histories) (d : Connected) (j : Judged) (rest : List ℕ) : Type 0 where
-  pub walked : Walked c h d.number d.steps
+  pub answered : AreAnswered c d.steps
+  pub on : StepsOn [] d.steps
   pub first : List Step
   pub last : List Step
   pub split : d.steps ≡ first ++ last
@@ -91,21 +91,21 @@ module _ (c : Config) (h : Histories) (d : Connected) (j : Judged) (rest : List 
 
   pub first_answered : AreAnswered c (owed_among f.first)
   first_answered = answered_owed c f.first (answered_front c f.first f.last
-      (subst (AreAnswered c) f.split f.walked.answered))
+      (subst (AreAnswered c) f.split f.answered))
 
   -- how it was received
   pub first_received : received (owed_among f.first) ≡ received f.first
   first_received = received_owed f.first (on_front [] f.first f.last
-      (subst (λ (l : List Step). StepsOn [] l) f.split f.walked.on))
+      (subst (λ (l : List Step). StepsOn [] l) f.split f.on))
 
   pub received_is : received d.steps ≡ received (owed_among f.first ++ owed_among f.last)
-  received_is = sym (received_owed d.steps f.walked.on) ∙ ap received owed_is
+  received_is = sym (received_owed d.steps f.on) ∙ ap received owed_is
 
   -- the filters of its segments
   pub has_such : (IsSuch : ℕ → Type 0) → AreJoins IsSuch (owed_among f.first)
       → All (HasSuch IsSuch) (segments_after [] d.steps)
   has_such IsSuch such =
-      walk_keeps IsSuch c [] d.steps f.walked.answered f.walked.on
+      walk_keeps IsSuch c [] d.steps f.answered f.on
       (subst (AreJoins IsSuch) (sym owed_is)
       (joins-append IsSuch (owed_among f.first) (owed_among f.last) such
       (last_such IsSuch (closing j f.first) f.last
@@ -167,7 +167,7 @@ over_if true claim body over = (
     over_by false true before over = inr refl
     over_by false false before over = absurd cc
 
-carries_so : (chunked : Bool) (body : List ℕ) → Carries chunked body (payload chunked body)
+pub carries_so : (chunked : Bool) (body : List ℕ) → Carries chunked body (payload chunked body)
 carries_so false body = refl
 carries_so true body = plain_read body
 
@@ -231,19 +231,19 @@ taken_so c h d terms body rest f t =
 -- ---- a rover
 
 -- it entered, and then called what is selected
-record HasEntry (c : Config) (terms : RoverTerms) (tail : List ℕ) (steps : List Step) : Type 0 where
-  call : BookCall
-  rest : List Step
-  steps_are : steps ≡ at_book call Entered ∷ rest
-  answered : AreAnswered c rest
-  made : IsMade (rover_plan (terms_of c terms.admission) terms.first tail) rest
+pub record HasEntry (c : Config) (terms : RoverTerms) (tail : List ℕ) (steps : List Step) : Type 0 where
+  pub call : BookCall
+  pub rest : List Step
+  pub steps_are : steps ≡ at_book call Entered ∷ rest
+  pub answered : AreAnswered c rest
+  pub made : IsMade (rover_plan (terms_of c terms.admission) terms.first tail) rest
 
 -- or its account was full
-record IsFull (steps : List Step) : Type 0 where
-  call : BookCall
-  busy : ℕ
-  cap : ℕ
-  steps_are : steps ≡ at_book call (Full busy cap) ∷ []
+pub record IsFull (steps : List Step) : Type 0 where
+  pub call : BookCall
+  pub busy : ℕ
+  pub cap : ℕ
+  pub steps_are : steps ≡ at_book call (Full busy cap) ∷ []
 
 asks_book : (x y : BookCall) → to_book x ≡ to_book y → x ≡ y
 asks_book x y e = cc
@@ -268,7 +268,7 @@ entry_by c terms tail call busy cap false rest answered made = inl (record {
   made = made;
 })
 
-entry_made : (c : Config) (terms : RoverTerms) (tail : List ℕ) (steps : List Step) → AreAnswered c steps
+pub entry_made : (c : Config) (terms : RoverTerms) (tail : List ℕ) (steps : List Step) → AreAnswered c steps
     → IsMade (plan_of c (rover terms tail)) steps → HasEntry c terms tail steps ⊎ IsFull steps
 entry_made c terms tail [] answered made = absurd made
 entry_made c terms tail (at_ring at call answer ∷ rest) answered made = absurd cc
@@ -284,13 +284,13 @@ entry_made c terms tail (at_book call answer ∷ rest) answered made =
     (rover_plan (terms_of c terms.admission) terms.first tail)) rest) told made.1))
 
 -- the frames of its segments are what its body holds
-holds_so : (version : Version) (frames : List (List ℕ))
+pub holds_so : (version : Version) (frames : List (List ℕ))
     → cut (body_of One frames) ≡ record { frames = frames; junk = 0; rest = [] } → IsOpen (body_of Two frames)
     → IsPlain (body_of Two frames) (concat frames) → Holds version (body_of version frames) frames
 holds_so One frames cuts opens plain = cuts
 holds_so Two frames cuts opens plain = (concat frames, opens, plain, ap cut (sym (body_plain frames)) ∙ cuts)
 
-all_reversed : (P : Segment → Type 0) (segments : List Segment) → All P segments → All P (reverse segments)
+pub all_reversed : (P : Segment → Type 0) (segments : List Segment) → All P segments → All P (reverse segments)
 all_reversed P segments all =
     All-permutation P segments (reverse segments) (IsPermutation-reverse segments) all
 

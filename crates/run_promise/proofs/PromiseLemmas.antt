@@ -49,7 +49,8 @@ accounted : (c : Config) (headings : ℕ → Heading) (script : List Event) (h :
 accounted c headings script h d s over keeps is =
     let heading = headings d.number in
     let facts : Facts c h d (judged_of c heading d) is.rest = record {
-      walked = s.walked;
+      answered = s.walked.answered;
+      on = s.walked.on;
       first = s.first;
       last = s.last;
       split = s.split;

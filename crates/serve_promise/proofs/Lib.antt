@@ -1,0 +1,7 @@
+pub mod StepLemmas
+pub mod ClosesLemmas
+pub mod SameLemmas
+pub mod FrameLemmas
+pub mod FirstLemmas
+pub mod LinkLemmas
+pub mod CallerLemmas
