@@ -2,6 +2,3 @@ pub mod StepLemmas
 pub mod ClosesLemmas
 pub mod SameLemmas
 pub mod FrameLemmas
-pub mod FirstLemmas
-pub mod LinkLemmas
-pub mod CallerLemmas
