@@ -171,7 +171,7 @@ pub carries_so : (chunked : Bool) (body : List ℕ) → Carries chunked body (pa
 carries_so false body = refl
 carries_so true body = plain_read body
 
-source_joins : (c : Config) (terms : SourceTerms) (body : List ℕ) (steps : List Step)
+pub source_joins : (c : Config) (terms : SourceTerms) (body : List ℕ) (steps : List Step)
     → IsMade (plan_of c (source terms body)) steps → AreJoins IsNever steps
 source_joins c terms body steps made =
     joins_made IsNever (plan_of c (source terms body)) steps

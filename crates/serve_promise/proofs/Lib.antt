@@ -2,3 +2,5 @@ pub mod StepLemmas
 pub mod ClosesLemmas
 pub mod SameLemmas
 pub mod FrameLemmas
+pub mod FirstLemmas
+pub mod LinkLemmas

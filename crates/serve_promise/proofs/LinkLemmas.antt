@@ -1,0 +1,296 @@
+-- A link that was served is promised.
+use Rattle.std.proofs.Common.{◌≡◌, ◌∙◌, ◌⊎◌, ◌++◌, ℕ, Bool, true, false, IsTrue, List, [], ◌∷◌, reverse, All, Option, None, Some, inl, inr, refl, sym, ap, subst, append_assoc}
+use Rattle.std.specs.Prelude.{◌||◌, ◌&&◌, unwrap_or, is_some}
+use Rattle.std.proofs.lemmas.Bool.{and_parts}
+use Rattle.std.proofs.lemmas.List.{reverse-reverse}
+use Rattle.std.proofs.lemmas.Grind.{fold-append}
+use Rattle.std.proofs.lemmas.List.Concat.{flat_map-append}
+use Rattle.std.proofs.lemmas.List.Elements.{filter-append}
+use Rattle.cast_io.specs.declared.steps.Step.{Step as LinkStep}
+use Rattle.turn_log.specs.History.{History}
+use Rattle.mount_ring.specs.declared.call.RingCall.{RingCall}
+use Rattle.rover_cursor.specs.declared.segment.Segment.{Segment}
+use Rattle.session_calls.specs.Steps.{Step}
+use Rattle.session_calls.specs.Plans.{IsMade, IsBegun}
+use Rattle.session_calls.proofs.PlanLemmas.{made_begun}
+use Rattle.rover_session.specs.Body.{body_of}
+use Rattle.rover_session.specs.Made.{after_step, segments_after, owed_among, sent_in, overrun_in}
+use Rattle.ntrip_head.specs.declared.request.Version.TheVariants.{One}
+use Rattle.cast_config.specs.declared.config.Config.{Config}
+use Rattle.session_core.specs.declared.ending.Ending.{Ending}
+use Rattle.session_core.specs.declared.ending.Last.{Last}
+use Rattle.session_core.specs.declared.ending.Last.TheVariants as lasts
+use Rattle.session_core.specs.declared.report.Receipt.{Receipt}
+use Rattle.session_core.specs.Called.{Called, is_halt}
+use Rattle.session_core.specs.Endings.{ended_last}
+use Rattle.session_core.specs.Headings.{Heading}
+use Rattle.session_core.specs.Judged.{Opening, Judged, judged}
+use Rattle.session_core.specs.Owed.{Received, unasked, claimed, taken, entered, full, received, plan_of, closing}
+use Rattle.session_core.specs.Promises.{IsSoundIn}
+use Rattle.session_core.specs.Replies.{opening_text, reply_of, version_of, kept_frames, sent_by}
+use Rattle.session_core.specs.Reports.{IsHeadingOf, is_entered}
+use Rattle.session_core.specs.Run.{Histories, Connected}
+use Rattle.session_core.specs.Standing.{IsMadeBy, IsSentBy, IsSettled, ending_by, is_halted, is_uncalled, is_halted_uncalled}
+use Rattle.session_core.proofs.GoodLemmas.{good_closing}
+use Rattle.session_core.proofs.KeepLemmas.{AllSound, all_later}
+use Rattle.caster_replay.proofs.WorldClosedLemmas.{received_closed}
+use Rattle.caster_serve.specs.Courses.{happened, steps_of, text_of}
+use Rattle.caster_serve.specs.Links.{is_torn}
+use Rattle.caster_serve.specs.Served.{LinkGoes, IsJudged}
+use Rattle.caster_serve.proofs.CalledLemmas.{called_both}
+use Rattle.run_promise.specs.Calls.{Call, is_no_read, without_reads}
+use Rattle.run_promise.specs.Promised.{Was}
+use Rattle.run_promise.proofs.MadeLemmas.{AreAnswered, answered-append, StepsOn, on-append, owed_on}
+use Rattle.run_promise.proofs.CallLemmas.{call_in, calls_of, same_at, same_segments, same_reads}
+use Rattle.run_promise.proofs.OwedLemmas.{on_front}
+use Rattle.run_promise.proofs.AccountLemmas.{Facts, told_with, was_so, sent_so, overrun_so, all_reversed}
+use Rattle.serve_promise.specs.Links.{bytes_in, AllFrames, GoOnTo, AreCallsBetween, IsJudgedBy, told_as, IsLinkKept}
+use Rattle.serve_promise.proofs.StepLemmas.{given_is, called_answered, good_owed, ran_on}
+use Rattle.serve_promise.proofs.ClosesLemmas.{Closes, closes_so, closing_closers, closers_front, closers_still, unasked_none}
+use Rattle.serve_promise.proofs.SameLemmas.{Same, was_same}
+use Rattle.serve_promise.proofs.FrameLemmas.{keeps_so, all_count, later_so, frames_later}
+use Rattle.serve_promise.proofs.FirstLemmas.{first_so}
+
+-- ---- whether it was halted
+
+last_goes : (last : Last) (by : Received) → false ≡ is_halt (ended_last last by)
+last_goes lasts.End unasked = refl
+last_goes lasts.End (claimed claim) = refl
+last_goes lasts.End (taken caller claim) = refl
+last_goes lasts.End entered = refl
+last_goes lasts.End (full busy cap) = refl
+last_goes lasts.ReadFault by = refl
+last_goes lasts.WriteFault by = refl
+
+halt_same : (ended : Option Ending) (last : Last) (steps : List Step)
+    → is_halted ended ≡ is_halt (ending_by ended last steps)
+halt_same None last steps = last_goes last (received steps)
+halt_same (Some end) last steps = refl
+
+or_cases : (a b : Bool) → (a || b) ≡ true → (a ≡ true) ⊎ (b ≡ true)
+or_cases true b is = inl refl
+or_cases false b is = inr is
+
+uncalled_none : (steps : List Step) → is_uncalled steps ≡ true → steps ≡ []
+uncalled_none [] is = refl
+uncalled_none (step ∷ steps) is = absurd cc
+
+-- ---- all that it called, with what was refused at its closing
+
+module _ (c : Config) (j : Judged) (steps closed_by : List Step) (settled : Bool)
+    (is : Closes c j steps closed_by settled) where
+  abbrev last_all : List Step
+  last_all = closed_by ++ is.extra
+
+  all_on : StepsOn [] steps → StepsOn [] (steps ++ last_all)
+  all_on on =
+      on-append [] steps last_all on
+      (owed_on (segments_after [] steps) last_all
+      (good_owed (closing j steps) last_all (good_closing j (received steps) (segments_after [] steps))
+      (made_begun (closing j steps) last_all is.is_made)))
+
+  called_on : StepsOn [] steps → StepsOn [] (steps ++ closed_by)
+  called_on on =
+      on_front [] (steps ++ closed_by) is.extra
+      (subst (StepsOn []) (sym (append_assoc steps closed_by is.extra)) (all_on on))
+
+  all_still : segments_after [] (steps ++ last_all) ≡ segments_after [] steps
+  all_still = fold-append after_step [] steps last_all
+      ∙ closers_still c (segments_after [] steps) last_all is.answered
+      (closing_closers j steps last_all is.is_made)
+
+  called_still : AreAnswered c closed_by → segments_after [] (steps ++ closed_by) ≡ segments_after [] steps
+  called_still answered =
+      fold-append after_step [] steps closed_by
+      ∙ closers_still c (segments_after [] steps) closed_by answered
+      (closers_front closed_by is.extra (closing_closers j steps last_all is.is_made))
+
+  calls_split : without_reads (calls_of (steps ++ last_all))
+      ≡ without_reads (calls_of (steps ++ closed_by)) ++ without_reads (calls_of is.extra)
+  calls_split =
+      ap (λ (l : List Step). without_reads (calls_of l)) (sym (append_assoc steps closed_by is.extra))
+      ∙ ap without_reads (flat_map-append call_in (steps ++ closed_by) is.extra)
+      ∙ filter-append (λ (one : Call). is_no_read one.asked) (calls_of (steps ++ closed_by)) (calls_of is.extra)
+
+-- ---- one that was not halted
+
+whole_so : (c : Config) (histories : List (History RingCall)) (opening : Opening) (me : ℕ) (j : Judged)
+    (steps closed_by : List Step) (last : Last) (receipt : Receipt) (due : List ℕ)
+    (is : Closes c j steps closed_by receipt.settled) → AreAnswered c steps → StepsOn [] steps
+    → IsMade (plan_of c j) (owed_among steps) → AllFrames histories
+    → AllSound c histories (segments_after [] steps) → receipt.segments ≡ reverse (segments_after [] steps)
+    → receipt.entered ≡ is_entered (received steps)
+    → due ≡ sent_by c histories opening j (received steps) (reverse (segments_after [] steps))
+    → Was c histories (told_as me receipt due) (opening_text c opening) []
+    (without_reads (calls_of (steps ++ closed_by)) ++ without_reads (calls_of is.extra)) j
+whole_so c histories opening me j steps closed_by last receipt due is answered on plan frames sound segments
+    entered_is due_is =
+    let closers : List Step = closed_by ++ is.extra in
+    let still = all_still c j steps closed_by receipt.settled is in
+    let by : received (steps ++ closers) ≡ received steps = received_closed j steps closers is.is_made in
+    let h : Histories = record { rings = histories; book = [] } in
+    let d : Connected = record {
+      number = me;
+      opening = opening;
+      text = [];
+      steps = steps ++ closers;
+      closed = Some last;
+    } in
+    let facts : Facts c h d j [] = record {
+      answered = answered-append c steps closers answered is.answered;
+      on = all_on c j steps closed_by receipt.settled is on;
+      first = steps;
+      last = closers;
+      split = refl;
+      made = plan;
+      closed = is.is_made;
+      whole = inl refl;
+      keeps = keeps_so c histories d frames (subst (AllSound c histories) (sym still) sound);
+    } in
+    let same : Same (told_with c h d j) (told_as me receipt due) = record {
+      bytes = ap (λ (r : Received). sent_by c histories opening j r (reverse (segments_after [] (steps ++ closers))))
+          by
+          ∙ ap (λ (l : List Segment). sent_by c histories opening j (received steps) (reverse l)) still
+          ∙ sym due_is;
+      entered = ap is_entered by ∙ sym entered_is;
+      segments = ap reverse still ∙ sym segments;
+    } in
+    subst (λ (l : List Call). Was c histories (told_as me receipt due) (opening_text c opening) [] l j)
+    (calls_split c j steps closed_by receipt.settled is)
+    (was_same c histories (told_with c h d j) (told_as me receipt due) (opening_text c opening) []
+    (without_reads (calls_of (steps ++ closers))) same j (was_so c h d j [] facts))
+
+-- ---- the whole
+
+module _ (c : Config) (opening : Opening) (me : ℕ) (start now : Histories) (took : List LinkStep)
+    (written : List ℕ) (last : Last) (receipt : Receipt) (histories : List (History RingCall))
+    (goes : LinkGoes c opening me start now took written last receipt) (on_to : GoOnTo now.rings histories)
+    (frames : AllFrames histories) where
+  abbrev steps : List Step
+  steps = steps_of goes.events
+
+  abbrev segments : List Segment
+  segments = segments_after [] steps
+
+  text_is : text_of (happened goes.events) ≡ bytes_in took
+  text_is = given_is (is_some goes.ended) (happened goes.events) goes.missing took goes.left_out goes.split
+
+  answered : AreAnswered c steps
+  answered = called_answered c start goes.between me steps goes.called
+
+  closed_answered : AreAnswered c goes.closed_by
+  closed_answered = called_answered c goes.between now me goes.closed_by goes.closed
+
+  on : StepsOn [] steps
+  on = ran_on c opening (is_halted goes.ended) goes.events goes.ran
+
+  closes : Closes c goes.j steps goes.closed_by receipt.settled
+  closes = closes_so c me now goes.j steps goes.closed_by receipt.settled closed_answered goes.settled
+
+  sound_back : AllSound c now.rings (reverse segments)
+  sound_back = subst (AllSound c now.rings) goes.receipt_is.segments goes.sound
+
+  sound : AllSound c histories segments
+  sound = all_later c now.rings histories segments (later_so now.rings histories on_to)
+      (subst (AllSound c now.rings) (reverse-reverse segments)
+      (all_reversed (IsSoundIn c now.rings) (reverse segments) sound_back))
+
+  abbrev due : List ℕ
+  due = sent_by c histories opening goes.j (received steps) (reverse segments)
+
+  due_now : sent_by c now.rings opening goes.j (received steps) (reverse segments) ≡ due
+  due_now = ap (λ (f : List (List ℕ)). opening_text c opening ++ reply_of c goes.j (received steps)
+      ++ body_of (unwrap_or (version_of goes.j) One) f)
+      (sym (frames_later c now.rings histories (reverse segments) (later_so now.rings histories on_to) sound_back))
+
+  halt_is : is_halted goes.ended ≡ is_halt receipt.ending
+  halt_is = halt_same goes.ended last steps ∙ ap is_halt (sym goes.receipt_is.ending)
+
+  all_calls : AreCallsBetween c start.rings now.rings me (calls_of (steps ++ goes.closed_by))
+  all_calls mount =
+      let called : Called c false start now me (steps ++ goes.closed_by) =
+      called_both c start goes.between now me steps goes.closed_by goes.called goes.closed in
+      let heard = called.rings.rings mount in
+      (heard.more, heard.seen, heard.mine ∙ sym (same_at mount (steps ++ goes.closed_by)))
+
+  -- where it called nothing, nothing was to be closed
+  none_called : steps ≡ [] → calls_of (steps ++ goes.closed_by) ≡ []
+  none_called none =
+      ap (λ (l : List Step). calls_of (l ++ goes.closed_by)) none
+      ∙ ap calls_of (unasked_none receipt.settled goes.j [] goes.closed_by
+      (subst (λ (l : List Step). IsSettled receipt.settled (closing goes.j l) goes.closed_by) none goes.settled))
+
+  none_entered : steps ≡ [] → receipt.entered ≡ false
+  none_entered none = goes.receipt_is.entered ∙ ap (λ (l : List Step). is_entered (received l)) none
+
+  why_cut : (is_halted_uncalled goes.ended steps || is_torn last) ≡ true
+      → (is_torn last ≡ true)
+      ⊎ ((is_halt receipt.ending ≡ true) × (receipt.entered ≡ false)
+      × (calls_of (steps ++ goes.closed_by) ≡ []))
+  why_cut is = elim (or_cases (is_halted_uncalled goes.ended steps) (is_torn last) is) [
+    | inl uncalled ↦
+        let both = and_parts (is_halted goes.ended) (is_uncalled steps) uncalled in
+        let none : steps ≡ [] = uncalled_none steps both.1 in
+        inr (sym halt_is ∙ both.0, none_entered none, none_called none)
+    | inr torn ↦ inl torn
+  ]
+
+  judged_so : IsJudgedBy c opening (bytes_in took) receipt (without_reads (calls_of (steps ++ goes.closed_by))) goes.j
+  judged_so = elim goes.judged_is [
+    | inl (heading, is, same) ↦ inl (
+      heading,
+      subst (λ (text : List ℕ). IsHeadingOf (Some opening) text heading) text_is is,
+      same ∙ ap (judged c opening heading) text_is,
+    )
+    | inr (ended, none, same) ↦ inr (
+      goes.receipt_is.ending ∙ ap (λ (e : Option Ending). ending_by e last steps) ended,
+      none_entered none,
+      ap without_reads (none_called none),
+      same,
+    )
+  ]
+
+  pub link_kept : IsLinkKept c opening me start.rings now.rings histories (bytes_in took) written last receipt
+  link_kept =
+      let all : List Step = steps ++ goes.closed_by in
+      let told = goes.receipt_is in
+      record {
+        calls = calls_of all;
+        all_calls = all_calls;
+        read_on = same_reads [] all (called_on c goes.j steps goes.closed_by receipt.settled closes on);
+        segments = told.segments
+            ∙ ap reverse (sym (same_segments [] all
+            ∙ called_still c goes.j steps goes.closed_by receipt.settled closes closed_answered));
+        sent = told.sent ∙ sent_so segments ∙ ap sent_in (sym told.segments);
+        overrun = told.overrun ∙ overrun_so segments ∙ ap overrun_in (sym told.segments);
+        sound = subst (AllSound c histories) (sym told.segments)
+            (all_reversed (IsSoundIn c histories) segments sound);
+        counts = all_count c histories receipt.segments
+            (subst (AllSound c histories) (sym told.segments)
+            (all_reversed (IsSoundIn c histories) segments sound));
+        j = goes.j;
+        judged_is = judged_so;
+        due = due;
+        cut_off = is_halted_uncalled goes.ended steps || is_torn last;
+        why = why_cut;
+        written_is = subst (IsSentBy (is_halted_uncalled goes.ended steps || is_torn last) written) due_now goes.bytes;
+        kept_back = without_reads (calls_of closes.extra);
+        settled = λ is. ap (λ (l : List Step). without_reads (calls_of l)) (closes.settled_none is);
+        releases = closes.releases;
+        was = λ goes_on.
+            whole_so c histories opening me goes.j steps goes.closed_by last receipt due closes answered on
+            (subst (λ (b : Bool). IsMadeBy b (plan_of c goes.j) (owed_among steps)) (halt_is ∙ goes_on) goes.owes)
+            frames sound told.segments told.entered refl;
+        first = λ halted.
+            first_so c histories opening me goes.j steps goes.closed_by receipt due (record {
+              answered = answered;
+              on = on;
+              begun = subst (λ (b : Bool). IsMadeBy b (plan_of c goes.j) (owed_among steps)) (halt_is ∙ halted)
+                  goes.owes;
+              settled = goes.settled;
+              segments = told.segments;
+              entered = told.entered;
+              due_is = refl;
+              keeps = keeps_so c histories _ frames sound;
+            });
+      }
