@@ -4,3 +4,4 @@ pub mod SameLemmas
 pub mod FrameLemmas
 pub mod FirstLemmas
 pub mod LinkLemmas
+pub mod CallerLemmas
