@@ -1,5 +1,5 @@
 -- Each caller of a caster served links that are promised, and whole frames alone were published.
-use Rattle.std.proofs.Common.{◌≡◌, ◌≤◌, ◌<◌, ◌∙◌, ◌⊎◌, ◌++◌, ◌+◌, ℕ, zero, suc, Bool, true, false, cond, IsTrue, List, [], ◌∷◌, length, map, fold, All, Ok, inl, inr, refl, sym, ap, subst, eqb, eq-eqb, append_assoc, arith}
+use Rattle.std.proofs.Common.{◌≡◌, ◌≤◌, ◌<◌, ◌∙◌, ◌++◌, ◌+◌, ℕ, zero, suc, Bool, true, false, cond, IsTrue, List, [], ◌∷◌, length, fold, All, Ok, inl, inr, refl, sym, ap, subst, eqb, eq-eqb, append_assoc, arith}
 use Rattle.std.specs.Prelude.{⊤}
 use Rattle.std.proofs.lemmas.Bool.{cases_lt}
 use Rattle.std.proofs.lemmas.List.{append-nil, get_or_past, length-map}
@@ -14,12 +14,10 @@ use Rattle.turn_log.proofs.HeardLaws.{calls_told}
 use Rattle.turn_log.proofs.HistoryLaws.{own-append}
 use Rattle.mount_ring.specs.declared.call.RingCall.{RingCall}
 use Rattle.mount_ring.specs.declared.call.RingCall.TheVariants.{Claim, Release, Publish, Join, Look, Read}
-use Rattle.mount_ring.specs.declared.call.RingAnswer.{RingAnswer}
 use Rattle.mount_ring.specs.Places.{frames_of, published_by}
 use Rattle.mount_ring.proofs.HistoryLemmas.{published-append}
-use Rattle.rover_cursor.specs.Told.{published_in}
 use Rattle.session_calls.specs.Steps.{Ask, to_ring, to_book, Step, at_ring, at_book, ask_of, answer_of, on_ring}
-use Rattle.session_calls.specs.Plans.{Plan, done, asks, IsMade, IsBegun}
+use Rattle.session_calls.specs.Plans.{Plan, done, asks, IsBegun}
 use Rattle.session_calls.specs.Rings.{history_at, answer_at}
 use Rattle.session_calls.proofs.PlanLemmas.{made_begun}
 use Rattle.rover_session.specs.Made.{segments_after, owed_among}
@@ -28,24 +26,22 @@ use Rattle.cast_config.specs.declared.config.Mount.{Mount}
 use Rattle.session_core.specs.declared.report.Closed.{Closed}
 use Rattle.session_core.specs.Setting.{shapes}
 use Rattle.session_core.specs.Called.{Called}
-use Rattle.session_core.specs.Judged.{Opening, Judged, sends_head, relays}
+use Rattle.session_core.specs.Judged.{Opening, sends_head, relays}
 use Rattle.session_core.specs.Owed.{received, plan_of, closing}
 use Rattle.session_core.specs.Run.{Histories, nothing_called}
 use Rattle.session_core.specs.Standing.{IsMadeBy, IsSettled, is_halted}
-use Rattle.session_core.proofs.GoodLemmas.{IsGoodCall, IsGoodAsk, IsGood, good_plan, good_closing}
+use Rattle.session_core.proofs.GoodLemmas.{IsGoodAsk, IsGood, good_plan, good_closing}
 use Rattle.caster_street.specs.Ends.{EndTold, at_door, over_link, IsUnused}
-use Rattle.caster_places.specs.Piles.{IsWhole}
 use Rattle.caster_places.specs.Rows.{AreWhole}
 use Rattle.caster_places.specs.Rows as rows
 use Rattle.caster_serve.specs.Courses.{steps_of}
-use Rattle.caster_serve.specs.Served.{LinkGoes}
 use Rattle.caster_serve.specs.Wear.{Wear, only_worn}
-use Rattle.caster_serve.specs.Works.{Record, RecordGoes, Followed, RelayGoes, IsTold, links_of, receipts_of, tallied}
-use Rattle.caster_serve.specs.Callers.{Caller, ServedOver, IsServed, AreServed, uncalled, calls_in as call_counts, ends_of, seen_of}
-use Rattle.caster_serve.specs.Caster.{AllServed, ClosedWhole, HasServed}
+use Rattle.caster_serve.specs.Works.{Record, RecordGoes, Followed, links_of, receipts_of, tallied}
+use Rattle.caster_serve.specs.Callers.{Caller, ServedOver, IsServed, AreServed, uncalled, calls_in as call_counts, seen_of}
+use Rattle.caster_serve.specs.Caster.{AllServed, HasServed}
 use Rattle.run_promise.proofs.RunLemmas.{nothing_at}
 use Rattle.serve_promise.specs.Links.{AllFrames, GoOnTo}
-use Rattle.serve_promise.specs.Callers.{IsEntryKept, AreKeptInTurn, opening_at, AreLinksAt, IsCallerKept, AreCallersKept, AllKept, AllPromised}
+use Rattle.serve_promise.specs.Callers.{IsEntryKept, AreKeptInTurn, opening_at, AreLinksAt, AreCallersKept, AllKept, AllPromised}
 use Rattle.serve_promise.proofs.LinkLemmas.{link_kept}
 
 -- ---- a caller publishes whole frames alone
@@ -264,10 +260,10 @@ over_kept c limit me wear (over_link number before) (over_link now after) old ne
       links = refl;
       in_turn = subst (λ (n : ℕ).
           AreKeptInTurn c (relays n) me histories (entry ∷ []) old.seen.rings new.seen.rings) (sym is.0) (
-        new.seen.rings,
-        entry_kept c (relays number) me wear entry old.seen new.seen histories is.1.goes on_to frames,
-        refl,
-      );
+            new.seen.rings,
+            entry_kept c (relays number) me wear entry old.seen new.seen histories is.1.goes on_to frames,
+            refl,
+          );
       tally = is.1.tally;
     }
 

@@ -20,17 +20,15 @@ use Rattle.rover_session.specs.Owed.{rover_plan}
 use Rattle.rover_session.proofs.MadeLemmas.{owed-append}
 use Rattle.ntrip_head.specs.declared.request.Version.{Version}
 use Rattle.ntrip_head.specs.declared.request.Version.TheVariants.{One}
-use Rattle.ntrip_reply.specs.declared.kind.Reply.TheVariants as replies
 use Rattle.cast_config.specs.declared.config.Config.{Config}
-use Rattle.session_core.specs.declared.report.Connection.{Connection}
 use Rattle.session_core.specs.declared.report.Receipt.{Receipt}
 use Rattle.session_core.specs.Setting.{bases_at}
 use Rattle.session_core.specs.Judged.{Opening, SourceTerms, RoverTerms, Judged, waiting, refused, unanswered, table, source, rover}
-use Rattle.session_core.specs.Owed.{Received, unasked, claimed, taken, entered, full, received, received_by, terms_of, plan_of, closing, closing_by}
+use Rattle.session_core.specs.Owed.{Received, unasked, claimed, taken, entered, full, received, terms_of, plan_of, closing, closing_by}
 use Rattle.session_core.specs.Promises.{Keeps}
-use Rattle.session_core.specs.Replies.{text_if, opening_text, reply_of, kept_frames, sent_by}
+use Rattle.session_core.specs.Replies.{opening_text, reply_of, kept_frames, sent_by}
 use Rattle.session_core.specs.Reports.{is_entered}
-use Rattle.session_core.specs.Run.{Connected, nothing_called, made}
+use Rattle.session_core.specs.Run.{nothing_called, made}
 use Rattle.session_core.specs.Standing.{IsSettled}
 use Rattle.run_promise.specs.Calls.{Call, call, without_reads}
 use Rattle.run_promise.specs.Selected.{Selects}
@@ -297,11 +295,13 @@ module _ (c : Config) (histories : List (History RingCall)) (opening : Opening) 
       ap calls_of rest ∙ flat_map-append call_in more all.more
       ∙ ap (λ (l : List Call). l ++ calls_of all.more) (sym calls) in
       let joins : AreJoins (IsFilter group) (owed_among steps) =
-      subst (AreJoins (IsFilter group)) (sym owed_is)
-      (tt, joins_front (IsFilter group) more all.more
-      (subst (AreJoins (IsFilter group)) rest
-      (joins_made (IsFilter group) plan e.rest
-      (plan_such terms.admission.near (terms_of c terms.admission) told) e.made))) in
+      subst (AreJoins (IsFilter group)) (sym owed_is) (
+        tt,
+        joins_front (IsFilter group) more all.more
+            (subst (AreJoins (IsFilter group)) rest
+            (joins_made (IsFilter group) plan e.rest
+            (plan_such terms.admission.near (terms_of c terms.admission) told) e.made)),
+      ) in
       record {
         entered = p.entered ∙ ap is_entered by;
         missing = calls_of all.more;

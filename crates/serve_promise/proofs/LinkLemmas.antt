@@ -1,6 +1,6 @@
 -- A link that was served is promised.
-use Rattle.std.proofs.Common.{◌≡◌, ◌∙◌, ◌⊎◌, ◌++◌, ℕ, Bool, true, false, IsTrue, List, [], ◌∷◌, reverse, All, Option, None, Some, inl, inr, refl, sym, ap, subst, append_assoc}
-use Rattle.std.specs.Prelude.{◌||◌, ◌&&◌, unwrap_or, is_some}
+use Rattle.std.proofs.Common.{◌≡◌, ◌∙◌, ◌⊎◌, ◌++◌, ℕ, Bool, true, false, List, [], ◌∷◌, reverse, Option, None, Some, inl, inr, refl, sym, ap, subst, append_assoc}
+use Rattle.std.specs.Prelude.{◌||◌, unwrap_or, is_some}
 use Rattle.std.proofs.lemmas.Bool.{and_parts}
 use Rattle.std.proofs.lemmas.List.{reverse-reverse}
 use Rattle.std.proofs.lemmas.Grind.{fold-append}
@@ -11,7 +11,7 @@ use Rattle.turn_log.specs.History.{History}
 use Rattle.mount_ring.specs.declared.call.RingCall.{RingCall}
 use Rattle.rover_cursor.specs.declared.segment.Segment.{Segment}
 use Rattle.session_calls.specs.Steps.{Step}
-use Rattle.session_calls.specs.Plans.{IsMade, IsBegun}
+use Rattle.session_calls.specs.Plans.{IsMade}
 use Rattle.session_calls.proofs.PlanLemmas.{made_begun}
 use Rattle.rover_session.specs.Body.{body_of}
 use Rattle.rover_session.specs.Made.{after_step, segments_after, owed_among, sent_in, overrun_in}
@@ -23,11 +23,10 @@ use Rattle.session_core.specs.declared.ending.Last.TheVariants as lasts
 use Rattle.session_core.specs.declared.report.Receipt.{Receipt}
 use Rattle.session_core.specs.Called.{Called, is_halt}
 use Rattle.session_core.specs.Endings.{ended_last}
-use Rattle.session_core.specs.Headings.{Heading}
 use Rattle.session_core.specs.Judged.{Opening, Judged, judged}
 use Rattle.session_core.specs.Owed.{Received, unasked, claimed, taken, entered, full, received, plan_of, closing}
 use Rattle.session_core.specs.Promises.{IsSoundIn}
-use Rattle.session_core.specs.Replies.{opening_text, reply_of, version_of, kept_frames, sent_by}
+use Rattle.session_core.specs.Replies.{opening_text, reply_of, version_of, sent_by}
 use Rattle.session_core.specs.Reports.{IsHeadingOf, is_entered}
 use Rattle.session_core.specs.Run.{Histories, Connected}
 use Rattle.session_core.specs.Standing.{IsMadeBy, IsSentBy, IsSettled, ending_by, is_halted, is_uncalled, is_halted_uncalled}
@@ -36,7 +35,7 @@ use Rattle.session_core.proofs.KeepLemmas.{AllSound, all_later}
 use Rattle.caster_replay.proofs.WorldClosedLemmas.{received_closed}
 use Rattle.caster_serve.specs.Courses.{happened, steps_of, text_of}
 use Rattle.caster_serve.specs.Links.{is_torn}
-use Rattle.caster_serve.specs.Served.{LinkGoes, IsJudged}
+use Rattle.caster_serve.specs.Served.{LinkGoes}
 use Rattle.caster_serve.proofs.CalledLemmas.{called_both}
 use Rattle.run_promise.specs.Calls.{Call, is_no_read, without_reads}
 use Rattle.run_promise.specs.Promised.{Was}

@@ -1,5 +1,5 @@
 -- What a connection was is said of its bytes, of its segments and of whether it entered alone.
-use Rattle.std.proofs.Common.{◌≡◌, ◌∙◌, ◌⊎◌, ◌++◌, ℕ, false, List, [], All, inl, inr, refl, sym, ap, subst}
+use Rattle.std.proofs.Common.{◌≡◌, ◌∙◌, ℕ, List, [], All, inl, inr, sym, subst}
 use Rattle.std.specs.Prelude.{unwrap_or}
 use Rattle.turn_log.specs.History.{History}
 use Rattle.mount_ring.specs.declared.call.RingCall.{RingCall}

@@ -10,9 +10,8 @@ use Rattle.turn_log.specs.History.{History}
 use Rattle.turn_log.specs.Heard.{told}
 use Rattle.mount_ring.specs.declared.call.RingCall.{RingCall}
 use Rattle.mount_ring.specs.declared.call.RingCall.TheVariants.{Claim, Release, Publish, Join, Look, Read}
-use Rattle.mount_ring.specs.declared.call.RingAnswer.{RingAnswer}
 use Rattle.rover_cursor.specs.declared.segment.Segment.{Segment}
-use Rattle.session_calls.specs.Steps.{Ask, Step, at_ring, at_book, ask_of, answer_of, ring_part, on_ring, on_book}
+use Rattle.session_calls.specs.Steps.{Step, at_ring, at_book, ask_of, answer_of, ring_part, on_ring, on_book}
 use Rattle.session_calls.specs.Plans.{Plan, done, asks, IsBegun}
 use Rattle.session_calls.specs.Rings.{history_at, answer_at}
 use Rattle.session_calls.proofs.PlanLemmas.{made_begun}

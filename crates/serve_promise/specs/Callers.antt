@@ -1,5 +1,5 @@
 -- What is promised of all links that a caster served, by one history for each mountpoint.
-use Rattle.std.specs.Prelude.{◌≡◌, ℕ, ◌+◌, ◌<◌, ⊤, IsTrue, List, [], ◌∷◌, length, map, fold, Option, Some}
+use Rattle.std.specs.Prelude.{◌≡◌, ℕ, ◌+◌, ◌<◌, ⊤, IsTrue, List, [], ◌∷◌, length, map, fold}
 use Rattle.std.specs.List.{All, list_all}
 use Rattle.cast_io.specs.declared.steps.Step.{Step}
 use Rattle.cast_io.specs.Told.{StreetTold}
@@ -10,7 +10,6 @@ use Rattle.session_calls.specs.Rings.{history_at}
 use Rattle.cast_config.specs.declared.config.Config.{Config}
 use Rattle.session_core.specs.declared.ending.Last.{Last}
 use Rattle.session_core.specs.declared.report.Closed.{Closed}
-use Rattle.session_core.specs.declared.report.Receipt.{Receipt}
 use Rattle.session_core.specs.Judged.{Opening, sends_head, relays}
 use Rattle.session_core.specs.Reports.{added, mount_total}
 use Rattle.session_core.specs.Run.{nothing_called}

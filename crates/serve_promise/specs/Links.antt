@@ -1,6 +1,6 @@
 -- What is promised of one link that a caster served: of its calls, its segments, its frames and its
 -- bytes, by what came in on it and by the histories that it left.
-use Rattle.std.specs.Prelude.{◌≡◌, ℕ, ◌⊎◌, ⊤, Bool, true, false, IsTrue, List, [], ◌∷◌, ◌++◌, reverse, option_to_list, unwrap_or, Some}
+use Rattle.std.specs.Prelude.{◌≡◌, ℕ, ◌⊎◌, Bool, true, false, IsTrue, List, [], ◌∷◌, ◌++◌, reverse, option_to_list, unwrap_or, Some}
 use Rattle.std.specs.List.{All, flat_map}
 use Rattle.rtcm_frame.specs.Transport.{is_frame}
 use Rattle.rtcm_frame.specs.Cut.{cut}
@@ -25,7 +25,7 @@ use Rattle.session_core.specs.declared.report.Connection.{Connection}
 use Rattle.session_core.specs.declared.report.Receipt.{Receipt}
 use Rattle.session_core.specs.Called.{is_halt}
 use Rattle.session_core.specs.Headings.{Heading}
-use Rattle.session_core.specs.Judged.{Opening, SourceTerms, RoverTerms, Judged, waiting, refused, unanswered, table, source, rover, judged}
+use Rattle.session_core.specs.Judged.{Opening, SourceTerms, RoverTerms, Judged, waiting, source, rover, judged}
 use Rattle.session_core.specs.Promises.{IsSoundIn, CountsAll}
 use Rattle.session_core.specs.Replies.{text_if, opening_text, kept_frames}
 use Rattle.session_core.specs.Reports.{IsHeadingOf}
