@@ -182,18 +182,20 @@ record_fits c opening me wear entry start now is =
     (settled_fit entry.receipt.settled (closing goes.j steps) goes.closed_by
     (good_closing goes.j (received steps) (segments_after [] steps)) goes.settled))
 
-entry_kept : (c : Config) (opening : Opening) (me : ℕ) (wear : Wear) (entry : Record) (start now : Histories)
-    (histories : List (History RingCall)) → RecordGoes c opening me wear entry start now
-    → GoOnTo now.rings histories → AllFrames histories
+entry_kept : (c : Config) (opening : Opening) (me : ℕ) (entry : Record) (start now : Histories)
+    (histories : Histories) → RecordGoes c opening me (only_worn (call_counts histories)) entry start now
+    → GoOnTo now.rings histories.rings → AllFrames histories.rings
     → IsEntryKept c opening me start.rings now.rings histories entry
-entry_kept c opening me wear entry start now histories is on_to frames = record {
+entry_kept c opening me entry start now histories is on_to frames = record {
   taken = is.taken;
   written = is.written;
   taken_is = is.taken_is;
   bytes_is = is.bytes_is;
   last = is.last;
   caused = is.caused;
-  kept = link_kept c opening me start now is.taken is.written is.last entry.receipt histories is.goes on_to frames;
+  refused = is.refused;
+  kept = link_kept c opening me start now is.taken is.written is.last entry.receipt histories.rings is.goes on_to
+      frames;
 }
 
 -- ---- the links of a caller
@@ -206,17 +208,18 @@ followed_fits c me wear (entry ∷ entries) start now is =
     fits_both me start.rings is.0.rings now.rings (record_fits c sends_head me wear entry start is.0 is.1)
     (followed_fits c me wear entries is.0 now is.2)
 
-followed_kept : (c : Config) (me : ℕ) (wear : Wear) (entries : List Record) (start now : Histories)
-    (histories : List (History RingCall)) → Followed c me wear entries start now → GoOnTo now.rings histories
-    → AllFrames histories → AreKeptInTurn c sends_head me histories entries start.rings now.rings
-followed_kept c me wear [] start now histories same on_to frames = ap (λ (h : Histories). h.rings) same
-followed_kept c me wear (entry ∷ entries) start now histories is on_to frames = (
-  is.0.rings,
-  entry_kept c sends_head me wear entry start is.0 histories is.1
-      (goes_both is.0.rings now.rings histories
-      (fits_goes me is.0.rings now.rings (followed_fits c me wear entries is.0 now is.2)) on_to) frames,
-  followed_kept c me wear entries is.0 now histories is.2 on_to frames,
-)
+followed_kept : (c : Config) (me : ℕ) (entries : List Record) (start now : Histories) (histories : Histories)
+    → Followed c me (only_worn (call_counts histories)) entries start now → GoOnTo now.rings histories.rings
+    → AllFrames histories.rings → AreKeptInTurn c sends_head me histories entries start.rings now.rings
+followed_kept c me [] start now histories same on_to frames = ap (λ (h : Histories). h.rings) same
+followed_kept c me (entry ∷ entries) start now histories is on_to frames =
+    let wear : Wear = only_worn (call_counts histories) in (
+      is.0.rings,
+      entry_kept c sends_head me entry start is.0 histories is.1
+          (goes_both is.0.rings now.rings histories.rings
+          (fits_goes me is.0.rings now.rings (followed_fits c me wear entries is.0 now is.2)) on_to) frames,
+      followed_kept c me entries is.0 now histories is.2 on_to frames,
+    )
 
 over_fits : (c : Config) (limit me : ℕ) (wear : Wear) (before after : EndTold) (old new : Caller)
     → ServedOver c limit me wear before after old new → FitsOn me old.seen.rings new.seen.rings
@@ -228,42 +231,41 @@ over_fits c limit me wear (over_link number before) (over_link now after) old ne
     record_fits c (relays number) me wear (record { link = after; receipt = is.1.receipt }) old.seen new.seen is.1.goes
 
 -- what was served over this end
-record ServedLinks (c : Config) (histories : List (History RingCall)) (me : ℕ) (after : EndTold) (old new : Caller)
-    : Type 0 where
+record ServedLinks (c : Config) (histories : Histories) (me : ℕ) (after : EndTold) (old new : Caller) : Type 0 where
   entries : List Record
-  links : AreLinksAt after entries
+  links : AreLinksAt after new.served entries
   in_turn : AreKeptInTurn c (opening_at after) me histories entries old.seen.rings new.seen.rings
   tally : new.tally ≡ fold tallied old.tally (receipts_of entries)
 
-over_kept : (c : Config) (limit me : ℕ) (wear : Wear) (before after : EndTold) (old new : Caller)
-    (histories : List (History RingCall)) → ServedOver c limit me wear before after old new → IsUnused before
-    → GoOnTo new.seen.rings histories → AllFrames histories → ServedLinks c histories me after old new
-over_kept c limit me wear (at_door before) (at_door after) old new histories is unused on_to frames =
+over_kept : (c : Config) (limit me : ℕ) (before after : EndTold) (old new : Caller) (histories : Histories)
+    → ServedOver c limit me (only_worn (call_counts histories)) before after old new → IsUnused before
+    → GoOnTo new.seen.rings histories.rings → AllFrames histories.rings → ServedLinks c histories me after old new
+over_kept c limit me (at_door before) (at_door after) old new histories is unused on_to frames =
     let works = is.works in
     record {
       entries = works.entries;
-      links = λ list told.
-          let grew = works.back list told in
-          grew.2 ∙ ap (λ (l : List LinkTold). l ++ links_of works.entries) (unused.back grew.0 grew.1);
-      in_turn = followed_kept c me wear works.entries old.seen new.seen histories works.followed on_to frames;
+      links = (
+        λ list told.
+            let grew = works.back list told in
+            grew.2 ∙ ap (λ (l : List LinkTold). l ++ links_of works.entries) (unused.back grew.0 grew.1),
+        works.counted,
+      );
+      in_turn = followed_kept c me works.entries old.seen new.seen histories works.followed on_to frames;
       tally = works.tally;
     }
-over_kept c limit me wear (at_door before) (over_link number after) old new histories is unused on_to frames =
-    absurd is
-over_kept c limit me wear (over_link number before) (at_door after) old new histories is unused on_to frames =
-    absurd is
-over_kept c limit me wear (over_link number before) (over_link now after) old new histories is unused on_to
-    frames =
+over_kept c limit me (at_door before) (over_link number after) old new histories is unused on_to frames = absurd is
+over_kept c limit me (over_link number before) (at_door after) old new histories is unused on_to frames = absurd is
+over_kept c limit me (over_link number before) (over_link now after) old new histories is unused on_to frames =
     let entry : Record = record { link = after; receipt = is.1.receipt } in
     record {
       entries = entry ∷ [];
       links = refl;
       in_turn = subst (λ (n : ℕ).
           AreKeptInTurn c (relays n) me histories (entry ∷ []) old.seen.rings new.seen.rings) (sym is.0) (
-            new.seen.rings,
-            entry_kept c (relays number) me wear entry old.seen new.seen histories is.1.goes on_to frames,
-            refl,
-          );
+        new.seen.rings,
+        entry_kept c (relays number) me entry old.seen new.seen histories is.1.goes on_to frames,
+        refl,
+      );
       tally = is.1.tally;
     }
 
@@ -333,17 +335,17 @@ all_fit count (entry ∷ h) below each =
     (all_fit count h (All-tail (IsBelow count) entry h below)
     (λ me there. tail_fit (eqb entry.0 me) entry.1 (own me h) (each me there)))
 
-callers_kept : (c : Config) (limit : ℕ) (worn : List ℕ) (n : ℕ) (callers : List Caller)
-    (histories : List (History RingCall)) → AreServed c limit worn n callers
-    → ((mount : ℕ) → AreSeen n callers mount (history_at histories mount)) → AllFrames histories
+callers_kept : (c : Config) (limit n : ℕ) (callers : List Caller) (histories : Histories)
+    → AreServed c limit (call_counts histories) n callers
+    → ((mount : ℕ) → AreSeen n callers mount (history_at histories.rings mount)) → AllFrames histories.rings
     → AreCallersKept c histories n callers
-callers_kept c limit worn n [] histories served seen frames = tt
-callers_kept c limit worn n (caller ∷ callers) histories served seen frames =
+callers_kept c limit n [] histories served seen frames = tt
+callers_kept c limit n (caller ∷ callers) histories served seen frames =
     let is = served.0 in
-    let goes : (mount : ℕ) → GoesOn n (history_at caller.seen.rings mount) (history_at histories mount) =
-    λ mount. seen_first n caller callers mount (history_at histories mount) (seen mount) in
+    let goes : (mount : ℕ) → GoesOn n (history_at caller.seen.rings mount) (history_at histories.rings mount) =
+    λ mount. seen_first n caller callers mount (history_at histories.rings mount) (seen mount) in
     let all : ServedLinks c histories n caller.end (uncalled c is.end) caller =
-    over_kept c limit n (only_worn worn) is.end caller.end (uncalled c is.end) caller histories is.served is.unused
+    over_kept c limit n is.end caller.end (uncalled c is.end) caller histories is.served is.unused
     (λ mount. ((goes mount).0, (goes mount).1)) frames in (
       record {
         entries = all.entries;
@@ -352,8 +354,8 @@ callers_kept c limit worn n (caller ∷ callers) histories served seen frames =
         nothing_else = goes;
         tally = all.tally;
       },
-      callers_kept c limit worn (n + 1) callers histories served.1
-          (λ mount. seen_next n caller callers mount (history_at histories mount) (seen mount)) frames,
+      callers_kept c limit (n + 1) callers histories served.1
+          (λ mount. seen_next n caller callers mount (history_at histories.rings mount) (seen mount)) frames,
     )
 
 -- ---- where there is no such mountpoint
@@ -398,7 +400,7 @@ at_mount c limit worn callers histories served whole mount = elim (cases_lt moun
 ]
 
 pub all_kept : (c : Config) (limit : ℕ) (old new : StreetTold) (callers : List Caller) (histories : Histories)
-    → AllServed c limit old new callers histories → AllKept c old new callers histories.rings
+    → AllServed c limit old new callers histories → AllKept c old new callers histories
 all_kept c limit old new callers histories is =
     let worn : List ℕ = call_counts histories in
     let at = at_mount c limit worn callers histories is.served is.whole in
@@ -412,7 +414,7 @@ all_kept c limit old new callers histories is =
       given_back = is.given_back;
       one_each = is.whole.size;
       frames = frames;
-      kept = callers_kept c limit worn 0 callers histories.rings is.served (λ mount. (at mount).1) frames;
+      kept = callers_kept c limit 0 callers histories is.served (λ mount. (at mount).1) frames;
       nothing_else = λ mount. (at mount).0;
     }
 
@@ -422,9 +424,10 @@ all_promised c addr limit old new closed is =
     let ended = is.answered.ended in
     record {
       callers = ended.callers;
-      histories = ended.histories.rings;
+      histories = ended.histories;
       kept = all_kept c limit old new ended.callers ended.histories ended.all;
       whole = ended.whole;
       mounts = ap (λ (x : Closed). x.mounts) ended.closed_is;
+      accounts = ap (λ (x : Closed). x.accounts) ended.closed_is;
       total = ended.total;
     }

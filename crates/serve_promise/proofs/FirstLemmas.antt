@@ -20,19 +20,20 @@ use Rattle.rover_session.specs.Owed.{rover_plan}
 use Rattle.rover_session.proofs.MadeLemmas.{owed-append}
 use Rattle.ntrip_head.specs.declared.request.Version.{Version}
 use Rattle.ntrip_head.specs.declared.request.Version.TheVariants.{One}
+use Rattle.ntrip_reply.specs.declared.kind.Reply.TheVariants as replies
 use Rattle.cast_config.specs.declared.config.Config.{Config}
 use Rattle.session_core.specs.declared.report.Receipt.{Receipt}
 use Rattle.session_core.specs.Setting.{bases_at}
 use Rattle.session_core.specs.Judged.{Opening, SourceTerms, RoverTerms, Judged, waiting, refused, unanswered, table, source, rover}
 use Rattle.session_core.specs.Owed.{Received, unasked, claimed, taken, entered, full, received, terms_of, plan_of, closing, closing_by}
 use Rattle.session_core.specs.Promises.{Keeps}
-use Rattle.session_core.specs.Replies.{opening_text, reply_of, kept_frames, sent_by}
+use Rattle.session_core.specs.Replies.{text_if, opening_text, reply_of, kept_frames, sent_by}
 use Rattle.session_core.specs.Reports.{is_entered}
 use Rattle.session_core.specs.Run.{nothing_called, made}
 use Rattle.session_core.specs.Standing.{IsSettled}
 use Rattle.run_promise.specs.Calls.{Call, call, without_reads}
 use Rattle.run_promise.specs.Selected.{Selects}
-use Rattle.run_promise.specs.Promised.{Holds, asked, publishes, WasTaken}
+use Rattle.run_promise.specs.Promised.{Holds, IsReplied, asked, publishes, WasTaken}
 use Rattle.run_promise.proofs.MadeLemmas.{made_is, AreAnswered, answered-append, made_answered, StepsOn}
 use Rattle.run_promise.proofs.CallLemmas.{call_in, calls_of, same_owed}
 use Rattle.run_promise.proofs.WalkLemmas.{IsNever, AreJoins, joins_made, HasSuch, walk_keeps, none_such}
@@ -40,7 +41,7 @@ use Rattle.run_promise.proofs.SelectLemmas.{IsFilter, plan_made, plan_such}
 use Rattle.run_promise.proofs.SourceLemmas.{Given_, Taken_, source_made}
 use Rattle.run_promise.proofs.OwedLemmas.{answered_owed, received_owed, source_last, rover_last}
 use Rattle.run_promise.proofs.AccountLemmas.{carries_so, source_joins, HasEntry, IsFull, entry_made, holds_so, all_reversed}
-use Rattle.serve_promise.specs.Links.{HasEnteredFirst, HasClaimedFirst, WasFirst, told_as}
+use Rattle.serve_promise.specs.Links.{HasEnteredFirst, HasClaimedFirst, WasFirst, given_back, told_as}
 use Rattle.serve_promise.proofs.ClosesLemmas.{unasked_none}
 
 -- ---- the rest of a plan
@@ -169,6 +170,13 @@ module _ (c : Config) (histories : List (History RingCall)) (opening : Opening) 
       (none_such (segments_after [] steps) (such IsNever joins))
       ∙ append-nil (opening_text c opening ++ reply_of c j by)
 
+  none_first : owed_among steps ≡ []
+      → IsReplied (told_as me receipt due) (opening_text c opening) all_calls (reply_of c j unasked)
+  none_first none = (
+    none_called none,
+    reply_due unasked (received_is [] none) (subst (AreJoins IsNever) (sym none) tt),
+  )
+
 -- ---- a source
 
 module _ (c : Config) (histories : List (History RingCall)) (opening : Opening) (me : ℕ) (terms : SourceTerms)
@@ -189,10 +197,9 @@ module _ (c : Config) (histories : List (History RingCall)) (opening : Opening) 
 
   released_by : (settled : Bool) (claim : ℕ)
       → IsSettled settled (closing_by sourced (claimed claim) (segments_after [] steps)) closed_by
-      → (asked (calls_of (owed_among closed_by)) ≡ [])
-      ⊎ (asked (calls_of (owed_among closed_by)) ≡ (terms.mount, Release claim) ∷ [])
-  released_by true claim is = inr (source_last terms body claim (segments_after [] steps) closed_by is)
-  released_by false claim is = inl (ap (λ (l : List Step). asked (calls_of (owed_among l))) is)
+      → asked (calls_of (owed_among closed_by)) ≡ given_back settled terms.mount claim
+  released_by true claim is = source_last terms body claim (segments_after [] steps) closed_by is
+  released_by false claim is = ap (λ (l : List Step). asked (calls_of (owed_among l))) is
 
   claimed_first : Given_ terms.mount frames ((step ∷ more) ++ all.more)
       → HasClaimedFirst (told_as me receipt due) terms (opening_text c opening) body
@@ -220,12 +227,12 @@ module _ (c : Config) (histories : List (History RingCall)) (opening : Opening) 
         frames = split.0;
         missing = split.1;
         first = split.2;
-        back = asked (calls_of (owed_among closed_by));
-        released = released_by receipt.settled g.claim
-            (closes_by c histories opening me sourced steps closed_by receipt due p (claimed g.claim) by);
         published = map-append (λ (one : Call). (one.mount, one.asked)) (calls_of more)
             (calls_of (owed_among closed_by))
-            ∙ ap (λ (l : List (ℕ × RingCall)). l ++ asked (calls_of (owed_among closed_by))) split.3;
+            ∙ ap (λ (l : List (ℕ × RingCall)). l ++ asked (calls_of (owed_among closed_by))) split.3
+            ∙ ap (λ (l : List (ℕ × RingCall)). publishes terms.mount g.claim split.0 ++ l)
+            (released_by receipt.settled g.claim
+            (closes_by c histories opening me sourced steps closed_by receipt due p (claimed g.claim) by));
         bytes = reply_due c histories opening me sourced steps closed_by receipt due p (claimed g.claim) by joins;
       }
 
@@ -322,7 +329,9 @@ module _ (c : Config) (histories : List (History RingCall)) (opening : Opening) 
       }
 
   full_first : IsFull ((step ∷ more) ++ all.more)
-      → (receipt.entered ≡ false) × (without_reads (calls_of (steps ++ closed_by)) ≡ [])
+      → (receipt.entered ≡ false)
+      × IsReplied (told_as me receipt due) (opening_text c opening) (without_reads (calls_of (steps ++ closed_by)))
+      (text_if terms.version replies.Full [])
   full_first e =
       let first : step ≡ at_book e.call (Full e.busy e.cap) = let f = e.steps_are in cc in
       let rest : more ++ all.more ≡ [] = let f = e.steps_are in cc in
@@ -334,9 +343,13 @@ module _ (c : Config) (histories : List (History RingCall)) (opening : Opening) 
       let closed : closed_by ≡ [] = done_settled receipt.settled closed_by
       (closes_by c histories opening me roved steps closed_by receipt due p (full e.busy e.cap) by) in (
         p.entered ∙ ap is_entered by,
-        calls_are c histories opening me roved steps closed_by receipt due p
-            ∙ ap (λ (l : List Step). calls_of l ++ calls_of (owed_among closed_by)) owed_is
-            ∙ ap (λ (l : List Step). calls_of (owed_among l)) closed,
+        (
+          calls_are c histories opening me roved steps closed_by receipt due p
+              ∙ ap (λ (l : List Step). calls_of l ++ calls_of (owed_among closed_by)) owed_is
+              ∙ ap (λ (l : List Step). calls_of (owed_among l)) closed,
+          reply_due c histories opening me roved steps closed_by receipt due p (full e.busy e.cap) by
+              (subst (AreJoins IsNever) (sym owed_is) (tt, tt)),
+        ),
       )
 
 -- ---- by its judgement
@@ -348,7 +361,7 @@ source_first : (c : Config) (histories : List (History RingCall)) (opening : Ope
     → WasFirst c histories (told_as me receipt due) (opening_text c opening)
     (without_reads (calls_of (steps ++ closed_by))) (source terms body)
 source_first c histories opening me terms body steps closed_by receipt due p [] is =
-    inr (inr (none_called c histories opening me (source terms body) steps closed_by receipt due p is))
+    inr (inr (none_first c histories opening me (source terms body) steps closed_by receipt due p is))
 source_first c histories opening me terms body steps closed_by receipt due p (step ∷ more) is =
     let plan = plan_of c (source terms body) in
     let all = completed c plan (step ∷ more)
@@ -371,7 +384,7 @@ rover_first : (c : Config) (histories : List (History RingCall)) (opening : Open
 rover_first c histories opening me terms tail steps closed_by receipt due p [] is = inr (
   p.entered ∙ ap is_entered
       (received_is c histories opening me (rover terms tail) steps closed_by receipt due p [] is),
-  none_called c histories opening me (rover terms tail) steps closed_by receipt due p is,
+  inl (none_first c histories opening me (rover terms tail) steps closed_by receipt due p is),
 )
 rover_first c histories opening me terms tail steps closed_by receipt due p (step ∷ more) is =
     let plan = plan_of c (rover terms tail) in
@@ -381,7 +394,9 @@ rover_first c histories opening me terms tail steps closed_by receipt due p (ste
       | inl entry ↦
           inl (entered_first c histories opening me terms tail steps closed_by receipt due p step more is all entry)
       | inr other ↦
-          inr (full_first c histories opening me terms tail steps closed_by receipt due p step more is all other)
+          let is_full = full_first c histories opening me terms tail steps closed_by receipt due p step more is all
+          other in
+          inr (is_full.0, inr is_full.1)
     ]
 
 pub first_so : (c : Config) (histories : List (History RingCall)) (opening : Opening) (me : ℕ) (j : Judged)
@@ -389,16 +404,18 @@ pub first_so : (c : Config) (histories : List (History RingCall)) (opening : Ope
     → Part c histories opening me j steps closed_by receipt due
     → WasFirst c histories (told_as me receipt due) (opening_text c opening)
     (without_reads (calls_of (steps ++ closed_by))) j
-first_so c histories opening me waiting steps closed_by receipt due p =
-    none_called c histories opening me waiting steps closed_by receipt due p (begun_done (owed_among steps) p.begun)
+first_so c histories opening me waiting steps closed_by receipt due p = (
+  refl,
+  none_first c histories opening me waiting steps closed_by receipt due p (begun_done (owed_among steps) p.begun),
+)
 first_so c histories opening me (refused version reply end) steps closed_by receipt due p =
-    none_called c histories opening me (refused version reply end) steps closed_by receipt due p
+    none_first c histories opening me (refused version reply end) steps closed_by receipt due p
     (begun_done (owed_among steps) p.begun)
 first_so c histories opening me (unanswered end) steps closed_by receipt due p =
-    none_called c histories opening me (unanswered end) steps closed_by receipt due p
+    none_first c histories opening me (unanswered end) steps closed_by receipt due p
     (begun_done (owed_among steps) p.begun)
 first_so c histories opening me (table version) steps closed_by receipt due p =
-    none_called c histories opening me (table version) steps closed_by receipt due p
+    none_first c histories opening me (table version) steps closed_by receipt due p
     (begun_done (owed_among steps) p.begun)
 first_so c histories opening me (source terms body) steps closed_by receipt due p =
     source_first c histories opening me terms body steps closed_by receipt due p (owed_among steps) refl

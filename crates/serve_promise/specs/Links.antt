@@ -34,7 +34,7 @@ use Rattle.session_core.specs.Standing.{IsSentBy}
 use Rattle.caster_serve.specs.Links.{is_torn}
 use Rattle.run_promise.specs.Calls.{Call, call, at_one, without_reads, segments_of, ReadOn}
 use Rattle.run_promise.specs.Selected.{Selects}
-use Rattle.run_promise.specs.Promised.{Carries, Holds, asked, publishes, WasTaken, Was, is_release}
+use Rattle.run_promise.specs.Promised.{Carries, Holds, IsReplied, asked, publishes, WasTaken, Was, is_release}
 
 -- ---- what came in
 
@@ -88,6 +88,11 @@ pub record HasEnteredFirst (c : Config) (histories : List (History RingCall)) (t
   pub holds : Holds (unwrap_or terms.version One) body
       (kept_frames c histories told.receipt.segments)
 
+-- the claim is given back, unless that turn was refused
+abbrev pub given_back : Bool → ℕ → ℕ → List (ℕ × RingCall)
+given_back true mount claim = (mount, Release claim) ∷ []
+given_back false mount claim = []
+
 -- a source or a relay that was given its claim: the frames that it published are the first of what
 -- its body carries
 pub record HasClaimedFirst (told : Connection) (terms : SourceTerms) (before body : List ℕ)
@@ -100,21 +105,23 @@ pub record HasClaimedFirst (told : Connection) (terms : SourceTerms) (before bod
   pub frames : List (List ℕ)
   pub missing : List (List ℕ)
   pub first : (cut carried).frames ≡ frames ++ missing
-  pub back : List (ℕ × RingCall)
-  pub released : (back ≡ []) ⊎ (back ≡ (terms.mount, Release claim) ∷ [])
-  pub published : asked later ≡ publishes terms.mount claim frames ++ back
+  pub published : asked later
+      ≡ publishes terms.mount claim frames ++ given_back told.receipt.settled terms.mount claim
   pub bytes : told.bytes ≡ before ++ text_if terms.version replies.SourceOk []
 
--- What it was, by its judgement: it may have been halted before it called anything.
+-- What it was, by its judgement: it may have been halted before it called anything, and was sent
+-- nothing behind what was sent before then.
 abbrev pub WasFirst : Config → List (History RingCall) → Connection → List ℕ → List Call → Judged
     → Type 0
 WasFirst c histories told before calls (source terms body) =
     HasClaimedFirst told terms before body calls ⊎ WasTaken told terms before calls
-    ⊎ (calls ≡ [])
+    ⊎ IsReplied told before calls []
 WasFirst c histories told before calls (rover terms tail) =
     HasEnteredFirst c histories told terms before tail calls
-    ⊎ ((told.receipt.entered ≡ false) × (calls ≡ []))
-WasFirst c histories told before calls _ = calls ≡ []
+    ⊎ ((told.receipt.entered ≡ false)
+    × (IsReplied told before calls []
+    ⊎ IsReplied told before calls (text_if terms.version replies.Full [])))
+WasFirst c histories told before calls j = Was c histories told before [] calls j
 
 -- ---- one link
 

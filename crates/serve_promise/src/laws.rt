@@ -34,7 +34,7 @@ pub fn links_are_promised()
 pub fn served_links_are_promised()
     ensures { (c : Config) (limit : ℕ) (old new : StreetTold) (callers : List Caller)
         (histories : Histories) → AllServed c limit old new callers histories
-        → AllKept c old new callers histories.rings }
+        → AllKept c old new callers histories }
 {}
 
 /// A caster that served to its end is promised: so is each of its links, and its totals are theirs.
