@@ -19,6 +19,7 @@ use Rattle.config_table.specs.Table.{table_records}
 use Rattle.config_write.specs.Written.{HasVersion}
 use Rattle.run_texts.specs.Texts.{report, made_text}
 use Rattle.caster_serve.specs.Caster.{HasServed}
+use Rattle.serve_promise.proofs.CallerLemmas.{all_promised}
 use Rattle.ntrip_fetch.specs.declared.left.FetchFault.TheVariants as faults
 use Rattle.ntrip_fetch.specs.declared.target.Target.{Target}
 use Rattle.ntrip_fetch.specs.Tries.{HasStopped}
@@ -338,6 +339,9 @@ module _ {words : List (List ℕ)} {left : Option (List ℕ)} {files : Files} {o
           warm_promised files config session run.0 run.1 run.2 run.3 run.4 run.5,
           run.6,
         );
+    served = λ config addr limit are.
+        let run = HasRun-served zero config addr limit are in
+        (run.0, run.1, run.2, all_promised run.0 addr limit before after run.1 run.3, run.4);
     recorded = λ config addr limit are.
         let run = HasRun-recorded zero config addr limit are in (
           run.0,

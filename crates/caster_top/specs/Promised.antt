@@ -11,9 +11,11 @@ use Rattle.cast_config.specs.Bare as settings
 use Rattle.session_core.specs.declared.report.Connection.{Connection}
 use Rattle.session_core.specs.declared.report.Receipt.{Receipt}
 use Rattle.session_core.specs.declared.report.Report.{Report}
-use Rattle.session_core.specs.Text.{report_text}
+use Rattle.session_core.specs.Text.{closed_text, report_text}
+use Rattle.session_core.specs.declared.report.Closed.{Closed}
 use Rattle.run_promise.specs.Promised.{IsPromised}
-use Rattle.caster_top.specs.Command.{AreBare, AreReplay, AreRecord, AreWarm}
+use Rattle.serve_promise.specs.Callers.{AllPromised}
+use Rattle.caster_top.specs.Command.{AreBare, AreReplay, AreRecord, AreServe, AreWarm}
 use Rattle.caster_top.specs.Told.{Files, IsConfigAt, IsSessionAt}
 use Rattle.caster_top.specs.Recording.{HasRecorded}
 
@@ -38,8 +40,8 @@ pub record IsGreetedText (c : Config) (events : List Event) (text : List ℕ) : 
   pub text_is : text ≡ report_text c report
 
 -- What these words came to keeps the promise: the report of a bare session, that of a session over a
--- configuration, with greetings or without, and the one that a replay of a recorded session's script
--- gives.
+-- configuration, with greetings or without, the one that a replay of a recorded session's script
+-- gives, and each link of a caster that served to its end.
 pub record KeepPromise (words : List (List ℕ)) (left : Option (List ℕ)) (files : Files)
     (before after : StreetTold) (old new : Option (List ℕ)) : Type 0 where
   pub bare : (capacity : ℕ) (bytes : List ℕ) (events : List Event) → AreBare words capacity
@@ -54,6 +56,9 @@ pub record KeepPromise (words : List (List ℕ)) (left : Option (List ℕ)) (fil
       → (c : Config) × (events : List Event) × (text : List ℕ) × IsConfigAt files config c
       × IsSessionAt files session c events × IsGreetedText c events text
       × Appends old new text
+  pub served : (config addr : List ℕ) (limit : ℕ) → AreServe words config addr limit
+      → (c : Config) × (closed : Closed) × IsConfigAt files config c
+      × AllPromised c limit before after closed × Appends old new (closed_text c closed)
   pub recorded : (config addr : List ℕ) (limit : ℕ) → AreRecord words config addr limit
       → (c : Config) × (events : List Event)
       × (recorded : HasRecorded c addr limit before after events) × IsConfigAt files config c
