@@ -81,24 +81,44 @@ IsAt c histories me one =
 abbrev in_one : ℕ → Call → List (RingCall × RingAnswer)
 in_one mount one = if one.mount == mount then (one.asked, one.answer) ∷ [] else []
 
-one_at : (c : Config) (histories : List (History RingCall)) (me : ℕ) (calls done : List Call) (one : Call)
-    (later : List Call) → calls ≡ done ++ one ∷ later → AreAllCalls c histories me calls → IsAt c histories me one
-one_at c histories me calls done one later split all =
+-- the calls are told of these histories from some points of them on
+abbrev pub AreTold : Config → (ℕ → History RingCall) → List (History RingCall) → ℕ → List Call → Type 0
+AreTold c start histories me calls =
+    (mount : ℕ) → (more later : History RingCall)
+    × (history_at histories mount ≡ start mount ++ (more ++ later))
+    × (told (answer_at (shapes c) mount) me (start mount) more ≡ at_one mount calls)
+
+one_at : (c : Config) (start : ℕ → History RingCall) (histories : List (History RingCall)) (me : ℕ)
+    (calls done : List Call) (one : Call) (later : List Call) → calls ≡ done ++ one ∷ later
+    → AreTold c start histories me calls → IsAt c histories me one
+one_at c start histories me calls done one later split all =
     let pair : RingCall × RingAnswer = (one.asked, one.answer) in
+    let entry : ℕ × RingCall = (me, one.asked) in
+    let first : History RingCall = start one.mount in
     let here : at_one one.mount (one ∷ later) ≡ pair ∷ at_one one.mount later =
     ap (λ (b : Bool). cond b (pair ∷ []) [] ++ at_one one.mount later) (eq-eqb one.mount one.mount refl) in
-    told_stands (answer_at (shapes c) one.mount) me [] (history_at histories one.mount) (at_one one.mount done) pair
+    let at = all one.mount in
+    let stands = told_stands (answer_at (shapes c) one.mount) me first at.0 (at_one one.mount done) pair
     (at_one one.mount later)
-    (all one.mount ∙ ap (at_one one.mount) split
+    (at.3 ∙ ap (at_one one.mount) split
     ∙ flat_map-append (in_one one.mount) done (one ∷ later)
-    ∙ ap (λ (l : List (RingCall × RingAnswer)). at_one one.mount done ++ l) here)
+    ∙ ap (λ (l : List (RingCall × RingAnswer)). at_one one.mount done ++ l) here) in (
+      first ++ stands.0,
+      stands.1 ++ at.1,
+      at.2
+          ∙ ap (λ (h : History RingCall). first ++ (h ++ at.1)) stands.2
+          ∙ ap (λ (h : History RingCall). first ++ h) (append_assoc stands.0 (entry ∷ stands.1) at.1)
+          ∙ sym (append_assoc first stands.0 (entry ∷ (stands.1 ++ at.1))),
+      stands.3,
+    )
 
-each_at : (c : Config) (histories : List (History RingCall)) (me : ℕ) (calls done later : List Call)
-    → calls ≡ done ++ later → AreAllCalls c histories me calls → All (IsAt c histories me) later
-each_at c histories me calls done [] split all = All-nil (IsAt c histories me)
-each_at c histories me calls done (one ∷ later) split all =
-    All-cons (IsAt c histories me) one later (one_at c histories me calls done one later split all)
-    (each_at c histories me calls (done ++ one ∷ []) later (split ∙ sym (append_assoc done (one ∷ []) later)) all)
+each_at : (c : Config) (start : ℕ → History RingCall) (histories : List (History RingCall)) (me : ℕ)
+    (calls done later : List Call) → calls ≡ done ++ later → AreTold c start histories me calls
+    → All (IsAt c histories me) later
+each_at c start histories me calls done [] split all = All-nil (IsAt c histories me)
+each_at c start histories me calls done (one ∷ later) split all =
+    All-cons (IsAt c histories me) one later (one_at c start histories me calls done one later split all)
+    (each_at c start histories me calls (done ++ one ∷ []) later (split ∙ sym (append_assoc done (one ∷ []) later)) all)
 
 -- ---- the segments
 
@@ -145,8 +165,15 @@ module _ (c : Config) (histories : List (History RingCall)) (me : ℕ) where
       walk_begun (after_one segments one) later (All-tail (IsAt c histories me) one later at) on.1
       (call_begun segments one.mount one.asked one.answer (All-head (IsAt c histories me) one later at) on.0 all)
 
+pub told_begun : (c : Config) (start : ℕ → History RingCall) (histories : List (History RingCall)) (me : ℕ)
+    (calls : List Call) → AreTold c start histories me calls → ReadOn [] calls
+    → All (IsBegun histories me) (segments_of calls)
+told_begun c start histories me calls all on =
+    walk_begun c histories me [] calls (each_at c start histories me calls [] calls refl all) on
+    (All-nil (IsBegun histories me))
+
 pub segments_begun : (c : Config) (histories : List (History RingCall)) (me : ℕ) (calls : List Call)
     → AreAllCalls c histories me calls → ReadOn [] calls → All (IsBegun histories me) (segments_of calls)
 segments_begun c histories me calls all on =
-    walk_begun c histories me [] calls (each_at c histories me calls [] calls refl all) on
-    (All-nil (IsBegun histories me))
+    told_begun c (λ mount. []) histories me calls
+    (λ mount. (history_at histories mount, [], sym (append-nil (history_at histories mount)), all mount)) on

@@ -104,6 +104,13 @@ publishes_split mount claim (frame ∷ frames) (one ∷ first) second is =
       cons_same one (mount, Publish claim frame) first (publishes mount claim rest.0) head rest.3,
     )
 
+asked_split : (first second all : List Step) → all ≡ first ++ second
+    → asked (calls_of all) ≡ asked (calls_of first) ++ asked (calls_of second)
+asked_split first second all is =
+    ap (λ (l : List Step). asked (calls_of l)) is
+    ∙ ap asked (flat_map-append call_in first second)
+    ∙ map-append (λ (one : Call). (one.mount, one.asked)) (calls_of first) (calls_of second)
+
 -- nothing was to be closed
 done_settled : (settled : Bool) (steps : List Step) → IsSettled settled done steps → steps ≡ []
 done_settled true steps is = is
@@ -212,9 +219,7 @@ module _ (c : Config) (histories : List (History RingCall)) (opening : Opening) 
       let by : received steps ≡ claimed g.claim =
       received_is c histories opening me sourced steps closed_by receipt due p _ owed_is in
       let both : asked (calls_of more) ++ asked (calls_of all.more) ≡ publishes terms.mount g.claim frames =
-      sym (map-append (λ (one : Call). (one.mount, one.asked)) (calls_of more) (calls_of all.more))
-      ∙ ap asked (sym (flat_map-append call_in more all.more))
-      ∙ ap (λ (l : List Step). asked (calls_of l)) (sym rest) ∙ g.published in
+      sym (asked_split more all.more g.rest rest) ∙ g.published in
       let split = publishes_split terms.mount g.claim frames (asked (calls_of more)) (asked (calls_of all.more))
       both in
       record {

@@ -1,5 +1,5 @@
 -- A link that was served is promised.
-use Rattle.std.proofs.Common.{◌≡◌, ◌∙◌, ◌⊎◌, ◌++◌, ℕ, Bool, true, false, List, [], ◌∷◌, reverse, Option, None, Some, inl, inr, refl, sym, ap, subst, append_assoc}
+use Rattle.std.proofs.Common.{◌≡◌, ◌∙◌, ◌⊎◌, ◌++◌, ℕ, Bool, true, false, List, [], ◌∷◌, reverse, All, Option, None, Some, inl, inr, refl, sym, ap, subst, append_assoc}
 use Rattle.std.specs.Prelude.{◌||◌, unwrap_or, is_some}
 use Rattle.std.proofs.lemmas.Bool.{and_parts}
 use Rattle.std.proofs.lemmas.List.{reverse-reverse}
@@ -12,6 +12,7 @@ use Rattle.mount_ring.specs.declared.call.RingCall.{RingCall}
 use Rattle.rover_cursor.specs.declared.segment.Segment.{Segment}
 use Rattle.session_calls.specs.Steps.{Step}
 use Rattle.session_calls.specs.Plans.{IsMade}
+use Rattle.session_calls.specs.Rings.{history_at}
 use Rattle.session_calls.proofs.PlanLemmas.{made_begun}
 use Rattle.rover_session.specs.Body.{body_of}
 use Rattle.rover_session.specs.Made.{after_step, segments_after, owed_among, sent_in, overrun_in}
@@ -37,9 +38,11 @@ use Rattle.caster_serve.specs.Courses.{happened, steps_of, text_of}
 use Rattle.caster_serve.specs.Links.{is_torn}
 use Rattle.caster_serve.specs.Served.{LinkGoes}
 use Rattle.caster_serve.proofs.CalledLemmas.{called_both}
-use Rattle.run_promise.specs.Calls.{Call, is_no_read, without_reads}
+use Rattle.run_promise.specs.Begun.{IsBegun as IsSegmentBegun}
+use Rattle.run_promise.specs.Calls.{Call, is_no_read, without_reads, segments_of, ReadOn}
 use Rattle.run_promise.specs.Promised.{Was}
 use Rattle.run_promise.proofs.MadeLemmas.{AreAnswered, answered-append, StepsOn, on-append, owed_on}
+use Rattle.run_promise.proofs.BegunLemmas.{AreTold, told_begun}
 use Rattle.run_promise.proofs.CallLemmas.{call_in, calls_of, same_at, same_segments, same_reads}
 use Rattle.run_promise.proofs.OwedLemmas.{on_front}
 use Rattle.run_promise.proofs.AccountLemmas.{Facts, told_with, was_so, sent_so, overrun_so, all_reversed}
@@ -212,6 +215,31 @@ module _ (c : Config) (opening : Opening) (me : ℕ) (start now : Histories) (to
       let heard = called.rings.rings mount in
       (heard.more, heard.seen, heard.mine ∙ sym (same_at mount (steps ++ goes.closed_by)))
 
+  read_on : ReadOn [] (calls_of (steps ++ goes.closed_by))
+  read_on = same_reads [] (steps ++ goes.closed_by)
+      (called_on c goes.j steps goes.closed_by receipt.settled closes on)
+
+  segments_are : receipt.segments ≡ reverse (segments_of (calls_of (steps ++ goes.closed_by)))
+  segments_are = goes.receipt_is.segments
+      ∙ ap reverse (sym (same_segments [] (steps ++ goes.closed_by)
+      ∙ called_still c goes.j steps goes.closed_by receipt.settled closes closed_answered))
+
+  -- where each of its segments begins
+  begun : All (IsSegmentBegun histories me) receipt.segments
+  begun =
+      let calls : List Call = calls_of (steps ++ goes.closed_by) in
+      let told : AreTold c (history_at start.rings) histories me calls = λ mount.
+      let mine = all_calls mount in let later = on_to mount in (
+        mine.0,
+        later.0,
+        later.1 ∙ ap (λ (h : History RingCall). h ++ later.0) mine.1
+            ∙ append_assoc (history_at start.rings mount) mine.0 later.0,
+        mine.2,
+      ) in
+      subst (All (IsSegmentBegun histories me)) (sym segments_are)
+      (all_reversed (IsSegmentBegun histories me) (segments_of calls)
+      (told_begun c (history_at start.rings) histories me calls told read_on))
+
   -- where it called nothing, nothing was to be closed
   none_called : steps ≡ [] → calls_of (steps ++ goes.closed_by) ≡ []
   none_called none =
@@ -256,12 +284,11 @@ module _ (c : Config) (opening : Opening) (me : ℕ) (start now : Histories) (to
       record {
         calls = calls_of all;
         all_calls = all_calls;
-        read_on = same_reads [] all (called_on c goes.j steps goes.closed_by receipt.settled closes on);
-        segments = told.segments
-            ∙ ap reverse (sym (same_segments [] all
-            ∙ called_still c goes.j steps goes.closed_by receipt.settled closes closed_answered));
+        read_on = read_on;
+        segments = segments_are;
         sent = told.sent ∙ sent_so segments ∙ ap sent_in (sym told.segments);
         overrun = told.overrun ∙ overrun_so segments ∙ ap overrun_in (sym told.segments);
+        begun = begun;
         sound = subst (AllSound c histories) (sym told.segments)
             (all_reversed (IsSoundIn c histories) segments sound);
         counts = all_count c histories receipt.segments

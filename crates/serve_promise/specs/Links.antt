@@ -33,6 +33,7 @@ use Rattle.session_core.specs.Setting.{shapes, bases_at}
 use Rattle.session_core.specs.Standing.{IsSentBy}
 use Rattle.caster_serve.specs.Links.{is_torn}
 use Rattle.run_promise.specs.Calls.{Call, call, at_one, without_reads, segments_of, ReadOn}
+use Rattle.run_promise.specs.Begun.{IsBegun}
 use Rattle.run_promise.specs.Selected.{Selects}
 use Rattle.run_promise.specs.Promised.{Carries, Holds, IsReplied, asked, publishes, WasTaken, Was, is_release}
 
@@ -148,6 +149,8 @@ pub record IsLinkKept (c : Config) (opening : Opening) (me : ℕ)
   pub segments : receipt.segments ≡ reverse (segments_of calls)
   pub sent : receipt.sent ≡ sent_in receipt.segments
   pub overrun : receipt.overrun ≡ overrun_in receipt.segments
+  -- each was begun by a Join of this caller, behind all that was published there by then
+  pub begun : All (IsBegun histories me) receipt.segments
   -- frames sent and frames counted as overrun are together the permitted ones
   pub sound : All (IsSoundIn c histories) receipt.segments
   pub counts : All (CountsAll c histories) receipt.segments
