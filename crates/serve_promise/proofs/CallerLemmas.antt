@@ -262,10 +262,10 @@ over_kept c limit me (over_link number before) (over_link now after) old new his
       links = refl;
       in_turn = subst (λ (n : ℕ).
           AreKeptInTurn c (relays n) me histories (entry ∷ []) old.seen.rings new.seen.rings) (sym is.0) (
-        new.seen.rings,
-        entry_kept c (relays number) me entry old.seen new.seen histories is.1.goes on_to frames,
-        refl,
-      );
+            new.seen.rings,
+            entry_kept c (relays number) me entry old.seen new.seen histories is.1.goes on_to frames,
+            refl,
+          );
       tally = is.1.tally;
     }
 

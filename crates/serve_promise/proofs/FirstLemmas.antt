@@ -1,5 +1,5 @@
 -- What stands of a link that was halted: its calls are the first of what its bytes owe.
-use Rattle.std.proofs.Common.{◌≡◌, ◌∙◌, ◌⊎◌, ◌++◌, ℕ, Bool, true, false, List, [], ◌∷◌, reverse, All, inl, inr, refl, sym, ap, subst, option_to_list}
+use Rattle.std.proofs.Common.{◌≡◌, ◌∙◌, ◌++◌, ℕ, Bool, true, false, List, [], ◌∷◌, reverse, All, inl, inr, refl, sym, ap, subst, option_to_list}
 use Rattle.std.specs.Prelude.{unwrap_or, None}
 use Rattle.std.proofs.lemmas.List.{append-nil, map-append}
 use Rattle.std.proofs.lemmas.List.Concat.{flat_map-append}
@@ -7,7 +7,7 @@ use Rattle.std.proofs.lemmas.List.Elements.{All-nil}
 use Rattle.gga_read.specs.Report.{reports}
 use Rattle.turn_log.specs.History.{History}
 use Rattle.mount_ring.specs.declared.call.RingCall.{RingCall}
-use Rattle.mount_ring.specs.declared.call.RingCall.TheVariants.{Claim, Release, Publish}
+use Rattle.mount_ring.specs.declared.call.RingCall.TheVariants.{Claim, Publish}
 use Rattle.mount_ring.specs.declared.call.RingAnswer.TheVariants.{Given, Taken}
 use Rattle.caster_accounts.specs.declared.call.BookAnswer.TheVariants.{Entered, Full}
 use Rattle.rover_cursor.specs.declared.segment.Segment.{Segment}
@@ -104,12 +104,18 @@ publishes_split mount claim (frame ∷ frames) (one ∷ first) second is =
       cons_same one (mount, Publish claim frame) first (publishes mount claim rest.0) head rest.3,
     )
 
+asked_both : (first second : List Call) (x y : List (ℕ × RingCall)) → asked first ≡ x → asked second ≡ y
+    → asked (first ++ second) ≡ x ++ y
+asked_both first second x y is also =
+    map-append (λ (one : Call). (one.mount, one.asked)) first second
+    ∙ ap (λ (l : List (ℕ × RingCall)). l ++ asked second) is ∙ ap (λ (l : List (ℕ × RingCall)). x ++ l) also
+
 asked_split : (first second all : List Step) → all ≡ first ++ second
     → asked (calls_of all) ≡ asked (calls_of first) ++ asked (calls_of second)
 asked_split first second all is =
     ap (λ (l : List Step). asked (calls_of l)) is
     ∙ ap asked (flat_map-append call_in first second)
-    ∙ map-append (λ (one : Call). (one.mount, one.asked)) (calls_of first) (calls_of second)
+    ∙ asked_both (calls_of first) (calls_of second) (asked (calls_of first)) (asked (calls_of second)) refl refl
 
 -- nothing was to be closed
 done_settled : (settled : Bool) (steps : List Step) → IsSettled settled done steps → steps ≡ []
@@ -232,10 +238,8 @@ module _ (c : Config) (histories : List (History RingCall)) (opening : Opening) 
         frames = split.0;
         missing = split.1;
         first = split.2;
-        published = map-append (λ (one : Call). (one.mount, one.asked)) (calls_of more)
-            (calls_of (owed_among closed_by))
-            ∙ ap (λ (l : List (ℕ × RingCall)). l ++ asked (calls_of (owed_among closed_by))) split.3
-            ∙ ap (λ (l : List (ℕ × RingCall)). publishes terms.mount g.claim split.0 ++ l)
+        published = asked_both (calls_of more) (calls_of (owed_among closed_by))
+            (publishes terms.mount g.claim split.0) (given_back receipt.settled terms.mount g.claim) split.3
             (released_by receipt.settled g.claim
             (closes_by c histories opening me sourced steps closed_by receipt due p (claimed g.claim) by));
         bytes = reply_due c histories opening me sourced steps closed_by receipt due p (claimed g.claim) by joins;
