@@ -7,6 +7,7 @@ use Rattle.std.proofs.lemmas.Grind.{fold-append}
 use Rattle.std.proofs.lemmas.List.Concat.{flat_map-append}
 use Rattle.std.proofs.lemmas.List.Elements.{filter-append}
 use Rattle.cast_io.specs.declared.steps.Step.{Step as LinkStep}
+use Rattle.cast_io.specs.Links.{bytes_in}
 use Rattle.turn_log.specs.History.{History}
 use Rattle.mount_ring.specs.declared.call.RingCall.{RingCall}
 use Rattle.rover_cursor.specs.declared.segment.Segment.{Segment}
@@ -46,7 +47,7 @@ use Rattle.run_promise.proofs.BegunLemmas.{AreTold, told_begun}
 use Rattle.run_promise.proofs.CallLemmas.{call_in, calls_of, same_at, same_segments, same_reads}
 use Rattle.run_promise.proofs.OwedLemmas.{on_front}
 use Rattle.run_promise.proofs.AccountLemmas.{Facts, told_with, was_so, sent_so, overrun_so, all_reversed}
-use Rattle.serve_promise.specs.Links.{bytes_in, AllFrames, GoOnTo, AreCallsBetween, IsJudgedBy, told_as, IsLinkKept}
+use Rattle.serve_promise.specs.Links.{AllFrames, GoOnTo, AreCallsBetween, IsJudgedBy, told_as, IsLinkKept}
 use Rattle.serve_promise.proofs.StepLemmas.{given_is, called_answered, good_owed, ran_on}
 use Rattle.serve_promise.proofs.ClosesLemmas.{Closes, closes_so, closing_closers, closers_front, closers_still, unasked_none}
 use Rattle.serve_promise.proofs.SameLemmas.{Same, was_same}

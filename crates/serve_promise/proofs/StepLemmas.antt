@@ -6,6 +6,7 @@ use Rattle.std.proofs.lemmas.List.{append-nil}
 use Rattle.std.proofs.lemmas.Grind.{fold-append}
 use Rattle.cast_io.specs.declared.steps.Step.{Step as LinkStep}
 use Rattle.cast_io.specs.declared.steps.Step.TheVariants as took
+use Rattle.cast_io.specs.Links.{bytes_in}
 use Rattle.turn_log.specs.History.{History}
 use Rattle.turn_log.specs.Heard.{told}
 use Rattle.mount_ring.specs.declared.call.RingCall.{RingCall}
@@ -30,7 +31,6 @@ use Rattle.caster_serve.specs.Links.{happens_in, IsLeftOut}
 use Rattle.caster_serve.proofs.CourseLemmas.{text-snoc}
 use Rattle.run_promise.specs.Calls.{IsReadOn}
 use Rattle.run_promise.proofs.MadeLemmas.{asks_mount, asks_call, AreAnswered, AreOwed, StepsOn, on-append, owed_on}
-use Rattle.serve_promise.specs.Links.{bytes_in}
 
 -- ---- bytes
 

@@ -2,6 +2,7 @@
 use Rattle.std.specs.Prelude.{◌≡◌, ℕ, ◌+◌, ◌<◌, ⊤, IsTrue, List, [], ◌∷◌, length, map, fold}
 use Rattle.std.specs.List.{All, list_all}
 use Rattle.cast_io.specs.declared.steps.Step.{Step}
+use Rattle.cast_io.specs.Links.{bytes_in}
 use Rattle.cast_io.specs.Told.{StreetTold}
 use Rattle.turn_log.specs.History.{History, GoesOn}
 use Rattle.mount_ring.specs.declared.call.RingCall.{RingCall}
@@ -19,7 +20,7 @@ use Rattle.caster_serve.specs.Wear.{only_worn, IsRefusedBy}
 use Rattle.caster_serve.specs.Works.{Record, IsTold, links_of, receipts_of, tallied}
 use Rattle.caster_serve.specs.Callers.{Caller, calls_in, ends_of, is_whole}
 use Rattle.caster_serve.specs.Caster.{HasGivenBack}
-use Rattle.serve_promise.specs.Links.{bytes_in, AllFrames, IsLinkKept}
+use Rattle.serve_promise.specs.Links.{AllFrames, IsLinkKept}
 
 -- ---- the links of one caller
 

@@ -1,11 +1,9 @@
 -- What is promised of one link that a caster served: of its calls, its segments, its frames and its
 -- bytes, by what came in on it and by the histories that it left.
 use Rattle.std.specs.Prelude.{◌≡◌, ℕ, ◌⊎◌, Bool, true, false, IsTrue, List, [], ◌∷◌, ◌++◌, reverse, option_to_list, unwrap_or, Some}
-use Rattle.std.specs.List.{All, flat_map}
+use Rattle.std.specs.List.{All}
 use Rattle.rtcm_frame.specs.Transport.{is_frame}
 use Rattle.rtcm_frame.specs.Cut.{cut}
-use Rattle.cast_io.specs.declared.steps.Step.{Step}
-use Rattle.cast_io.specs.declared.steps.Step.TheVariants as took
 use Rattle.turn_log.specs.History.{History}
 use Rattle.turn_log.specs.Heard.{told}
 use Rattle.gga_read.specs.Report.{reports}
@@ -36,19 +34,6 @@ use Rattle.run_promise.specs.Calls.{Call, call, at_one, without_reads, segments_
 use Rattle.run_promise.specs.Begun.{IsBegun}
 use Rattle.run_promise.specs.Selected.{Selects}
 use Rattle.run_promise.specs.Promised.{Carries, Holds, IsReplied, asked, publishes, WasTaken, Was, is_release}
-
--- ---- what came in
-
--- the bytes that the steps of a link gave, in order
-abbrev pub bytes_by : Step → List ℕ
-bytes_by (took.Bytes bytes) = bytes
-bytes_by took.Idle = []
-bytes_by took.End = []
-bytes_by took.ReadFailed = []
-bytes_by took.WriteFailed = []
-
-abbrev pub bytes_in : List Step → List ℕ
-bytes_in steps = flat_map bytes_by steps
 
 -- ---- histories
 

@@ -2,6 +2,7 @@
 
 ghost use Rattle.std.specs.Prelude.{◌≡◌, ℕ, List, Ok};
 ghost use Rattle.cast_io.specs.declared.steps.Step.{Step};
+ghost use Rattle.cast_io.specs.Links.{bytes_in};
 ghost use Rattle.cast_io.specs.Told.{StreetTold};
 ghost use Rattle.turn_log.specs.History.{History};
 ghost use Rattle.mount_ring.specs.declared.call.RingCall.{RingCall};
@@ -14,7 +15,7 @@ ghost use Rattle.session_core.specs.Run.{Histories};
 ghost use Rattle.caster_serve.specs.Served.{LinkGoes};
 ghost use Rattle.caster_serve.specs.Callers.{Caller};
 ghost use Rattle.caster_serve.specs.Caster.{AllServed, HasServed};
-ghost use Rattle.serve_promise.specs.Links.{bytes_in, AllFrames, GoOnTo, IsLinkKept};
+ghost use Rattle.serve_promise.specs.Links.{AllFrames, GoOnTo, IsLinkKept};
 ghost use Rattle.serve_promise.specs.Callers.{AllKept, AllPromised};
 
 /// A link that was served is promised, by whatever histories its own go on to, where whole frames
