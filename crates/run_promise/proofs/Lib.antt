@@ -9,6 +9,7 @@ pub mod OwedLemmas
 pub mod AccountLemmas
 pub mod RunLemmas
 pub mod OrderLemmas
+pub mod EnteredLemmas
 pub mod ReadLemmas
 pub mod BegunLemmas
 pub mod PromiseLemmas

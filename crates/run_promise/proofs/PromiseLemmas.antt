@@ -1,5 +1,5 @@
 -- Every report of a recorded session keeps what is promised.
-use Rattle.std.proofs.Common.{◌≡◌, ◌≢◌, ◌∙◌, ◌≤◌, ◌+◌, ◌++◌, ℕ, Bool, true, false, IsTrue, List, [], ◌∷◌, map, reverse, All, None, inl, inr, refl, sym, ap, subst, arith}
+use Rattle.std.proofs.Common.{◌≡◌, ◌≢◌, ◌∙◌, ◌≤◌, ◌+◌, ◌++◌, ℕ, Bool, true, false, IsTrue, List, [], ◌∷◌, map, reverse, All, None, Some, inl, inr, refl, sym, ap, subst, arith}
 use Rattle.std.specs.Prelude.{◌==◌, ◌||◌, ◌&&◌}
 use Rattle.std.proofs.lemmas.Bool.{false≢true, and_parts, and_from}
 use Rattle.std.proofs.lemmas.List.Elements.{All-head, All-tail, All-cons, All-nil}
@@ -11,6 +11,7 @@ use Rattle.session_script.specs.Numbers.{Numbers, no_numbers}
 use Rattle.session_script.specs.Line.{is_event}
 use Rattle.session_script.specs.Script.{may_follow, is_session_after, IsSession}
 use Rattle.session_script.specs.Script as scripts
+use Rattle.session_calls.specs.Steps.{Step, answer_of}
 use Rattle.session_calls.specs.Plans.{IsMade}
 use Rattle.session_calls.specs.Rings.{history_at}
 use Rattle.rover_session.specs.Made.{segments_after}
@@ -18,9 +19,9 @@ use Rattle.cast_config.specs.declared.config.Config.{Config}
 use Rattle.cast_config.specs.Kept.{KeepsRules}
 use Rattle.session_core.specs.declared.report.Report.{Report}
 use Rattle.session_core.specs.Headings.{Heading}
-use Rattle.session_core.specs.Owed.{closing}
+use Rattle.session_core.specs.Owed.{received_by, closing}
 use Rattle.session_core.specs.Promises as core
-use Rattle.session_core.specs.Reports.{told_of, opened_as, AreHeadings, report, IsReport}
+use Rattle.session_core.specs.Reports.{told_of, is_entered, opened_as, AreHeadings, report, IsReport}
 use Rattle.session_core.specs.Run.{Histories, Connected, World, nothing_called, judged_of, is_opened, world}
 use Rattle.session_core.proofs.PromiseLemmas.{keeps_all}
 use Rattle.caster_replay.specs.Runs.{IsIncreasing}
@@ -31,9 +32,23 @@ use Rattle.run_promise.proofs.RunLemmas.{IsOver, world_over}
 use Rattle.run_promise.proofs.AccountLemmas.{Facts, was_so, sent_so, overrun_so}
 use Rattle.run_promise.proofs.RunLemmas.{IsStood, IsRunning, nothing_at, world_runs}
 use Rattle.run_promise.proofs.OrderLemmas.{earlier}
+use Rattle.run_promise.proofs.EnteredLemmas.{first_of, IsFound, all_found, lets_in, AreLet, own_lets, early_lets, entered_as}
 use Rattle.run_promise.proofs.ReadLemmas.{IsRead, AreAllRead, world_read}
 
 -- ---- one connection
+
+-- it entered an account as it is let in, if it called something
+abbrev IsLet : (ℕ → Bool) → Connected → Type 0
+IsLet lets d =
+    (step : Step) → first_of d.steps ≡ Some step → is_entered (received_by (answer_of step)) ≡ lets d.number
+
+all_let : (lets : ℕ → Bool) (w : World) (ds : List Connected) → AreLet w lets → All (IsFound w.connections) ds
+    → All (IsLet lets) ds
+all_let lets w [] are found = All-nil (IsLet lets)
+all_let lets w (d ∷ ds) are found =
+    All-cons (IsLet lets) d ds
+    (λ step is. are d.number step (All-head (IsFound w.connections) d ds found ∙ is))
+    (all_let lets w ds are (All-tail (IsFound w.connections) d ds found))
 
 -- what closed it
 last_of : (c : Config) (headings : ℕ → Heading) (h : Histories) (d : Connected) (s : IsStood c headings h d)
@@ -43,10 +58,10 @@ last_of c headings h d s over = elim s.ends [
   | inr (closed, is) ↦ is
 ]
 
-accounted : (c : Config) (headings : ℕ → Heading) (script : List Event) (h : Histories) (d : Connected)
-    → IsStood c headings h d → IsOver c headings d → core.Keeps c h.rings d
-    → IsRead c headings script d → IsAccounted c headings script h.rings (told_of c headings h d)
-accounted c headings script h d s over keeps is =
+accounted : (c : Config) (headings : ℕ → Heading) (lets : ℕ → Bool) (script : List Event) (h : Histories)
+    (d : Connected) → IsLet lets d → IsStood c headings h d → IsOver c headings d → core.Keeps c h.rings d
+    → IsRead c headings script d → IsAccounted c headings lets script h.rings (told_of c headings h d)
+accounted c headings lets script h d let_so s over keeps is =
     let heading = headings d.number in
     let facts : Facts c h d (judged_of c heading d) is.rest = record {
       answered = s.walked.answered;
@@ -65,6 +80,7 @@ accounted c headings script h d s over keeps is =
       text = d.text;
       rest = is.rest;
       came = is.begins;
+      entered = entered_as c h d (judged_of c heading d) is.rest facts (lets d.number) let_so;
       calls = calls_of d.steps;
       all_calls = all_calls c (nothing_called c).rings h.rings d.number d.steps (nothing_at c) s.walked.went;
       read_on = same_reads [] d.steps s.walked.on;
@@ -74,16 +90,20 @@ accounted c headings script h d s over keeps is =
       was = was_so c h d (judged_of c heading d) is.rest facts;
     }
 
-each_accounted : (c : Config) (headings : ℕ → Heading) (script : List Event) (h : Histories) (ds : List Connected)
-    → All (IsStood c headings h) ds → All (IsOver c headings) ds
-    → All (core.Keeps c h.rings) ds → All (IsRead c headings script) ds → All (IsAccounted c headings script h.rings) (map (told_of c headings h) ds)
-each_accounted c headings script h [] stood over keeps read = All-nil (IsAccounted c headings script h.rings)
-each_accounted c headings script h (d ∷ ds) stood over keeps read =
-    All-cons (IsAccounted c headings script h.rings) (told_of c headings h d) (map (told_of c headings h) ds)
-    (accounted c headings script h d (All-head (IsStood c headings h) d ds stood)
-    (All-head (IsOver c headings) d ds over) (All-head (core.Keeps c h.rings) d ds keeps) (All-head (IsRead c headings script) d ds read))
-    (each_accounted c headings script h ds (All-tail (IsStood c headings h) d ds stood)
-    (All-tail (IsOver c headings) d ds over) (All-tail (core.Keeps c h.rings) d ds keeps) (All-tail (IsRead c headings script) d ds read))
+each_accounted : (c : Config) (headings : ℕ → Heading) (lets : ℕ → Bool) (script : List Event) (h : Histories)
+    (ds : List Connected) → All (IsLet lets) ds → All (IsStood c headings h) ds → All (IsOver c headings) ds
+    → All (core.Keeps c h.rings) ds → All (IsRead c headings script) ds
+    → All (IsAccounted c headings lets script h.rings) (map (told_of c headings h) ds)
+each_accounted c headings lets script h [] let_so stood over keeps read =
+    All-nil (IsAccounted c headings lets script h.rings)
+each_accounted c headings lets script h (d ∷ ds) let_so stood over keeps read =
+    All-cons (IsAccounted c headings lets script h.rings) (told_of c headings h d) (map (told_of c headings h) ds)
+    (accounted c headings lets script h d (All-head (IsLet lets) d ds let_so)
+    (All-head (IsStood c headings h) d ds stood) (All-head (IsOver c headings) d ds over)
+    (All-head (core.Keeps c h.rings) d ds keeps) (All-head (IsRead c headings script) d ds read))
+    (each_accounted c headings lets script h ds (All-tail (IsLet lets) d ds let_so)
+    (All-tail (IsStood c headings h) d ds stood) (All-tail (IsOver c headings) d ds over)
+    (All-tail (core.Keeps c h.rings) d ds keeps) (All-tail (IsRead c headings script) d ds read))
 
 -- ---- all of them
 
@@ -117,9 +137,9 @@ by_told told opened (entry ∷ h) same all =
     (by_told told opened h same (All-tail (λ (entry : ℕ × RingCall). IsTrue (opened entry.0)) entry h all))
 
 world_keeps : (c : Config) (cap : ℕ) (kind : ScriptKind) (script : List Event) (headings : ℕ → Heading)
-    → KeepsRules cap c → IsSession kind script
-    → IsKept c headings script (world c headings script).histories.rings (report c headings script)
-world_keeps c cap kind script headings kept session =
+    (lets : ℕ → Bool) → KeepsRules cap c → IsSession kind script → AreLet (world c headings script) lets
+    → IsKept c headings lets script (world c headings script).histories.rings (report c headings script)
+world_keeps c cap kind script headings lets kept session are =
     let w : World = world c headings script in
     let run : IsRunning c headings w = world_runs c cap headings script kept in
     let read : AreAllRead c headings script w = world_read c headings kind script session in
@@ -130,7 +150,8 @@ world_keeps c cap kind script headings kept session =
       totals = refl;
       ordered = all_ordered c headings h ds run.order;
       all_told = λ n opened. told_same c headings h n ds ∙ is_there script n (is_opened n ds) (read.none n) opened;
-      accounted = each_accounted c headings script h ds run.each (world_over c headings script)
+      accounted = each_accounted c headings lets script h ds
+          (all_let lets w ds are (all_found ds run.order)) run.each (world_over c headings script)
           (keeps_all c headings script) read.each;
       nothing_else = λ mount.
           by_told (λ n. is_told n (map (told_of c headings h) ds)) (λ n. is_opened n ds) (history_at h.rings mount)
@@ -150,20 +171,25 @@ first_session kind numbers (event ∷ first) later is =
 world_promised : (c : Config) (cap : ℕ) (kind : ScriptKind) (script : List Event) (headings : ℕ → Heading)
     → KeepsRules cap c → IsSession kind script → AreHeadings script headings
     → IsPromised c script (report c headings script)
-world_promised c cap kind script headings kept session are = record {
-  heads = headings;
-  are_heads = are;
-  histories = (world c headings script).histories.rings;
-  kept = world_keeps c cap kind script headings kept session;
-  in_order = λ first later split. (
-    (world c headings first).histories.rings,
-    report c headings first,
-    world_keeps c cap kind first headings kept
-        (first_session kind no_numbers first later (subst (IsSession kind) split session)),
-    subst (λ (l : List Event). AreEarlier (world c headings first).histories.rings
-        (world c headings l).histories.rings) (sym split) (earlier c cap headings first later kept),
-  );
-}
+world_promised c cap kind script headings kept session are =
+    let w : World = world c headings script in
+    record {
+      heads = headings;
+      are_heads = are;
+      histories = w.histories.rings;
+      lets_in = lets_in w;
+      kept = world_keeps c cap kind script headings (lets_in w) kept session (own_lets w);
+      in_order = λ first later split. (
+        (world c headings first).histories.rings,
+        report c headings first,
+        world_keeps c cap kind first headings (lets_in w) kept
+            (first_session kind no_numbers first later (subst (IsSession kind) split session))
+            (subst (λ (l : List Event). AreLet (world c headings first) (lets_in (world c headings l))) (sym split)
+            (early_lets c headings first later)),
+        subst (λ (l : List Event). AreEarlier (world c headings first).histories.rings
+            (world c headings l).histories.rings) (sym split) (earlier c cap headings first later kept),
+      );
+    }
 
 pub promised : (c : Config) (cap : ℕ) (kind : ScriptKind) (script : List Event) (r : Report) → KeepsRules cap c
     → IsSession kind script → IsReport c script r → IsPromised c script r

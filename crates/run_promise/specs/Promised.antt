@@ -1,6 +1,6 @@
 -- What is promised of the report of a recorded run: each connection's segments, frames and bytes,
 -- by what came in on it and by one history for each mountpoint.
-use Rattle.std.specs.Prelude.{◌≡◌, ◌≢◌, ℕ, ◌≤◌, ◌+◌, ◌⊎◌, ⊤, Bool, true, false, IsTrue, ◌==◌, List, [], ◌∷◌, ◌++◌, length, map, reverse, option_to_list, unwrap_or, None, Some}
+use Rattle.std.specs.Prelude.{◌≡◌, ◌≢◌, ℕ, ◌≤◌, ◌+◌, ◌⊎◌, ⊤, Bool, true, false, IsTrue, ◌==◌, ◌&&◌, List, [], ◌∷◌, ◌++◌, length, map, reverse, option_to_list, unwrap_or, None, Some}
 use Rattle.std.specs.List.{All, list_any}
 use Rattle.rtcm_frame.specs.Cut.{cut}
 use Rattle.chunk_body.specs.Text.{IsOpen, IsPlain}
@@ -118,15 +118,27 @@ Was c histories told before rest calls (rover terms tail) =
 
 -- ---- one connection, and all of them
 
--- By what its head says, and by its bytes that came in before it was over, it was judged. Its calls
--- are all that the histories have of it, and they give its segments, whose sums are told.
-pub record IsAccounted (c : Config) (heads : ℕ → Heading) (script : List Event)
+-- whether this is the judgement of a rover
+abbrev pub is_rover : Judged → Bool
+is_rover waiting = false
+is_rover (refused version reply end) = false
+is_rover (unanswered end) = false
+is_rover (table version) = false
+is_rover (source terms body) = false
+is_rover (rover terms tail) = true
+
+-- By what its head says, and by its bytes that came in before it was over, it was judged. It entered
+-- an account if it is a rover, and one that is let in. Its calls are all that the histories have of
+-- it, and they give its segments, whose sums are told.
+pub record IsAccounted (c : Config) (heads : ℕ → Heading) (lets_in : ℕ → Bool) (script : List Event)
     (histories : List (History RingCall)) (told : Connection) : Type 0 where
   pub opening : Opening
   pub opened : opened_as told.number script ≡ Some opening
   pub text : List ℕ
   pub rest : List ℕ
   pub came : bytes_to told.number script ≡ text ++ rest
+  pub entered : told.receipt.entered
+      ≡ (is_rover (judged c opening (heads told.number) text) && lets_in told.number)
   pub calls : List Call
   pub all_calls : AreAllCalls c histories told.number calls
   pub read_on : ReadOn [] calls
@@ -148,13 +160,13 @@ is_told number connections = list_any (λ (told : Connection). told.number == nu
 -- The histories, one for each mountpoint, have the published frames and the claims that the report
 -- counts. Each number that the script opens is told of once, with all of this, and no entry of a
 -- history is of another.
-pub record IsKept (c : Config) (heads : ℕ → Heading) (script : List Event)
+pub record IsKept (c : Config) (heads : ℕ → Heading) (lets_in : ℕ → Bool) (script : List Event)
     (histories : List (History RingCall)) (r : Report) : Type 0 where
   pub one_each : length histories ≡ length c.mount
   pub totals : r.closed.mounts ≡ map mount_total histories
   pub ordered : AreOrdered 0 r.connections
   pub all_told : (n : ℕ) → opened_as n script ≢ None → IsTrue (is_told n r.connections)
-  pub accounted : All (IsAccounted c heads script histories) r.connections
+  pub accounted : All (IsAccounted c heads lets_in script histories) r.connections
   pub nothing_else : (mount : ℕ) → All (λ (entry : ℕ × RingCall).
       IsTrue (is_told entry.0 r.connections)) (history_at histories mount)
 
@@ -174,12 +186,15 @@ AreEarlier early histories =
     × (history_at histories mount ≡ first ++ later)
 
 -- The report keeps it with some histories. They come about in the order of the script: whatever
--- beginning of it were all, some report would keep it with the beginnings of these histories.
+-- beginning of it were all, some report would keep it with the beginnings of these histories. Which
+-- rovers are let in is the same in all these reports: no beginning may take a rover that was let in
+-- for one whose account was full, so that its calls would stand later than its bytes came in.
 pub record IsPromised (c : Config) (script : List Event) (r : Report) : Type 0 where
   pub heads : ℕ → Heading
   pub are_heads : AreHeadings script heads
   pub histories : List (History RingCall)
-  pub kept : IsKept c heads script histories r
+  pub lets_in : ℕ → Bool
+  pub kept : IsKept c heads lets_in script histories r
   pub in_order : (first later : List Event) → script ≡ first ++ later
-      → (early : List (History RingCall)) × (so_far : Report) × IsKept c heads first early so_far
-      × AreEarlier early histories
+      → (early : List (History RingCall)) × (so_far : Report)
+      × IsKept c heads lets_in first early so_far × AreEarlier early histories
