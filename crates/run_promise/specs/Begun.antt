@@ -9,7 +9,8 @@ use Rattle.session_calls.specs.Rings.{history_at}
 
 -- The segment was begun by a Join of this caller, with the segment's filter, that is an entry of
 -- its mountpoint's history; and it begins behind all frames that were published there before that
--- entry.
+-- entry. This is no further promise: of each connection that is told of it follows from `all_calls`
+-- and `read_on`, by the law `segments_begin_behind_all`.
 abbrev pub IsBegun : List (History RingCall) → ℕ → Segment → Type 0
 IsBegun histories me segment =
     (before after : History RingCall)

@@ -27,13 +27,14 @@ at_one mount calls =
     flat_map (λ (one : Call). if one.mount == mount then (one.asked, one.answer) ∷ [] else []) calls
 
 -- at every mountpoint these are, in order, all calls that its history has of this caller, each with
--- the answer at its own point of that history
+-- the answer at its own point of that history: the answer is computed from the entries before it
 abbrev pub AreAllCalls : Config → List (History RingCall) → ℕ → List Call → Type 0
 AreAllCalls c histories me calls =
     (mount : ℕ)
     → told (answer_at (shapes c) mount) me [] (history_at histories mount) ≡ at_one mount calls
 
--- the calls that are no reads
+-- the calls that are no reads. How many Reads a caller makes, and when, is not fixed: its frames are
+-- counted up to the last one
 abbrev pub is_no_read : RingCall → Bool
 is_no_read (Read cursor budget) = false
 is_no_read _ = true
@@ -41,8 +42,8 @@ is_no_read _ = true
 abbrev pub without_reads : List Call → List Call
 without_reads calls = filter (λ (one : Call). is_no_read one.asked) calls
 
--- the segments that the answers give, the newest first: each Join begins one at the end of what was
--- published, and each Read goes on with the newest
+-- the segments that the answers give, the newest first (a receipt has the oldest first): each Join
+-- begins one at the end of what was published, and each Read goes on with the newest
 abbrev pub after_one : List Segment → Call → List Segment
 after_one segments one = after_answer one.mount segments one.answer
 

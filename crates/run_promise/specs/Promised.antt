@@ -48,14 +48,14 @@ Holds Two body frames =
 
 -- ---- each kind of connection, with its calls that are no reads
 
--- it called nothing, and was sent this reply behind what was sent before
+-- it called nothing, and was sent this reply behind what was sent before: a relay's request, of
+-- everybody else nothing
 abbrev pub IsReplied : Connection → List ℕ → List Call → List ℕ → Type 0
 IsReplied told before calls reply = (calls ≡ []) × (told.bytes ≡ before ++ reply)
 
--- A rover that was let in: its calls are those that its reports select among its bases. Each of its
--- segments has its group's filter and is sound over the frames of its mountpoint's one history: the
--- frames sent and those counted as overrun are together the permitted ones from its joining to its
--- last read. Behind its reply it was sent exactly the frames of its segments, in order.
+-- A rover that was let in: its calls are those that its reports select among its bases. Behind its
+-- reply it was sent exactly the frames of its segments, in order. One that sent no head has no
+-- version: it is sent no reply, and its frames as under NTRIP 1.0.
 pub record HasEntered (c : Config) (histories : List (History RingCall)) (told : Connection)
     (terms : RoverTerms) (before tail rest : List ℕ) (calls : List Call) : Type 0 where
   pub entered : told.receipt.entered ≡ true
@@ -64,7 +64,11 @@ pub record HasEntered (c : Config) (histories : List (History RingCall)) (told :
       (bases_at c terms.admission.bases) (option_to_list terms.first ++ reports tail) calls
   pub filter : All (λ (segment : Segment). segment.cursor.filter ≡ terms.admission.group)
       told.receipt.segments
+  -- by its filter, over all that its mountpoint's history published, from its Join to its last
+  -- Read: it was sent the permitted frames but for those in its laps, each of which the ring had
+  -- overrun and counts the permitted frames in it
   pub sound : All (IsSoundIn c histories) told.receipt.segments
+  -- and those sent and those counted as overrun are together all permitted ones
   pub counts : All (CountsAll c histories) told.receipt.segments
   pub body : List ℕ
   pub bytes : told.bytes ≡ before ++ text_if terms.version replies.RoverOk [] ++ body
@@ -99,8 +103,9 @@ WasTaken told terms before calls =
     (caller claim : ℕ) × (calls ≡ call terms.mount Claim (Taken caller claim) ∷ [])
     × (told.bytes ≡ before ++ text_if terms.version replies.Taken [])
 
--- What a connection was, by its judgement, with what it was sent before a reply and those of its
--- bytes that came in when it was over.
+-- What a connection was, by its judgement: `before` is what it was sent before a reply (a relay's
+-- request, else nothing), `rest` are the bytes that came in on it when it was over. How it ended is
+-- not promised here, nor why an account was full.
 abbrev pub Was : Config → List (History RingCall) → Connection → List ℕ → List ℕ → List Call
     → Judged → Type 0
 Was c histories told before rest calls waiting = (rest ≡ []) × IsReplied told before calls []
@@ -127,9 +132,9 @@ is_rover (table version) = false
 is_rover (source terms body) = false
 is_rover (rover terms tail) = true
 
--- By what its head says, and by its bytes that came in before it was over, it was judged. It entered
--- an account if it is a rover, and one that is let in. Its calls are all that the histories have of
--- it, and they give its segments, whose sums are told.
+-- By what is read of its head (`heads`), and by its bytes that came in before it was over (`text`),
+-- it was judged. It entered an account if it is a rover, and one that is let in. Its calls are all
+-- that the histories have of it, and they give its segments, whose sums are told.
 pub record IsAccounted (c : Config) (heads : ℕ → Heading) (lets_in : ℕ → Bool) (script : List Event)
     (histories : List (History RingCall)) (told : Connection) : Type 0 where
   pub opening : Opening
@@ -177,7 +182,8 @@ abbrev pub is_release : RingCall → Bool
 is_release (Release claim) = true
 is_release _ = false
 
--- each of the early histories is a beginning of the later one, but for claims that are given back
+-- Each of the early histories is a beginning of the later one, but for claims that are given back:
+-- a script that stops early closes its sources, which adds their Releases at the end.
 abbrev pub AreEarlier : List (History RingCall) → List (History RingCall) → Type 0
 AreEarlier early histories =
     (mount : ℕ) → (first back later : History RingCall)
@@ -185,7 +191,8 @@ AreEarlier early histories =
     × All (λ (entry : ℕ × RingCall). IsTrue (is_release entry.1)) back
     × (history_at histories mount ≡ first ++ later)
 
--- The report keeps it with some histories. They come about in the order of the script: whatever
+-- The report keeps it with some histories, where `heads` are what the bytes of each connection, by
+-- its number, say of a head. They come about in the order of the script: whatever
 -- beginning of it were all, some report would keep it with the beginnings of these histories. Which
 -- rovers are let in is the same in all these reports: no beginning may take a rover that was let in
 -- for one whose account was full, so that its calls would stand later than its bytes came in.

@@ -23,8 +23,9 @@ if_held base (Some claim) = base ∷ []
 abbrev pub held : List (Base × Option ℕ) → List Base
 held lives = flat_map (λ (live : Base × Option ℕ). if_held live.0 live.1) lives
 
--- the mountpoint that is chosen among the held bases for this position, from the present one on, by
--- the hysteresis: where none is held, the present one stays
+-- the mountpoint that is chosen among the held bases for this position, from the present one on:
+-- where none is held, the present one stays. `IsChoice` says that it is the nearest of them, but
+-- that a present one among them stays unless the nearest is less far by `hysteresis` percent
 abbrev pub Chooses : ℕ → Option ℕ → Position → List Base → Option ℕ → Type 0
 Chooses hysteresis present at [] next = next ≡ present
 Chooses hysteresis present at (base ∷ bases) next =
@@ -38,8 +39,9 @@ Joins filter present next calls =
     ⊎ ((mount : ℕ) × (cursor : Cursor) × (next ≡ Some mount) × (next ≢ present)
     × (calls ≡ call mount (Join filter) (Joined cursor) ∷ []))
 
--- of a rover that takes the nearest of these bases: for each report a Look on each base, and then a
--- Join where the choice changed
+-- of a rover that takes the nearest of these bases: for each report a Look on each base, and behind
+-- all these a Join where the choice changed. Others may call in between: a base that was held at
+-- its Look may have been given back by the Join
 abbrev pub Follows : ℕ → ℕ → List Base → Option ℕ → List Position → List Call → Type 0
 Follows hysteresis filter bases present [] calls = calls ≡ []
 Follows hysteresis filter bases present (report ∷ later) calls =
@@ -50,7 +52,7 @@ Follows hysteresis filter bases present (report ∷ later) calls =
     × (calls ≡ looks lives ++ (joined ++ rest))
     × Follows hysteresis filter bases next later rest
 
--- of one that does not: a Join at each of its bases
+-- of one that does not: a Join at each of its bases. It has one, the mountpoint that it asked for
 abbrev pub JoinsEach : ℕ → List Base → List Call → Type 0
 JoinsEach filter [] calls = calls ≡ []
 JoinsEach filter (base ∷ bases) calls =
@@ -58,8 +60,8 @@ JoinsEach filter (base ∷ bases) calls =
     × (calls ≡ call base.mount (Join filter) (Joined cursor) ∷ rest)
     × JoinsEach filter bases rest
 
--- the calls that a rover's reports select, where it takes the nearest of its bases and where it
--- does not: each Join is at one of them, with its filter
+-- the calls that a rover's reports select, where it is near, and so takes the nearest of its bases
+-- (the first argument), and where it is not: each Join is at one of them, with its filter
 abbrev pub Selects : Bool → ℕ → ℕ → List Base → List Position → List Call → Type 0
 Selects true hysteresis filter bases reports calls =
     Follows hysteresis filter bases None reports calls
