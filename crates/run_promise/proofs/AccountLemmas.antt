@@ -152,7 +152,7 @@ not_open body Broken is over goes =
 not_open body phase is (inl ended) goes = absurd cc
 not_open body phase is (inr broken) goes = absurd cc
 
-over_if : (chunked : Bool) (claim : ℕ) (body : List ℕ) → is_none (claimed_ending chunked claim body) ≡ false
+pub over_if : (chunked : Bool) (claim : ℕ) (body : List ℕ) → is_none (claimed_ending chunked claim body) ≡ false
     → (chunked ≡ true) × (IsOpen body → ⊥)
 over_if false claim body over = absurd cc
 over_if true claim body over = (

@@ -8,6 +8,7 @@ pub mod SourceLemmas
 pub mod OwedLemmas
 pub mod AccountLemmas
 pub mod RunLemmas
+pub mod GoesLemmas
 pub mod OrderLemmas
 pub mod EnteredLemmas
 pub mod ReadLemmas

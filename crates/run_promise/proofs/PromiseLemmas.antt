@@ -179,16 +179,17 @@ world_promised c cap kind script headings kept session are =
       histories = w.histories.rings;
       lets_in = lets_in w;
       kept = world_keeps c cap kind script headings (lets_in w) kept session (own_lets w);
-      in_order = λ first later split. (
-        (world c headings first).histories.rings,
-        report c headings first,
-        world_keeps c cap kind first headings (lets_in w) kept
-            (first_session kind no_numbers first later (subst (IsSession kind) split session))
-            (subst (λ (l : List Event). AreLet (world c headings first) (lets_in (world c headings l))) (sym split)
-            (early_lets c headings first later)),
-        subst (λ (l : List Event). AreEarlier (world c headings first).histories.rings
-            (world c headings l).histories.rings) (sym split) (earlier c cap headings first later kept),
-      );
+      in_order = λ first later split.
+          let begun = first_session kind no_numbers first later (subst (IsSession kind) split session) in (
+            (world c headings first).histories.rings,
+            report c headings first,
+            world_keeps c cap kind first headings (lets_in w) kept begun
+                (subst (λ (l : List Event). AreLet (world c headings first) (lets_in (world c headings l)))
+                (sym split) (early_lets c headings first later)),
+            subst (λ (l : List Event). AreEarlier c headings first (world c headings first).histories.rings
+                (world c headings l).histories.rings) (sym split)
+                (earlier c cap kind headings first later kept begun),
+          );
     }
 
 pub promised : (c : Config) (cap : ℕ) (kind : ScriptKind) (script : List Event) (r : Report) → KeepsRules cap c

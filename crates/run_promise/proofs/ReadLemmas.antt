@@ -205,7 +205,7 @@ module _ (c : Config) (headings : ℕ → Heading) where
       (read_event first event (after_events c headings first)
       (λ n. session_clean kind first (event ∷ later) n is) are)))
 
-  events_read : (kind : ScriptKind) (script : List Event) → IsSession kind script
+  pub events_read : (kind : ScriptKind) (script : List Event) → IsSession kind script
       → AreRead script (after_events c headings script)
   events_read kind script is = read_more kind [] script is (record {
     known = record { each = All-nil (IsKnown c headings []); none = λ n none. refl };

@@ -33,8 +33,8 @@ AreAllCalls c histories me calls =
     (mount : ℕ)
     → told (answer_at (shapes c) mount) me [] (history_at histories mount) ≡ at_one mount calls
 
--- the calls that are no reads. How many Reads a caller makes, and when, is not fixed: its frames are
--- counted up to the last one
+-- the calls that are no reads. How many Reads a caller makes, and when, is not fixed: its frames
+-- are counted up to the last one
 abbrev pub is_no_read : RingCall → Bool
 is_no_read (Read cursor budget) = false
 is_no_read _ = true

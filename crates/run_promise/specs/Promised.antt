@@ -27,6 +27,7 @@ use Rattle.session_core.specs.Judged.{Opening, SourceTerms, RoverTerms, Judged, 
 use Rattle.session_core.specs.Replies.{text_if, opening_text, kept_frames}
 use Rattle.session_core.specs.Promises.{IsSoundIn, CountsAll}
 use Rattle.session_core.specs.Reports.{opened_as, bytes_to, AreHeadings, mount_total}
+use Rattle.caster_replay.specs.Runs.{is_cut}
 use Rattle.run_promise.specs.Calls.{Call, call, AreAllCalls, without_reads, segments_of, ReadOn}
 use Rattle.run_promise.specs.Selected.{Selects}
 
@@ -182,13 +183,29 @@ abbrev pub is_release : RingCall → Bool
 is_release (Release claim) = true
 is_release _ = false
 
+-- By these events the connection of this number is a source that has not ended: none of them closes
+-- it, and its body, where it comes in chunks, has not ended and is not broken.
+pub record GoesOn (c : Config) (heads : ℕ → Heading) (script : List Event) (number : ℕ)
+    : Type 0 where
+  pub uncut : is_cut number script ≡ false
+  pub opening : Opening
+  pub opened : opened_as number script ≡ Some opening
+  pub terms : SourceTerms
+  pub body : List ℕ
+  pub is_source : judged c opening (heads number) (bytes_to number script) ≡ source terms body
+  pub still : terms.chunked ≡ true → IsOpen body
+
 -- Each of the early histories is a beginning of the later one, but for claims that are given back:
--- a script that stops early closes its sources, which adds their Releases at the end.
-abbrev pub AreEarlier : List (History RingCall) → List (History RingCall) → Type 0
-AreEarlier early histories =
+-- a script that stops early closes its sources, which adds their Releases at the end. Those are of
+-- the sources that have not ended by then, and none before is.
+abbrev pub AreEarlier : Config → (ℕ → Heading) → List Event → List (History RingCall)
+    → List (History RingCall) → Type 0
+AreEarlier c heads script early histories =
     (mount : ℕ) → (first back later : History RingCall)
     × (history_at early mount ≡ first ++ back)
-    × All (λ (entry : ℕ × RingCall). IsTrue (is_release entry.1)) back
+    × All (λ (entry : ℕ × RingCall). IsTrue (is_release entry.1) × GoesOn c heads script entry.0) back
+    × All (λ (entry : ℕ × RingCall). IsTrue (is_release entry.1) → GoesOn c heads script entry.0
+    → ⊥) first
     × (history_at histories mount ≡ first ++ later)
 
 -- The report keeps it with some histories, where `heads` are what the bytes of each connection, by
@@ -204,4 +221,4 @@ pub record IsPromised (c : Config) (script : List Event) (r : Report) : Type 0 w
   pub kept : IsKept c heads lets_in script histories r
   pub in_order : (first later : List Event) → script ≡ first ++ later
       → (early : List (History RingCall)) × (so_far : Report)
-      × IsKept c heads lets_in first early so_far × AreEarlier early histories
+      × IsKept c heads lets_in first early so_far × AreEarlier c heads first early histories
