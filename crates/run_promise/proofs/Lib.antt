@@ -9,6 +9,7 @@ pub mod OwedLemmas
 pub mod AccountLemmas
 pub mod RunLemmas
 pub mod GoesLemmas
+pub mod CutLemmas
 pub mod OrderLemmas
 pub mod EnteredLemmas
 pub mod ReadLemmas

@@ -14,6 +14,7 @@ use Rattle.rover_cursor.specs.declared.segment.Segment.{Segment}
 use Rattle.session_script.specs.declared.Event.{Event}
 use Rattle.session_script.specs.declared.Event.TheVariants as events
 use Rattle.session_script.specs.declared.ScriptKind.{ScriptKind}
+use Rattle.session_script.specs.Numbers.{no_numbers}
 use Rattle.session_script.specs.Script.{IsSession}
 use Rattle.session_calls.specs.Steps.{on_ring}
 use Rattle.session_calls.specs.Rings.{history_at}
@@ -36,6 +37,7 @@ use Rattle.run_promise.specs.Promised.{is_release, GoesOn, AreEarlier}
 use Rattle.run_promise.proofs.WithinLemmas.{closing_within, judged_fed}
 use Rattle.run_promise.proofs.StoodLemmas.{Stood, extends_same, plan_adds}
 use Rattle.run_promise.proofs.ReadLemmas.{events_read}
+use Rattle.run_promise.proofs.CutLemmas.{first_session, later_uncut}
 use Rattle.run_promise.proofs.GoesLemmas.{none_back, IsSaid, said_so, goes_so}
 use Rattle.run_promise.proofs.RunLemmas.{IsStood, IsRunning, happens_extends, happens_runs, opens_extends, event_runs, events_runs}
 
@@ -231,29 +233,34 @@ module _ (c : Config) (headings : ℕ → Heading) (list : List Event) where
 -- ---- a beginning of the script
 
 pub earlier : (c : Config) (cap : ℕ) (kind : ScriptKind) (headings : ℕ → Heading) (first later : List Event)
-    → KeepsRules cap c → IsSession kind first → AreEarlier c headings first (world c headings first).histories.rings
+    → KeepsRules cap c → IsSession kind (first ++ later)
+    → AreEarlier c headings first (world c headings first).histories.rings
     (world c headings (first ++ later)).histories.rings
 earlier c cap kind headings first later kept session mount =
     let numbers : World → List ℕ = λ w. map (λ (d : Connected). d.number) w.connections in
     let early = after_events c headings first in
     let late = after_events c headings (first ++ later) in
     let run = events_runs c cap headings first kept in
-    let known = (events_read c headings kind first session).known in
+    let known = (events_read c headings kind first (first_session kind no_numbers first later session)).known in
     let back = closes_back c headings first cap early (numbers early) kept run
     (known_said c headings first early.connections known.each) mount in
     let on = events_extend c cap headings early later kept run mount in
     let after = closes_extend c headings first cap late (numbers late) kept
     (events_runs c cap headings (first ++ later) kept) mount in
     let split : late ≡ fold (after_event c headings) early later =
-    fold-append (after_event c headings) (record { connections = []; histories = nothing_called c }) first later in (
+    fold-append (after_event c headings) (record { connections = []; histories = nothing_called c }) first later in
+    let seen : history_at (world c headings (first ++ later)).histories.rings mount
+    ≡ history_at early.histories.rings mount ++ (on.0 ++ after.0) =
+    after.1
+    ∙ ap (λ (w : World). history_at w.histories.rings mount ++ after.0) split
+    ∙ ap (λ (h : History RingCall). h ++ after.0) on.1
+    ∙ append_assoc (history_at early.histories.rings mount) on.0 after.0 in (
       history_at early.histories.rings mount,
       back.0,
       on.0 ++ after.0,
       back.1,
       back.2,
       none_back c headings first early run.each known mount,
-      after.1
-          ∙ ap (λ (w : World). history_at w.histories.rings mount ++ after.0) split
-          ∙ ap (λ (h : History RingCall). h ++ after.0) on.1
-          ∙ append_assoc (history_at early.histories.rings mount) on.0 after.0,
+      seen,
+      later_uncut c cap kind headings first later mount (on.0 ++ after.0) kept session seen,
     )

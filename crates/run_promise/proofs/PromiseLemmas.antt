@@ -1,16 +1,14 @@
 -- Every report of a recorded session keeps what is promised.
-use Rattle.std.proofs.Common.{◌≡◌, ◌≢◌, ◌∙◌, ◌≤◌, ◌+◌, ◌++◌, ℕ, Bool, true, false, IsTrue, List, [], ◌∷◌, map, reverse, All, None, Some, inl, inr, refl, sym, ap, subst, arith}
-use Rattle.std.specs.Prelude.{◌==◌, ◌||◌, ◌&&◌}
-use Rattle.std.proofs.lemmas.Bool.{false≢true, and_parts, and_from}
+use Rattle.std.proofs.Common.{◌≡◌, ◌≢◌, ◌∙◌, ◌≤◌, ◌+◌, ℕ, Bool, true, false, IsTrue, List, [], ◌∷◌, map, reverse, All, None, Some, inl, inr, refl, sym, ap, subst, arith}
+use Rattle.std.specs.Prelude.{◌==◌, ◌||◌}
+use Rattle.std.proofs.lemmas.Bool.{false≢true}
 use Rattle.std.proofs.lemmas.List.Elements.{All-head, All-tail, All-cons, All-nil}
 use Rattle.turn_log.specs.History.{History}
 use Rattle.mount_ring.specs.declared.call.RingCall.{RingCall}
 use Rattle.session_script.specs.declared.Event.{Event}
 use Rattle.session_script.specs.declared.ScriptKind.{ScriptKind}
-use Rattle.session_script.specs.Numbers.{Numbers, no_numbers}
-use Rattle.session_script.specs.Line.{is_event}
-use Rattle.session_script.specs.Script.{may_follow, is_session_after, IsSession}
-use Rattle.session_script.specs.Script as scripts
+use Rattle.session_script.specs.Numbers.{no_numbers}
+use Rattle.session_script.specs.Script.{IsSession}
 use Rattle.session_calls.specs.Steps.{Step, answer_of}
 use Rattle.session_calls.specs.Plans.{IsMade}
 use Rattle.session_calls.specs.Rings.{history_at}
@@ -31,6 +29,7 @@ use Rattle.run_promise.proofs.StoodLemmas.{AllBy}
 use Rattle.run_promise.proofs.RunLemmas.{IsOver, world_over}
 use Rattle.run_promise.proofs.AccountLemmas.{Facts, was_so, sent_so, overrun_so}
 use Rattle.run_promise.proofs.RunLemmas.{IsStood, IsRunning, nothing_at, world_runs}
+use Rattle.run_promise.proofs.CutLemmas.{first_session}
 use Rattle.run_promise.proofs.OrderLemmas.{earlier}
 use Rattle.run_promise.proofs.EnteredLemmas.{first_of, IsFound, all_found, lets_in, AreLet, own_lets, early_lets, entered_as}
 use Rattle.run_promise.proofs.ReadLemmas.{IsRead, AreAllRead, world_read}
@@ -158,16 +157,6 @@ world_keeps c cap kind script headings lets kept session are =
           (λ n. told_same c headings h n ds) (run.callers mount);
     }
 
--- the beginning of a session is one
-first_session : (kind : ScriptKind) (numbers : Numbers) (first later : List Event)
-    → is_session_after kind numbers (first ++ later) ≡ true → is_session_after kind numbers first ≡ true
-first_session kind numbers [] later is = refl
-first_session kind numbers (event ∷ first) later is =
-    let fits = is_event kind event && may_follow kind numbers event in
-    let next = scripts.after_event numbers event in
-    let both = and_parts fits (is_session_after kind next (first ++ later)) is in
-    and_from fits (is_session_after kind next first) both.0 (first_session kind next first later both.1)
-
 world_promised : (c : Config) (cap : ℕ) (kind : ScriptKind) (script : List Event) (headings : ℕ → Heading)
     → KeepsRules cap c → IsSession kind script → AreHeadings script headings
     → IsPromised c script (report c headings script)
@@ -188,7 +177,7 @@ world_promised c cap kind script headings kept session are =
                 (sym split) (early_lets c headings first later)),
             subst (λ (l : List Event). AreEarlier c headings first (world c headings first).histories.rings
                 (world c headings l).histories.rings) (sym split)
-                (earlier c cap kind headings first later kept begun),
+                (earlier c cap kind headings first later kept (subst (IsSession kind) split session)),
           );
     }
 

@@ -173,6 +173,13 @@ pub happens_extends : (c : Config) (cap : ℕ) (headings : ℕ → Heading) (w :
 happens_extends c cap headings w number what kept run =
     (happens_all c cap headings number what w.histories w.connections kept run.order run.each).later
 
+-- others than the one to whom it happens call nothing
+pub happens_others : (c : Config) (cap : ℕ) (headings : ℕ → Heading) (w : World) (number : ℕ) (what : Happening)
+    → KeepsRules cap c → IsRunning c headings w → (me : ℕ) → me ≢ number
+    → WentOn w.histories.rings (happens c headings w number what).histories.rings me
+happens_others c cap headings w number what kept run =
+    (happens_all c cap headings number what w.histories w.connections kept run.order run.each).others
+
 -- one is placed among the others
 pub all_placed : (P : Connected → Type 0) (d : Connected) (ds : List Connected) → P d → All P ds → All P (placed d ds)
 all_placed P d [] one all = All-cons P d [] one all
@@ -287,6 +294,23 @@ opened_extends : (known : Bool) (c : Config) (cap : ℕ) (headings : ℕ → Hea
 opened_extends true c cap headings w number o kept is run = extends_same w.histories.rings
 opened_extends false c cap headings w number o kept is run =
     (fresh_moves c cap (headings number) w.histories number o kept (new_walked c headings w number is run)).later
+
+opened_others : (known : Bool) (c : Config) (cap : ℕ) (headings : ℕ → Heading) (w : World) (number : ℕ)
+    (o : Opening) → KeepsRules cap c → is_opened number w.connections ≡ known → IsRunning c headings w
+    → (me : ℕ) → (known ≡ false → me ≢ number) → WentOn w.histories.rings
+    (opened_if known w (moved c (headings number) w.histories (fresh number o) (arrives []))).histories.rings me
+opened_others true c cap headings w number o kept is run me apart = went_on_none w.histories.rings me
+opened_others false c cap headings w number o kept is run me apart =
+    (fresh_moves c cap (headings number) w.histories number o kept (new_walked c headings w number is run)).others me
+    (apart refl)
+
+-- others than one that newly opens call nothing
+pub opens_others : (c : Config) (cap : ℕ) (headings : ℕ → Heading) (w : World) (number : ℕ) (o : Opening)
+    → KeepsRules cap c → IsRunning c headings w → (me : ℕ)
+    → (is_opened number w.connections ≡ false → me ≢ number)
+    → WentOn w.histories.rings (opens c headings w number o).histories.rings me
+opens_others c cap headings w number o kept run me apart =
+    opened_others (is_opened number w.connections) c cap headings w number o kept refl run me apart
 
 pub opens_extends : (c : Config) (cap : ℕ) (headings : ℕ → Heading) (w : World) (number : ℕ) (o : Opening)
     → KeepsRules cap c → IsRunning c headings w

@@ -197,7 +197,7 @@ pub record GoesOn (c : Config) (heads : ℕ → Heading) (script : List Event) (
 
 -- Each of the early histories is a beginning of the later one, but for claims that are given back:
 -- a script that stops early closes its sources, which adds their Releases at the end. Those are of
--- the sources that have not ended by then, and none before is.
+-- the sources that have not ended by then, and none before is. Nobody calls later who is closed.
 abbrev pub AreEarlier : Config → (ℕ → Heading) → List Event → List (History RingCall)
     → List (History RingCall) → Type 0
 AreEarlier c heads script early histories =
@@ -207,6 +207,7 @@ AreEarlier c heads script early histories =
     × All (λ (entry : ℕ × RingCall). IsTrue (is_release entry.1) → GoesOn c heads script entry.0
     → ⊥) first
     × (history_at histories mount ≡ first ++ later)
+    × All (λ (entry : ℕ × RingCall). is_cut entry.0 script ≡ false) later
 
 -- The report keeps it with some histories, where `heads` are what the bytes of each connection, by
 -- its number, say of a head. They come about in the order of the script: whatever
