@@ -254,13 +254,13 @@ earlier c cap kind headings first later kept session mount =
     after.1
     ∙ ap (λ (w : World). history_at w.histories.rings mount ++ after.0) split
     ∙ ap (λ (h : History RingCall). h ++ after.0) on.1
-    ∙ append_assoc (history_at early.histories.rings mount) on.0 after.0 in (
-      history_at early.histories.rings mount,
-      back.0,
-      on.0 ++ after.0,
-      back.1,
-      back.2,
-      none_back c headings first early run.each known mount,
-      seen,
-      later_uncut c cap kind headings first later mount (on.0 ++ after.0) kept session seen,
-    )
+    ∙ append_assoc (history_at early.histories.rings mount) on.0 after.0 in record {
+      front = history_at early.histories.rings mount;
+      back = back.0;
+      later = on.0 ++ after.0;
+      early_is = back.1;
+      now_is = seen;
+      given_back = back.2;
+      none_before = none_back c headings first early run.each known mount;
+      none_closed = later_uncut c cap kind headings first later mount (on.0 ++ after.0) kept session seen;
+    }

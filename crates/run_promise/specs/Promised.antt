@@ -195,25 +195,33 @@ pub record GoesOn (c : Config) (heads : ℕ → Heading) (script : List Event) (
   pub is_source : judged c opening (heads number) (bytes_to number script) ≡ source terms body
   pub still : terms.chunked ≡ true → IsOpen body
 
--- Each of the early histories is a beginning of the later one, but for claims that are given back:
--- a script that stops early closes its sources, which adds their Releases at the end. Those are of
--- the sources that have not ended by then, and none before is. Nobody calls later who is closed.
+-- The early history of a mountpoint is a beginning of the later one, but for claims that are given
+-- back: a script that stops early closes its sources, which adds their Releases at the end.
+pub record IsEarlier (c : Config) (heads : ℕ → Heading) (script : List Event)
+    (early now : History RingCall) : Type 0 where
+  pub front : History RingCall
+  pub back : History RingCall
+  pub later : History RingCall
+  pub early_is : early ≡ front ++ back
+  pub now_is : now ≡ front ++ later
+  -- the sources that have not ended give their claims back, and none of them did before
+  pub given_back : All (λ (entry : ℕ × RingCall). IsTrue (is_release entry.1)
+      × GoesOn c heads script entry.0) back
+  pub none_before : All (λ (entry : ℕ × RingCall). IsTrue (is_release entry.1)
+      → GoesOn c heads script entry.0 → ⊥) front
+  -- nobody calls later whom an event has closed
+  pub none_closed : All (λ (entry : ℕ × RingCall). is_cut entry.0 script ≡ false) later
+
 abbrev pub AreEarlier : Config → (ℕ → Heading) → List Event → List (History RingCall)
     → List (History RingCall) → Type 0
 AreEarlier c heads script early histories =
-    (mount : ℕ) → (first back later : History RingCall)
-    × (history_at early mount ≡ first ++ back)
-    × All (λ (entry : ℕ × RingCall). IsTrue (is_release entry.1) × GoesOn c heads script entry.0) back
-    × All (λ (entry : ℕ × RingCall). IsTrue (is_release entry.1) → GoesOn c heads script entry.0
-    → ⊥) first
-    × (history_at histories mount ≡ first ++ later)
-    × All (λ (entry : ℕ × RingCall). is_cut entry.0 script ≡ false) later
+    (mount : ℕ) → IsEarlier c heads script (history_at early mount) (history_at histories mount)
 
 -- The report keeps it with some histories, where `heads` are what the bytes of each connection, by
--- its number, say of a head. They come about in the order of the script: whatever
--- beginning of it were all, some report would keep it with the beginnings of these histories. Which
--- rovers are let in is the same in all these reports: no beginning may take a rover that was let in
--- for one whose account was full, so that its calls would stand later than its bytes came in.
+-- its number, say of a head. They come about in the order of the script: whatever beginning of it
+-- were all, some report would keep it with the beginnings of these histories. Which rovers are let
+-- in is the same in all these reports: no beginning may take a rover that was let in for one whose
+-- account was full, so that its calls would stand later than its bytes came in.
 pub record IsPromised (c : Config) (script : List Event) (r : Report) : Type 0 where
   pub heads : ℕ → Heading
   pub are_heads : AreHeadings script heads
