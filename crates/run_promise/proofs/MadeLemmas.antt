@@ -30,7 +30,7 @@ pub asks_call : (m n : ℕ) (x y : RingCall) → to_ring m x ≡ to_ring n y →
 asks_call m n x y e = cc
 
 -- a step asks what was asked
-asked_same : (c : Config) (me : ℕ) (h : Histories) (ask : Ask) → ask_of (step_at c me h ask) ≡ ask
+pub asked_same : (c : Config) (me : ℕ) (h : Histories) (ask : Ask) → ask_of (step_at c me h ask) ≡ ask
 asked_same c me h (to_ring mount call) = refl
 asked_same c me h (to_book call) = refl
 

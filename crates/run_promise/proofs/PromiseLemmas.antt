@@ -181,6 +181,15 @@ world_promised c cap kind script headings kept session are =
           );
     }
 
+-- the promise is kept by these headings and by the histories of the run
+pub promised_by : (c : Config) (cap : ℕ) (kind : ScriptKind) (script : List Event) (headings : ℕ → Heading)
+    → KeepsRules cap c → IsSession kind script → AreHeadings script headings
+    → (promised : IsPromised c script (report c headings script)) × (promised.heads ≡ headings)
+    × (promised.histories ≡ (world c headings script).histories.rings)
+unfolding world_promised
+promised_by c cap kind script headings kept session are =
+    (world_promised c cap kind script headings kept session are, refl, refl)
+
 pub promised : (c : Config) (cap : ℕ) (kind : ScriptKind) (script : List Event) (r : Report) → KeepsRules cap c
     → IsSession kind script → IsReport c script r → IsPromised c script r
 promised c cap kind script r kept session is =

@@ -195,7 +195,7 @@ swapped true false x = refl
 swapped false true x = refl
 swapped false false x = refl
 
-placed_opened : (n : ℕ) (d : Connected) (ds : List Connected)
+pub placed_opened : (n : ℕ) (d : Connected) (ds : List Connected)
     → is_opened n (placed d ds) ≡ ((d.number == n) || is_opened n ds)
 placed_opened n d [] = refl
 placed_opened n d (e ∷ ds) =
@@ -238,7 +238,7 @@ none_own is_such number (entry ∷ h) not all =
     ap (λ (b : Bool). cond b (entry.1 ∷ own number h) (own number h)) (ne_eqb entry.0 number apart)
     ∙ none_own is_such number h not (All-tail (λ (e : ℕ × RingCall). IsTrue (is_such e.0)) entry h all)
 
-new_walked : (c : Config) (headings : ℕ → Heading) (w : World) (number : ℕ) → is_opened number w.connections ≡ false
+pub new_walked : (c : Config) (headings : ℕ → Heading) (w : World) (number : ℕ) → is_opened number w.connections ≡ false
     → IsRunning c headings w → Walked c w.histories number []
 new_walked c headings w number not run = record {
   size = run.size;
