@@ -1,0 +1,10 @@
+mod BackLemmas
+mod WalkLemmas
+mod JudgedLemmas
+mod SentLemmas
+mod MoveLemmas
+mod OpenLemmas
+mod EachLemmas
+mod EventLemmas
+mod FrameLemmas
+mod PromiseLemmas
