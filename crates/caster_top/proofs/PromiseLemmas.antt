@@ -19,12 +19,13 @@ use Rattle.session_core.specs.Reports as reports
 use Rattle.caster_warm.specs.Warm.{told_with, warm_report}
 use Rattle.run_promise.specs.Promised.{IsPromised}
 use Rattle.run_promise.proofs.PromiseLemmas.{promised}
+use Rattle.warm_promise.proofs.PromiseLemmas.{greeted}
 use Rattle.run_texts.specs.Texts.{IsRunText, IsWarmText}
 use Rattle.caster_record.specs.Recording.{kind_of}
 use Rattle.caster_top.specs.Command.{AreBare}
 use Rattle.caster_top.specs.Told.{Files, IsConfigAt, IsSessionAt}
 use Rattle.caster_top.specs.Recording.{HasRecorded}
-use Rattle.caster_top.specs.Promised.{IsGreetedText, IsPromisedText, receipt_in}
+use Rattle.caster_top.specs.Promised.{IsGreetedText, IsPromisedText}
 
 -- the configuration in a file keeps the rules
 config_keeps : (files : Files) (path : List ℕ) (c : Config) → IsConfigAt files path c → KeepsRules 1000000 c
@@ -53,24 +54,15 @@ replay_promised files config session c events text at is run =
     text_promised c 1000000 kind events text (config_keeps files config c at) (script_read kind is.0 events is.2).session
     run
 
-receipts_with : (sent : ℕ → List ℕ) (connections : List Connection)
-    → map receipt_in (map (told_with sent) connections) ≡ map receipt_in connections
-receipts_with sent [] = refl
-receipts_with sent (told ∷ more) = ap (λ (l : List (ℕ × Receipt)). receipt_in told ∷ l) (receipts_with sent more)
-
 pub warm_promised : (files : Files) (config session : List ℕ) (c : Config) (events : List Event) (text : List ℕ)
     → IsConfigAt files config c → IsSessionAt files session c events → IsWarmText c events text
     → IsGreetedText c events text
 warm_promised files config session c events text at is run =
     let kind = Replay (length c.relay) in
-    let plain : Report = reports.report c run.is.0 events in
     record {
       report = run.report;
-      plain = plain;
-      promised = promised c 1000000 kind events plain (config_keeps files config c at)
-          (script_read kind is.0 events is.2).session (run.is.0, run.is.1, refl);
-      closed = ap (λ (r : Report). r.closed) run.is.2;
-      receipts = ap (λ (r : Report). map receipt_in r.connections) run.is.2 ∙ receipts_with _ plain.connections;
+      greeted = greeted c 1000000 kind events run.report (config_keeps files config c at)
+          (script_read kind is.0 events is.2).session run.is;
       text_is = run.text_is;
     }
 

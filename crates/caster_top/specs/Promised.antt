@@ -9,11 +9,11 @@ use Rattle.session_script.specs.Writing.{script_text}
 use Rattle.cast_config.specs.declared.config.Config.{Config}
 use Rattle.cast_config.specs.Bare as settings
 use Rattle.session_core.specs.declared.report.Connection.{Connection}
-use Rattle.session_core.specs.declared.report.Receipt.{Receipt}
 use Rattle.session_core.specs.declared.report.Report.{Report}
 use Rattle.session_core.specs.Text.{closed_text, report_text}
 use Rattle.session_core.specs.declared.report.Closed.{Closed}
 use Rattle.run_promise.specs.Promised.{IsPromised}
+use Rattle.warm_promise.specs.Greeted.{IsGreeted}
 use Rattle.serve_promise.specs.Callers.{AllPromised}
 use Rattle.caster_top.specs.Command.{AreBare, AreReplay, AreRecord, AreServe, AreWarm}
 use Rattle.caster_top.specs.Told.{Files, IsConfigAt, IsSessionAt}
@@ -25,18 +25,10 @@ pub record IsPromisedText (c : Config) (events : List Event) (text : List ℕ) :
   pub promised : IsPromised c events report
   pub text_is : text ≡ report_text c report
 
--- a connection's number and what it came to
-abbrev pub receipt_in : Connection → ℕ × Receipt
-receipt_in told = (told.number, told.receipt)
-
--- The text is that of a report with greetings: but for the bytes of its connections it is one of
--- these events that keeps the promise.
+-- the text is that of a report with greetings of these events that keeps the promise of such a report
 pub record IsGreetedText (c : Config) (events : List Event) (text : List ℕ) : Type 0 where
   pub report : Report
-  pub plain : Report
-  pub promised : IsPromised c events plain
-  pub closed : report.closed ≡ plain.closed
-  pub receipts : map receipt_in report.connections ≡ map receipt_in plain.connections
+  pub greeted : IsGreeted c events report
   pub text_is : text ≡ report_text c report
 
 -- What these words came to keeps the promise: the report of a bare session, that of a session over a

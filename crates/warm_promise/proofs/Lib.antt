@@ -1,10 +1,10 @@
-mod BackLemmas
-mod WalkLemmas
-mod JudgedLemmas
-mod SentLemmas
-mod MoveLemmas
-mod OpenLemmas
-mod EachLemmas
-mod EventLemmas
-mod FrameLemmas
-mod PromiseLemmas
+pub mod BackLemmas
+pub mod WalkLemmas
+pub mod JudgedLemmas
+pub mod SentLemmas
+pub mod MoveLemmas
+pub mod OpenLemmas
+pub mod EachLemmas
+pub mod EventLemmas
+pub mod FrameLemmas
+pub mod PromiseLemmas
