@@ -4,3 +4,4 @@ pub mod StepLemmas
 pub mod ListLemmas
 pub mod ToldLemmas
 pub mod StoreLemmas
+pub mod LogLemmas

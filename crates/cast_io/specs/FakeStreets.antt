@@ -1,6 +1,8 @@
 -- What contracts see of a street in memory.
-use Rattle.std.specs.Prelude.{ℕ, ◌≡◌, ◌||◌, nat_lt, if◌then◌else◌, List, [], length, map, Bool, Option, Some, option_map}
+use Rattle.std.specs.Prelude.{ℕ, ◌≡◌, ◌||◌, nat_lt, if◌then◌else◌, List, [], length, map, Bool, Option, Some, option_map, Result, Ok, Err}
 use Rattle.cast_io.specs.declared.steps.Asked.{Asked}
+use Rattle.cast_io.specs.declared.street.StreetFault.{StreetFault}
+use Rattle.cast_io.specs.declared.street.StreetFault.TheVariants as refusals
 use Rattle.cast_io.specs.Causes.{next_count}
 use Rattle.cast_io.specs.Fakes.{fails_next}
 use Rattle.cast_io.specs.Told.{StreetTold}
@@ -61,6 +63,12 @@ dial_fails street = fails_next street.calls street.fails || nat_lt (length stree
 -- an answer counts a fault where it was refused
 abbrev pub faults_by : Bool → ℕ → ℕ
 faults_by ok faults = if ok then faults else next_count faults
+
+-- an answer of the street counts a fault where it failed, and not where there was no memory
+abbrev pub faults_after_ask : {T : Type 0} → Result T StreetFault → ℕ → ℕ
+faults_after_ask (Ok given) faults = faults
+faults_after_ask (Err refusals.Failed) faults = next_count faults
+faults_after_ask (Err refusals.Memory) faults = faults
 
 -- one more call was counted, and nothing changed that neither an open nor a dial changes
 pub record IsAskOf (old new : StreetState) : Type 0 where

@@ -11,3 +11,4 @@ pub mod Streets
 pub mod FakeStreets
 pub mod Stores
 pub mod FakeStores
+pub mod Logs

@@ -1,6 +1,8 @@
 -- What the calls of a street do to what it tells.
-use Rattle.std.specs.Prelude.{ℕ, ◌≡◌, ◌≤◌, ◌<◌, [], ◌∷◌}
+use Rattle.std.specs.Prelude.{ℕ, ◌≡◌, ◌≤◌, ◌<◌, [], ◌∷◌, Result, IsErrOf, IsSome}
 use Rattle.cast_io.specs.declared.steps.Asked.{Asked}
+use Rattle.cast_io.specs.declared.street.StreetFault.{StreetFault}
+use Rattle.cast_io.specs.declared.street.StreetFault.TheVariants as faults
 use Rattle.cast_io.specs.Causes.{Rose}
 use Rattle.cast_io.specs.Told.{LinkTold, DoorTold, StreetTold, Grew}
 
@@ -11,6 +13,12 @@ pub record HasAsked (wanted : Asked) (old new : StreetTold) : Type 0 where
   pub links : new.links ≡ old.links
   pub later : old.faults ≤ new.faults
   pub link_faults : new.link_faults ≡ old.link_faults
+
+-- A call that did not fail leaves the count as it was, where the street still tells what it was
+-- asked: it may have lost that for want of memory, which counts as a fault.
+abbrev pub IsUnharmed : {T : Type 0} → Result T StreetFault → StreetTold → StreetTold → Type 0
+IsUnharmed result old new = IsSome new.asked → (IsErrOf result faults.Failed → ⊥)
+    → new.faults ≡ old.faults
 
 -- a count never falls, and it rises exactly where this other one is above 0
 pub record RisesWith (count old new : ℕ) : Type 0 where

@@ -8,7 +8,7 @@ ghost use Rattle.cast_io.specs.Returns.{with_return};
 ghost use Rattle.cast_io.specs.Streets.{RisesWith};
 ghost use Rattle.cast_io.specs.FakeLinks.{link_told, is_new_link};
 ghost use Rattle.cast_io.specs.FakeDoors.{door_told, is_new_door};
-ghost use Rattle.cast_io.specs.FakeStreets.{street_told, open_fails, dial_fails, faults_by};
+ghost use Rattle.cast_io.specs.FakeStreets.{street_told, open_fails, dial_fails, faults_after_ask};
 
 use crate::bytes::ByteString;
 use crate::calls::is_told;
@@ -202,7 +202,7 @@ impl MemStreet {
         ensures size { IfOk result (λ given. vec_len given ≡ count) }
         ensures fresh { IfOk result (λ given. IsTrue (list_all is_new_door given.items)) }
         ensures exact { IsErrOf result StreetFault.Failed ↔ (length self.old.doors < count) }
-        ensures faults { self.new.faults ≡ faults_by (is_ok result) self.old.faults }
+        ensures faults { self.new.faults ≡ faults_after_ask result self.old.faults }
         ensures same { self.new ≡ record self.old {
           doors = if is_ok result then drop count self.old.doors else self.old.doors;
           doors_owed = if is_ok result then self.old.doors_owed + count else self.old.doors_owed;
@@ -214,7 +214,6 @@ impl MemStreet {
             return Err(StreetFault::Failed);
         }
         let Ok(rest) = self.doors.split_off(count) else {
-            self.faults = self.faults.saturating_add(1);
             return Err(StreetFault::Memory);
         };
         self.doors_back.give(count);
@@ -227,7 +226,7 @@ impl MemStreet {
         ensures fresh { IfOk result (λ link. IsTrue (is_new_link link)) }
         ensures exact { IsErrOf result StreetFault.Failed ↔ (length self.old.links < 1) }
         ensures err { IsErr result → IsErrOf result StreetFault.Failed }
-        ensures faults { self.new.faults ≡ faults_by (is_ok result) self.old.faults }
+        ensures faults { self.new.faults ≡ faults_after_ask result self.old.faults }
         ensures same { self.new ≡ record self.old {
           links = drop 1 self.old.links;
           links_owed = if is_ok result then self.old.links_owed + 1 else self.old.links_owed;
@@ -271,7 +270,7 @@ impl Street for MemStreet {
         ensures links { (self.new.links ≡ self.old.links)
             × (self.new.links_owed ≡ self.old.links_owed) }
         ensures unharmed { IsSome self.new.asked
-            → self.new.faults ≡ faults_by (is_ok result) self.old.faults }
+            → self.new.faults ≡ faults_after_ask result self.old.faults }
         ensures same { IsAskOf self.old self.new }
     {
         self.note(an_open(self.alloc, addr, doors));
@@ -296,7 +295,7 @@ impl Street for MemStreet {
         ensures doors { (self.new.doors ≡ self.old.doors)
             × (self.new.doors_owed ≡ self.old.doors_owed) }
         ensures unharmed { IsSome self.new.asked
-            → self.new.faults ≡ faults_by (is_ok result) self.old.faults }
+            → self.new.faults ≡ faults_after_ask result self.old.faults }
         ensures same { IsAskOf self.old self.new }
     {
         self.note(a_dial(self.alloc, addr));

@@ -1,8 +1,10 @@
 //! Reading a source to its end.
-ghost use Rattle.std.specs.Prelude.{◌≡◌, ◌<◌, ◌≤◌, ◌+◌, length, vec_len, IfOk, IsErrOf};
+ghost use Rattle.std.specs.Prelude.{◌≡◌, ◌<◌, ◌≤◌, ◌+◌, ℕ, List, [], ◌∷◌, length, vec_len, IfOk, IsErrOf};
 ghost use Rattle.std.specs.Io.KnownBytes.{Consumes, IsAtEnd};
 ghost use Rattle.cast_io.specs.Causes.{Rose};
+ghost use Rattle.cast_io.specs.Logs.{GaveAll, GaveFirst, GaveThen, GoesOn};
 ghost use Rattle.cast_io.specs.Pieces.{Loses};
+ghost use Rattle.cast_io.specs.declared.steps.SourceStep.TheVariants as steps;
 
 use crate::source::Source;
 use std::alloc::Global;
@@ -51,6 +53,19 @@ pub fn read_all<S: Source>(
     ensures reads { Loses (λ came. S.reads source.new ≤ S.reads source.old + length came + 1)
         (S.left source.old) (S.left source.new) }
     ensures few { S.reads source.new ≤ S.reads source.old + limit + 2 }
+
+    // The steps that the source took for it: reads that gave these bytes, and then the end, the
+    // failure, or nothing more.
+    ensures gave { IfOk result (λ v. GaveAll (S.log source.old) (S.log source.new) v.items) }
+    ensures gave_long { IsErrOf result ReadAllFault.Long → (came : List ℕ)
+        × (limit < length came) × Consumes (S.left source.old) (S.left source.new) came
+        × GaveFirst (S.log source.old) (S.log source.new) came }
+    ensures gave_failed { IsErrOf result ReadAllFault.Failed → (came : List ℕ)
+        × (length came ≤ limit)
+        × GaveThen (S.log source.old) (S.log source.new) came (steps.Failed ∷ []) }
+    ensures gave_first { IsErrOf result ReadAllFault.Memory → (came : List ℕ)
+        × (length came ≤ limit) × GaveFirst (S.log source.old) (S.log source.new) came }
+    ensures on { GoesOn (S.log source.old) (S.log source.new) }
 {
     let mut all = Vec::new(alloc);
     let mut piece = [0u8; PIECE];

@@ -1,4 +1,5 @@
-//! What a link is to do and what it did, and what a street was asked, as plain data.
+//! What a link is to do, what links, sources and stores did, and what a street was asked, as plain
+//! data.
 use crate::bytes::ByteString;
 
 /// A step that a link in memory is to take.
@@ -25,6 +26,19 @@ pub enum Step {
     ReadFailed,
     /// A write failed.
     WriteFailed,
+}
+
+/// A step that a source or a store took: what a read or an open answered. `B` holds bytes.
+#[derive(Debug, PartialEq, Eq, Drop)]
+pub enum SourceStep<B> {
+    /// The file of this path was opened.
+    Opened(B),
+    /// A read gave these bytes, at least one.
+    Bytes(B),
+    /// A read came to the end.
+    End,
+    /// A read or an open failed.
+    Failed,
 }
 
 /// What a street was asked for.

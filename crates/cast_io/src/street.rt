@@ -23,7 +23,7 @@ pub enum StreetFault {
 
 /// Where doors are opened and peers are dialled, and where both are given back.
 pub trait Street {
-    ghost use Rattle.cast_io.specs.Streets.{HasAsked, HasLeft, HasShut};
+    ghost use Rattle.cast_io.specs.Streets.{HasAsked, HasLeft, HasShut, IsUnharmed};
     ghost use Rattle.cast_io.specs.declared.steps.Asked.TheVariants as asked;
 
     type Link: Link;
@@ -40,14 +40,16 @@ pub trait Street {
         ensures each { IfOk result
             (λ given. All (λ door. IsNewDoor (Self.Door.told door)) given.items) }
         ensures cause { IsErrOf result StreetFault.Failed
-            → Rose (told self.old).faults (told self.new).faults };
+            → Rose (told self.old).faults (told self.new).faults }
+        ensures unharmed { IsUnharmed result (told self.old) (told self.new) };
 
     /// Connects to the peer at this address. The link has given and taken nothing.
     fn dial(&mut self, addr: &str) -> Result<Self::Link, StreetFault>
         ensures wanted { HasAsked (asked.Dial addr.now) (told self.old) (told self.new) }
         ensures each { IfOk result (λ link. IsNewLink (Self.Link.told link)) }
         ensures cause { IsErrOf result StreetFault.Failed
-            → Rose (told self.old).faults (told self.new).faults };
+            → Rose (told self.old).faults (told self.new).faults }
+        ensures unharmed { IsUnharmed result (told self.old) (told self.new) };
 
     /// Takes back a link that `dial` gave.
     fn hang_up(&mut self, link: Self::Link)
