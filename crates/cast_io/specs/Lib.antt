@@ -12,3 +12,4 @@ pub mod FakeStreets
 pub mod Stores
 pub mod FakeStores
 pub mod Logs
+pub mod Logged

@@ -25,10 +25,10 @@ use Rattle.caster_top.specs.declared.answers.Answer.TheVariants.{Done, Valid, No
 use Rattle.caster_top.specs.declared.command.Aim.{Aim}
 use Rattle.caster_top.specs.declared.command.Start.{Start}
 use Rattle.caster_top.specs.declared.command.Start.TheVariants.{Cold}
-use Rattle.caster_top.specs.Command.{Form, bare, over, replay, made, AreBare, AreOver, ArePlayed, AreMake, form_of}
+use Rattle.caster_top.specs.Command.{Form, bare, over, replay, made, casting, fetching, AreBare, AreOver, ArePlayed, AreMake, form_of}
 use Rattle.caster_top.specs.Reading.{config_in}
 use Rattle.caster_top.specs.Outcome.{Exit, Ending, exactly, EndsSo, Came, usage_exit, long_exit, read_fault_exit, memory_exit, whole_exit, session_in, exit_of_config_fault, ending_of_script, ending_of_config, ending_of_read, ending_of_bytes, ending_of, outcome}
-use Rattle.caster_top.specs.Told.{Files, Tells, Holds, IsConfigAt, HasCome, IsOutcome}
+use Rattle.caster_top.specs.Told.{Files, Input, IsConfigFrom, ComesFrom, HasCome, IsOutcome}
 use Rattle.caster_top.specs.Answers.{answer_of_fault, exit_of, GivesEnd, IsGiven, IsInputEnd, IsInputAnswer, IsFileEnd, IsFileAnswer, IsRefused, IsRefusedAt, IsRefusal, IsSessionEnd, IsSessionAnswer, IsReplayEnd, IsReplayAnswer, IsAnswer}
 use Rattle.caster_top.proofs.ReadingLemmas.{config_in-ok, config_in-fault}
 
@@ -69,12 +69,12 @@ unfolding outcome
 outcome-form words came read h = ap (λ f. ending_of f came) (sym h)
 
 -- an end of the words' form is one of the words
-pub outcome_of_read : (words : List (List ℕ)) (left : Option (List ℕ)) (files : Files) (read : Option Form)
-    (came : Came) (end : Exit) → form_of words ≡ read → HasCome read left files came → EndsSo (ending_of read came) end
-    → IsOutcome words left files end
-outcome_of_read words left files read came end h told ends = (
+pub outcome_of_read : (words : List (List ℕ)) (input : Input) (files : Files) (read : Option Form)
+    (came : Came) (end : Exit) → form_of words ≡ read → HasCome read input files came → EndsSo (ending_of read came) end
+    → IsOutcome words input files end
+outcome_of_read words input files read came end h told ends = (
   came,
-  subst (λ (f : Option Form). HasCome f left files came) (sym h) told,
+  subst (λ (f : Option Form). HasCome f input files came) (sym h) told,
   subst (λ (e : Ending). EndsSo e end) (outcome-form words came read h) ends,
 )
 
@@ -82,9 +82,9 @@ abbrev pub nothing_came : Came
 nothing_came = record { script = []; config = []; failed = false }
 
 -- whatever came, the outcome of words of no form is the same
-pub usage_is_outcome : (words : List (List ℕ)) (left : Option (List ℕ)) (files : Files) → form_of words ≡ None
-    → IsOutcome words left files usage_exit
-usage_is_outcome words left files h = outcome_of_read words left files None nothing_came usage_exit h tt refl
+pub usage_is_outcome : (words : List (List ℕ)) (input : Input) (files : Files) → form_of words ≡ None
+    → IsOutcome words input files usage_exit
+usage_is_outcome words input files h = outcome_of_read words input files None nothing_came usage_exit h tt refl
 
 -- ---- bare sessions
 
@@ -92,17 +92,17 @@ abbrev pub script_came : List ℕ → Came
 script_came script = record { script = script; config = []; failed = false }
 
 -- the answer to the input is that to the words
-pub input_answer : (words : List (List ℕ)) (left : Option (List ℕ)) (files : Files) (of_input of_store : Type 0)
+pub input_answer : (words : List (List ℕ)) (input : Input) (files : Files) (of_input of_store : Type 0)
     (capacity : ℕ) (answer : Answer) → form_of words ≡ Some (bare capacity) → AreBare words capacity
-    → IsInputAnswer capacity left of_input answer → IsAnswer words left files of_input of_store answer
-input_answer words left files of_input of_store capacity answer h are is =
-    given_such (IsInputEnd capacity left) (IsOutcome words left files)
+    → IsInputAnswer capacity input of_input answer → IsAnswer words input files of_input of_store answer
+input_answer words input files of_input of_store capacity answer h are is =
+    given_such (IsInputEnd capacity input) (IsOutcome words input files)
     (λ memory. (bare capacity, are)) (λ fault. (bare capacity, are, fault))
-    (λ end ends. outcome_of_read words left files (Some (bare capacity)) (script_came ends.0) end h ends.1 ends.2)
+    (λ end ends. outcome_of_read words input files (Some (bare capacity)) (script_came ends.0) end h ends.1 ends.2)
     answer is
 
 -- more bytes than a script has are no script
-script_of-long : (kind : ScriptKind) (bytes : List ℕ) → 8388608 < length bytes → script_of kind bytes ≡ Err faults.Long
+pub script_of-long : (kind : ScriptKind) (bytes : List ℕ) → 8388608 < length bytes → script_of kind bytes ≡ Err faults.Long
 unfolding script_of
 script_of-long kind bytes long =
     let e : nat_lt 8388608 (length bytes) ≡ true = grind (arith, nat_tests, long) in rw e refl
@@ -113,36 +113,20 @@ long_ends start c kind bytes long =
     subst (λ (s : Result (List Event) ScriptFault). EndsSo (ending_of_script start c s) long_exit)
     (sym (script_of-long kind bytes long)) refl
 
-longer : (told came rest : List ℕ) → told ≡ came ++ rest → 8388608 < length came → 8388608 < length told
-longer told came rest e long = omega (arith, long, ap (λ l. length l) e, length-append came rest)
-
-pub long_input : (left new : Option (List ℕ)) (capacity : ℕ) (fault : Type 0)
-    → Loses (λ came. 8388608 < length came) left new → IsInputAnswer capacity left fault Long
-long_input None new capacity fault lost =
-    (lost.0, tt, long_ends Cold (settings.bare capacity) Bare lost.0 lost.1)
-long_input (Some told) None capacity fault lost = absurd lost.2
-long_input (Some told) (Some rest) capacity fault lost =
-    let long : 8388608 < length told = longer told lost.0 rest lost.2 lost.1 in
-    (told, refl, long_ends Cold (settings.bare capacity) Bare told long)
-
--- what was read to the end is what the input told
-pub read_is_told : (left new : Option (List ℕ)) (bytes : List ℕ) → Consumes left new bytes → IsAtEnd new
-    → Tells left bytes
-read_is_told None new bytes consumed ended = tt
-read_is_told (Some told) None bytes consumed ended = absurd consumed
-read_is_told (Some told) (Some rest) bytes consumed ended =
-    consumed ∙ ap (λ l. bytes ++ l) ended ∙ append-nil bytes
+pub long_input : (input : Input) (capacity : ℕ) (fault : Type 0)
+    → (bytes : List ℕ) × input bytes × (8388608 < length bytes) → IsInputAnswer capacity input fault Long
+long_input input capacity fault is =
+    (is.0, is.1, long_ends Cold (settings.bare capacity) Bare is.0 is.2)
 
 -- the answer to a script is that to the input
-pub script_answer : (left new : Option (List ℕ)) (capacity : ℕ) (bytes : List ℕ) (fault : Type 0) (answer : Answer)
-    → Consumes left new bytes → IsAtEnd new
-    → GivesEnd (ending_of_script Cold (settings.bare capacity) (script_of Bare bytes)) answer
-    → IsInputAnswer capacity left fault answer
-script_answer left new capacity bytes fault answer consumed ended given =
+pub script_answer : (input : Input) (capacity : ℕ) (bytes : List ℕ) (fault : Type 0) (answer : Answer)
+    → input bytes → GivesEnd (ending_of_script Cold (settings.bare capacity) (script_of Bare bytes)) answer
+    → IsInputAnswer capacity input fault answer
+script_answer input capacity bytes fault answer came given =
     given_such (EndsSo (ending_of_script Cold (settings.bare capacity) (script_of Bare bytes)))
-    (IsInputEnd capacity left)
+    (IsInputEnd capacity input)
     (λ memory. memory) (λ none. absurd none)
-    (λ end ends. (bytes, read_is_told left new bytes consumed ended, ends)) answer given
+    (λ end ends. (bytes, came, ends)) answer given
 
 -- ---- files
 
@@ -150,42 +134,14 @@ abbrev pub config_came : List ℕ → Came
 config_came config = record { script = []; config = config; failed = false }
 
 -- the answer to the file is that to the words
-pub file_answer : (words : List (List ℕ)) (left : Option (List ℕ)) (files : Files) (of_input of_store : Type 0)
+pub file_answer : (words : List (List ℕ)) (input : Input) (files : Files) (of_input of_store : Type 0)
     (aim : Aim) (path : List ℕ) (answer : Answer) → form_of words ≡ Some (over aim path) → AreOver aim words path
-    → IsFileAnswer aim path files of_store answer → IsAnswer words left files of_input of_store answer
-file_answer words left files of_input of_store aim path answer h are is =
-    given_such (IsFileEnd aim path files) (IsOutcome words left files)
+    → IsFileAnswer aim path files of_store answer → IsAnswer words input files of_input of_store answer
+file_answer words input files of_input of_store aim path answer h are is =
+    given_such (IsFileEnd aim path files) (IsOutcome words input files)
     (λ memory. (over aim path, are)) (λ fault. (over aim path, are, fault))
-    (λ end ends. outcome_of_read words left files (Some (over aim path)) (config_came ends.0) end h ends.1 ends.2)
+    (λ end ends. outcome_of_read words input files (Some (over aim path)) (config_came ends.0) end h ends.1 ends.2)
     answer is
-
-pub told_bytes : (left : Option (List ℕ)) (bytes told : List ℕ) → Tells left bytes → left ≡ Some told → told ≡ bytes
-told_bytes None bytes told h e = absurd cc
-told_bytes (Some xs) bytes told h e = cc
-
--- what was read to the end is what the file holds
-pub file_read : (path : List ℕ) (files : Files) (left new : Option (List ℕ)) (bytes : List ℕ)
-    → IsOpen path files left → Consumes left new bytes → IsAtEnd new → Holds files path bytes
-file_read path None left new bytes open_ consumed ended = tt
-file_read path (Some list) left new bytes open_ consumed ended =
-    let found = open_ list refl in
-    found.1 ∙ ap Some (told_bytes left bytes found.0 (read_is_told left new bytes consumed ended) found.2)
-
-long_content : (left new : Option (List ℕ)) (content : List ℕ) → left ≡ Some content
-    → Loses (λ came. 8388608 < length came) left new → 8388608 < length content
-long_content None new content e lost = absurd cc
-long_content (Some told) None content e lost = absurd lost.2
-long_content (Some told) (Some rest) content e lost =
-    let same : told ≡ content = cc in
-    subst (λ (l : List ℕ). 8388608 < length l) same (longer told lost.0 rest lost.2 lost.1)
-
-pub file_long : (path : List ℕ) (files : Files) (left new : Option (List ℕ)) → IsOpen path files left
-    → Loses (λ came. 8388608 < length came) left new
-    → (bytes : List ℕ) × Holds files path bytes × (8388608 < length bytes)
-file_long path None left new open_ lost = (lost.0, tt, lost.1)
-file_long path (Some list) left new open_ lost =
-    let found = open_ list refl in
-    (found.0, found.1, long_content left new found.0 found.2 lost)
 
 -- the size decides first
 pub ending_of_bytes-long : (next : Config → Ending) (bytes : List ℕ) → 8388608 < length bytes
@@ -208,14 +164,14 @@ ending_of_bytes-read next bytes read short h =
 
 -- the file of this path ends so where it holds this configuration
 pub at_end : (next : Config → Ending) (files : Files) (path : List ℕ) (c : Config) (end : Exit)
-    → (is : IsConfigAt files path c) → EndsSo (next c) end → EndsSo (ending_of_bytes next is.0) end
+    → (is : IsConfigFrom files path c) → EndsSo (next c) end → EndsSo (ending_of_bytes next is.0) end
 at_end next files path c end is ends =
     subst (λ (e : Ending). EndsSo e end)
     (sym (ending_of_bytes-read next is.0 (Ok c) is.2 (config_in-ok is.0 c is.3))) ends
 
 -- the answer to a configuration is that to its file
 pub config_answer : (aim : Aim) (path : List ℕ) (files : Files) (fault : Type 0) (c : Config) (answer : Answer)
-    → IsConfigAt files path c → GivesEnd (ending_of_config aim c) answer → IsFileAnswer aim path files fault answer
+    → IsConfigFrom files path c → GivesEnd (ending_of_config aim c) answer → IsFileAnswer aim path files fault answer
 config_answer aim path files fault c answer is given =
     given_such (EndsSo (ending_of_config aim c)) (IsFileEnd aim path files) (λ memory. memory) (λ none. absurd none)
     (λ end ends. (is.0, is.1, at_end (ending_of_config aim) files path c end is ends)) answer given
@@ -275,7 +231,7 @@ fault_answer bytes (configs.Unknown key) answer short is given =
 
 -- a session is too long
 pub long_session : (start : Start) (c : Config) (path : List ℕ) (files : Files) (fault : Type 0)
-    → (bytes : List ℕ) × Holds files path bytes × (8388608 < length bytes)
+    → (bytes : List ℕ) × files path bytes × (8388608 < length bytes)
     → IsSessionAnswer start c path files fault Long
 long_session start c path files fault is = (is.0, is.1, long_ends start c (Replay (length c.relay)) is.0 is.2)
 
@@ -283,17 +239,18 @@ abbrev pub both_came : List ℕ → List ℕ → Came
 both_came config script = record { script = script; config = config; failed = false }
 
 -- the answer to a session is that to both files
-pub replay_answer : (start : Start) (config session : List ℕ) (files mid : Files) (mid_fault fault : Type 0)
-    (c : Config)
-    (answer : Answer) → IsConfigAt files config c → mid ≡ files → (mid_fault → fault)
-    → IsSessionAnswer start c session mid mid_fault answer → IsReplayAnswer start config session files fault answer
-replay_answer start config session files mid mid_fault fault c answer is same counts given =
-    given_such (IsSessionEnd start c session mid) (IsReplayEnd start config session files) (λ memory. memory) counts
+pub replay_answer : (start : Start) (config session : List ℕ) (early late files : Files) (late_fault fault : Type 0)
+    (c : Config) (answer : Answer) → IsConfigFrom early config c
+    → ((bytes : List ℕ) → early config bytes → files config bytes)
+    → ((bytes : List ℕ) → late session bytes → files session bytes) → (late_fault → fault)
+    → IsSessionAnswer start c session late late_fault answer → IsReplayAnswer start config session files fault answer
+replay_answer start config session early late files late_fault fault c answer is first second counts given =
+    given_such (IsSessionEnd start c session late) (IsReplayEnd start config session files) (λ memory. memory) counts
     (λ end ends. (
       both_came is.0 ends.0,
-      is.1,
-      (λ d there. subst (λ (f : Files). Holds f session ends.0) same ends.1),
-      at_end (λ d. ending_of_script start d (session_in d ends.0)) files config c end is ends.2,
+      first is.0 is.1,
+      (λ d there. second ends.0 ends.1),
+      at_end (λ d. ending_of_script start d (session_in d ends.0)) early config c end is ends.2,
     )) answer given
 
 -- and so is the answer where there is no configuration
@@ -310,27 +267,27 @@ refused_replay start config session files fault answer is =
     )) answer is
 
 -- the answer to the files is that to the words
-pub files_answer : (words : List (List ℕ)) (left : Option (List ℕ)) (files : Files) (of_input of_store : Type 0)
+pub files_answer : (words : List (List ℕ)) (input : Input) (files : Files) (of_input of_store : Type 0)
     (start : Start) (config session : List ℕ) (answer : Answer) → form_of words ≡ Some (replay start config session)
     → ArePlayed start words config session → IsReplayAnswer start config session files of_store answer
-    → IsAnswer words left files of_input of_store answer
-files_answer words left files of_input of_store start config session answer h are is =
-    given_such (IsReplayEnd start config session files) (IsOutcome words left files)
+    → IsAnswer words input files of_input of_store answer
+files_answer words input files of_input of_store start config session answer h are is =
+    given_such (IsReplayEnd start config session files) (IsOutcome words input files)
     (λ memory. (replay start config session, are)) (λ fault. (replay start config session, are, fault))
-    (λ end ends. outcome_of_read words left files (Some (replay start config session)) ends.0 end h (ends.1, ends.2)
+    (λ end ends. outcome_of_read words input files (Some (replay start config session)) ends.0 end h (ends.1, ends.2)
     ends.3)
     answer is
 
 -- ---- sessions that are made
 
-pub made_answer : (words : List (List ℕ)) (left : Option (List ℕ)) (files : Files) (of_input of_store : Type 0)
+pub made_answer : (words : List (List ℕ)) (input : Input) (files : Files) (of_input of_store : Type 0)
     (seed frames rovers : ℕ) (answer : Answer) → form_of words ≡ Some (made seed frames rovers)
     → AreMake words seed frames rovers → GivesEnd (exactly (whole_exit (made_text seed frames rovers))) answer
-    → IsAnswer words left files of_input of_store answer
-made_answer words left files of_input of_store seed frames rovers answer h are is =
-    given_such (EndsSo (exactly (whole_exit (made_text seed frames rovers)))) (IsOutcome words left files)
+    → IsAnswer words input files of_input of_store answer
+made_answer words input files of_input of_store seed frames rovers answer h are is =
+    given_such (EndsSo (exactly (whole_exit (made_text seed frames rovers)))) (IsOutcome words input files)
     (λ memory. (made seed frames rovers, are)) (λ none. absurd none)
-    (λ end ends. outcome_of_read words left files (Some (made seed frames rovers)) nothing_came end h tt ends)
+    (λ end ends. outcome_of_read words input files (Some (made seed frames rovers)) nothing_came end h tt ends)
     answer is
 
 -- ---- what could not be read to its end
@@ -338,21 +295,21 @@ made_answer words left files of_input of_store seed frames rovers answer h are i
 abbrev is_long : List ℕ → Type 0
 is_long bytes = 8388608 < length bytes
 
-pub unread_input : (left new : Option (List ℕ)) (capacity : ℕ) (fault : Type 0) (cause : ReadAllFault)
-    → (cause ≡ causes.Long → Loses is_long left new) → (cause ≡ causes.Failed → fault)
-    → IsInputAnswer capacity left fault (answer_of_fault cause)
-unread_input left new capacity fault causes.Failed long failed = failed refl
-unread_input left new capacity fault causes.Long long failed = long_input left new capacity fault (long refl)
-unread_input left new capacity fault causes.Memory long failed = tt
+pub unread_input : (input : Input) (capacity : ℕ) (fault : Type 0) (cause : ReadAllFault)
+    → (cause ≡ causes.Long → (bytes : List ℕ) × input bytes × is_long bytes) → (cause ≡ causes.Failed → fault)
+    → IsInputAnswer capacity input fault (answer_of_fault cause)
+unread_input input capacity fault causes.Failed long failed = failed refl
+unread_input input capacity fault causes.Long long failed = long_input input capacity fault (long refl)
+unread_input input capacity fault causes.Memory long failed = tt
 
 pub unread_session : (start : Start) (c : Config) (path : List ℕ) (files : Files) (fault : Type 0) (cause : ReadAllFault)
-    → (cause ≡ causes.Long → (bytes : List ℕ) × Holds files path bytes × is_long bytes)
+    → (cause ≡ causes.Long → (bytes : List ℕ) × files path bytes × is_long bytes)
     → (cause ≡ causes.Failed → fault) → IsSessionAnswer start c path files fault (answer_of_fault cause)
 unread_session start c path files fault causes.Failed long failed = failed refl
 unread_session start c path files fault causes.Long long failed = long_session start c path files fault (long refl)
 unread_session start c path files fault causes.Memory long failed = tt
 
-long_refused : (path : List ℕ) (files : Files) → (bytes : List ℕ) × Holds files path bytes × is_long bytes
+long_refused : (path : List ℕ) (files : Files) → (bytes : List ℕ) × files path bytes × is_long bytes
     → IsRefusedAt path files long_exit
 long_refused path files is = (
   is.0,
@@ -364,8 +321,44 @@ long_refused path files is = (
 )
 
 pub unread_config : (path : List ℕ) (files : Files) (fault : Type 0) (cause : ReadAllFault)
-    → (cause ≡ causes.Long → (bytes : List ℕ) × Holds files path bytes × is_long bytes)
+    → (cause ≡ causes.Long → (bytes : List ℕ) × files path bytes × is_long bytes)
     → (cause ≡ causes.Failed → fault) → IsRefusal path files fault (answer_of_fault cause)
 unread_config path files fault causes.Failed long failed = failed refl
 unread_config path files fault causes.Long long failed = long_refused path files (long refl)
 unread_config path files fault causes.Memory long failed = tt
+
+-- ---- from more
+
+-- what came from here came from there, where all that may come from here may come from there
+come_from_more : (form : Form) (input more_input : Input) (files more_files : Files) (came : Came)
+    → ((bytes : List ℕ) → input bytes → more_input bytes)
+    → ((path bytes : List ℕ) → files path bytes → more_files path bytes) → ComesFrom form input files came
+    → ComesFrom form more_input more_files came
+come_from_more (bare capacity) input more_input files more_files came inputs each is = inputs came.script is
+come_from_more (over aim config) input more_input files more_files came inputs each is = each config came.config is
+come_from_more (replay start config session) input more_input files more_files came inputs each is =
+    (each config came.config is.0, (λ c there. each session came.script (is.1 c there)))
+come_from_more (made seed frames rovers) input more_input files more_files came inputs each is = tt
+come_from_more (casting task config addr limit) input more_input files more_files came inputs each is =
+    each config came.config is
+come_from_more (fetching frames targets) input more_input files more_files came inputs each is = tt
+
+come_more : (read : Option Form) (input more_input : Input) (files more_files : Files) (came : Came)
+    → ((bytes : List ℕ) → input bytes → more_input bytes)
+    → ((path bytes : List ℕ) → files path bytes → more_files path bytes) → HasCome read input files came
+    → HasCome read more_input more_files came
+come_more None input more_input files more_files came inputs each is = tt
+come_more (Some form) input more_input files more_files came inputs each is =
+    come_from_more form input more_input files more_files came inputs each is
+
+-- and so for the answer to words
+pub answer_more : (words : List (List ℕ)) (input more_input : Input) (files more_files : Files)
+    (of_input of_store : Type 0) (answer : Answer) → ((bytes : List ℕ) → input bytes → more_input bytes)
+    → ((path bytes : List ℕ) → files path bytes → more_files path bytes)
+    → IsAnswer words input files of_input of_store answer
+    → IsAnswer words more_input more_files of_input of_store answer
+answer_more words input more_input files more_files of_input of_store answer inputs each is =
+    given_such (IsOutcome words input files) (IsOutcome words more_input more_files) (λ memory. memory)
+    (λ fault. fault)
+    (λ end is. (is.0, come_more (form_of words) input more_input files more_files is.0 inputs each is.1, is.2))
+    answer is

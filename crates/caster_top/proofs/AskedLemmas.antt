@@ -5,7 +5,7 @@ use Rattle.cast_config.specs.declared.config.Config.{Config}
 use Rattle.caster_top.specs.declared.command.Aim.{Aim}
 use Rattle.caster_top.specs.declared.command.Start.{Start}
 use Rattle.caster_top.specs.Command.{Form, over, replay, form_of}
-use Rattle.caster_top.specs.Told.{Files, IsConfigAt, IsAsked}
+use Rattle.caster_top.specs.Told.{FilesTold, IsConfigAt, IsAsked}
 
 -- first these, and then those
 pub grew_both : (a b c : Option (List (List ℕ))) (xs ys : List (List ℕ)) → Grew a b xs → Grew b c ys
@@ -16,17 +16,17 @@ grew_both a b c xs ys first second now e =
     (one.0, one.1, two.2 ∙ ap (λ l. l ++ ys) one.2 ∙ append_assoc one.0 xs ys)
 
 -- for words that are read so
-pub asked_so : (words : List (List ℕ)) (read : Option Form) (files : Files) (old new : Option (List (List ℕ)))
+pub asked_so : (words : List (List ℕ)) (read : Option Form) (files : FilesTold) (old new : Option (List (List ℕ)))
     → form_of words ≡ read → IsAsked read files old new → IsAsked (form_of words) files old new
 asked_so words read files old new h asked =
     subst (λ (form : Option Form). IsAsked form files old new) (sym h) asked
 
 -- the configuration alone, and both
-pub config_asked : (start : Start) (config session : List ℕ) (files : Files) (old new : Option (List (List ℕ)))
+pub config_asked : (start : Start) (config session : List ℕ) (files : FilesTold) (old new : Option (List (List ℕ)))
     → Grew old new (config ∷ []) → IsAsked (Some (replay start config session)) files old new
 config_asked start config session files old new grew = (config ∷ [], inl refl, grew)
 
-pub both_asked : (start : Start) (config session : List ℕ) (files : Files) (old mid new : Option (List (List ℕ)))
+pub both_asked : (start : Start) (config session : List ℕ) (files : FilesTold) (old mid new : Option (List (List ℕ)))
     (c : Config)
     → Grew old mid (config ∷ []) → Grew mid new (session ∷ []) → IsConfigAt files config c
     → IsAsked (Some (replay start config session)) files old new
@@ -34,7 +34,7 @@ both_asked start config session files old mid new c first second is =
     (config ∷ session ∷ [], inr (refl, c, is), grew_both old mid new (config ∷ []) (session ∷ []) first second)
 
 -- one file for words that name it
-pub over_asked : (words : List (List ℕ)) (aim : Aim) (path : List ℕ) (files : Files) (old new : Option (List (List ℕ)))
+pub over_asked : (words : List (List ℕ)) (aim : Aim) (path : List ℕ) (files : FilesTold) (old new : Option (List (List ℕ)))
     → form_of words ≡ Some (over aim path) → Grew old new (path ∷ []) → IsAsked (form_of words) files old new
 over_asked words aim path files old new h grew =
     asked_so words (Some (over aim path)) files old new h (path ∷ [], refl, grew)

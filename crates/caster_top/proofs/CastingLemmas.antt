@@ -3,7 +3,6 @@ use Rattle.std.proofs.Common.{◌≡◌, ℕ, ◌≤◌, ◌⊎◌, true, false,
 use Rattle.std.proofs.lemmas.List.{length-map}
 use Rattle.std.specs.Io.KnownBytes.{Appends}
 use Rattle.cast_io.specs.Causes.{Rose}
-use Rattle.cast_io.specs.Stores.{content_of}
 use Rattle.cast_io.specs.Told.{StreetTold, Grew}
 use Rattle.cast_config.specs.declared.config.Config.{Config}
 use Rattle.cast_config.specs.Document.{IsRead}
@@ -21,7 +20,7 @@ use Rattle.caster_top.specs.declared.command.Task.{Task}
 use Rattle.caster_top.specs.declared.command.Task.TheVariants.{Serve, Record}
 use Rattle.caster_top.specs.Command.{Form, bare, over, replay, made, casting, fetching, AreCasting, CastNothing, form_of}
 use Rattle.caster_top.specs.Outcome.{Exit, exactly, EndsSo, Came, whole_exit, usage_exit, network_exit, ending_of_casting, ending_of_bytes, session_in}
-use Rattle.caster_top.specs.Told.{Files, IsConfigAt, IsConfigIn, IsAsked, IsOutcome, HaveCome}
+use Rattle.caster_top.specs.Told.{Files, FilesTold, Input, IsConfigFrom, IsConfigIn, IsAsked, IsOutcome, HaveCome}
 use Rattle.caster_top.specs.Answers.{exit_of, IsRefused, IsRefusedAt, IsAnswer, Writes}
 use Rattle.caster_top.specs.Recording.{HasRecorded}
 use Rattle.caster_top.specs.Casting.{CameTo, a_text, no_network, no_memory, HasCast, GivesCame, GivesServed, IsCastingAnswer, CastEnd, RefusedEnd, CastingEnd, HasCasting, IsUnserved}
@@ -30,7 +29,6 @@ use Rattle.caster_top.proofs.WordLemmas.{form_of-form, form-form_of}
 use Rattle.caster_top.proofs.AnswerLemmas.{given_such, given_end, outcome_of_read, config_came, at_end}
 use Rattle.caster_top.proofs.AskedLemmas.{asked_so}
 use Rattle.caster_top.proofs.StatusLemmas.{status-ends, too_many, read, faulty, wanting, bytes_cases, IsOfCaster}
-use Rattle.caster_top.proofs.ClauseLemmas.{held_bytes}
 
 -- ---- the answer is one to the words
 
@@ -44,43 +42,43 @@ cast_ends Serve c addr limit before after text is = (refl, is.0, is.2)
 cast_ends Record c addr limit before after text is =
     (refl, (is.0, is.2, ap (session_in c) is.2 ∙ is.1.session.recorded.reads))
 
-cast_answer : (words : List (List ℕ)) (left : Option (List ℕ)) (files : Files) (of_input of_store : Type 0)
+cast_answer : (words : List (List ℕ)) (input : Input) (files : Files) (of_input of_store : Type 0)
     (task : Task) (config addr : List ℕ) (limit : ℕ) (before after : StreetTold) (c : Config) (came_to : CameTo)
     (answer : Answer) → form_of words ≡ Some (casting task config addr limit)
-    → AreCasting task words config addr limit → IsConfigAt files config c
+    → AreCasting task words config addr limit → IsConfigFrom files config c
     → HasCast task c addr limit before after came_to → GivesCame task came_to answer
-    → IsAnswer words left files of_input of_store answer
-cast_answer words left files of_input of_store task config addr limit before after c (a_text text) answer h are is cast
+    → IsAnswer words input files of_input of_store answer
+cast_answer words input files of_input of_store task config addr limit before after c (a_text text) answer h are is cast
     given =
-    given_such (EndsSo (exactly (whole_exit text))) (IsOutcome words left files)
+    given_such (EndsSo (exactly (whole_exit text))) (IsOutcome words input files)
     (λ memory. (casting task config addr limit, are)) (λ none. absurd none)
-    (λ end ends. outcome_of_read words left files (Some (casting task config addr limit)) (config_came is.0) end h is.1
+    (λ end ends. outcome_of_read words input files (Some (casting task config addr limit)) (config_came is.0) end h is.1
     (at_end (ending_of_casting task false) files config c end is
     (subst (λ (e : Exit). EndsSo (ending_of_casting task false c) e) (sym ends)
     (cast_ends task c addr limit before after text cast)))) answer given
-cast_answer words left files of_input of_store task config addr limit before after c no_network answer h are is cast
+cast_answer words input files of_input of_store task config addr limit before after c no_network answer h are is cast
     given =
-    subst (λ (a : Answer). IsAnswer words left files of_input of_store a) (sym given)
-    (outcome_of_read words left files (Some (casting task config addr limit)) (failed_came is.0) network_exit h is.1
+    subst (λ (a : Answer). IsAnswer words input files of_input of_store a) (sym given)
+    (outcome_of_read words input files (Some (casting task config addr limit)) (failed_came is.0) network_exit h is.1
     (at_end (ending_of_casting task true) files config c network_exit is refl))
-cast_answer words left files of_input of_store task config addr limit before after c no_memory answer h are is cast
+cast_answer words input files of_input of_store task config addr limit before after c no_memory answer h are is cast
     given =
-    subst (λ (a : Answer). IsAnswer words left files of_input of_store a) (sym given)
+    subst (λ (a : Answer). IsAnswer words input files of_input of_store a) (sym given)
     (casting task config addr limit, are)
 
-pub casting_answer : (words : List (List ℕ)) (left : Option (List ℕ)) (files : Files) (of_input of_store : Type 0)
+pub casting_answer : (words : List (List ℕ)) (input : Input) (files : Files) (of_input of_store : Type 0)
     (task : Task) (config addr : List ℕ) (limit : ℕ) (before after : StreetTold) (answer : Answer)
     → form_of words ≡ Some (casting task config addr limit) → AreCasting task words config addr limit
     → IsCastingAnswer task files config addr limit before after of_store answer
-    → IsAnswer words left files of_input of_store answer
-casting_answer words left files of_input of_store task config addr limit before after answer h are
+    → IsAnswer words input files of_input of_store answer
+casting_answer words input files of_input of_store task config addr limit before after answer h are
     (inl (same, refused)) =
-    given_such (IsRefusedAt config files) (IsOutcome words left files)
+    given_such (IsRefusedAt config files) (IsOutcome words input files)
     (λ memory. (casting task config addr limit, are)) (λ fault. (casting task config addr limit, are, fault))
-    (λ end is. outcome_of_read words left files (Some (casting task config addr limit)) (config_came is.0) end h is.1
+    (λ end is. outcome_of_read words input files (Some (casting task config addr limit)) (config_came is.0) end h is.1
     (is.2.ends (ending_of_casting task false))) answer refused
-casting_answer words left files of_input of_store task config addr limit before after answer h are (inr has) =
-    cast_answer words left files of_input of_store task config addr limit before after has.c has.came_to answer h are
+casting_answer words input files of_input of_store task config addr limit before after answer h are (inr has) =
+    cast_answer words input files of_input of_store task config addr limit before after has.c has.came_to answer h are
     has.config_is has.cast has.given
 
 -- the words' task, configuration and address are those of their form, and there is one form of them
@@ -112,7 +110,7 @@ read_other words form task config addr limit h are other =
     absurd (other (sym h ∙ form_of-form words (casting task config addr limit) are))
 
 -- one file is asked for
-pub casting_asked : (words : List (List ℕ)) (task : Task) (config addr : List ℕ) (limit : ℕ) (files : Files)
+pub casting_asked : (words : List (List ℕ)) (task : Task) (config addr : List ℕ) (limit : ℕ) (files : FilesTold)
     (old new : Option (List (List ℕ))) → form_of words ≡ Some (casting task config addr limit)
     → Grew old new (config ∷ []) → IsAsked (form_of words) files old new
 casting_asked words task config addr limit files old new h grew =
@@ -209,7 +207,7 @@ kept_at task no_memory end is = inr (inl (ap (λ (x : Exit). x.status) is))
 abbrev HasRun : Task → Files → List ℕ → List ℕ → ℕ → StreetTold → StreetTold → Option (List ℕ) → Option (List ℕ)
     → Type 0
 HasRun task files config addr limit before after old new =
-    (c : Config) × (text : List ℕ) × IsConfigAt files config c
+    (c : Config) × (text : List ℕ) × IsConfigFrom files config c
     × HasCast task c addr limit before after (a_text text) × Appends old new text
 
 whole_run : (task : Task) (files : Files) (config addr : List ℕ) (limit : ℕ) (before after : StreetTold)
@@ -235,7 +233,7 @@ whole_run task files config addr limit before after fault old new first now stat
 pub served_run : (files : Files) (config addr : List ℕ) (limit : ℕ) (before after : StreetTold) (fault : Type 0)
     (old new : Option (List ℕ)) (first now status : ℕ) → status ≡ 0
     → HasCasting Serve files config addr limit before after fault old new first now status
-    → (c : Config) × (closed : Closed) × IsConfigAt files config c
+    → (c : Config) × (closed : Closed) × IsConfigFrom files config c
     × HasServed c addr limit before after (Ok closed) × Appends old new (closed_text c closed)
 served_run files config addr limit before after fault old new first now status zero all =
     let run = whole_run Serve files config addr limit before after fault old new first now status zero all in (
@@ -249,7 +247,7 @@ served_run files config addr limit before after fault old new first now status z
 pub recorded_run : (files : Files) (config addr : List ℕ) (limit : ℕ) (before after : StreetTold) (fault : Type 0)
     (old new : Option (List ℕ)) (first now status : ℕ) → status ≡ 0
     → HasCasting Record files config addr limit before after fault old new first now status
-    → (c : Config) × (events : List Event) × IsConfigAt files config c
+    → (c : Config) × (events : List Event) × IsConfigFrom files config c
     × HasRecorded c addr limit before after events × Appends old new (script_text events)
 recorded_run files config addr limit before after fault old new first now status zero all =
     let run = whole_run Record files config addr limit before after fault old new first now status zero all in (
@@ -263,13 +261,13 @@ recorded_run files config addr limit before after fault old new first now status
 pub lost_run : (task : Task) (files : Files) (config addr : List ℕ) (limit : ℕ) (before after : StreetTold)
     (fault : Type 0) (old new : Option (List ℕ)) (first now status : ℕ) → status ≡ 6
     → HasCasting task files config addr limit before after fault old new first now status
-    → (c : Config) × IsConfigAt files config c × HasCast task c addr limit before after no_network
+    → (c : Config) × IsConfigFrom files config c × HasCast task c addr limit before after no_network
     × Appends old new network_exit.text
 lost_run task files config addr limit before after fault old new first now status six all =
     lost_written all.end all.ends all.written where
       lost_written : (end : Exit) → CastingEnd task files config addr limit before after fault end
           → Writes end old new first now status
-          → (c : Config) × IsConfigAt files config c × HasCast task c addr limit before after no_network
+          → (c : Config) × IsConfigFrom files config c × HasCast task c addr limit before after no_network
           × Appends old new network_exit.text
       lost_written end ends (inr torn) = absurd (omega (arith, six, torn.0))
       lost_written end (inl (same, refused)) (inl written) =
@@ -321,33 +319,31 @@ cast_served c addr limit before after (Err faults.Network) answer has given = (n
 cast_served c addr limit before after (Err faults.Memory) answer has given = (no_memory, has, given)
 
 -- with a configuration and no fault of the outside it is 0, or 7
-refused_not : (files : Files) (config : List ℕ) (list : List (List ℕ × List ℕ)) (bytes : List ℕ) (c : Config)
-    (fault : Type 0) (end : Exit) → files ≡ Some list → content_of list config ≡ Some bytes
-    → length bytes ≤ 8388608 → IsRead bytes (Ok c) → (fault → ⊥) → RefusedEnd config files fault end
-    → end.status ≡ 7
-refused_not files config list bytes c fault end told content short is none (inl memory) =
+refused_not : (files : Files) (config bytes : List ℕ) (c : Config) (fault : Type 0) (end : Exit)
+    → ((came : List ℕ) → files config came → came ≡ bytes) → length bytes ≤ 8388608 → IsRead bytes (Ok c)
+    → (fault → ⊥) → RefusedEnd config files fault end → end.status ≡ 7
+refused_not files config bytes c fault end only short is none (inl memory) =
     ap (λ (x : Exit). x.status) memory
-refused_not files config list bytes c fault end told content short is none (inr (inl (counted, ends))) =
+refused_not files config bytes c fault end only short is none (inr (inl (counted, ends))) =
     absurd (none counted)
-refused_not files config list bytes c fault end told content short is none (inr (inr refused)) =
-    let same = held_bytes files list config bytes refused.0 refused.1 told content in
+refused_not files config bytes c fault end only short is none (inr (inr refused)) =
+    let same = only refused.0 refused.1 in
     let inside : IsConfigIn refused.0 c = subst (λ (b : List ℕ). IsConfigIn b c) (sym same)
     (short, config_in-ok bytes c is) in
     absurd (refused.2.none c inside)
 
 pub complete_run : (task : Task) (files : Files) (config addr : List ℕ) (limit : ℕ) (before after : StreetTold)
-    (fault : Type 0) (old new : Option (List ℕ)) (first now status : ℕ) (list : List (List ℕ × List ℕ))
-    (bytes : List ℕ) (c : Config)
-    → HasCasting task files config addr limit before after fault old new first now status → files ≡ Some list
-    → content_of list config ≡ Some bytes → length bytes ≤ 8388608 → IsRead bytes (Ok c) → (fault → ⊥)
-    → (Rose first now → ⊥) → (Rose before.faults after.faults → ⊥) → (status ≡ 7) ⊎ (status ≡ 0)
-complete_run task files config addr limit before after fault old new first now status list bytes c all told content
+    (fault : Type 0) (old new : Option (List ℕ)) (first now status : ℕ) (bytes : List ℕ) (c : Config)
+    → HasCasting task files config addr limit before after fault old new first now status
+    → ((came : List ℕ) → files config came → came ≡ bytes) → length bytes ≤ 8388608 → IsRead bytes (Ok c)
+    → (fault → ⊥) → (Rose first now → ⊥) → (Rose before.faults after.faults → ⊥) → (status ≡ 7) ⊎ (status ≡ 0)
+complete_run task files config addr limit before after fault old new first now status bytes c all only
     short is calm write lost = complete_written all.end all.ends all.written where
       complete_written : (end : Exit) → CastingEnd task files config addr limit before after fault end
           → Writes end old new first now status → (status ≡ 7) ⊎ (status ≡ 0)
       complete_written end ends (inr torn) = absurd (write torn.1)
       complete_written end (inl (same, refused)) (inl written) =
-          inl (written.0 ∙ refused_not files config list bytes c fault end told content short is calm refused)
+          inl (written.0 ∙ refused_not files config bytes c fault end only short is calm refused)
       complete_written end (inr has) (inl written) = elim (kept_at task has.came_to end has.ends) [
         | inl zero ↦ inr (written.0 ∙ zero)
         | inr (inl seven) ↦ inl (written.0 ∙ seven)
@@ -428,12 +424,33 @@ unserved_run words files before after fault old new first now status is alone ca
     ]
 
 -- with 6 the words ask for a caster
-pub of_caster : (words : List (List ℕ)) (left : Option (List ℕ)) (files : Files)
-    → HaveCome IsOfCaster words left files
+pub of_caster : (words : List (List ℕ)) (input : Input) (files : Files)
+    → HaveCome IsOfCaster words input files
     → (task : Task) × (config addr : List ℕ) × (limit : ℕ) × AreCasting task words config addr limit
-of_caster words left files (bare capacity, came, are, told, is) = absurd is
-of_caster words left files (over aim path, came, are, told, is) = absurd is
-of_caster words left files (replay start config session, came, are, told, is) = absurd is
-of_caster words left files (made seed frames rovers, came, are, told, is) = absurd is
-of_caster words left files (casting task config addr limit, came, are, told, is) = (task, config, addr, limit, are)
-of_caster words left files (fetching frames targets, came, are, told, is) = absurd is
+of_caster words input files (bare capacity, came, are, told, is) = absurd is
+of_caster words input files (over aim path, came, are, told, is) = absurd is
+of_caster words input files (replay start config session, came, are, told, is) = absurd is
+of_caster words input files (made seed frames rovers, came, are, told, is) = absurd is
+of_caster words input files (casting task config addr limit, came, are, told, is) = (task, config, addr, limit, are)
+of_caster words input files (fetching frames targets, came, are, told, is) = absurd is
+
+-- ---- from more
+
+-- the answer of a caster, whose configuration may have come from more
+pub casting_more : (task : Task) (files more : Files) (config addr : List ℕ) (limit : ℕ) (before after : StreetTold)
+    (fault : Type 0) (answer : Answer) → ((path bytes : List ℕ) → files path bytes → more path bytes)
+    → IsCastingAnswer task files config addr limit before after fault answer
+    → IsCastingAnswer task more config addr limit before after fault answer
+casting_more task files more config addr limit before after fault answer each (inl (same, refused)) =
+    inl (
+      same,
+      given_such (IsRefusedAt config files) (IsRefusedAt config more) (λ memory. memory) (λ counted. counted)
+          (λ end is. (is.0, each config is.0 is.1, is.2)) answer refused,
+    )
+casting_more task files more config addr limit before after fault answer each (inr has) = inr (record {
+  c = has.c;
+  came_to = has.came_to;
+  config_is = (has.config_is.0, each config has.config_is.0 has.config_is.1, has.config_is.2, has.config_is.3);
+  cast = has.cast;
+  given = has.given;
+})

@@ -20,63 +20,63 @@ use Rattle.caster_top.specs.declared.command.Start.{Start}
 use Rattle.caster_top.specs.declared.command.Start.TheVariants.{Cold}
 use Rattle.caster_top.specs.Command.{Form, bare, over, replay, made, casting, fetching, AreBare, AreOver, ArePlayed, AreMake, AreOf, AreOfNoForm, form_of}
 use Rattle.caster_top.specs.Outcome.{Exit, Ending, IsReportText, report_of, EndsSo, Came, session_in, ending_of_script, ending_of_config, ending_of_bytes, ending_of_form, ending_of}
-use Rattle.caster_top.specs.Told.{Files, Holds, IsConfigAt, IsConfigIn, IsSessionAt, HasCome, EndsWith, FollowsOutcome, HaveForm, HaveFault, HaveCome}
+use Rattle.caster_top.specs.Told.{Files, FilesTold, Holds, Input, IsConfigFrom, IsConfigIn, IsSessionFrom, HasCome, EndsWith, FollowsOutcome, HaveForm, HaveFault, HaveCome}
 use Rattle.caster_top.specs.Answers.{exit_of, IsAnswer, Writes}
 use Rattle.caster_top.proofs.WordLemmas.{form_of-form, form-form_of, no_form}
 use Rattle.caster_top.proofs.ReadingLemmas.{config_in-ok, read-config_in}
-use Rattle.caster_top.proofs.AnswerLemmas.{outcome-form, told_bytes, ending_of_bytes-read}
+use Rattle.caster_top.proofs.AnswerLemmas.{outcome-form, ending_of_bytes-read}
 use Rattle.caster_top.proofs.StatusLemmas.{replayed, status-ends, no_usage_form, whole_bytes, ok_status}
 use Rattle.caster_top.proofs.ScriptLemmas.{status_of, whole_script}
 
 -- ---- how a run ended
 
 -- with a failed write, with want of memory, with a fault of reading, or as the outcome says
-abbrev Ended : List (List ℕ) → Option (List ℕ) → Files → Type 0 → Type 0 → Option (List ℕ) → Option (List ℕ)
+abbrev Ended : List (List ℕ) → Input → Files → Type 0 → Type 0 → Option (List ℕ) → Option (List ℕ)
     → ℕ → Type 0
-Ended words left files of_input of_store old new status =
+Ended words input files of_input of_store old new status =
     ((status ≡ 7) × HaveForm words)
-    ⊎ (((status ≡ 4) × HaveFault words of_input of_store) ⊎ FollowsOutcome words left files status old new)
+    ⊎ (((status ≡ 4) × HaveFault words of_input of_store) ⊎ FollowsOutcome words input files status old new)
 
-answer_written : (words : List (List ℕ)) (left : Option (List ℕ)) (files : Files) (of_input of_store : Type 0)
-    (old new : Option (List ℕ)) (status : ℕ) (answer : Answer) → IsAnswer words left files of_input of_store answer
-    → EndsWith status old new (exit_of answer) → Ended words left files of_input of_store old new status
-answer_written words left files of_input of_store old new status Memory is written = inl (written.0, is)
-answer_written words left files of_input of_store old new status ReadFault is written = inr (inl (written.0, is))
-answer_written words left files of_input of_store old new status (Done text) is written = inr (inr (_, is, written))
-answer_written words left files of_input of_store old new status Valid is written = inr (inr (_, is, written))
-answer_written words left files of_input of_store old new status (NoConfig text) is written =
+answer_written : (words : List (List ℕ)) (input : Input) (files : Files) (of_input of_store : Type 0)
+    (old new : Option (List ℕ)) (status : ℕ) (answer : Answer) → IsAnswer words input files of_input of_store answer
+    → EndsWith status old new (exit_of answer) → Ended words input files of_input of_store old new status
+answer_written words input files of_input of_store old new status Memory is written = inl (written.0, is)
+answer_written words input files of_input of_store old new status ReadFault is written = inr (inl (written.0, is))
+answer_written words input files of_input of_store old new status (Done text) is written = inr (inr (_, is, written))
+answer_written words input files of_input of_store old new status Valid is written = inr (inr (_, is, written))
+answer_written words input files of_input of_store old new status (NoConfig text) is written =
     inr (inr (_, is, written))
-answer_written words left files of_input of_store old new status (NoSession text) is written =
+answer_written words input files of_input of_store old new status (NoSession text) is written =
     inr (inr (_, is, written))
-answer_written words left files of_input of_store old new status Usage is written = inr (inr (_, is, written))
-answer_written words left files of_input of_store old new status Long is written = inr (inr (_, is, written))
-answer_written words left files of_input of_store old new status NetworkFault is written =
+answer_written words input files of_input of_store old new status Usage is written = inr (inr (_, is, written))
+answer_written words input files of_input of_store old new status Long is written = inr (inr (_, is, written))
+answer_written words input files of_input of_store old new status NetworkFault is written =
     inr (inr (_, is, written))
 
 -- where no count rose, the outcome followed or memory was wanting
-pub undisturbed_run : (words : List (List ℕ)) (left : Option (List ℕ)) (files : Files) (of_input of_store : Type 0)
+pub undisturbed_run : (words : List (List ℕ)) (input : Input) (files : Files) (of_input of_store : Type 0)
     (old new : Option (List ℕ)) (before now status : ℕ) (answer : Answer)
-    → IsAnswer words left files of_input of_store answer → Writes (exit_of answer) old new before now status
+    → IsAnswer words input files of_input of_store answer → Writes (exit_of answer) old new before now status
     → (HaveFault words of_input of_store → ⊥) → (Rose before now → ⊥)
-    → (status ≡ 7) ⊎ FollowsOutcome words left files status old new
-undisturbed_run words left files of_input of_store old new before now status answer is (inr failed) r w =
+    → (status ≡ 7) ⊎ FollowsOutcome words input files status old new
+undisturbed_run words input files of_input of_store old new before now status answer is (inr failed) r w =
     absurd (w failed.1)
-undisturbed_run words left files of_input of_store old new before now status answer is (inl written) r w =
-    elim (answer_written words left files of_input of_store old new status answer is written) [
+undisturbed_run words input files of_input of_store old new before now status answer is (inl written) r w =
+    elim (answer_written words input files of_input of_store old new status answer is written) [
       | inl memory ↦ inl memory.0
       | inr (inl fault) ↦ absurd (r fault.1)
       | inr (inr follows) ↦ inr follows
     ]
 
 -- where the status names no fault, the outcome followed
-pub decided_run : (words : List (List ℕ)) (left : Option (List ℕ)) (files : Files) (of_input of_store : Type 0)
+pub decided_run : (words : List (List ℕ)) (input : Input) (files : Files) (of_input of_store : Type 0)
     (old new : Option (List ℕ)) (before now status : ℕ) (answer : Answer)
-    → IsAnswer words left files of_input of_store answer → Writes (exit_of answer) old new before now status
-    → (status ≡ 4 → ⊥) → (status ≡ 5 → ⊥) → (status ≡ 7 → ⊥) → FollowsOutcome words left files status old new
-decided_run words left files of_input of_store old new before now status answer is (inr failed) r w m =
+    → IsAnswer words input files of_input of_store answer → Writes (exit_of answer) old new before now status
+    → (status ≡ 4 → ⊥) → (status ≡ 5 → ⊥) → (status ≡ 7 → ⊥) → FollowsOutcome words input files status old new
+decided_run words input files of_input of_store old new before now status answer is (inr failed) r w m =
     absurd (w failed.0)
-decided_run words left files of_input of_store old new before now status answer is (inl written) r w m =
-    elim (answer_written words left files of_input of_store old new status answer is written) [
+decided_run words input files of_input of_store old new before now status answer is (inl written) r w m =
+    elim (answer_written words input files of_input of_store old new status answer is written) [
       | inl memory ↦ absurd (m memory.0)
       | inr (inl fault) ↦ absurd (r fault.0)
       | inr (inr follows) ↦ follows
@@ -85,54 +85,54 @@ decided_run words left files of_input of_store old new before now status answer 
 -- ---- what the outcome is of
 
 -- the outcome of words that are read so
-pub read_run : (words : List (List ℕ)) (left : Option (List ℕ)) (files : Files) (old new : Option (List ℕ))
-    (status : ℕ) (read : Option Form) → FollowsOutcome words left files status old new → form_of words ≡ read
-    → (came : Came) × (end : Exit) × HasCome read left files came × EndsSo (ending_of read came) end
+pub read_run : (words : List (List ℕ)) (input : Input) (files : Files) (old new : Option (List ℕ))
+    (status : ℕ) (read : Option Form) → FollowsOutcome words input files status old new → form_of words ≡ read
+    → (came : Came) × (end : Exit) × HasCome read input files came × EndsSo (ending_of read came) end
     × EndsWith status old new end
-read_run words left files old new status read follows h =
+read_run words input files old new status read follows h =
     let end = follows.0 in
     let is = follows.1 in (
       is.0,
       end,
-      subst (λ (f : Option Form). HasCome f left files is.0) h is.1,
+      subst (λ (f : Option Form). HasCome f input files is.0) h is.1,
       subst (λ (e : Ending). EndsSo e end) (sym (outcome-form words is.0 read h)) is.2,
       follows.2,
     )
 
 -- another status than `usage` has words of a form, and what came for it is such
-have_come_at : (IsSuch : Form → Came → Type 0) (words : List (List ℕ)) (left : Option (List ℕ)) (files : Files)
+have_come_at : (IsSuch : Form → Came → Type 0) (words : List (List ℕ)) (input : Input) (files : Files)
     (old new : Option (List ℕ)) (status : ℕ) (read : Option Form) → form_of words ≡ read → (status ≡ 1 → ⊥)
     → ((form : Form) (came : Came) → status_of (ending_of_form form came) ≡ status → IsSuch form came)
-    → FollowsOutcome words left files status old new → HaveCome IsSuch words left files
-have_come_at IsSuch words left files old new status None h other such follows =
-    let run = read_run words left files old new status None follows h in
+    → FollowsOutcome words input files status old new → HaveCome IsSuch words input files
+have_come_at IsSuch words input files old new status None h other such follows =
+    let run = read_run words input files old new status None follows h in
     absurd (other (run.4.0 ∙ ap (λ (e : Exit). e.status) run.3))
-have_come_at IsSuch words left files old new status (Some form) h other such follows =
-    let run = read_run words left files old new status (Some form) follows h in
+have_come_at IsSuch words input files old new status (Some form) h other such follows =
+    let run = read_run words input files old new status (Some form) follows h in
     let ended = status-ends (ending_of_form form run.0) run.1 run.3 in
     (form, run.0, form-form_of words form h, run.2, such form run.0 (sym (run.4.0 ∙ ended)))
 
-pub have_come : (IsSuch : Form → Came → Type 0) (words : List (List ℕ)) (left : Option (List ℕ)) (files : Files)
+pub have_come : (IsSuch : Form → Came → Type 0) (words : List (List ℕ)) (input : Input) (files : Files)
     (old new : Option (List ℕ)) (status : ℕ) → (status ≡ 1 → ⊥)
     → ((form : Form) (came : Came) → status_of (ending_of_form form came) ≡ status → IsSuch form came)
-    → FollowsOutcome words left files status old new → HaveCome IsSuch words left files
-have_come IsSuch words left files old new status other such follows =
-    have_come_at IsSuch words left files old new status (form_of words) refl other such follows
+    → FollowsOutcome words input files status old new → HaveCome IsSuch words input files
+have_come IsSuch words input files old new status other such follows =
+    have_come_at IsSuch words input files old new status (form_of words) refl other such follows
 
 -- status 1 says that the words are of no form
-usage_at : (words : List (List ℕ)) (left : Option (List ℕ)) (files : Files) (old new : Option (List ℕ)) (status : ℕ)
-    (read : Option Form) → form_of words ≡ read → FollowsOutcome words left files status old new → status ≡ 1
+usage_at : (words : List (List ℕ)) (input : Input) (files : Files) (old new : Option (List ℕ)) (status : ℕ)
+    (read : Option Form) → form_of words ≡ read → FollowsOutcome words input files status old new → status ≡ 1
     → AreOfNoForm words
-usage_at words left files old new status None h follows is = no_form words h
-usage_at words left files old new status (Some form) h follows is =
-    let run = read_run words left files old new status (Some form) follows h in
+usage_at words input files old new status None h follows is = no_form words h
+usage_at words input files old new status (Some form) h follows is =
+    let run = read_run words input files old new status (Some form) follows h in
     let ended = status-ends (ending_of_form form run.0) run.1 run.3 in
     absurd (no_usage_form form run.0 (sym (run.4.0 ∙ ended) ∙ is))
 
-pub usage_run : (words : List (List ℕ)) (left : Option (List ℕ)) (files : Files) (old new : Option (List ℕ))
-    (status : ℕ) → FollowsOutcome words left files status old new → status ≡ 1 → AreOfNoForm words
-usage_run words left files old new status follows is =
-    usage_at words left files old new status (form_of words) refl follows is
+pub usage_run : (words : List (List ℕ)) (input : Input) (files : Files) (old new : Option (List ℕ))
+    (status : ℕ) → FollowsOutcome words input files status old new → status ≡ 1 → AreOfNoForm words
+usage_run words input files old new status follows is =
+    usage_at words input files old new status (form_of words) refl follows is
 
 -- words of no form are read as none
 no_form_read : (words : List (List ℕ)) (read : Option Form) → form_of words ≡ read → AreOfNoForm words
@@ -141,17 +141,17 @@ no_form_read words None h none = h
 no_form_read words (Some form) h none = absurd (none form (form-form_of words form h))
 
 -- they end with `usage`, unless a write fails
-pub no_form_run : (words : List (List ℕ)) (left : Option (List ℕ)) (files : Files) (of_input of_store : Type 0)
+pub no_form_run : (words : List (List ℕ)) (input : Input) (files : Files) (of_input of_store : Type 0)
     (old new : Option (List ℕ)) (before now status : ℕ) (answer : Answer)
-    → IsAnswer words left files of_input of_store answer → Writes (exit_of answer) old new before now status
+    → IsAnswer words input files of_input of_store answer → Writes (exit_of answer) old new before now status
     → AreOfNoForm words → (status ≡ 1) ⊎ (status ≡ 5)
-no_form_run words left files of_input of_store old new before now status answer is (inr failed) none = inr failed.0
-no_form_run words left files of_input of_store old new before now status answer is (inl written) none =
-    elim (answer_written words left files of_input of_store old new status answer is written) [
+no_form_run words input files of_input of_store old new before now status answer is (inr failed) none = inr failed.0
+no_form_run words input files of_input of_store old new before now status answer is (inl written) none =
+    elim (answer_written words input files of_input of_store old new status answer is written) [
       | inl memory ↦ absurd (none memory.1.0 memory.1.1)
       | inr (inl fault) ↦ absurd (none fault.1.0 fault.1.1)
       | inr (inr follows) ↦
-          let run = read_run words left files old new status None follows
+          let run = read_run words input files old new status None follows
           (no_form_read words (form_of words) refl none) in
           inl (run.4.0 ∙ ap (λ (e : Exit). e.status) run.3)
     ]
@@ -170,26 +170,26 @@ script_end : (start : Start) (c : Config) (read : Result (List Event) ScriptFaul
 script_end start c read events end h ends =
     subst (λ (r : Result (List Event) ScriptFault). EndsSo (ending_of_script start c r) end) h ends
 
--- the outcome of a bare script is the report of its run
-pub script_report : (words : List (List ℕ)) (left : Option (List ℕ)) (files : Files) (old new : Option (List ℕ))
-    (status capacity : ℕ) (bytes : List ℕ) (events : List Event) → FollowsOutcome words left files status old new
-    → AreBare words capacity → left ≡ Some bytes → script_of Bare bytes ≡ Ok events
+-- the outcome of a bare script is the report of its run, where no other bytes may have come
+pub script_report : (words : List (List ℕ)) (input : Input) (files : Files) (old new : Option (List ℕ))
+    (status capacity : ℕ) (bytes : List ℕ) (events : List Event) → FollowsOutcome words input files status old new
+    → AreBare words capacity → ((came : List ℕ) → input came → bytes ≡ came) → script_of Bare bytes ≡ Ok events
     → (status ≡ 0) × (text : List ℕ) × IsReportText Cold (settings.bare capacity) events text × Appends old new text
-script_report words left files old new status capacity bytes events follows are told script =
+script_report words input files old new status capacity bytes events follows are only script =
     let c = settings.bare capacity in
-    let run = read_run words left files old new status (Some (bare capacity)) follows
+    let run = read_run words input files old new status (Some (bare capacity)) follows
     (form_of-form words (bare capacity) are) in
-    let same = told_bytes left run.0.script bytes run.2 told in
+    let same = only run.0.script run.2 in
     let read : script_of Bare run.0.script ≡ Ok events = ap (λ b. script_of Bare b) (sym same) ∙ script in
     report_end Cold c events status old new run.1
     (script_end Cold c (script_of Bare run.0.script) events run.1 read run.3) run.4
 
-pub script_run : (words : List (List ℕ)) (left : Option (List ℕ)) (files : Files) (old new : Option (List ℕ))
-    (status capacity : ℕ) (bytes : List ℕ) (events : List Event) → FollowsOutcome words left files status old new
-    → AreBare words capacity → left ≡ Some bytes → script_of Bare bytes ≡ Ok events
+pub script_run : (words : List (List ℕ)) (input : Input) (files : Files) (old new : Option (List ℕ))
+    (status capacity : ℕ) (bytes : List ℕ) (events : List Event) → FollowsOutcome words input files status old new
+    → AreBare words capacity → ((came : List ℕ) → input came → bytes ≡ came) → script_of Bare bytes ≡ Ok events
     → (status ≡ 0) × Appends old new (report (settings.bare capacity) events)
-script_run words left files old new status capacity bytes events follows are told script =
-    let all = script_report words left files old new status capacity bytes events follows are told script in
+script_run words input files old new status capacity bytes events follows are only script =
+    let all = script_report words input files old new status capacity bytes events follows are only script in
     let session = (script_read Bare bytes events script).session in
     let text = bare_text (settings.bare capacity) events all.1 session all.2 in
     (all.0, subst (λ (t : List ℕ). Appends old new t) text all.3)
@@ -247,11 +247,11 @@ make_fault words of_input of_store seed frames rovers are (fetching most targets
 
 -- ---- sessions that are made
 
-pub made_run : (words : List (List ℕ)) (left : Option (List ℕ)) (files : Files) (old new : Option (List ℕ))
-    (status seed frames rovers : ℕ) → FollowsOutcome words left files status old new
+pub made_run : (words : List (List ℕ)) (input : Input) (files : Files) (old new : Option (List ℕ))
+    (status seed frames rovers : ℕ) → FollowsOutcome words input files status old new
     → AreMake words seed frames rovers → (status ≡ 0) × Appends old new (made_text seed frames rovers)
-made_run words left files old new status seed frames rovers follows are =
-    let run = read_run words left files old new status (Some (made seed frames rovers)) follows
+made_run words input files old new status seed frames rovers follows are =
+    let run = read_run words input files old new status (Some (made seed frames rovers)) follows
     (form_of-form words (made seed frames rovers) are) in
     subst (λ (e : Exit). EndsWith status old new e) run.3 run.4
 
@@ -259,8 +259,8 @@ made_run words left files old new status seed frames rovers follows are =
 
 -- with status 0 the file is a configuration, and what came next ended so
 config_decided : (files : Files) (path : List ℕ) (next : Config → Ending) (bytes : List ℕ) (end : Exit)
-    → Holds files path bytes → EndsSo (ending_of_bytes next bytes) end → end.status ≡ 0
-    → (c : Config) × IsConfigIn bytes c × IsConfigAt files path c × EndsSo (next c) end
+    → files path bytes → EndsSo (ending_of_bytes next bytes) end → end.status ≡ 0
+    → (c : Config) × IsConfigIn bytes c × IsConfigFrom files path c × EndsSo (next c) end
 config_decided files path next bytes end holds ends zero =
     let whole = whole_bytes next bytes (sym (status-ends (ending_of_bytes next bytes) end ends) ∙ zero) in
     let c = whole.0 in
@@ -272,36 +272,38 @@ config_decided files path next bytes end holds ends zero =
     )
 
 -- with status 0 the file is a configuration, and what was written is what is done with it
-pub over_run : (words : List (List ℕ)) (left : Option (List ℕ)) (files : Files) (old new : Option (List ℕ))
-    (status : ℕ) (aim : Aim) (path : List ℕ) → status ≡ 0 → FollowsOutcome words left files status old new
+pub over_run : (words : List (List ℕ)) (input : Input) (files : Files) (old new : Option (List ℕ))
+    (status : ℕ) (aim : Aim) (path : List ℕ) → status ≡ 0 → FollowsOutcome words input files status old new
     → AreOver aim words path
-    → (c : Config) × (end : Exit) × IsConfigAt files path c × EndsSo (ending_of_config aim c) end
+    → (c : Config) × (end : Exit) × IsConfigFrom files path c × EndsSo (ending_of_config aim c) end
     × Appends old new end.text
-over_run words left files old new status aim path is follows are =
-    let run = read_run words left files old new status (Some (over aim path)) follows
+over_run words input files old new status aim path is follows are =
+    let run = read_run words input files old new status (Some (over aim path)) follows
     (form_of-form words (over aim path) are) in
     let all = config_decided files path (ending_of_config aim) run.0.config run.1 run.2 run.3 (sym run.4.0 ∙ is) in
     (all.0, run.1, all.2, all.3, run.4.1)
 
-pub held_bytes : (files : Files) (list : List (List ℕ × List ℕ)) (path bytes held : List ℕ) → Holds files path held
-    → files ≡ Some list → content_of list path ≡ Some bytes → held ≡ bytes
-held_bytes None list path bytes held h e c = absurd cc
-held_bytes (Some told) list path bytes held h e c =
+-- what a told file holds
+pub held_only : (files : FilesTold) (list : List (List ℕ × List ℕ)) (path bytes : List ℕ) → files ≡ Some list
+    → content_of list path ≡ Some bytes → (held : List ℕ) → Holds files path held → held ≡ bytes
+held_only None list path bytes e c held h = absurd cc
+held_only (Some told) list path bytes e c held h =
     let same : told ≡ list = cc in
     let both : content_of list path ≡ Some held = ap (λ l. content_of l path) (sym same) ∙ h in
     cc
 
 -- a configuration has status 0
-pub config_run : (words : List (List ℕ)) (left : Option (List ℕ)) (files : Files) (old new : Option (List ℕ))
-    (status : ℕ) (aim : Aim) (path : List ℕ) (list : List (List ℕ × List ℕ)) (bytes : List ℕ) (c : Config)
-    → FollowsOutcome words left files status old new → AreOver aim words path → files ≡ Some list
-    → content_of list path ≡ Some bytes → length bytes ≤ 8388608 → IsRead bytes (Ok c) → status ≡ 0
-config_run words left files old new status aim path list bytes c follows are told content short is =
-    let run = read_run words left files old new status (Some (over aim path)) follows
+pub config_run : (words : List (List ℕ)) (input : Input) (files : Files) (old new : Option (List ℕ))
+    (status : ℕ) (aim : Aim) (path bytes : List ℕ) (c : Config)
+    → FollowsOutcome words input files status old new → AreOver aim words path
+    → ((came : List ℕ) → files path came → came ≡ bytes) → length bytes ≤ 8388608 → IsRead bytes (Ok c)
+    → status ≡ 0
+config_run words input files old new status aim path bytes c follows are only short is =
+    let run = read_run words input files old new status (Some (over aim path)) follows
     (form_of-form words (over aim path) are) in
     let next = ending_of_config aim in
     let ended = status-ends (ending_of_bytes next run.0.config) run.1 run.3 in
-    let same = held_bytes files list path bytes run.0.config run.2 told content in
+    let same = only run.0.config run.2 in
     run.4.0 ∙ ended ∙ ap (λ b. status_of (ending_of_bytes next b)) same
     ∙ ap status_of (ending_of_bytes-read next bytes (Ok c) short (config_in-ok bytes c is)) ∙ ok_status aim c
 
@@ -315,14 +317,39 @@ ok_events start c (Err fault) end ends zero =
     let same = status-ends (ending_of_script start c (Err fault)) end ends in
     let e = whole_script start c (Err fault) (sym same ∙ zero) in absurd cc
 
+-- with status 0 what came from the input is a script, and the report of its run was written
+pub bare_run : (words : List (List ℕ)) (input : Input) (files : Files) (old new : Option (List ℕ))
+    (status capacity : ℕ) → status ≡ 0 → FollowsOutcome words input files status old new → AreBare words capacity
+    → (bytes : List ℕ) × (events : List Event) × (text : List ℕ) × input bytes × (script_of Bare bytes ≡ Ok events)
+    × IsReportText Cold (settings.bare capacity) events text × Appends old new text
+bare_run words input files old new status capacity is follows are =
+    let c = settings.bare capacity in
+    let run = read_run words input files old new status (Some (bare capacity)) follows
+    (form_of-form words (bare capacity) are) in
+    let script = run.0.script in
+    let ended = ok_events Cold c (script_of Bare script) run.1 run.3 (sym run.4.0 ∙ is) in
+    let text = report_end Cold c ended.0 status old new run.1 ended.2 run.4 in
+    (script, ended.0, text.1, run.2, ended.1, text.2, text.3)
+
+-- and that text is the report
+pub bare_report : (words : List (List ℕ)) (input : Input) (files : Files) (old new : Option (List ℕ))
+    (status capacity : ℕ) → status ≡ 0 → FollowsOutcome words input files status old new → AreBare words capacity
+    → (bytes : List ℕ) × (events : List Event) × input bytes × (script_of Bare bytes ≡ Ok events)
+    × Appends old new (report (settings.bare capacity) events)
+bare_report words input files old new status capacity is follows are =
+    let run = bare_run words input files old new status capacity is follows are in
+    let session = (script_read Bare run.0 run.1 run.4).session in
+    let text = bare_text (settings.bare capacity) run.1 run.2 session run.5 in
+    (run.0, run.1, run.3, run.4, subst (λ (t : List ℕ). Appends old new t) text run.6)
+
 -- with status 0 the files are a configuration and a session, and the report of its run was written
-pub replay_run : (words : List (List ℕ)) (left : Option (List ℕ)) (files : Files) (old new : Option (List ℕ))
-    (status : ℕ) (start : Start) (config session : List ℕ) → status ≡ 0 → FollowsOutcome words left files status old new
+pub replay_run : (words : List (List ℕ)) (input : Input) (files : Files) (old new : Option (List ℕ))
+    (status : ℕ) (start : Start) (config session : List ℕ) → status ≡ 0 → FollowsOutcome words input files status old new
     → ArePlayed start words config session
-    → (c : Config) × (events : List Event) × (text : List ℕ) × IsConfigAt files config c
-    × IsSessionAt files session c events × IsReportText start c events text × Appends old new text
-replay_run words left files old new status start config session is follows are =
-    let run = read_run words left files old new status (Some (replay start config session)) follows
+    → (c : Config) × (events : List Event) × (text : List ℕ) × IsConfigFrom files config c
+    × IsSessionFrom files session c events × IsReportText start c events text × Appends old new text
+replay_run words input files old new status start config session is follows are =
+    let run = read_run words input files old new status (Some (replay start config session)) follows
     (form_of-form words (replay start config session) are) in
     let script = run.0.script in
     let zero = sym run.4.0 ∙ is in
@@ -333,23 +360,21 @@ replay_run words left files old new status start config session is follows are =
     (c, ended.0, text.1, all.2, (script, run.2.1 c all.1, ended.1), text.2, text.3)
 
 -- a session over a configuration has a report
-pub session_run : (words : List (List ℕ)) (left : Option (List ℕ)) (files : Files) (old new : Option (List ℕ))
-    (status : ℕ) (start : Start) (config session : List ℕ) (list : List (List ℕ × List ℕ)) (bytes script : List ℕ)
-    (c : Config)
-    (events : List Event) → FollowsOutcome words left files status old new → ArePlayed start words config session
-    → files ≡ Some list → content_of list config ≡ Some bytes → length bytes ≤ 8388608 → IsRead bytes (Ok c)
-    → content_of list session ≡ Some script → session_in c script ≡ Ok events
+pub session_run : (words : List (List ℕ)) (input : Input) (files : Files) (old new : Option (List ℕ))
+    (status : ℕ) (start : Start) (config session : List ℕ) (bytes script : List ℕ) (c : Config)
+    (events : List Event) → FollowsOutcome words input files status old new → ArePlayed start words config session
+    → ((came : List ℕ) → files config came → came ≡ bytes) → length bytes ≤ 8388608 → IsRead bytes (Ok c)
+    → ((came : List ℕ) → files session came → came ≡ script) → session_in c script ≡ Ok events
     → (status ≡ 0) × (text : List ℕ) × IsReportText start c events text × Appends old new text
-session_run words left files old new status start config session list bytes script c events follows are told content
-    short is
-    found read =
-    let run = read_run words left files old new status (Some (replay start config session)) follows
+session_run words input files old new status start config session bytes script c events follows are only short is
+    only_script read =
+    let run = read_run words input files old new status (Some (replay start config session)) follows
     (form_of-form words (replay start config session) are) in
     let came = run.0 in
-    let same = held_bytes files list config bytes came.config run.2.0 told content in
+    let same = only came.config run.2.0 in
     let inside : IsConfigIn came.config c = subst (λ (b : List ℕ). IsConfigIn b c) (sym same)
     (short, config_in-ok bytes c is) in
-    let same_script = held_bytes files list session script came.script (run.2.1 c inside) told found in
+    let same_script = only_script came.script (run.2.1 c inside) in
     let next = ending_of_bytes-read (replayed start came.script) came.config (Ok c) inside.0 inside.1 in
     let ends = subst (λ (e : Ending). EndsSo e run.1) next run.3 in
     let all : session_in c came.script ≡ Ok events = ap (session_in c) same_script ∙ read in

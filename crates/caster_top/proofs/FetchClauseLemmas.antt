@@ -11,7 +11,7 @@ use Rattle.caster_top.specs.declared.answers.Answer.{Answer}
 use Rattle.caster_top.specs.declared.answers.Answer.TheVariants.{Done, Valid, NoConfig, NoSession, Usage, Long, ReadFault, NetworkFault, Memory}
 use Rattle.caster_top.specs.Command.{Form, bare, over, replay, made, casting, fetching, AreFetch, AreOf, form_of}
 use Rattle.caster_top.specs.Outcome.{Exit, Came}
-use Rattle.caster_top.specs.Told.{Files, IsAsked, IsWhole, FollowsOutcome, HaveCome, IsStatus}
+use Rattle.caster_top.specs.Told.{Files, FilesTold, Input, IsAsked, IsWhole, FollowsOutcome, HaveCome, IsStatus}
 use Rattle.caster_top.specs.Answers.{exit_of, Writes}
 use Rattle.caster_top.specs.Fetching.{HasFetched, HasFetching, TriedEnd, frames_in}
 use Rattle.caster_top.specs.Casting.{IsUnserved}
@@ -58,7 +58,7 @@ fetch_of_words words frames most targets others before after old new first now s
     (subst (λ (ts : List Target). HasFetching frames ts before after old new first now status) same.1 all)
 
 -- no file is asked for
-pub fetch_asked : (words : List (List ℕ)) (frames : ℕ) (targets : List Target) (files : Files)
+pub fetch_asked : (words : List (List ℕ)) (frames : ℕ) (targets : List Target) (files : FilesTold)
     (told : Option (List (List ℕ))) → AreFetch words frames targets → IsAsked (form_of words) files told told
 fetch_asked words frames targets files told are =
     asked_so words (Some (fetching frames targets)) files told told
@@ -174,21 +174,21 @@ wanting_run most targets before after old new first now status all seven = elim 
 abbrev fetch_came : Bool → Came
 fetch_came failed = record { script = []; config = []; failed = failed }
 
-tries_follow : (words : List (List ℕ)) (left : Option (List ℕ)) (files : Files) (most : ℕ) (targets : List Target)
+tries_follow : (words : List (List ℕ)) (input : Input) (files : Files) (most : ℕ) (targets : List Target)
     (before after : StreetTold) (old new : Option (List ℕ)) (status : ℕ) → AreFetch words most targets
     → (fetched : HasFetched most targets before after old new status) → TriedEnd most targets fetched.tries status
-    → FollowsOutcome words left files status old new
-tries_follow words left files most targets before after old new status are fetched (inl enough) =
+    → FollowsOutcome words input files status old new
+tries_follow words input files most targets before after old new status are fetched (inl enough) =
     let frames = frames_of_all fetched.tried.runs in
     let end : Exit = record { status = 0; text = concat frames } in
     let count : length frames ≡ most =
     runs_counted fetched.tried.are ∙ ap frames_in (sym fetched.tried.tries_are) ∙ enough.1 in (
       end,
-      outcome_of_read words left files (Some (fetching most targets)) (fetch_came false) end
+      outcome_of_read words input files (Some (fetching most targets)) (fetch_came false) end
           (form_of-form words (fetching most targets) are) tt (refl, frames, refl, count),
       (enough.0, fetched.tried.wrote),
     )
-tries_follow words left files most targets before after old new status are fetched (inr fewer) =
+tries_follow words input files most targets before after old new status are fetched (inr fewer) =
     let frames = frames_of_all fetched.tried.runs in
     let end : Exit = record { status = 9; text = concat frames } in
     let count : length frames ≡ frames_in fetched.tries =
@@ -196,23 +196,23 @@ tries_follow words left files most targets before after old new status are fetch
     let less = fewer.1 in
     let within : length frames < most = omega (arith, count, less) in (
       end,
-      outcome_of_read words left files (Some (fetching most targets)) (fetch_came true) end
+      outcome_of_read words input files (Some (fetching most targets)) (fetch_came true) end
           (form_of-form words (fetching most targets) are) tt (refl, frames, refl, within),
       (fewer.0, fetched.tried.wrote),
     )
 
 -- without a fault of writing or want of memory, it is the outcome of the words
-pub fetch_follows : (words : List (List ℕ)) (left : Option (List ℕ)) (files : Files) (most : ℕ)
+pub fetch_follows : (words : List (List ℕ)) (input : Input) (files : Files) (most : ℕ)
     (targets : List Target) (before after : StreetTold) (old new : Option (List ℕ)) (first now status : ℕ)
     → AreFetch words most targets → HasFetching most targets before after old new first now status
-    → (status ≡ 5 → ⊥) → (status ≡ 7 → ⊥) → FollowsOutcome words left files status old new
-fetch_follows words left files most targets before after old new first now status are all torn wanting =
+    → (status ≡ 5 → ⊥) → (status ≡ 7 → ⊥) → FollowsOutcome words input files status old new
+fetch_follows words input files most targets before after old new first now status are all torn wanting =
     let fetched = fetched_at most targets before after old new first now status all torn wanting in
-    tries_follow words left files most targets before after old new status are fetched fetched.ends
+    tries_follow words input files most targets before after old new status are fetched fetched.ends
 
-pub fetch_whole : (words : List (List ℕ)) (left : Option (List ℕ)) (files : Files) (most : ℕ)
-    (targets : List Target) → AreFetch words most targets → HaveCome IsWhole words left files
-fetch_whole words left files most targets are = (fetching most targets, fetch_came false, are, tt, tt)
+pub fetch_whole : (words : List (List ℕ)) (input : Input) (files : Files) (most : ℕ)
+    (targets : List Target) → AreFetch words most targets → HaveCome IsWhole words input files
+fetch_whole words input files most targets are = (fetching most targets, fetch_came false, are, tt, tt)
 
 -- ---- another command
 

@@ -3,6 +3,7 @@ pub mod TargetLemmas
 pub mod FetchingLemmas
 pub mod WordLemmas
 pub mod ReadingLemmas
+pub mod GivenLemmas
 pub mod AnswerLemmas
 pub mod AskedLemmas
 pub mod ScriptLemmas
@@ -14,3 +15,4 @@ mod CastingLemmas
 pub mod OfflineLemmas
 mod PromiseLemmas
 pub mod RunLemmas
+pub mod DoneLemmas

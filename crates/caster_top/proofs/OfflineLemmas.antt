@@ -5,7 +5,7 @@ use Rattle.caster_top.specs.declared.command.Offline.{Offline}
 use Rattle.caster_top.specs.declared.command.Offline.TheVariants as offline
 use Rattle.caster_top.specs.declared.command.Task.{Task}
 use Rattle.caster_top.specs.Command.{Form, bare, over, replay, made, casting, fetching, AreCasting, AreOf, IsWithin, NameNoFile, NamesNoFile, ReadNoInput, ReadsNoInput, form_of, offline_form}
-use Rattle.caster_top.specs.Told.{Files}
+use Rattle.caster_top.specs.Told.{Files, Input}
 use Rattle.caster_top.specs.Answers.{IsAnswer, IsOfflineAnswer}
 use Rattle.caster_top.proofs.AnswerLemmas.{input_answer, file_answer, files_answer, made_answer}
 use Rattle.caster_top.proofs.CastingLemmas.{read_other}
@@ -38,19 +38,19 @@ names_nothing words (casting task config addr limit) are none = none.2 task conf
 names_nothing words (fetching frames targets) are none = tt
 
 -- the answer to the command is the answer to the words
-pub offline_answer : (words : List (List ℕ)) (left : Option (List ℕ)) (files : Files) (of_input of_store : Type 0)
+pub offline_answer : (words : List (List ℕ)) (input : Input) (files : Files) (of_input of_store : Type 0)
     (form : Form) (answer : Answer) → form_of words ≡ Some form → AreOf words form
-    → IsOfflineAnswer form left files of_input of_store answer → IsAnswer words left files of_input of_store answer
-offline_answer words left files of_input of_store (bare capacity) answer h are is =
-    input_answer words left files of_input of_store capacity answer h are is
-offline_answer words left files of_input of_store (over aim path) answer h are is =
-    file_answer words left files of_input of_store aim path answer h are is
-offline_answer words left files of_input of_store (replay start config session) answer h are is =
-    files_answer words left files of_input of_store start config session answer h are is
-offline_answer words left files of_input of_store (made seed frames rovers) answer h are is =
-    made_answer words left files of_input of_store seed frames rovers answer h are is
-offline_answer words left files of_input of_store (casting task config addr limit) answer h are is = absurd is
-offline_answer words left files of_input of_store (fetching frames targets) answer h are is = absurd is
+    → IsOfflineAnswer form input files of_input of_store answer → IsAnswer words input files of_input of_store answer
+offline_answer words input files of_input of_store (bare capacity) answer h are is =
+    input_answer words input files of_input of_store capacity answer h are is
+offline_answer words input files of_input of_store (over aim path) answer h are is =
+    file_answer words input files of_input of_store aim path answer h are is
+offline_answer words input files of_input of_store (replay start config session) answer h are is =
+    files_answer words input files of_input of_store start config session answer h are is
+offline_answer words input files of_input of_store (made seed frames rovers) answer h are is =
+    made_answer words input files of_input of_store seed frames rovers answer h are is
+offline_answer words input files of_input of_store (casting task config addr limit) answer h are is = absurd is
+offline_answer words input files of_input of_store (fetching frames targets) answer h are is = absurd is
 
 -- such words ask for no caster
 no_cast : {P : Type 0} (command : Offline) (task : Task) (config addr : List ℕ) (limit : ℕ)

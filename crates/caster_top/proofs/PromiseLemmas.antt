@@ -23,12 +23,12 @@ use Rattle.warm_promise.proofs.PromiseLemmas.{greeted}
 use Rattle.run_texts.specs.Texts.{IsRunText, IsWarmText}
 use Rattle.caster_record.specs.Recording.{kind_of}
 use Rattle.caster_top.specs.Command.{AreBare}
-use Rattle.caster_top.specs.Told.{Files, IsConfigAt, IsSessionAt}
+use Rattle.caster_top.specs.Told.{Files, IsConfigFrom, IsSessionFrom}
 use Rattle.caster_top.specs.Recording.{HasRecorded}
 use Rattle.caster_top.specs.Promised.{IsGreetedText, IsPromisedText}
 
 -- the configuration in a file keeps the rules
-config_keeps : (files : Files) (path : List ℕ) (c : Config) → IsConfigAt files path c → KeepsRules 1000000 c
+config_keeps : (files : Files) (path : List ℕ) (c : Config) → IsConfigFrom files path c → KeepsRules 1000000 c
 config_keeps files path c at = keeps_rules at.3.0 c at.3.2
 
 text_promised : (c : Config) (cap : ℕ) (kind : ScriptKind) (events : List Event) (text : List ℕ) → KeepsRules cap c
@@ -47,7 +47,7 @@ bare_promised words capacity bytes events text are read run =
     (script_read Bare bytes events read).session run
 
 pub replay_promised : (files : Files) (config session : List ℕ) (c : Config) (events : List Event) (text : List ℕ)
-    → IsConfigAt files config c → IsSessionAt files session c events → IsRunText c events text
+    → IsConfigFrom files config c → IsSessionFrom files session c events → IsRunText c events text
     → IsPromisedText c events text
 replay_promised files config session c events text at is run =
     let kind = Replay (length c.relay) in
@@ -55,7 +55,7 @@ replay_promised files config session c events text at is run =
     run
 
 pub warm_promised : (files : Files) (config session : List ℕ) (c : Config) (events : List Event) (text : List ℕ)
-    → IsConfigAt files config c → IsSessionAt files session c events → IsWarmText c events text
+    → IsConfigFrom files config c → IsSessionFrom files session c events → IsWarmText c events text
     → IsGreetedText c events text
 warm_promised files config session c events text at is run =
     let kind = Replay (length c.relay) in
@@ -67,7 +67,7 @@ warm_promised files config session c events text at is run =
     }
 
 pub record_promised : (files : Files) (config addr : List ℕ) (limit : ℕ) (before after : StreetTold) (c : Config)
-    (events : List Event) (recorded : HasRecorded c addr limit before after events) → IsConfigAt files config c
+    (events : List Event) (recorded : HasRecorded c addr limit before after events) → IsConfigFrom files config c
     → IsPromised c events recorded.session.report
 record_promised files config addr limit before after c events recorded at =
     let is = recorded.session.recorded in

@@ -16,7 +16,7 @@ use Rattle.caster_top.specs.declared.command.Start.{Start}
 use Rattle.caster_top.specs.declared.command.Start.TheVariants.{Cold}
 use Rattle.caster_top.specs.Command.{Form, bare, over, replay, made, casting, fetching}
 use Rattle.caster_top.specs.Outcome.{Exit, Ending, exactly, EndsSo, Came, ending_of_bytes, ending_of_config, ending_of_form, ending_of_script, session_in, one_line, whole_exit, usage_exit, long_exit, read_fault_exit, network_exit, memory_exit}
-use Rattle.caster_top.specs.Told.{Files, Tells, Holds, IsConfigIn, IsOutcome, EndsWith, HaveForm, HaveFault}
+use Rattle.caster_top.specs.Told.{Files, Input, IsConfigIn, IsOutcome, EndsWith, HaveForm, HaveFault}
 
 -- what the program ends with after this answer, where no write fails
 abbrev pub exit_of : Answer → Exit
@@ -46,17 +46,17 @@ IsGiven memory fault IsSuch answer = IsSuch (exit_of answer)
 abbrev pub GivesEnd : Ending → Answer → Type 0
 GivesEnd ending answer = IsGiven ⊤ ⊥ (EndsSo ending) answer
 
--- how a bare session over a ring of this capacity ends, with this input
-abbrev pub IsInputEnd : ℕ → Option (List ℕ) → Exit → Type 0
-IsInputEnd capacity left end = (script : List ℕ) × Tells left script
+-- how a bare session over a ring of this capacity ends, with what came from the input
+abbrev pub IsInputEnd : ℕ → Input → Exit → Type 0
+IsInputEnd capacity input end = (script : List ℕ) × input script
     × EndsSo (ending_of_script Cold (settings.bare capacity) (script_of Bare script)) end
 
-abbrev pub IsInputAnswer : ℕ → Option (List ℕ) → Type 0 → Answer → Type 0
-IsInputAnswer capacity left fault answer = IsGiven ⊤ fault (IsInputEnd capacity left) answer
+abbrev pub IsInputAnswer : ℕ → Input → Type 0 → Answer → Type 0
+IsInputAnswer capacity input fault answer = IsGiven ⊤ fault (IsInputEnd capacity input) answer
 
 -- how a command ends that does this with the configuration in the file of this path
 abbrev pub IsFileEnd : Aim → List ℕ → Files → Exit → Type 0
-IsFileEnd aim path files end = (config : List ℕ) × Holds files path config
+IsFileEnd aim path files end = (config : List ℕ) × files path config
     × EndsSo (ending_of_bytes (ending_of_config aim) config) end
 
 abbrev pub IsFileAnswer : Aim → List ℕ → Files → Type 0 → Answer → Type 0
@@ -69,14 +69,14 @@ pub record IsRefused (bytes : List ℕ) (end : Exit) : Type 0 where
 
 -- how a command ends for whose configuration the file of this path holds no configuration
 abbrev pub IsRefusedAt : List ℕ → Files → Exit → Type 0
-IsRefusedAt path files end = (config : List ℕ) × Holds files path config × IsRefused config end
+IsRefusedAt path files end = (config : List ℕ) × files path config × IsRefused config end
 
 abbrev pub IsRefusal : List ℕ → Files → Type 0 → Answer → Type 0
 IsRefusal path files fault answer = IsGiven ⊤ fault (IsRefusedAt path files) answer
 
 -- how the session in the file of this path ends over a configuration, whose rovers start so
 abbrev pub IsSessionEnd : Start → Config → List ℕ → Files → Exit → Type 0
-IsSessionEnd start c path files end = (script : List ℕ) × Holds files path script
+IsSessionEnd start c path files end = (script : List ℕ) × files path script
     × EndsSo (ending_of_script start c (session_in c script)) end
 
 abbrev pub IsSessionAnswer : Start → Config → List ℕ → Files → Type 0 → Answer → Type 0
@@ -86,8 +86,8 @@ IsSessionAnswer start c path files fault answer =
 -- how a session ends over the configuration in another file: the paths of both
 abbrev pub IsReplayEnd : Start → List ℕ → List ℕ → Files → Exit → Type 0
 IsReplayEnd start config session files end = (came : Came)
-    × Holds files config came.config
-    × ((c : Config) → IsConfigIn came.config c → Holds files session came.script)
+    × files config came.config
+    × ((c : Config) → IsConfigIn came.config c → files session came.script)
     × EndsSo (ending_of_form (replay start config session) came) end
 
 abbrev pub IsReplayAnswer : Start → List ℕ → List ℕ → Files → Type 0 → Answer → Type 0
@@ -95,23 +95,23 @@ IsReplayAnswer start config session files fault answer =
     IsGiven ⊤ fault (IsReplayEnd start config session files) answer
 
 -- the answer to a command of this form that files and input decide alone
-abbrev pub IsOfflineAnswer : Form → Option (List ℕ) → Files → Type 0 → Type 0 → Answer → Type 0
-IsOfflineAnswer (bare capacity) left files of_input of_store answer =
-    IsInputAnswer capacity left of_input answer
-IsOfflineAnswer (over aim path) left files of_input of_store answer =
+abbrev pub IsOfflineAnswer : Form → Input → Files → Type 0 → Type 0 → Answer → Type 0
+IsOfflineAnswer (bare capacity) input files of_input of_store answer =
+    IsInputAnswer capacity input of_input answer
+IsOfflineAnswer (over aim path) input files of_input of_store answer =
     IsFileAnswer aim path files of_store answer
-IsOfflineAnswer (replay start config session) left files of_input of_store answer =
+IsOfflineAnswer (replay start config session) input files of_input of_store answer =
     IsReplayAnswer start config session files of_store answer
-IsOfflineAnswer (made seed frames rovers) left files of_input of_store answer =
+IsOfflineAnswer (made seed frames rovers) input files of_input of_store answer =
     GivesEnd (exactly (whole_exit (made_text seed frames rovers))) answer
-IsOfflineAnswer (casting task config addr limit) left files of_input of_store answer = ⊥
-IsOfflineAnswer (fetching frames targets) left files of_input of_store answer = ⊥
+IsOfflineAnswer (casting task config addr limit) input files of_input of_store answer = ⊥
+IsOfflineAnswer (fetching frames targets) input files of_input of_store answer = ⊥
 
 -- the answer to these words, this input and these files: want of memory, a fault of reading that
 -- was counted, or the outcome
-abbrev pub IsAnswer : List (List ℕ) → Option (List ℕ) → Files → Type 0 → Type 0 → Answer → Type 0
-IsAnswer words left files of_input of_store answer =
-    IsGiven (HaveForm words) (HaveFault words of_input of_store) (IsOutcome words left files) answer
+abbrev pub IsAnswer : List (List ℕ) → Input → Files → Type 0 → Type 0 → Answer → Type 0
+IsAnswer words input files of_input of_store answer =
+    IsGiven (HaveForm words) (HaveFault words of_input of_store) (IsOutcome words input files) answer
 
 -- the text of this end was written and its status given, or status 5 with a write that failed
 -- inside the text

@@ -16,7 +16,7 @@ use Rattle.caster_top.specs.declared.answers.Answer.TheVariants.{NetworkFault, M
 use Rattle.caster_top.specs.declared.command.Task.{Task}
 use Rattle.caster_top.specs.declared.command.Task.TheVariants.{Serve, Record}
 use Rattle.caster_top.specs.Outcome.{Exit, EndsSo, exactly, whole_exit, read_fault_exit, network_exit, memory_exit}
-use Rattle.caster_top.specs.Told.{Files, IsConfigAt}
+use Rattle.caster_top.specs.Told.{Files, IsConfigFrom}
 use Rattle.caster_top.specs.Answers.{IsGiven, IsRefusedAt, IsRefusal, Writes}
 use Rattle.caster_top.specs.Recording.{HasRecorded, HasNotRecorded}
 
@@ -70,7 +70,7 @@ pub record HasAnswered (task : Task) (files : Files) (config addr : List ℕ) (l
     (before after : StreetTold) (answer : Answer) : Type 0 where
   pub c : Config
   pub came_to : CameTo
-  pub config_is : IsConfigAt files config c
+  pub config_is : IsConfigFrom files config c
   pub cast : HasCast task c addr limit before after came_to
   pub given : GivesCame task came_to answer
 
@@ -101,7 +101,7 @@ pub record HasEnded (task : Task) (files : Files) (config addr : List ℕ) (limi
     (before after : StreetTold) (end : Exit) : Type 0 where
   pub c : Config
   pub came_to : CameTo
-  pub config_is : IsConfigAt files config c
+  pub config_is : IsConfigFrom files config c
   pub cast : HasCast task c addr limit before after came_to
   pub ends : CastEnd task came_to end
 

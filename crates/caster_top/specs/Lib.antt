@@ -2,9 +2,11 @@ pub mod Command
 pub mod Reading
 pub mod Outcome
 pub mod Told
+pub mod Given
 pub mod Answers
 pub mod Casting
 pub mod Recording
 pub mod Fetching
+pub mod Done
 pub mod Running
 pub mod Promised

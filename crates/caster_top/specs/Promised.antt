@@ -16,7 +16,7 @@ use Rattle.run_promise.specs.Promised.{IsPromised}
 use Rattle.warm_promise.specs.Greeted.{IsGreeted}
 use Rattle.serve_promise.specs.Callers.{AllPromised}
 use Rattle.caster_top.specs.Command.{AreBare, AreReplay, AreRecord, AreServe, AreWarm}
-use Rattle.caster_top.specs.Told.{Files, IsConfigAt, IsSessionAt}
+use Rattle.caster_top.specs.Told.{Files, FilesTold, Input, IsConfigAt, IsConfigFrom, IsSessionAt, IsSessionFrom}
 use Rattle.caster_top.specs.Recording.{HasRecorded}
 
 -- the text is that of a report of these events that keeps the promise of recorded sessions
@@ -34,7 +34,7 @@ pub record IsGreetedText (c : Config) (events : List Event) (text : List ℕ) : 
 -- What these words came to keeps the promise: the report of a bare session, that of a session over a
 -- configuration, with greetings or without, the one that a replay of a recorded session's script
 -- gives, and each link of a caster that served to its end.
-pub record KeepPromise (words : List (List ℕ)) (left : Option (List ℕ)) (files : Files)
+pub record KeepPromise (words : List (List ℕ)) (left : Option (List ℕ)) (files : FilesTold)
     (before after : StreetTold) (old new : Option (List ℕ)) : Type 0 where
   pub bare : (capacity : ℕ) (bytes : List ℕ) (events : List Event) → AreBare words capacity
       → left ≡ Some bytes → script_of Bare bytes ≡ Ok events
@@ -54,4 +54,27 @@ pub record KeepPromise (words : List (List ℕ)) (left : Option (List ℕ)) (fil
   pub recorded : (config addr : List ℕ) (limit : ℕ) → AreRecord words config addr limit
       → (c : Config) × (events : List Event)
       × (recorded : HasRecorded c addr limit before after events) × IsConfigAt files config c
+      × IsPromised c events recorded.session.report × Appends old new (script_text events)
+
+-- The same of what came from the input and the files.
+pub record WasPromised (words : List (List ℕ)) (input : Input) (files : Files)
+    (before after : StreetTold) (old new : Option (List ℕ)) : Type 0 where
+  pub bare : (capacity : ℕ) → AreBare words capacity
+      → (bytes : List ℕ) × (events : List Event) × (text : List ℕ) × input bytes
+      × (script_of Bare bytes ≡ Ok events) × IsPromisedText (settings.bare capacity) events text
+      × Appends old new text
+  pub replayed : (config session : List ℕ) → AreReplay words config session
+      → (c : Config) × (events : List Event) × (text : List ℕ) × IsConfigFrom files config c
+      × IsSessionFrom files session c events × IsPromisedText c events text
+      × Appends old new text
+  pub warmed : (config session : List ℕ) → AreWarm words config session
+      → (c : Config) × (events : List Event) × (text : List ℕ) × IsConfigFrom files config c
+      × IsSessionFrom files session c events × IsGreetedText c events text
+      × Appends old new text
+  pub served : (config addr : List ℕ) (limit : ℕ) → AreServe words config addr limit
+      → (c : Config) × (closed : Closed) × IsConfigFrom files config c
+      × AllPromised c limit before after closed × Appends old new (closed_text c closed)
+  pub recorded : (config addr : List ℕ) (limit : ℕ) → AreRecord words config addr limit
+      → (c : Config) × (events : List Event)
+      × (recorded : HasRecorded c addr limit before after events) × IsConfigFrom files config c
       × IsPromised c events recorded.session.report × Appends old new (script_text events)

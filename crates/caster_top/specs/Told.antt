@@ -18,9 +18,17 @@ use Rattle.caster_top.specs.Command.{Form, bare, over, replay, made, casting, fe
 use Rattle.caster_top.specs.Reading.{config_in}
 use Rattle.caster_top.specs.Outcome.{Exit, Came, EndsSo, read_fault_exit, memory_exit, outcome, session_in}
 
+-- which bytes may have come from the input
+abbrev pub Input : Type 1
+Input = List ℕ → Type 0
+
+-- and which bytes may have come from the file of a path
+abbrev pub Files : Type 1
+Files = List ℕ → List ℕ → Type 0
+
 -- files as a store tells them: pairs of path and content, of which the first of a path counts
-abbrev pub Files : Type 0
-Files = Option (List (List ℕ × List ℕ))
+abbrev pub FilesTold : Type 0
+FilesTold = Option (List (List ℕ × List ℕ))
 
 -- ---- what came
 
@@ -30,45 +38,53 @@ Tells None bytes = ⊤
 Tells (Some told) bytes = told ≡ bytes
 
 -- where the files are told, that of this path holds these bytes
-abbrev pub Holds : Files → List ℕ → List ℕ → Type 0
+abbrev pub Holds : FilesTold → List ℕ → List ℕ → Type 0
 Holds None path bytes = ⊤
 Holds (Some files) path bytes = content_of files path ≡ Some bytes
 
+-- what came from the file of this path is read as this configuration
+abbrev pub IsConfigFrom : Files → List ℕ → Config → Type 0
+IsConfigFrom files path c =
+    (bytes : List ℕ) × files path bytes × (length bytes ≤ 8388608) × IsRead bytes (Ok c)
+
+-- what came from the file of this path is a session of these events
+abbrev pub IsSessionFrom : Files → List ℕ → Config → List Event → Type 0
+IsSessionFrom files path c events =
+    (bytes : List ℕ) × files path bytes × (session_in c bytes ≡ Ok events)
+
 -- where the files are told, that of this path is read as this configuration
-abbrev pub IsConfigAt : Files → List ℕ → Config → Type 0
-IsConfigAt files path c =
-    (bytes : List ℕ) × Holds files path bytes × (length bytes ≤ 8388608) × IsRead bytes (Ok c)
+abbrev pub IsConfigAt : FilesTold → List ℕ → Config → Type 0
+IsConfigAt files path c = IsConfigFrom (Holds files) path c
 
 -- where the files are told, that of this path is a session of these events
-abbrev pub IsSessionAt : Files → List ℕ → Config → List Event → Type 0
-IsSessionAt files path c events =
-    (bytes : List ℕ) × Holds files path bytes × (session_in c bytes ≡ Ok events)
+abbrev pub IsSessionAt : FilesTold → List ℕ → Config → List Event → Type 0
+IsSessionAt files path c events = IsSessionFrom (Holds files) path c events
 
 -- the bytes are few enough, and say this configuration
 abbrev pub IsConfigIn : List ℕ → Config → Type 0
 IsConfigIn bytes c = (length bytes ≤ 8388608) × (config_in bytes ≡ Ok c)
 
--- what came for words of this form is what input and files tell. A session is read where its
--- configuration is one
-abbrev pub IsTold : Form → Option (List ℕ) → Files → Came → Type 0
-IsTold (bare capacity) left files came = Tells left came.script
-IsTold (over aim config) left files came = Holds files config came.config
-IsTold (replay start config session) left files came =
-    Holds files config came.config
-    × ((c : Config) → IsConfigIn came.config c → Holds files session came.script)
-IsTold (made seed frames rovers) left files came = ⊤
-IsTold (casting task config addr limit) left files came = Holds files config came.config
-IsTold (fetching frames targets) left files came = ⊤
+-- what came for words of this form may have come from the input and the files. A session is read
+-- where its configuration is one
+abbrev pub ComesFrom : Form → Input → Files → Came → Type 0
+ComesFrom (bare capacity) input files came = input came.script
+ComesFrom (over aim config) input files came = files config came.config
+ComesFrom (replay start config session) input files came =
+    files config came.config
+    × ((c : Config) → IsConfigIn came.config c → files session came.script)
+ComesFrom (made seed frames rovers) input files came = ⊤
+ComesFrom (casting task config addr limit) input files came = files config came.config
+ComesFrom (fetching frames targets) input files came = ⊤
 
-abbrev pub HasCome : Option Form → Option (List ℕ) → Files → Came → Type 0
-HasCome None left files came = ⊤
-HasCome (Some form) left files came = IsTold form left files came
+abbrev pub HasCome : Option Form → Input → Files → Came → Type 0
+HasCome None input files came = ⊤
+HasCome (Some form) input files came = ComesFrom form input files came
 
 -- ---- what was asked for
 
 -- the files that were asked for, in order, for words that are read so: a session only where its
 -- configuration is one
-abbrev pub AreAsked : Option Form → Files → List (List ℕ) → Type 0
+abbrev pub AreAsked : Option Form → FilesTold → List (List ℕ) → Type 0
 AreAsked None files paths = paths ≡ []
 AreAsked (Some (bare capacity)) files paths = paths ≡ []
 AreAsked (Some (over aim config)) files paths = paths ≡ config ∷ []
@@ -80,7 +96,7 @@ AreAsked (Some (casting task config addr limit)) files paths = paths ≡ config 
 AreAsked (Some (fetching frames targets)) files paths = paths ≡ []
 
 -- by what it was asked before and now, the store was asked for these, and for no other
-abbrev pub IsAsked : Option Form → Files → Option (List (List ℕ)) → Option (List (List ℕ)) → Type 0
+abbrev pub IsAsked : Option Form → FilesTold → Option (List (List ℕ)) → Option (List (List ℕ)) → Type 0
 IsAsked form files old new =
     (paths : List (List ℕ)) × AreAsked form files paths × Grew old new paths
 
@@ -90,16 +106,16 @@ IsAsked form files old new =
 abbrev pub EndsWith : ℕ → Option (List ℕ) → Option (List ℕ) → Exit → Type 0
 EndsWith status old new end = (status ≡ end.status) × Appends old new end.text
 
--- this is the outcome of the words and of what came, which is what input and files tell
-abbrev pub IsOutcome : List (List ℕ) → Option (List ℕ) → Files → Exit → Type 0
-IsOutcome words left files end =
-    (came : Came) × HasCome (form_of words) left files came × EndsSo (outcome words came) end
+-- this is the outcome of the words and of what came, from the input and the files
+abbrev pub IsOutcome : List (List ℕ) → Input → Files → Exit → Type 0
+IsOutcome words input files end =
+    (came : Came) × HasCome (form_of words) input files came × EndsSo (outcome words came) end
 
 -- status and written bytes are that outcome
-abbrev pub FollowsOutcome : List (List ℕ) → Option (List ℕ) → Files
+abbrev pub FollowsOutcome : List (List ℕ) → Input → Files
     → ℕ → Option (List ℕ) → Option (List ℕ) → Type 0
-FollowsOutcome words left files status old new =
-    (end : Exit) × IsOutcome words left files end × EndsWith status old new end
+FollowsOutcome words input files status old new =
+    (end : Exit) × IsOutcome words input files end × EndsWith status old new end
 
 -- the status is one of those that there are
 abbrev pub IsStatus : ℕ → Type 0
@@ -113,10 +129,10 @@ IsStatus status =
 abbrev pub HaveForm : List (List ℕ) → Type 0
 HaveForm words = (form : Form) × AreOf words form
 
--- the words are of a form, and what came for them, which is what input and files tell, is such
-abbrev pub HaveCome : (Form → Came → Type 0) → List (List ℕ) → Option (List ℕ) → Files → Type 0
-HaveCome IsSuch words left files =
-    (form : Form) × (came : Came) × AreOf words form × IsTold form left files came
+-- the words are of a form, and what came for them, from the input and the files, is such
+abbrev pub HaveCome : (Form → Came → Type 0) → List (List ℕ) → Input → Files → Type 0
+HaveCome IsSuch words input files =
+    (form : Form) × (came : Came) × AreOf words form × ComesFrom form input files came
     × IsSuch form came
 
 -- a script, or a configuration, or both
@@ -192,9 +208,9 @@ HaveFault words of_input of_store =
 
 -- a failed write wrote a first part of the outcome's text, of the line of a read fault that was
 -- counted, or of the line of want of memory
-abbrev pub WritesPart : List (List ℕ) → Option (List ℕ) → Files → Type 0 → Type 0
+abbrev pub WritesPart : List (List ℕ) → Input → Files → Type 0 → Type 0
     → Option (List ℕ) → Option (List ℕ) → Type 0
-WritesPart words left files of_input of_store old new =
-    ((end : Exit) × IsOutcome words left files end × AppendsPrefix old new end.text)
+WritesPart words input files of_input of_store old new =
+    ((end : Exit) × IsOutcome words input files end × AppendsPrefix old new end.text)
     ⊎ ((HaveFault words of_input of_store × AppendsPrefix old new read_fault_exit.text)
     ⊎ AppendsPrefix old new memory_exit.text)

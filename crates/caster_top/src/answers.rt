@@ -5,6 +5,7 @@ ghost use Rattle.cast_io.specs.Pieces.{Loses};
 ghost use Rattle.caster_top.specs.declared.command.Task.{Task};
 ghost use Rattle.caster_top.specs.Command.{AreCasting, CastNothing, FetchNothing, IsWithin, NameNoFile, NamesNoFile, ReadNoInput, ReadsNoInput, files_of, form_of, offline_form, texts};
 ghost use Rattle.caster_top.specs.Outcome.{exactly, whole_exit};
+ghost use Rattle.caster_top.specs.Given.{FileCame, InputCame};
 ghost use Rattle.caster_top.specs.Told.{IsAsked};
 ghost use Rattle.caster_top.specs.Answers.{answer_of_fault, exit_of, IsAnswer, IsOfflineAnswer, GivesEnd};
 ghost use Rattle.caster_top.specs.Casting.{IsCastingAnswer};
@@ -104,7 +105,9 @@ where
     N::Door: Send,
     N::Link: Send,
     requires { FetchNothing (texts words.now) }
-    ensures answer { IsAnswer (texts words.now) (I.left input.old) (S.store store.old).files
+    ensures answer { IsAnswer (texts words.now)
+        (InputCame (I.left input.old) (I.log input.old) (I.log input.new))
+        (FileCame (S.store store.old).files (S.log store.old) (S.log store.new))
         (Rose (I.faults input.old) (I.faults input.new))
         (Rose (S.faults store.old) (S.faults store.new)) result }
     ensures input_later { I.faults input.old ≤ I.faults input.new }
@@ -120,8 +123,9 @@ where
         ≤ S.reads store.old + 8388610 * length (files_of (form_of (texts words.now))) }
     ensures casting { (task : Task) (config addr : List ℕ) (limit : ℕ)
         → AreCasting task (texts words.now) config addr limit
-        → IsCastingAnswer task (S.store store.old).files config addr limit
-        (N.told street.old) (N.told street.new)
+        → IsCastingAnswer task
+        (FileCame (S.store store.old).files (S.log store.old) (S.log store.new))
+        config addr limit (N.told street.old) (N.told street.new)
         (Rose (S.faults store.old) (S.faults store.new)) result }
     ensures street_later { (N.told street.old).faults ≤ (N.told street.new).faults }
     ensures alone { CastNothing (texts words.now) → street.new ≡ street.old }
@@ -151,8 +155,10 @@ fn answer_offline<S: Store, I: Source>(
     input: &mut I,
 ) -> Answer
     requires { IsWithin (offline_form command) }
-    ensures answer { IsOfflineAnswer (offline_form command.entry) (I.left input.old)
-        (S.store store.old).files (Rose (I.faults input.old) (I.faults input.new))
+    ensures answer { IsOfflineAnswer (offline_form command.entry)
+        (InputCame (I.left input.old) (I.log input.old) (I.log input.new))
+        (FileCame (S.store store.old).files (S.log store.old) (S.log store.new))
+        (Rose (I.faults input.old) (I.faults input.new))
         (Rose (S.faults store.old) (S.faults store.new)) result }
     ensures input_later { I.faults input.old ≤ I.faults input.new }
     ensures store_later { S.faults store.old ≤ S.faults store.new }

@@ -11,6 +11,7 @@ ghost use Rattle.caster_top.specs.declared.command.Task.TheVariants.{Record, Ser
 ghost use Rattle.caster_top.specs.Command.{most_of};
 ghost use Rattle.caster_top.specs.Outcome.{EndsSo, exactly, whole_exit};
 ghost use Rattle.caster_top.specs.Answers.{GivesEnd, IsGiven};
+ghost use Rattle.caster_top.specs.Given.{FileCame};
 ghost use Rattle.caster_top.specs.Casting.{CameTo, GivesCame, GivesServed, HasCast, IsCastingAnswer};
 
 use crate::answers::Answer;
@@ -43,8 +44,9 @@ where
     N::Door: Send,
     N::Link: Send,
     requires limit { (1 ≤ limit) × (limit ≤ most_of task) }
-    ensures casting { IsCastingAnswer task (S.store store.old).files config.now addr.now limit
-        (N.told street.old) (N.told street.new)
+    ensures casting { IsCastingAnswer task
+        (FileCame (S.store store.old).files (S.log store.old) (S.log store.new))
+        config.now addr.now limit (N.told street.old) (N.told street.new)
         (Rose (S.faults store.old) (S.faults store.new)) result }
     ensures later { S.faults store.old ≤ S.faults store.new }
     ensures asked { Grew (S.store store.old).asked (S.store store.new).asked (config.now ∷ []) }

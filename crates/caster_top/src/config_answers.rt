@@ -1,6 +1,7 @@
 //! What is decided by the configuration in a file.
 ghost use Rattle.std.specs.Prelude.{◌≡◌, ◌≤◌, ◌<◌, ◌+◌, ◌∷◌, [], ℕ, List, Ok, length, vec_len, IfErr, IfOk, IsErrOf, ⊤};
 ghost use Rattle.cast_io.specs.Causes.{Rose};
+ghost use Rattle.cast_io.specs.Logs.{GoesOn};
 ghost use Rattle.cast_io.specs.Told.{Grew};
 ghost use Rattle.sourcetable.specs.Table.{table_text};
 ghost use Rattle.cast_config.specs.Document.{IsRead};
@@ -8,7 +9,8 @@ ghost use Rattle.cast_config.specs.Kept.{KeepsRules};
 ghost use Rattle.config_table.specs.Table.{table_records};
 ghost use Rattle.config_write.specs.Written.{WasRead};
 ghost use Rattle.caster_top.specs.Outcome.{IsDocumentOf, ending_of_config, exactly, exit_of_config_fault};
-ghost use Rattle.caster_top.specs.Told.{Holds, IsConfigAt};
+ghost use Rattle.caster_top.specs.Given.{FileCame};
+ghost use Rattle.caster_top.specs.Told.{IsConfigFrom};
 ghost use Rattle.caster_top.specs.Answers.{GivesEnd, IsFileAnswer, IsGiven, IsRefusal, IsRefused};
 
 use crate::answers::Answer;
@@ -26,7 +28,8 @@ const LONGEST: usize = 8_388_608;
 /// The answer to a command that does this with the configuration in the file of this path. The
 /// store is asked for that file once.
 pub fn answer_over<S: Store>(alloc: Global, aim: Aim, path: &str, store: &mut S) -> Answer
-    ensures answer { IsFileAnswer aim path.now (S.store store.old).files
+    ensures answer { IsFileAnswer aim path.now
+        (FileCame (S.store store.old).files (S.log store.old) (S.log store.new))
         (Rose (S.faults store.old) (S.faults store.new)) result }
     ensures later { S.faults store.old ≤ S.faults store.new }
     ensures asked { Grew (S.store store.old).asked (S.store store.new).asked (path.now ∷ []) }
@@ -45,10 +48,13 @@ pub fn answer_over<S: Store>(alloc: Global, aim: Aim, path: &str, store: &mut S)
 /// The answer where it is not to be had: a fault of reading, too many bytes, want of memory, or the
 /// line of the fault.
 pub fn config_at<S: Store>(alloc: Global, path: &str, store: &mut S) -> Result<Config, Answer>
-    ensures config { IfOk result (IsConfigAt (S.store store.old).files path.now) }
+    ensures config { IfOk result (IsConfigFrom
+        (FileCame (S.store store.old).files (S.log store.old) (S.log store.new)) path.now) }
     ensures keeps { IfOk result (KeepsRules 1000000) }
-    ensures refused { IfErr result (IsRefusal path.now (S.store store.old).files
+    ensures refused { IfErr result (IsRefusal path.now
+        (FileCame (S.store store.old).files (S.log store.old) (S.log store.new))
         (Rose (S.faults store.old) (S.faults store.new))) }
+    ensures on { GoesOn (S.log store.old) (S.log store.new) }
     ensures later { S.faults store.old ≤ S.faults store.new }
     ensures asked { Grew (S.store store.old).asked (S.store store.new).asked (path.now ∷ []) }
     ensures files { (S.store store.new).files ≡ (S.store store.old).files }
@@ -69,10 +75,13 @@ pub fn read_file<S: Store>(
     path: &str,
     store: &mut S,
 ) -> Result<Vec<u8>, ReadAllFault>
-    ensures whole { IfOk result (λ v. Holds (S.store store.old).files path.now v.items) }
+    ensures whole { IfOk result (λ v. FileCame (S.store store.old).files
+        (S.log store.old) (S.log store.new) path.now v.items) }
     ensures within { IfOk result (λ v. length v.items ≤ 8388608) }
     ensures long { IsErrOf result ReadAllFault.Long → (bytes : List ℕ)
-        × Holds (S.store store.old).files path.now bytes × (8388608 < length bytes) }
+        × FileCame (S.store store.old).files (S.log store.old) (S.log store.new) path.now bytes
+        × (8388608 < length bytes) }
+    ensures on { GoesOn (S.log store.old) (S.log store.new) }
     ensures failed { IsErrOf result ReadAllFault.Failed
         → Rose (S.faults store.old) (S.faults store.new) }
     ensures later { S.faults store.old ≤ S.faults store.new }

@@ -8,6 +8,7 @@ mod command;
 mod config_answers;
 mod fetch_words;
 mod fetching;
+pub mod laws;
 mod recording;
 mod session_answers;
 mod top;

@@ -3,6 +3,7 @@ ghost use Rattle.std.specs.Prelude.{◌≡◌, ◌≤◌, ◌+◌, ◌∷◌, []
 ghost use Rattle.session_script.specs.declared.ScriptKind.TheVariants.{Bare, Replay};
 ghost use Rattle.session_script.specs.Script.{script_of};
 ghost use Rattle.cast_io.specs.Causes.{Rose};
+ghost use Rattle.cast_io.specs.Logs.{GoesOn};
 ghost use Rattle.cast_io.specs.Pieces.{Loses};
 ghost use Rattle.cast_io.specs.Told.{Grew};
 ghost use Rattle.cast_config.specs.Bare as settings;
@@ -11,6 +12,7 @@ ghost use Rattle.caster_replay.specs.Scripts.{IsKindFor, IsScriptFor};
 ghost use Rattle.caster_top.specs.declared.command.Start.TheVariants.{Cold};
 ghost use Rattle.caster_top.specs.Command.{replay};
 ghost use Rattle.caster_top.specs.Outcome.{IsReportText, exactly, ending_of_script, exit_of_fault};
+ghost use Rattle.caster_top.specs.Given.{FileCame, InputCame};
 ghost use Rattle.caster_top.specs.Told.{IsAsked};
 ghost use Rattle.caster_top.specs.Answers.{GivesEnd, IsInputAnswer, IsReplayAnswer, IsSessionAnswer};
 
@@ -29,7 +31,8 @@ const LONGEST_SCRIPT: usize = 8_388_608;
 /// The answer to the bare script that the input is, over a ring of this capacity.
 pub fn answer_to_input<I: Source>(alloc: Global, capacity: u32, input: &mut I) -> Answer
     requires { (1 ≤ capacity) × (capacity ≤ 4096) }
-    ensures answer { IsInputAnswer capacity (I.left input.old)
+    ensures answer { IsInputAnswer capacity
+        (InputCame (I.left input.old) (I.log input.old) (I.log input.new))
         (Rose (I.faults input.old) (I.faults input.new)) result }
     ensures later { I.faults input.old ≤ I.faults input.new }
     ensures reads { Loses (λ came. I.reads input.new ≤ I.reads input.old + length came + 1)
@@ -51,7 +54,8 @@ pub fn answer_to_replay<S: Store>(
     session: &str,
     store: &mut S,
 ) -> Answer
-    ensures answer { IsReplayAnswer start config.now session.now (S.store store.old).files
+    ensures answer { IsReplayAnswer start config.now session.now
+        (FileCame (S.store store.old).files (S.log store.old) (S.log store.new))
         (Rose (S.faults store.old) (S.faults store.new)) result }
     ensures later { S.faults store.old ≤ S.faults store.new }
     ensures asked { IsAsked (Some (replay start config.now session.now)) (S.store store.old).files
@@ -74,8 +78,10 @@ fn answer_to_session<S: Store>(
     store: &mut S,
 ) -> Answer
     requires { KeepsRules 1000000 config.now }
-    ensures answer { IsSessionAnswer start config.now path.now (S.store store.old).files
+    ensures answer { IsSessionAnswer start config.now path.now
+        (FileCame (S.store store.old).files (S.log store.old) (S.log store.new))
         (Rose (S.faults store.old) (S.faults store.new)) result }
+    ensures on { GoesOn (S.log store.old) (S.log store.new) }
     ensures later { S.faults store.old ≤ S.faults store.new }
     ensures asked { Grew (S.store store.old).asked (S.store store.new).asked (path.now ∷ []) }
     ensures files { (S.store store.new).files ≡ (S.store store.old).files }

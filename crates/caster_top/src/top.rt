@@ -22,10 +22,12 @@ ghost use Rattle.caster_top.specs.declared.command.Aim.TheVariants.{Check, Table
 ghost use Rattle.caster_top.specs.declared.command.Task.{Task};
 ghost use Rattle.caster_top.specs.Command.{AreBare, AreCasting, AreFetch, AreMake, AreOver, AreOfNoForm, AreRecord, AreReplay, AreServe, AreWarm, AskNoStreet, CastNothing, FetchNothing, NameNoFile, ReadNoInput, WriteAtEnd, files_of, form_of, texts};
 ghost use Rattle.caster_top.specs.Outcome.{memory_exit, network_exit, one_line, read_fault_exit, session_in};
-ghost use Rattle.caster_top.specs.Told.{FollowsOutcome, HaveCome, HaveFault, IsAsked, IsConfigAt, IsFaultyConfig, IsFaultyScript, IsSessionAt, IsStatus, IsTooLong, IsWhole, WritesPart};
+ghost use Rattle.caster_top.specs.Told.{FollowsOutcome, HaveCome, HaveFault, Holds, IsAsked, IsConfigAt, IsFaultyConfig, IsFaultyScript, IsSessionAt, IsStatus, IsTooLong, IsWhole, Tells, WritesPart};
 ghost use Rattle.caster_top.specs.Answers.{exit_of, Writes};
 ghost use Rattle.caster_top.specs.Casting.{HasCast, HasCasting, IsUnserved, no_network};
-ghost use Rattle.caster_top.specs.Promised.{KeepPromise};
+ghost use Rattle.caster_top.specs.Done.{WasDone};
+ghost use Rattle.caster_top.specs.Given.{FileCame, FileGave, InputCame, InputGave};
+ghost use Rattle.caster_top.specs.Promised.{KeepPromise, WasPromised};
 ghost use Rattle.caster_top.specs.Recording.{HasRecorded};
 ghost use Rattle.caster_top.specs.Fetching.{HasFetched, HasFetching};
 ghost use Rattle.caster_top.specs.Running.{EndsByAnswer, HasRun};
@@ -179,7 +181,7 @@ where
     // and with 6.
     ensures casting { (task : Task) (config addr : List ℕ) (limit : ℕ)
         → AreCasting task (texts words.now) config addr limit
-        → HasCasting task (S.store store.old).files config addr limit
+        → HasCasting task (Holds (S.store store.old).files) config addr limit
         (N.told street.old) (N.told street.new) (Rose (S.faults store.old) (S.faults store.new))
         (O.taken out.old) (O.taken out.new) (O.faults out.old) (O.faults out.new) result }
     ensures served { result ≡ 0 → (config addr : List ℕ) (limit : ℕ)
@@ -197,6 +199,23 @@ where
     ensures promised { result ≡ 0 → KeepPromise (texts words.now) (I.left input.old)
         (S.store store.old).files (N.told street.old) (N.told street.new)
         (O.taken out.old) (O.taken out.new) }
+
+    // The same, said of what was read: of the bytes that reads of the input gave in this call up to
+    // its end, and of those that the file of a path gave from its opening to its end.
+    ensures done { result ≡ 0 → WasDone (texts words.now)
+        (InputGave (I.left input.old) (I.log input.old) (I.log input.new))
+        (FileGave (S.store store.old).files (S.log store.old) (S.log store.new))
+        (N.told street.old) (N.told street.new) (O.taken out.old) (O.taken out.new) }
+    ensures done_promised { result ≡ 0 → WasPromised (texts words.now)
+        (InputGave (I.left input.old) (I.log input.old) (I.log input.new))
+        (FileGave (S.store store.old).files (S.log store.old) (S.log store.new))
+        (N.told street.old) (N.told street.new) (O.taken out.old) (O.taken out.new) }
+    ensures done_outcome { result ≢ 4 → result ≢ 5 → result ≢ 7 → FollowsOutcome (texts words.now)
+        (InputCame (I.left input.old) (I.log input.old) (I.log input.new))
+        (FileCame (S.store store.old).files (S.log store.old) (S.log store.new))
+        result (O.taken out.old) (O.taken out.new) }
+
+    // Where the network failed a caster.
     ensures network_fault { result ≡ 6 → (task : Task) × (config addr : List ℕ) × (limit : ℕ)
         × (c : Config) × AreCasting task (texts words.now) config addr limit
         × IsConfigAt (S.store store.old).files config c
@@ -240,19 +259,19 @@ where
     // When each status comes.
     ensures status { IsStatus result }
     ensures whole { result ≡ 0 → HaveCome IsWhole
-        (texts words.now) (I.left input.old) (S.store store.old).files }
+        (texts words.now) (Tells (I.left input.old)) (Holds (S.store store.old).files) }
     ensures usage { result ≡ 1 → AreOfNoForm (texts words.now) }
     ensures no_form { AreOfNoForm (texts words.now) → (result ≡ 1) ⊎ (result ≡ 5) }
     ensures no_config { result ≡ 2 → HaveCome IsFaultyConfig
-        (texts words.now) (I.left input.old) (S.store store.old).files }
+        (texts words.now) (Tells (I.left input.old)) (Holds (S.store store.old).files) }
     ensures no_session { result ≡ 3 → HaveCome IsFaultyScript
-        (texts words.now) (I.left input.old) (S.store store.old).files }
+        (texts words.now) (Tells (I.left input.old)) (Holds (S.store store.old).files) }
     ensures read_fault { result ≡ 4 → HaveFault (texts words.now)
         (Rose (I.faults input.old) (I.faults input.new))
         (Rose (S.faults store.old) (S.faults store.new)) }
     ensures write_fault { result ≡ 5 → Rose (O.faults out.old) (O.faults out.new) }
     ensures too_long { result ≡ 8 → HaveCome IsTooLong
-        (texts words.now) (I.left input.old) (S.store store.old).files }
+        (texts words.now) (Tells (I.left input.old)) (Holds (S.store store.old).files) }
     ensures store_faults { S.faults store.old ≤ S.faults store.new }
     ensures input_faults { I.faults input.old ≤ I.faults input.new }
     ensures out_faults { O.faults out.old ≤ O.faults out.new }
@@ -273,20 +292,20 @@ where
 
     // What is written.
     ensures outcome { result ≢ 4 → result ≢ 5 → result ≢ 7
-        → FollowsOutcome (texts words.now) (I.left input.old) (S.store store.old).files
+        → FollowsOutcome (texts words.now) (Tells (I.left input.old)) (Holds (S.store store.old).files)
         result (O.taken out.old) (O.taken out.new) }
     ensures undisturbed { ¬ HaveFault (texts words.now)
         (Rose (I.faults input.old) (I.faults input.new))
         (Rose (S.faults store.old) (S.faults store.new))
         → ¬ Rose (O.faults out.old) (O.faults out.new) → result ≢ 7
-        → FollowsOutcome (texts words.now) (I.left input.old) (S.store store.old).files
+        → FollowsOutcome (texts words.now) (Tells (I.left input.old)) (Holds (S.store store.old).files)
         result (O.taken out.old) (O.taken out.new) }
     ensures fault_line { result ≡ 4
         → Appends (O.taken out.old) (O.taken out.new) read_fault_exit.text }
     ensures memory_line { WriteAtEnd (texts words.now) → result ≡ 7
         → Appends (O.taken out.old) (O.taken out.new) memory_exit.text }
     ensures torn { WriteAtEnd (texts words.now) → result ≡ 5 → WritesPart (texts words.now)
-        (I.left input.old) (S.store store.old).files
+        (Tells (I.left input.old)) (Holds (S.store store.old).files)
         (Rose (I.faults input.old) (I.faults input.new))
         (Rose (S.faults store.old) (S.faults store.new))
         (O.taken out.old) (O.taken out.new) }
@@ -307,7 +326,14 @@ fn run_words<R: Threads + Wait + Sync, S: Store, I: Source, O: Sink, N: Street>(
 where
     N::Door: Send,
     N::Link: Send,
-    ensures run { HasRun (texts words.now) (I.left input.old) (S.store store.old).files
+    ensures run { HasRun (texts words.now)
+        (InputCame (I.left input.old) (I.log input.old) (I.log input.new))
+        (FileCame (S.store store.old).files (S.log store.old) (S.log store.new))
+        (Rose (I.faults input.old) (I.faults input.new))
+        (Rose (S.faults store.old) (S.faults store.new))
+        (N.told street.old) (N.told street.new) (O.taken out.old) (O.taken out.new)
+        (O.faults out.old) (O.faults out.new) result }
+    ensures told { HasRun (texts words.now) (Tells (I.left input.old)) (Holds (S.store store.old).files)
         (Rose (I.faults input.old) (I.faults input.new))
         (Rose (S.faults store.old) (S.faults store.new))
         (N.told street.old) (N.told street.new) (O.taken out.old) (O.taken out.new)
@@ -348,7 +374,9 @@ where
     N::Door: Send,
     N::Link: Send,
     requires { FetchNothing (texts words.now) }
-    ensures run { EndsByAnswer (texts words.now) (I.left input.old) (S.store store.old).files
+    ensures run { EndsByAnswer (texts words.now)
+        (InputCame (I.left input.old) (I.log input.old) (I.log input.new))
+        (FileCame (S.store store.old).files (S.log store.old) (S.log store.new))
         (Rose (I.faults input.old) (I.faults input.new))
         (Rose (S.faults store.old) (S.faults store.new))
         (N.told street.old) (N.told street.new) (O.taken out.old) (O.taken out.new)

@@ -1,10 +1,21 @@
 -- The run ended as a fetch, or with the answer that was written.
 use Rattle.std.proofs.Common.{inl, inr}
 use Rattle.caster_top.proofs.FetchClauseLemmas.{fetch_asked}
+use Rattle.caster_top.proofs.RunLemmas.{run_more}
 use Rattle.caster_top.proofs.top.run_words.Goals as goal
 
 pub returns-in-Some-clause-run : goal.returns-in-Some-clause-run
 returns-in-Some-clause-run g c = record {
+  ends = inr (record {
+    frames = c.in-Some.fetch.frames;
+    targets = _;
+    are = c.in-Some.ensures.fetch;
+    fetching = c.fetch_frames.ensures.fetching;
+  });
+}
+
+pub returns-in-Some-clause-told : goal.returns-in-Some-clause-told
+returns-in-Some-clause-told g c = record {
   ends = inr (record {
     frames = c.in-Some.fetch.frames;
     targets = _;
@@ -21,3 +32,8 @@ returns-in-Some-clause-alone g c nothing = absurd (nothing.1 _ _ c.in-Some.ensur
 
 pub returns-in-None-clause-run : goal.returns-in-None-clause-run
 returns-in-None-clause-run g c = record { ends = inl c.answer_words.ensures.run }
+
+pub returns-in-None-clause-told : goal.returns-in-None-clause-told
+returns-in-None-clause-told g c =
+    run_more _ _ _ _ _ _ _ _ _ _ _ _ _ _ (λ bytes came. came.0) (λ path bytes came. came.0)
+    (record { ends = inl c.answer_words.ensures.run })
