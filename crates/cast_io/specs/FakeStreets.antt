@@ -8,11 +8,12 @@ use Rattle.cast_io.specs.Fakes.{fails_next}
 use Rattle.cast_io.specs.Told.{StreetTold}
 use Rattle.cast_io.specs.FakeLinks.{LinkState, link_told}
 use Rattle.cast_io.specs.FakeDoors.{DoorState, door_told}
+use Rattle.cast_io.specs.FakeYards.{YardState, IsYardOf}
 
 -- a street in memory: the doors and links to come, what it was asked while that is told, the doors
 -- and links that came back while they are told, how many of each it gave that did not come back,
--- the numbers of the calls that are to fail, how many calls were made, its count of faults, and its
--- count of links that came back with faults
+-- the numbers of the calls that are to fail, how many calls were made, its count of faults, its
+-- count of links that came back with faults, and its gates and notes
 pub record StreetState : Type 0 where
   pub doors : List DoorState
   pub links : List LinkState
@@ -25,6 +26,7 @@ pub record StreetState : Type 0 where
   pub calls : ℕ
   pub faults : ℕ
   pub link_faults : ℕ
+  pub yard : YardState
 
 -- a street in memory tells all that a street can tell
 abbrev pub street_told : StreetState → StreetTold
@@ -36,7 +38,7 @@ street_told street = record {
   link_faults = street.link_faults;
 }
 
--- a street that is to give these doors and links and has not been called
+-- a street that is to give these doors and links, and no gates and notes, and has not been called
 pub record IsStreetOf (street : StreetState) (doors : List DoorState) (links : List LinkState)
     (fails : List ℕ) : Type 0 where
   pub doors_are : street.doors ≡ doors
@@ -50,6 +52,7 @@ pub record IsStreetOf (street : StreetState) (doors : List DoorState) (links : L
   pub calls : street.calls ≡ 0
   pub faults : street.faults ≡ 0
   pub link_faults : street.link_faults ≡ 0
+  pub yard : IsYardOf street.yard [] [] []
 
 -- the next open of so many doors fails: it is told to, or too few doors are left
 abbrev pub open_fails : StreetState → ℕ → Bool
@@ -77,3 +80,4 @@ pub record IsAskOf (old new : StreetState) : Type 0 where
   pub fails : new.fails ≡ old.fails
   pub calls : new.calls ≡ next_count old.calls
   pub link_faults : new.link_faults ≡ old.link_faults
+  pub yard : new.yard ≡ old.yard

@@ -13,3 +13,7 @@ pub mod Stores
 pub mod FakeStores
 pub mod Logs
 pub mod Logged
+pub mod Peers
+pub mod Yards
+pub mod FakeGates
+pub mod FakeYards

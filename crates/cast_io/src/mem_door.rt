@@ -1,5 +1,5 @@
 //! A door in memory at which links arrive in order, and that fails at the calls that it is told to.
-ghost use Rattle.std.specs.Prelude.{◌≡◌, IsTrue, IfOk, option_map};
+ghost use Rattle.std.specs.Prelude.{◌≡◌, ◌==◌, length, IsTrue, IfOk, option_map};
 ghost use Rattle.std.specs.List.{list_all};
 ghost use Rattle.cast_io.specs.Fakes.{fails_next};
 ghost use Rattle.cast_io.specs.FakeLinks.{link_told};
@@ -71,6 +71,13 @@ impl MemDoor {
         ensures { option_map (λ links. links.now) result ≡ self.now.back }
     {
         self.back.items()
+    }
+
+    /// Whether nothing more is to arrive.
+    pub fn is_used_up(&self) -> bool
+        ensures { result ≡ (length self.now.left == 0) }
+    {
+        self.left.is_empty()
     }
 
     /// How often the door failed so far.

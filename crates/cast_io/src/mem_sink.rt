@@ -74,6 +74,13 @@ impl MemSink {
         &self.bytes
     }
 
+    /// How often the sink failed so far.
+    pub fn faults(&self) -> u64
+        ensures { result ≡ self.now.faults }
+    {
+        self.faults
+    }
+
     // Counts a write.
     fn count_call(&mut self)
         ensures { self.new ≡ record self.old { calls = next_count self.old.calls } }

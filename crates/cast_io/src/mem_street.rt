@@ -1,5 +1,5 @@
 //! A street in memory that gives its doors and links in order, and fails at the calls that it is
-//! told to.
+//! told to. Its gates and notes stand in a yard of their own.
 ghost use Rattle.std.specs.Prelude.{◌≡◌, ◌≤◌, ◌<◌, ◌+◌, ◌-◌, ◌↔◌, [], ◌∷◌, length, take, drop, vec_len, Some, if◌then◌else◌, is_ok, is_some, option_map, IsTrue, IsSome, IsErr, IsErrOf, IfOk};
 ghost use Rattle.std.specs.List.{All, list_all};
 ghost use Rattle.cast_io.specs.Causes.{Rose, next_count};
@@ -13,11 +13,15 @@ ghost use Rattle.cast_io.specs.FakeStreets.{street_told, open_fails, dial_fails,
 use crate::bytes::ByteString;
 use crate::calls::is_told;
 use crate::mem_door::MemDoor;
+use crate::mem_gate::MemGate;
 use crate::mem_link::MemLink;
+use crate::mem_sink::MemSink;
+use crate::mem_yard::MemYard;
 use crate::notes::Notes;
 use crate::returned::Returned;
 use crate::steps::Asked;
 use crate::street::{Street, StreetFault};
+use crate::yard::Yard;
 use std::alloc::{AllocError, Global};
 use std::collections::VecDeque;
 use std::marker::Model;
@@ -36,6 +40,7 @@ pub struct MemStreet {
     calls: u64,
     faults: u64,
     link_faults: u64,
+    yard: MemYard,
 }
 
 impl Model for MemStreet {
@@ -59,6 +64,7 @@ impl Model for MemStreet {
       calls = s.calls;
       faults = s.faults;
       link_faults = s.link_faults;
+      yard = s.yard;
     } };
 
     ghost invariant = { λ s. IsTrue (list_all is_new_door s.doors.items)
@@ -74,7 +80,7 @@ impl MemStreet {
 
     /// A street whose `open` gives the next of these doors, and whose `dial` the next of these
     /// links, each as it was made. `fails` lists which calls fail, by their numbers from 1 over
-    /// `open` and `dial` alike.
+    /// `open` and `dial` alike. It has no gates and no notes to give.
     pub fn new(
         alloc: Global,
         doors: Vec<MemDoor>,
@@ -97,7 +103,23 @@ impl MemStreet {
             calls: 0,
             faults: 0,
             link_faults: 0,
+            yard: MemYard::new(alloc, Vec::new(alloc), Vec::new(alloc), Vec::new(alloc))?,
         })
+    }
+
+    /// The same street, whose gates and notes are those of this yard.
+    pub fn with_yard(mut self, yard: MemYard) -> Self
+        ensures { result ≡ record self { yard = yard } }
+    {
+        self.yard = yard;
+        self
+    }
+
+    /// The gates and the notes of the street: what it was asked for, and what came back.
+    pub fn yard(&self) -> &MemYard
+        ensures { result.now ≡ self.now.yard }
+    {
+        &self.yard
     }
 
     /// What the street was asked for, refused calls too, while there was memory for it.
@@ -332,6 +354,110 @@ impl Street for MemStreet {
     {
         self.count_door_faults(door.faults());
         self.doors_back.take_back(door);
+    }
+}
+
+// Each call of the yard leaves all else as it was.
+impl Yard for MemStreet {
+    ghost use Rattle.cast_io.specs.Doors.{IsNewDoor};
+    ghost use Rattle.cast_io.specs.Yards.{AreNewNotes, HasAnswered, HasBeenAsked, HasShutGate, HasTakenNotes};
+    ghost use Rattle.cast_io.specs.FakeGates.{gate_told};
+    ghost use Rattle.cast_io.specs.FakeYards.{GaveGates, GaveNotes, HasCounted, gates_fail, notes_fail, notes_told, yard_told};
+    ghost use Rattle.cast_io.specs.declared.yard_asked.YardAsked.TheVariants as asked;
+
+    type Gate = MemGate;
+
+    type Notes = MemSink;
+
+    ghost kept = { λ s. yard_told s.yard };
+
+    fn open_gates(
+        &mut self,
+        addr: &str,
+        gates: u32,
+        quiet: u32,
+    ) -> Result<Vec<MemGate>, StreetFault>
+        ensures wanted { HasBeenAsked (asked.OpenGates addr.now gates quiet)
+            (yard_told self.old.yard) (yard_told self.new.yard) }
+        ensures count { IfOk result (λ given. vec_len given ≡ gates) }
+        ensures each { IfOk result
+            (λ given. All (λ gate. IsNewDoor (door_told gate.door)) given.items) }
+        ensures answered { HasAnswered result
+            (yard_told self.old.yard) (yard_told self.new.yard) }
+        ensures exact { IsErrOf result StreetFault.Failed
+            ↔ IsTrue (gates_fail self.old.yard gates) }
+        ensures given { IfOk result (λ given. given.items ≡ take gates self.old.yard.gates) }
+        ensures counted { HasCounted (gates_fail self.old.yard gates) self.old.yard self.new.yard }
+        ensures gave { GaveGates (is_ok result) gates self.old.yard self.new.yard }
+        ensures same { self.new ≡ record self.old { yard = self.new.yard } }
+    {
+        self.yard.open_gates(addr, gates, quiet)
+    }
+
+    fn reach(&mut self, addr: &str, quiet: u32) -> Result<MemGate, StreetFault>
+        ensures wanted { HasBeenAsked (asked.Reach addr.now quiet)
+            (yard_told self.old.yard) (yard_told self.new.yard) }
+        ensures each { IfOk result (λ gate. IsNewDoor (door_told gate.door)) }
+        ensures answered { HasAnswered result
+            (yard_told self.old.yard) (yard_told self.new.yard) }
+        ensures err { IsErr result → IsErrOf result StreetFault.Failed }
+        ensures exact { IsErrOf result StreetFault.Failed ↔ IsTrue (gates_fail self.old.yard 1) }
+        ensures given { IfOk result (λ gate. self.old.yard.gates ≡ gate ∷ self.new.yard.gates) }
+        ensures counted { HasCounted (gates_fail self.old.yard 1) self.old.yard self.new.yard }
+        ensures gave { GaveGates (is_ok result) 1 self.old.yard self.new.yard }
+        ensures same { self.new ≡ record self.old { yard = self.new.yard } }
+    {
+        self.yard.reach(addr, quiet)
+    }
+
+    fn notes(&mut self) -> Result<MemSink, StreetFault>
+        ensures wanted { HasBeenAsked asked.Notes
+            (yard_told self.old.yard) (yard_told self.new.yard) }
+        ensures each { IfOk result (λ notes. AreNewNotes (notes_told notes)) }
+        ensures answered { HasAnswered result
+            (yard_told self.old.yard) (yard_told self.new.yard) }
+        ensures err { IsErr result → IsErrOf result StreetFault.Failed }
+        ensures exact { IsErrOf result StreetFault.Failed ↔ IsTrue (notes_fail self.old.yard) }
+        ensures given { IfOk result (λ notes. self.old.yard.notes ≡ notes ∷ self.new.yard.notes) }
+        ensures counted { HasCounted (notes_fail self.old.yard) self.old.yard self.new.yard }
+        ensures gave { GaveNotes (is_ok result) self.old.yard self.new.yard }
+        ensures same { self.new ≡ record self.old { yard = self.new.yard } }
+    {
+        self.yard.make_notes()
+    }
+
+    // A gate more than it gave is not kept, and the list is told no longer.
+    fn shut_gate(&mut self, gate: MemGate)
+        ensures shut { HasShutGate (gate_told gate)
+            (yard_told self.old.yard) (yard_told self.new.yard) }
+        ensures kept { self.new ≡ record self.old {
+          yard = record self.old.yard {
+            gates_back = with_return self.old.yard.gates_owed self.old.yard.gates_back gate;
+            gates_owed = self.old.yard.gates_owed - 1;
+            faults = self.new.yard.faults;
+          };
+        } }
+        ensures counted { 0 < gate.door.faults
+            → self.new.yard.faults ≡ next_count self.old.yard.faults }
+    {
+        self.yard.shut_gate(gate);
+    }
+
+    // Notes more than it gave are not kept, and the list is told no longer.
+    fn take_notes(&mut self, notes: MemSink)
+        ensures taken { HasTakenNotes (notes_told notes)
+            (yard_told self.old.yard) (yard_told self.new.yard) }
+        ensures kept { self.new ≡ record self.old {
+          yard = record self.old.yard {
+            notes_back = with_return self.old.yard.notes_owed self.old.yard.notes_back notes;
+            notes_owed = self.old.yard.notes_owed - 1;
+            note_faults = self.new.yard.note_faults;
+          };
+        } }
+        ensures counted { 0 < notes.faults
+            → self.new.yard.note_faults ≡ next_count self.old.yard.note_faults }
+    {
+        self.yard.take_notes(notes);
     }
 }
 

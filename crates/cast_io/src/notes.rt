@@ -1,5 +1,5 @@
 //! A list that a fake tells, for as long as there is memory for it.
-ghost use Rattle.std.specs.Prelude.{◌≡◌, ◌++◌, [], ◌∷◌, Some, None, option_map, IfOk, OnOk, OnErr};
+ghost use Rattle.std.specs.Prelude.{◌≡◌, ◌&&◌, not, ◌++◌, [], ◌∷◌, Some, None, is_some, option_map, IfOk, OnOk, OnErr};
 ghost use Rattle.cast_io.specs.Told.{Grew};
 
 use std::alloc::{AllocError, Global};
@@ -46,6 +46,23 @@ impl<T: Drop> Notes<T> {
             return Err(AllocError);
         };
         Ok(())
+    }
+
+    /// Adds this item, or tells the list no longer where there was no memory for the item or for
+    /// its place. Answers whether a list that was told is told no longer since.
+    pub(crate) fn note(&mut self, item: Result<T, AllocError>) -> bool
+        ensures grew { (wanted : T) → IfOk item (λ i. i ≡ wanted)
+            → Grew self.old self.new (wanted ∷ []) }
+        ensures lost { result ≡ (is_some self.old && not (is_some self.new)) }
+    {
+        if !self.tells {
+            return false;
+        }
+        let Ok(item) = item else {
+            self.tells = false;
+            return true;
+        };
+        self.add(item).is_err()
     }
 
     /// Tells the list no longer.

@@ -11,6 +11,7 @@ mod copy_tests;
 mod expecting;
 #[cfg(test)]
 mod link_tests;
+mod reaching;
 #[cfg(test)]
 mod read_tests;
 #[cfg(test)]
@@ -22,5 +23,10 @@ mod store_tests;
 mod street_runs;
 #[cfg(test)]
 mod street_tests;
+#[cfg(test)]
+mod yard_runs;
+#[cfg(test)]
+mod yard_tests;
 
+pub use reaching::reach_once;
 pub use sending::send_back;

@@ -45,7 +45,7 @@ pub(crate) fn street_of(alloc: Global, fails: &[u64]) -> Result<MemStreet, Fail>
 }
 
 // Appends a number below ten.
-fn say_number(out: &mut Vec<u8>, number: u64) -> Result<(), AllocError> {
+pub(crate) fn say_number(out: &mut Vec<u8>, number: u64) -> Result<(), AllocError> {
     say(out, &[b'0'.saturating_add(number.min(9) as u8)])
 }
 
@@ -72,7 +72,7 @@ fn say_doors(out: &mut Vec<u8>, doors: Option<&[MemDoor]>) -> Result<(), AllocEr
 }
 
 // Appends why a street refused a call.
-fn say_fault(out: &mut Vec<u8>, fault: StreetFault) -> Result<(), AllocError> {
+pub(crate) fn say_fault(out: &mut Vec<u8>, fault: StreetFault) -> Result<(), AllocError> {
     match fault {
         StreetFault::Failed => say(out, b"failed"),
         _ => say(out, b"other"),

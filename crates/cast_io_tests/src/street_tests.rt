@@ -8,7 +8,7 @@ use std::alloc::Global;
 use std::test::Fail;
 
 // The same value, which may go to another thread.
-fn sent<T: Send>(value: T) -> T
+pub(crate) fn sent<T: Send>(value: T) -> T
     ensures { result ≡ value }
 {
     value

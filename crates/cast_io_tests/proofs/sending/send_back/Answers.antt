@@ -1,9 +1,8 @@
 -- Each read adds a step, and each write of what it gave adds the bytes.
-use Rattle.std.proofs.Common.{◌≡◌, ◌+◌, ◌++◌, [], ◌∷◌, List, length, take, refl, subst, sym, inr, arith, length-append}
-use Rattle.cast_io.specs.declared.steps.Step.{Step}
+use Rattle.std.proofs.Common.{◌++◌, [], ◌∷◌, take, refl, subst, sym, inr, arith, length-append}
 use Rattle.cast_io.specs.declared.steps.Step.TheVariants as took
 use Rattle.cast_io.specs.declared.link.Got.TheVariants as got
-use Rattle.cast_io_tests.specs.Copying.{Exchanged, Copied, bytes_given}
+use Rattle.cast_io_tests.specs.Copying.{Copied, bytes_given}
 use Rattle.cast_io_tests.proofs.CopyLemmas.{exchanged_next, copied_read, copied_bytes, copied_torn}
 use Rattle.cast_io_tests.proofs.sending.send_back.Goals.{in-Bytes+in-Ok, in-Idle}
 use Rattle.cast_io_tests.proofs.sending.send_back.Goals as goal
