@@ -1,28 +1,50 @@
 //! A reader, a writer and the files of std as a source, a sink and a store. `main` puts standard
-//! input, standard output and the file system into them; what those give and take is outside of
-//! every proof.
-ghost use Rattle.std.specs.Prelude.{◌≡◌, ◌<◌, ◌≤◌, None, length, take, IfSome, IfNone};
-ghost use Rattle.std.specs.Io.KnownBytes.{Appends, Keeps};
+//! input, standard output and the file system into them. For contracts alone they have a record of
+//! what those gave and took.
+ghost use Rattle.std.specs.Prelude.{◌≡◌, ◌<◌, ◌≤◌, [], Some, None, length, take, unwrap_or, IfSome, OnOk, OnErr};
+ghost use Rattle.std.specs.Io.{ReadsAtMost};
+ghost use Rattle.std.specs.Io.KnownBytes.{Appends, ReadConsumes};
+ghost use Rattle.cast_io.specs.Causes.{HasCause, next_count};
+ghost use Rattle.cast_io.specs.Logs.{step_of_read};
+ghost use Rattle.cast_io.specs.Pieces.{AppendsPrefix};
+ghost use Rattle.cast_io.specs.Told.{Grew};
+ghost use Rattle.caster_net.specs.Honest.{BothTake, IsHonestRead, IsHonestWrite, got_of_read};
 
-use cast_io::{Failed, Sink, Source, Store};
+use cast_io::{Failed, Journal, Sink, Source, SourceStep, Store};
 use std::fs::File;
 use std::io::{Read, Write};
+use std::marker::Model;
 
 /// A source that reads from a reader of std, and counts its reads and its failures.
 #[derive(Drop)]
 pub struct ReaderSource<R> {
     reader: R,
+    log: Journal<SourceStep<Journal<u8>>>,
     reads: u64,
     faults: u64,
+}
+
+impl<R> Model for ReaderSource<R> {
+    ghost use Rattle.caster_net.specs.Told.{SourceState};
+
+    ghost Value = { SourceState R };
+
+    ghost view = { λ s. record {
+      reader = s.reader;
+      log = s.log;
+      reads = s.reads;
+      faults = s.faults;
+    } };
 }
 
 impl<R: Read> ReaderSource<R> {
     /// A source that was not read yet.
     pub fn new(reader: R) -> Self
-        ensures { result ≡ record { reader = reader; reads = 0; faults = 0 } }
+        ensures { result ≡ record { reader = reader; log = []; reads = 0; faults = 0 } }
     {
         ReaderSource {
             reader,
+            log: Journal::new(),
             reads: 0,
             faults: 0,
         }
@@ -30,19 +52,37 @@ impl<R: Read> ReaderSource<R> {
 }
 
 impl<R: Read> Source for ReaderSource<R> {
+    ghost use Rattle.std.specs.Prelude.{◌∷◌};
+
     ghost left = { λ s. R.remaining s.reader };
 
     ghost faults = { λ s. s.faults };
 
     ghost reads = { λ s. s.reads };
 
-    fn read(&mut self, buf: &mut [u8]) -> Result<usize, Failed> {
+    ghost log = { λ s. Some s.log };
+
+    fn read(&mut self, buf: &mut [u8]) -> Result<usize, Failed>
+        requires { 0 < length buf.old }
+        ensures bound { ReadsAtMost result buf.new }
+        ensures bytes { ReadConsumes (R.remaining self.old.reader) (R.remaining self.new.reader)
+            result buf.new }
+        ensures cause { HasCause self.old.faults self.new.faults result }
+        ensures counted { self.new.reads ≡ next_count self.old.reads }
+        ensures logged { Grew (Some self.old.log) (Some self.new.log)
+            (step_of_read result buf.new ∷ []) }
+
+        // What is in the log is what the reader gave.
+        ensures honest { IsHonestRead (R.remaining self.old.reader) (R.remaining self.new.reader)
+            (got_of_read result) buf.new }
+    {
         self.reads = self.reads.saturating_add(1);
-        let Ok(count) = self.reader.read(buf) else {
+        let answer = read_once(&mut self.reader, buf);
+        if answer.is_err() {
             self.faults = self.faults.saturating_add(1);
-            return Err(Failed);
-        };
-        Ok(count)
+        }
+        self.log.add(&step_of(answer, buf));
+        answer
     }
 }
 
@@ -51,27 +91,66 @@ impl<R: Read> Source for ReaderSource<R> {
 #[derive(Drop)]
 pub struct WriterSink<W> {
     writer: W,
+    taken: Journal<u8>,
     faults: u64,
+}
+
+impl<W> Model for WriterSink<W> {
+    ghost use Rattle.caster_net.specs.Told.{SinkState};
+
+    ghost Value = { SinkState W };
+
+    ghost view = { λ s. record { writer = s.writer; taken = s.taken; faults = s.faults } };
 }
 
 impl<W: Write> WriterSink<W> {
     /// A sink that was not written to yet.
     pub fn new(writer: W) -> Self
-        ensures { result ≡ record { writer = writer; faults = 0 } }
+        ensures { result ≡ record { writer = writer; taken = []; faults = 0 } }
     {
-        WriterSink { writer, faults: 0 }
+        WriterSink {
+            writer,
+            taken: Journal::new(),
+            faults: 0,
+        }
+    }
+
+    // One write of a piece that is not empty: how many bytes were taken, and None where none were.
+    fn write_some(&mut self, piece: &[u8]) -> Option<usize>
+        ensures bound { IfSome result (λ count. (0 < count) × (count ≤ length piece.now)) }
+        ensures both { BothTake (W.contents self.old.writer) (W.contents self.new.writer)
+            self.old.taken self.new.taken (take (unwrap_or result 0) piece.now) }
+        ensures faults { self.new.faults ≡ self.old.faults }
+    {
+        match self.writer.write(piece) {
+            Ok(count) if count > 0 => {
+                self.taken.add_all(&piece[..count]);
+                Some(count)
+            }
+            _ => None,
+        }
     }
 }
 
 impl<W: Write> Sink for WriterSink<W> {
-    ghost taken = { λ s. W.contents s.writer };
+    ghost taken = { λ s. Some s.taken };
 
     ghost faults = { λ s. s.faults };
 
-    fn write(&mut self, piece: &[u8]) -> Result<(), Failed> {
+    fn write(&mut self, piece: &[u8]) -> Result<(), Failed>
+        ensures whole { OnOk result (Appends (Some self.old.taken) (Some self.new.taken) piece.now) }
+        ensures torn { OnErr result
+            (AppendsPrefix (Some self.old.taken) (Some self.new.taken) piece.now) }
+        ensures cause { HasCause self.old.faults self.new.faults result }
+        ensures unharmed { OnOk result (self.new.faults ≡ self.old.faults) }
+
+        // What it tells as taken is what the writer took.
+        ensures honest { IsHonestWrite (W.contents self.old.writer) (W.contents self.new.writer)
+            self.old.taken self.new.taken result piece.now }
+    {
         let mut at = 0;
         while at < piece.len() {
-            let Some(count) = write_some(&mut self.writer, &piece[at..]) else {
+            let Some(count) = self.write_some(&piece[at..]) else {
                 self.faults = self.faults.saturating_add(1);
                 return Err(Failed);
             };
@@ -87,19 +166,35 @@ impl<W: Write> Sink for WriterSink<W> {
 pub struct FileStore<'a> {
     rt: &'a HostRuntime,
     file: Option<File>,
+    asked: Journal<Journal<u8>>,
+    log: Journal<SourceStep<Journal<u8>>>,
     reads: u64,
     faults: u64,
+}
+
+impl<'a> Model for FileStore<'a> {
+    ghost use Rattle.caster_net.specs.Told.{StoreState};
+
+    ghost Value = { StoreState };
+
+    ghost view = { λ s. record {
+      asked = s.asked;
+      log = s.log;
+      reads = s.reads;
+      faults = s.faults;
+    } };
 }
 
 impl<'a> FileStore<'a> {
     /// A store that was not asked yet.
     pub fn new(rt: &'a HostRuntime) -> Self
-        ensures faults { result.faults ≡ 0 }
-        ensures reads { result.reads ≡ 0 }
+        ensures { result ≡ record { asked = []; log = []; reads = 0; faults = 0 } }
     {
         FileStore {
             rt,
             file: None,
+            asked: Journal::new(),
+            log: Journal::new(),
             reads: 0,
             faults: 0,
         }
@@ -113,43 +208,63 @@ impl Source for FileStore<'_> {
 
     ghost reads = { λ s. s.reads };
 
+    ghost store = { λ s. record { asked = Some s.asked; files = None } };
+
+    ghost log = { λ s. Some s.log };
+
     fn read(&mut self, buf: &mut [u8]) -> Result<usize, Failed> {
         self.reads = self.reads.saturating_add(1);
-        let Some(file) = &mut self.file else {
-            return Ok(0);
+        let answer = match &mut self.file {
+            Some(file) => read_once(file, buf),
+            None => Ok(0),
         };
-        let Ok(count) = file.read(buf) else {
-            self.faults = self.faults.saturating_add(1);
-            return Err(Failed);
-        };
-        if count == 0 && !buf.is_empty() {
-            self.file = None;
+        match answer {
+            Ok(0) if !buf.is_empty() => self.file = None,
+            Ok(_) => {}
+            Err(Failed) => self.faults = self.faults.saturating_add(1),
         }
-        Ok(count)
+        self.log.add(&step_of(answer, buf));
+        answer
     }
 }
 
 impl Store for FileStore<'_> {
     fn open(&mut self, path: &str) -> Result<(), Failed> {
+        self.asked.add(&Journal::of_bytes(path.as_bytes()));
         self.file = None;
         let Ok(file) = File::open(self.rt, path) else {
+            self.log.add(&SourceStep::Failed);
             self.faults = self.faults.saturating_add(1);
             return Err(Failed);
         };
+        self.log
+            .add(&SourceStep::Opened(Journal::of_bytes(path.as_bytes())));
         self.file = Some(file);
         Ok(())
     }
 }
 
-// One write of a piece that is not empty: how many bytes were taken, and None where none were.
-fn write_some<W: Write>(writer: &mut W, piece: &[u8]) -> Option<usize>
-    ensures some { IfSome result (λ count. (0 < count) × (count ≤ length piece.now)) }
-    ensures taken { IfSome result (λ count.
-        Appends (W.contents writer.old) (W.contents writer.new) (take count piece.now)) }
-    ensures none { IfNone result (Keeps (W.contents writer.old) (W.contents writer.new)) }
+// One read of a reader into a buffer that is not empty.
+fn read_once<R: Read>(reader: &mut R, buf: &mut [u8]) -> Result<usize, Failed>
+    requires { 0 < length buf.old }
+    ensures bound { ReadsAtMost result buf.new }
+    ensures size { length buf.new ≡ length buf.old }
+    ensures bytes { ReadConsumes (R.remaining reader.old) (R.remaining reader.new) result buf.new }
 {
-    match writer.write(piece) {
-        Ok(count) if count > 0 => Some(count),
-        _ => None,
+    match reader.read(buf) {
+        Ok(count) => Ok(count),
+        Err(_) => Err(Failed),
+    }
+}
+
+// The step of a read that answered this, with its buffer after it.
+fn step_of(answer: Result<usize, Failed>, buf: &[u8]) -> SourceStep<Journal<u8>>
+    requires { ReadsAtMost answer buf.now }
+    ensures { result ≡ step_of_read answer buf.now }
+{
+    match answer {
+        Ok(0) => SourceStep::End,
+        Ok(count) => SourceStep::Bytes(Journal::of_bytes(&buf[..count])),
+        Err(Failed) => SourceStep::Failed,
     }
 }

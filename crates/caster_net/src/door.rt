@@ -1,16 +1,17 @@
 //! A listener as a door.
 ghost use Rattle.std.specs.Prelude.{◌≡◌, IfOk};
-ghost use Rattle.caster_net.specs.Untold.{door_of};
+ghost use Rattle.caster_net.specs.Told.{IsUnused, door_told, new_door};
 
 use crate::bells::Bells;
 use crate::link::TcpLink;
 use crate::waiting::{SHORT, failed, rest};
 use crate::watch::Watch;
-use cast_io::{Arrived, Door};
+use cast_io::{Arrived, Door, Journal};
 use libc::net::{SHUT_RD, shutdown};
 use std::alloc::{AllocError, Global};
 use std::io;
 use std::io::ErrorKind;
+use std::marker::Model;
 use std::net::{TcpListener, TcpStream};
 use std::os::fd::AsRawFd;
 use std::sync::Arc;
@@ -67,7 +68,8 @@ impl DoorBell {
     }
 }
 
-/// One of the doors at an address, and how often an accept of it failed for good.
+/// One of the doors at an address, and how often an accept of it failed for good. For contracts alone
+/// it has a record of the links that came back to it.
 #[derive(Drop)]
 pub struct TcpDoor<'a> {
     rt: &'a HostRuntime,
@@ -78,13 +80,23 @@ pub struct TcpDoor<'a> {
     // What ended a rest, for the next accept.
     came: Option<io::Result<TcpStream>>,
     patience: Duration,
-    pub(crate) faults: u64,
+    back: Journal<TcpLink<'a>>,
+    faults: u64,
+}
+
+impl<'a> Model for TcpDoor<'a> {
+    ghost use Rattle.std.specs.Prelude.{map};
+    ghost use Rattle.caster_net.specs.Told.{DoorState, link_told};
+
+    ghost Value = { DoorState };
+
+    ghost view = { λ d. record { back = map link_told d.back; faults = d.faults } };
 }
 
 impl<'a> TcpDoor<'a> {
     /// A door at this place.
     pub(crate) fn over(rt: &'a HostRuntime, bells: &'a Bells, porch: Arc<Porch, Global>) -> Self
-        ensures { result.faults ≡ 0 }
+        ensures { result ≡ new_door }
     {
         TcpDoor {
             rt,
@@ -93,8 +105,16 @@ impl<'a> TcpDoor<'a> {
             porch,
             came: None,
             patience: Duration::from_millis(LONGEST_ENDS),
+            back: Journal::new(),
             faults: 0,
         }
+    }
+
+    /// How often an accept failed for good.
+    pub(crate) fn faults(&self) -> u64
+        ensures { result ≡ self.now.faults }
+    {
+        self.faults
     }
 
     /// The bell of this door and all others at its address.
@@ -119,7 +139,7 @@ impl<'a> TcpDoor<'a> {
 
     // A link over this connection, for whose bytes one door alone waits too.
     fn welcome(&self, stream: TcpStream) -> io::Result<TcpLink<'a>>
-        ensures { IfOk result (λ link. link.faults ≡ 0) }
+        ensures { IfOk result IsUnused }
     {
         if let Some(watch) = &self.watch {
             let _ = watch.join(stream.as_raw_fd());
@@ -129,7 +149,7 @@ impl<'a> TcpDoor<'a> {
 
     // Waits a short while for a connection and for bytes of the links.
     fn look(&mut self)
-        ensures { self.new.faults ≡ self.old.faults }
+        ensures { self.new ≡ self.old }
     {
         if let Some(watch) = &mut self.watch
             && watch.wait(Duration::from_millis(SHORT)).is_ok()
@@ -141,7 +161,7 @@ impl<'a> TcpDoor<'a> {
 
     // What ended the last rest. Where rests are short, what is at the listener.
     fn next(&mut self) -> io::Result<TcpStream>
-        ensures { self.new.faults ≡ self.old.faults }
+        ensures { self.new ≡ self.old }
     {
         if self.porch.is_shut() {
             return Err(io::Error::from(ErrorKind::WouldBlock));
@@ -157,7 +177,7 @@ impl<'a> TcpDoor<'a> {
 impl<'a> Door for TcpDoor<'a> {
     type Link = TcpLink<'a>;
 
-    ghost told = { λ d. door_of d.faults };
+    ghost told = { door_told };
 
     // An accept that fails is one that found nothing, but where the listener itself is gone: a
     // connection that ended before it was accepted, a network that is down, or descriptors or
@@ -178,7 +198,9 @@ impl<'a> Door for TcpDoor<'a> {
 
     // A connection that comes ends it. An accept that failed for a while, as where no descriptor is
     // left, may do so again at once: so it is tried again after a short rest.
-    fn rest(&mut self) {
+    fn rest(&mut self)
+        ensures { self.new ≡ self.old }
+    {
         if self.porch.is_shut() {
             rest(self.rt);
         } else if !self.porch.waits {
@@ -192,6 +214,7 @@ impl<'a> Door for TcpDoor<'a> {
     }
 
     fn hang_up(&mut self, link: TcpLink<'a>) {
+        self.back.add(&link);
         let limit = self.patience.min(Duration::from_millis(LONGEST_END));
         let begun = Instant::now(self.rt);
         link.close(limit);

@@ -7,12 +7,15 @@ mod adapters;
 mod bells;
 mod door;
 mod link;
+mod notes;
 mod street;
 mod waiting;
 mod watch;
+mod wire;
 
 pub use adapters::{FileStore, ReaderSource, WriterSink};
 pub use bells::Bells;
 pub use door::{DoorBell, TcpDoor};
 pub use link::TcpLink;
 pub use street::TcpStreet;
+pub use wire::Wire;

@@ -1,15 +1,17 @@
 //! A TCP connection as a link.
-ghost use Rattle.std.specs.Prelude.{◌≡◌, ◌<◌, ◌≤◌, length, IfOk, IfSome};
-ghost use Rattle.caster_net.specs.Untold.{link_of};
+ghost use Rattle.std.specs.Prelude.{◌≡◌, IfOk};
+ghost use Rattle.caster_net.specs.Told.{link_told, new_wire};
 
 use crate::bells::Bells;
-use crate::waiting::{LONGEST, SHORT, failed, rest, wait_ready, would_wait};
+use crate::waiting::{LONGEST, SHORT, rest, wait_ready};
 use crate::watch::{Watch, Woken};
+use crate::wire::Wire;
 use cast_io::{Failed, Got, Link};
-use libc::net::{POLLIN, POLLOUT};
-use std::io::{Read, Write};
+use libc::net::POLLIN;
+use std::io::Read;
+use std::marker::Model;
 use std::net::{Shutdown, TcpStream};
-use std::os::fd::{AsRawFd, RawFd};
+use std::os::fd::RawFd;
 use std::time::{Duration, Instant};
 use std::{io, thread};
 
@@ -18,9 +20,6 @@ const PREAMBLE: u8 = 0xD3;
 
 // The longest pause before a rest, in milliseconds.
 const LONGEST_PAUSE: u64 = 16;
-
-// How long a write waits for room with no byte taken, in seconds.
-const LONGEST_WRITE: u64 = 10;
 
 // The most that is taken of what a peer sends after its connection has ended, in bytes.
 const MOST_DRAINED: usize = 64 * 1024;
@@ -35,7 +34,7 @@ const MOST_DRAINED: usize = 64 * 1024;
 pub struct TcpLink<'a> {
     rt: &'a HostRuntime,
     bells: &'a Bells,
-    stream: TcpStream,
+    wire: Wire<TcpStream>,
     // None before the first rest, and where descriptors lack.
     watch: Option<Watch>,
     has_rested: bool,
@@ -47,21 +46,29 @@ pub struct TcpLink<'a> {
     // It gave bytes, and no bell was rung for them yet.
     gave: bool,
     has_ended: bool,
-    pub(crate) faults: u64,
+}
+
+impl<'a> Model for TcpLink<'a> {
+    ghost use Rattle.std.specs.declared.net.tcp.TcpStream.{TcpStream};
+    ghost use Rattle.caster_net.specs.Told.{WireState};
+
+    ghost Value = { WireState TcpStream };
+
+    ghost view = { λ l. l.wire };
 }
 
 impl<'a> TcpLink<'a> {
     /// A link over this connection, whose reads and writes do not wait from now on, and whose
     /// small pieces are sent at once.
     pub(crate) fn over(rt: &'a HostRuntime, bells: &'a Bells, stream: TcpStream) -> io::Result<Self>
-        ensures { IfOk result (λ link. link.faults ≡ 0) }
+        ensures { IfOk result (λ link. link ≡ new_wire stream) }
     {
         stream.set_nonblocking(true)?;
         stream.set_nodelay(true)?;
         Ok(TcpLink {
             rt,
             bells,
-            stream,
+            wire: Wire::over(stream),
             watch: None,
             has_rested: false,
             pause: 0,
@@ -69,13 +76,19 @@ impl<'a> TcpLink<'a> {
             mount: None,
             gave: false,
             has_ended: false,
-            faults: 0,
         })
     }
 
     /// Whether small pieces are sent at once.
     pub fn is_prompt(&self) -> io::Result<bool> {
-        self.stream.nodelay()
+        self.wire.is_prompt()
+    }
+
+    /// How often a read or a write failed.
+    pub(crate) fn faults(&self) -> u64
+        ensures { result ≡ self.now.faults }
+    {
+        self.wire.faults()
     }
 
     /// Ends the connection: first what is sent, and where the peer has not ended and no call
@@ -84,16 +97,19 @@ impl<'a> TcpLink<'a> {
     /// 9.6).
     pub(crate) fn close(mut self, limit: Duration) {
         self.tell_last();
-        let _ = self.stream.shutdown(Shutdown::Write);
-        if !self.has_ended && self.faults == 0 {
-            let _ = drain(self.rt, &mut self.stream, limit);
+        let is_over = self.has_ended || self.wire.faults() > 0;
+        let TcpLink { rt, wire, .. } = self;
+        let mut stream = wire.into_stream();
+        let _ = stream.shutdown(Shutdown::Write);
+        if !is_over {
+            let _ = drain(rt, &mut stream, limit);
         }
     }
 
     /// Rings for what this link gave since it last did. Where it was told no mountpoint, as one that
     /// came to its end with its first bytes, it rings all bells.
     pub(crate) fn tell_last(&mut self)
-        ensures { self.new.faults ≡ self.old.faults }
+        ensures { self.new ≡ self.old }
     {
         self.tell();
         if self.gave {
@@ -105,7 +121,7 @@ impl<'a> TcpLink<'a> {
     // Rings the bell of its mountpoint where this link gave frames since it last did. Before it was
     // told one it has published none.
     fn tell(&mut self)
-        ensures { self.new.faults ≡ self.old.faults }
+        ensures { self.new ≡ self.old }
     {
         if self.gave
             && let Some(mount) = self.mount
@@ -117,7 +133,7 @@ impl<'a> TcpLink<'a> {
 
     // Notes what the peer gave.
     fn hear(&mut self, bytes: &[u8])
-        ensures { self.new.faults ≡ self.old.faults }
+        ensures { self.new ≡ self.old }
     {
         if !self.is_source && bytes.contains(&PREAMBLE) {
             self.is_source = true;
@@ -129,7 +145,7 @@ impl<'a> TcpLink<'a> {
     // Makes the watch at the first rest, if there is a descriptor for it. Where a door has none, the
     // link gives its own back for good: connections come first.
     fn prepare(&mut self)
-        ensures { self.new.faults ≡ self.old.faults }
+        ensures { self.new ≡ self.old }
     {
         let may_watch = !self.bells.is_short() && (!self.has_rested || self.watch.is_some());
         self.has_rested = true;
@@ -140,11 +156,11 @@ impl<'a> TcpLink<'a> {
 
     // Has the watch wait for the peer and for the bell of the present mountpoint.
     fn tune(&mut self) -> io::Result<()>
-        ensures { self.new.faults ≡ self.old.faults }
+        ensures { self.new ≡ self.old }
     {
         let ear = self.ear()?;
         if self.watch.is_none() {
-            self.watch = Some(Watch::over(self.rt, self.stream.as_raw_fd())?);
+            self.watch = Some(Watch::over(self.rt, self.wire.fd())?);
         }
         match &mut self.watch {
             Some(watch) => watch.hear(ear),
@@ -162,7 +178,7 @@ impl<'a> TcpLink<'a> {
 
     // Waits for the peer and the bell; with no watch, a short while for the peer alone.
     fn wait(&mut self) -> Woken
-        ensures { self.new.faults ≡ self.old.faults }
+        ensures { self.new ≡ self.old }
     {
         match &mut self.watch {
             Some(watch) => {
@@ -173,7 +189,7 @@ impl<'a> TcpLink<'a> {
             }
             None => wait_ready(
                 self.rt,
-                self.stream.as_raw_fd(),
+                self.wire.fd(),
                 POLLIN,
                 Duration::from_millis(SHORT),
             ),
@@ -183,39 +199,30 @@ impl<'a> TcpLink<'a> {
 }
 
 impl Link for TcpLink<'_> {
-    ghost told = { λ l. link_of l.faults };
+    ghost told = { link_told };
 
     fn read(&mut self, buf: &mut [u8]) -> Got {
         self.tell();
-        match self.stream.read(buf) {
-            Ok(0) => {
-                self.has_ended = true;
-                Got::End
-            }
-            Ok(count) => {
-                self.hear(&buf[..count]);
-                Got::Bytes(count)
-            }
-            Err(fault) if would_wait(fault.kind()) => Got::Idle,
-            Err(_) => failed(&mut self.faults, Got::Failed),
+        let got = self.wire.read(buf);
+        match got {
+            Got::Bytes(count) => self.hear(&buf[..count]),
+            Got::End => self.has_ended = true,
+            Got::Idle | Got::Failed => {}
         }
+        got
     }
 
     fn write(&mut self, piece: &[u8]) -> Result<(), Failed> {
         self.pause = 1;
-        let mut at = 0;
-        while at < piece.len() {
-            let Some(count) = write_some(self.rt, &mut self.stream, &piece[at..]) else {
-                return failed(&mut self.faults, Err(Failed));
-            };
-            at += count;
-        }
-        Ok(())
+        let fd = self.wire.fd();
+        self.wire.write(self.rt, fd, piece)
     }
 
     // While the bell is rung for nothing, the pause before a rest grows: so links that have nothing to
     // send are not woken by each frame of others.
-    fn rest(&mut self) {
+    fn rest(&mut self)
+        ensures { self.new ≡ self.old }
+    {
         if self.pause > 0 {
             thread::sleep(self.rt, Duration::from_millis(self.pause));
         }
@@ -227,45 +234,11 @@ impl Link for TcpLink<'_> {
         }
     }
 
-    fn set_mount(&mut self, mount: u32) {
+    fn set_mount(&mut self, mount: u32)
+        ensures { self.new ≡ self.old }
+    {
         self.mount = Some(mount);
     }
-}
-
-// Writes some first bytes of a piece that is not empty, and waits where it must: how many were taken,
-// and None where none were.
-fn write_some(rt: &HostRuntime, stream: &mut TcpStream, piece: &[u8]) -> Option<usize>
-    ensures { IfSome result (λ count. (0 < count) × (count ≤ length piece.now)) }
-{
-    match stream.write(piece) {
-        Ok(count) if count > 0 => Some(count),
-        Err(fault) if would_wait(fault.kind()) => write_late(rt, stream, piece),
-        _ => None,
-    }
-}
-
-// Waits for room and writes some first bytes then, in so many seconds. Between two tries it waits for
-// half a second at most: there may be room for some bytes, while the socket is called writable only
-// when a good part of its buffer is free.
-fn write_late(rt: &HostRuntime, stream: &mut TcpStream, piece: &[u8]) -> Option<usize>
-    ensures { IfSome result (λ count. (0 < count) × (count ≤ length piece.now)) }
-{
-    let limit = Duration::from_secs(LONGEST_WRITE);
-    let begun = Instant::now(rt).ok()?;
-    for _ in 0..u64::MAX {
-        let left = limit.saturating_sub(begun.elapsed(rt).ok()?);
-        if left.is_zero() {
-            return None;
-        }
-        let pause = left.min(Duration::from_millis(LONGEST));
-        wait_ready(rt, stream.as_raw_fd(), POLLOUT, pause);
-        match stream.write(piece) {
-            Ok(count) if count > 0 => return Some(count),
-            Err(fault) if would_wait(fault.kind()) => {}
-            _ => return None,
-        }
-    }
-    None
 }
 
 // Takes what the peer sends until it ends, for this long and so many bytes at most.

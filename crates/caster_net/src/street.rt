@@ -1,16 +1,18 @@
 //! The network as a street.
 ghost use Rattle.std.specs.Prelude.{◌≡◌, ◌≤◌, [], vec_len, vec_capacity, IfOk, OnOk};
 ghost use Rattle.std.specs.List.{All};
-ghost use Rattle.caster_net.specs.Untold.{street_of};
+ghost use Rattle.caster_net.specs.Told.{IsUnused, new_door, new_street, street_told};
 
 use crate::bells::Bells;
 use crate::door::{Porch, TcpDoor};
 use crate::link::TcpLink;
+use crate::notes::AskedNote;
 use crate::waiting::failed;
-use cast_io::{Street, StreetFault};
+use cast_io::{Journal, Street, StreetFault};
 use std::alloc::{AllocError, Global};
 use std::io;
 use std::io::ErrorKind;
+use std::marker::Model;
 use std::net::{SocketAddr, TcpListener, TcpStream, ToSocketAddrs};
 use std::sync::Arc;
 use std::time::{Duration, Instant};
@@ -18,23 +20,47 @@ use std::time::{Duration, Instant};
 // How long a dial may take, all addresses of a name together, in seconds.
 const LONGEST_DIAL: u64 = 5;
 
-/// The network, how often it failed, and how many links were hung up after a fault.
+/// The network, how often it failed, and how many links were hung up after a fault. For contracts
+/// alone it has a record of what it was asked, and of the doors and the links that came back to it.
 #[derive(Drop)]
 pub struct TcpStreet<'a> {
     rt: &'a HostRuntime,
     bells: &'a Bells,
+    asked: Journal<AskedNote>,
+    doors: Journal<TcpDoor<'a>>,
+    links: Journal<TcpLink<'a>>,
     faults: u64,
     link_faults: u64,
+}
+
+impl<'a> Model for TcpStreet<'a> {
+    ghost use Rattle.std.specs.Prelude.{map};
+    ghost use Rattle.caster_net.specs.Told.{StreetState, door_told, link_told};
+
+    ghost Value = { StreetState };
+
+    ghost use Rattle.caster_net.specs.Notes.{asked_noted};
+
+    ghost view = { λ s. record {
+      asked = map asked_noted s.asked;
+      doors = map door_told s.doors;
+      links = map link_told s.links;
+      faults = s.faults;
+      link_faults = s.link_faults;
+    } };
 }
 
 impl<'a> TcpStreet<'a> {
     /// The network, which has not failed yet, with the bells that its links ring and wait for.
     pub fn new(rt: &'a HostRuntime, bells: &'a Bells) -> Self
-        ensures { (result.faults ≡ 0) × (result.link_faults ≡ 0) }
+        ensures { result ≡ new_street }
     {
         TcpStreet {
             rt,
             bells,
+            asked: Journal::new(),
+            doors: Journal::new(),
+            links: Journal::new(),
             faults: 0,
             link_faults: 0,
         }
@@ -46,9 +72,10 @@ impl<'a> Street for TcpStreet<'a> {
 
     type Door = TcpDoor<'a>;
 
-    ghost told = { λ s. street_of s.faults s.link_faults };
+    ghost told = { street_told };
 
     fn open(&mut self, addr: &str, doors: u32) -> Result<Vec<TcpDoor<'a>>, StreetFault> {
+        self.asked.add(&AskedNote::Open(Journal::of_bytes(addr.as_bytes()), doors));
         let Ok(mut opened) = Vec::with_capacity(self.rt.alloc(), doors as usize) else {
             return Err(StreetFault::Memory);
         };
@@ -65,6 +92,8 @@ impl<'a> Street for TcpStreet<'a> {
     }
 
     fn dial(&mut self, addr: &str) -> Result<TcpLink<'a>, StreetFault> {
+        self.asked
+            .add(&AskedNote::Dial(Journal::of_bytes(addr.as_bytes())));
         match dialled(self.rt, self.bells, addr) {
             Ok(link) => Ok(link),
             Err(_) => failed(&mut self.faults, Err(StreetFault::Failed)),
@@ -73,11 +102,13 @@ impl<'a> Street for TcpStreet<'a> {
 
     fn hang_up(&mut self, mut link: TcpLink<'a>) {
         link.tell_last();
-        self.link_faults = self.link_faults.saturating_add(link.faults.min(1));
+        self.links.add(&link);
+        self.link_faults = self.link_faults.saturating_add(link.faults().min(1));
     }
 
     fn shut(&mut self, door: TcpDoor<'a>) {
-        self.faults = self.faults.saturating_add(door.faults.min(1));
+        self.doors.add(&door);
+        self.faults = self.faults.saturating_add(door.faults().min(1));
     }
 }
 
@@ -97,7 +128,7 @@ fn open_all<'a>(
     requires empty { opened.old.items ≡ [] }
     requires room { doors ≤ vec_capacity opened.old }
     ensures count { OnOk result (vec_len opened.new ≡ doors) }
-    ensures each { OnOk result (All (λ door. door.faults ≡ 0) opened.new.items) }
+    ensures each { OnOk result (All (λ door. door ≡ new_door) opened.new.items) }
 {
     for _ in 0..doors {
         opened.push_reserved(TcpDoor::over(rt, bells, porch.clone()?));
@@ -107,7 +138,7 @@ fn open_all<'a>(
 
 // A link over a connection to this address.
 fn dialled<'a>(rt: &'a HostRuntime, bells: &'a Bells, addr: &str) -> io::Result<TcpLink<'a>>
-    ensures { IfOk result (λ link. link.faults ≡ 0) }
+    ensures { IfOk result IsUnused }
 {
     TcpLink::over(rt, bells, reached(rt, addr)?)
 }

@@ -1,7 +1,8 @@
 //! What links, doors and streets have in common: the count of faults, the errors that say "nothing
 //! yet", and how they wait.
-ghost use Rattle.std.specs.Prelude.{◌≡◌, ◌≤◌};
+ghost use Rattle.std.specs.Prelude.{◌≡◌, ◌≤◌, ◌↔◌, IsTrue};
 ghost use Rattle.cast_io.specs.Causes.{Rose};
+ghost use Rattle.caster_net.specs.Honest.{WouldWait};
 
 use libc::net::poll;
 use libc::types::pollfd;
@@ -27,7 +28,9 @@ pub(crate) fn failed<X>(faults: &mut u64, answer: X) -> X
 }
 
 /// The call would have to wait, or was interrupted before it did anything.
-pub(crate) fn would_wait(kind: ErrorKind) -> bool {
+pub(crate) fn would_wait(kind: ErrorKind) -> bool
+    ensures { IsTrue result ↔ WouldWait kind }
+{
     matches!(kind, ErrorKind::WouldBlock | ErrorKind::Interrupted)
 }
 

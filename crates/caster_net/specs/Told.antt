@@ -1,0 +1,106 @@
+-- What contracts see of the adapters: what they gave and took, and not what is to come.
+use Rattle.std.specs.Prelude.{ℕ, ◌≡◌, List, [], Option, None, Some}
+use Rattle.cast_io.specs.declared.steps.Asked.{Asked}
+use Rattle.cast_io.specs.declared.steps.SourceStep.{SourceStep}
+use Rattle.cast_io.specs.declared.steps.Step.{Step}
+use Rattle.cast_io.specs.declared.link.Got.{Got}
+use Rattle.cast_io.specs.declared.link.Got.TheVariants as got
+use Rattle.cast_io.specs.Told.{LinkTold, DoorTold, StreetTold}
+use Rattle.caster_net.specs.Honest.{BothTake}
+
+-- a wire, and a link over it: the stream, the steps that it took, the bytes that writes were taken of,
+-- and its count of faults
+pub record WireState (S : Type 0) : Type 0 where
+  pub stream : S
+  pub taken : List Step
+  pub bytes : List ℕ
+  pub faults : ℕ
+
+-- a wire over this stream that took no step and no bytes, and had no fault
+abbrev pub new_wire : {S : Type 0} → S → WireState S
+new_wire stream = record { stream = stream; taken = []; bytes = []; faults = 0 }
+
+-- nothing was done over this wire yet
+abbrev pub IsUnused : {S : Type 0} → WireState S → Type 0
+IsUnused wire = wire ≡ new_wire wire.stream
+
+-- what a link over this wire tells
+abbrev pub link_told : {S : Type 0} → WireState S → LinkTold
+link_told wire = record {
+  given = None;
+  left = None;
+  taken = Some wire.taken;
+  bytes = Some wire.bytes;
+  faults = wire.faults;
+}
+
+-- how many bytes a read gave, or a write was taken of
+abbrev pub count_of : Got → ℕ
+count_of (got.Bytes n) = n
+count_of got.Idle = 0
+count_of got.End = 0
+count_of got.Failed = 0
+
+-- the stream took just these bytes, and the wire notes just these more; nothing else came to its record
+pub record Took {S : Type 0} (contents : S → Option (List ℕ)) (old new : WireState S) (bytes : List ℕ)
+    : Type 0 where
+  pub both : BothTake (contents old.stream) (contents new.stream) old.bytes new.bytes bytes
+  pub taken : new.taken ≡ old.taken
+  pub faults : new.faults ≡ old.faults
+
+-- what contracts see of a sink: the writer, the bytes that it took, and the count of faults
+pub record SinkState (W : Type 0) : Type 0 where
+  pub writer : W
+  pub taken : List ℕ
+  pub faults : ℕ
+
+-- and of a source: the reader, its steps, and the counts of its reads and its faults
+pub record SourceState (R : Type 0) : Type 0 where
+  pub reader : R
+  pub log : List (SourceStep (List ℕ))
+  pub reads : ℕ
+  pub faults : ℕ
+
+-- and of a store: the paths that it was asked for, its steps, and the counts of its reads and its
+-- faults
+pub record StoreState : Type 0 where
+  pub asked : List (List ℕ)
+  pub log : List (SourceStep (List ℕ))
+  pub reads : ℕ
+  pub faults : ℕ
+
+-- what contracts see of a door: what the links told that came back, and its count of faults
+pub record DoorState : Type 0 where
+  pub back : List LinkTold
+  pub faults : ℕ
+
+-- a door to which no link came back, and that had no fault
+abbrev pub new_door : DoorState
+new_door = record { back = []; faults = 0 }
+
+-- what a door tells
+abbrev pub door_told : DoorState → DoorTold
+door_told door = record { left = None; back = Some door.back; faults = door.faults }
+
+-- what contracts see of a street: what it was asked, what the doors and the links told that came back,
+-- its count of faults, and its count of links that came back with faults
+pub record StreetState : Type 0 where
+  pub asked : List Asked
+  pub doors : List DoorTold
+  pub links : List LinkTold
+  pub faults : ℕ
+  pub link_faults : ℕ
+
+-- a street that was asked nothing, to which nothing came back, and that had no fault
+abbrev pub new_street : StreetState
+new_street = record { asked = []; doors = []; links = []; faults = 0; link_faults = 0 }
+
+-- what a street tells
+abbrev pub street_told : StreetState → StreetTold
+street_told street = record {
+  asked = Some street.asked;
+  doors = Some street.doors;
+  links = Some street.links;
+  faults = street.faults;
+  link_faults = street.link_faults;
+}

@@ -1,0 +1,200 @@
+//! What a link reads and writes, over any stream of std, and the record of it.
+ghost use Rattle.std.specs.Prelude.{◌≡◌, ◌<◌, ◌≤◌, [], length, take, unwrap_or, IfSome};
+ghost use Rattle.cast_io.specs.Links.{IsGot, HasRead, HasWritten};
+ghost use Rattle.caster_net.specs.Honest.{IsHonestRead, IsHonestWrite, Means};
+ghost use Rattle.caster_net.specs.Told.{link_told, new_wire};
+
+use crate::notes::{StepNote, step_of_read};
+use crate::waiting::{LONGEST, failed, wait_ready, would_wait};
+use cast_io::{Failed, Got, Journal};
+use libc::net::POLLOUT;
+use std::io;
+use std::io::{Read, Write};
+use std::marker::Model;
+use std::net::TcpStream;
+use std::os::fd::{AsRawFd, RawFd};
+use std::time::{Duration, Instant};
+
+// How long a write waits for room with no byte taken, in seconds.
+const LONGEST_WRITE: u64 = 10;
+
+/// A stream, and how often it failed. For contracts alone it has a record of what its reads answered
+/// and of the bytes that its writes took, which costs nothing.
+#[derive(Drop)]
+pub struct Wire<S> {
+    stream: S,
+    steps: Journal<StepNote>,
+    bytes: Journal<u8>,
+    faults: u64,
+}
+
+impl<S> Model for Wire<S> {
+    ghost use Rattle.std.specs.Prelude.{map};
+    ghost use Rattle.caster_net.specs.Told.{WireState};
+
+    ghost Value = { WireState S };
+
+    ghost use Rattle.caster_net.specs.Notes.{step_noted};
+
+    ghost view = { λ w. record {
+      stream = w.stream;
+      taken = map step_noted w.steps;
+      bytes = w.bytes;
+      faults = w.faults;
+    } };
+}
+
+impl<S> Wire<S> {
+    /// A wire over this stream, with an empty record.
+    pub fn over(stream: S) -> Self
+        ensures { result ≡ new_wire stream }
+    {
+        Wire {
+            stream,
+            steps: Journal::new(),
+            bytes: Journal::new(),
+            faults: 0,
+        }
+    }
+
+    /// How often a read or a write failed.
+    pub fn faults(&self) -> u64
+        ensures { result ≡ self.now.faults }
+    {
+        self.faults
+    }
+
+    /// The stream alone. What is read of it and written to it then is in no record.
+    pub(crate) fn into_stream(self) -> S
+        ensures { result ≡ self.stream }
+    {
+        let Wire { stream, .. } = self;
+        stream
+    }
+}
+
+impl<S: AsRawFd> Wire<S> {
+    /// The descriptor of the stream.
+    pub(crate) fn fd(&self) -> RawFd {
+        self.stream.as_raw_fd()
+    }
+}
+
+impl Wire<TcpStream> {
+    /// Whether small pieces are sent at once.
+    pub(crate) fn is_prompt(&self) -> io::Result<bool> {
+        self.stream.nodelay()
+    }
+}
+
+impl<S: Read> Wire<S> {
+    /// Fills the front of a buffer, which is not empty, by one read of the stream.
+    pub fn read(&mut self, buf: &mut [u8]) -> Got
+        requires { 0 < length buf.old }
+        ensures bound { IsGot result (length buf.old) }
+        ensures read { HasRead (link_told self.old) (link_told self.new) result buf.new }
+        ensures honest { IsHonestRead (S.remaining self.old.stream) (S.remaining self.new.stream)
+            result buf.new }
+    {
+        let got = read_once(&mut self.stream, buf);
+        if got == Got::Failed {
+            self.faults = self.faults.saturating_add(1);
+        }
+        self.steps.add(&step_of_read(got, buf));
+        got
+    }
+}
+
+impl<S: Write> Wire<S> {
+    ghost use Rattle.caster_net.specs.Told.{Took, count_of};
+
+    /// Writes the whole piece, and waits at this descriptor, that of the stream, while there is no room
+    /// for it. After `Failed` some first bytes of it were taken, none to all.
+    pub fn write(&mut self, rt: &HostRuntime, fd: RawFd, piece: &[u8]) -> Result<(), Failed>
+        ensures written { HasWritten (link_told self.old) (link_told self.new) result piece.now }
+        ensures honest { IsHonestWrite (S.contents self.old.stream) (S.contents self.new.stream)
+            self.old.bytes self.new.bytes result piece.now }
+    {
+        let mut at = 0;
+        while at < piece.len() {
+            let Some(count) = self.write_some(rt, fd, &piece[at..]) else {
+                self.steps.add(&StepNote::WriteFailed);
+                return failed(&mut self.faults, Err(Failed));
+            };
+            at += count;
+        }
+        Ok(())
+    }
+
+    // Writes some first bytes of a piece that is not empty, and waits where it must: how many were
+    // taken, and None where none were.
+    fn write_some(&mut self, rt: &HostRuntime, fd: RawFd, piece: &[u8]) -> Option<usize>
+        ensures bound { IfSome result (λ count. (0 < count) × (count ≤ length piece.now)) }
+        ensures took { Took S.contents self.old self.new (take (unwrap_or result 0) piece.now) }
+    {
+        match self.write_once(piece) {
+            Got::Bytes(count) => Some(count),
+            Got::Idle => self.write_late(rt, fd, piece),
+            _ => None,
+        }
+    }
+
+    // Waits for room and writes some first bytes then, in so many seconds. Between two tries it waits
+    // for half a second at most: there may be room for some bytes, while the socket is called writable
+    // only when a good part of its buffer is free.
+    fn write_late(&mut self, rt: &HostRuntime, fd: RawFd, piece: &[u8]) -> Option<usize>
+        ensures bound { IfSome result (λ count. (0 < count) × (count ≤ length piece.now)) }
+        ensures took { Took S.contents self.old self.new (take (unwrap_or result 0) piece.now) }
+    {
+        let limit = Duration::from_secs(LONGEST_WRITE);
+        let begun = Instant::now(rt).ok()?;
+        for _ in 0..u64::MAX {
+            let left = limit.saturating_sub(begun.elapsed(rt).ok()?);
+            if left.is_zero() {
+                return None;
+            }
+            let pause = left.min(Duration::from_millis(LONGEST));
+            wait_ready(rt, fd, POLLOUT, pause);
+            match self.write_once(piece) {
+                Got::Bytes(count) => return Some(count),
+                Got::Idle => {}
+                _ => return None,
+            }
+        }
+        None
+    }
+
+    // One write of the stream, and what it took of the piece.
+    fn write_once(&mut self, piece: &[u8]) -> Got
+        ensures bound { IsGot result (length piece.now) }
+        ensures took { Took S.contents self.old self.new (take (count_of result) piece.now) }
+    {
+        let got = got_of(self.stream.write(piece));
+        if let Got::Bytes(count) = got {
+            self.bytes.add_all(&piece[..count]);
+        }
+        got
+    }
+}
+
+// One read of a stream into a buffer that is not empty.
+fn read_once<S: Read>(stream: &mut S, buf: &mut [u8]) -> Got
+    requires { 0 < length buf.old }
+    ensures size { length buf.new ≡ length buf.old }
+    ensures bound { IsGot result (length buf.old) }
+    ensures honest { IsHonestRead (S.remaining stream.old) (S.remaining stream.new) result buf.new }
+{
+    got_of(stream.read(buf))
+}
+
+// What the answer of a read or a write of a stream means.
+fn got_of(answer: io::Result<usize>) -> Got
+    ensures { Means answer result }
+{
+    match answer {
+        Ok(0) => Got::End,
+        Ok(count) => Got::Bytes(count),
+        Err(fault) if would_wait(fault.kind()) => Got::Idle,
+        Err(_) => Got::Failed,
+    }
+}
