@@ -1,6 +1,6 @@
 //! A listener as a door.
 ghost use Rattle.std.specs.Prelude.{◌≡◌, IfOk};
-ghost use Rattle.caster_net.specs.Told.{IsUnused, door_told, new_door};
+ghost use Rattle.caster_net.specs.Told.{door_told, new_door, new_wire};
 
 use crate::bells::Bells;
 use crate::link::TcpLink;
@@ -139,7 +139,7 @@ impl<'a> TcpDoor<'a> {
 
     // A link over this connection, for whose bytes one door alone waits too.
     fn welcome(&self, stream: TcpStream) -> io::Result<TcpLink<'a>>
-        ensures { IfOk result IsUnused }
+        ensures { IfOk result (λ link. link ≡ new_wire stream) }
     {
         if let Some(watch) = &self.watch {
             let _ = watch.join(stream.as_raw_fd());

@@ -1,6 +1,7 @@
 //! What the program runs on: the readers, the writers, the files and the sockets of std as the
-//! sources, sinks, stores, links, doors and streets of `cast_io`. What those give and take is
-//! outside of every proof.
+//! sources, sinks, stores, links, doors and streets of `cast_io`. For contracts alone each has a
+//! record of what those gave and took, which takes no memory. That a call of std did what its answer
+//! says is outside of every proof.
 #![tactic(auto)]
 
 mod adapters;

@@ -25,7 +25,7 @@ const LONGEST_PAUSE: u64 = 16;
 const MOST_DRAINED: usize = 64 * 1024;
 
 /// A TCP connection, and how often it failed. A read does not wait for the peer; a write waits while
-/// the peer takes nothing.
+/// the peer takes nothing. Contracts see the wire below it: a rest leaves that as it was.
 ///
 /// A link that gave the first byte of a frame is a source: it waits for no bell at its rests, and rings
 /// that of its mountpoint where frames that it gave may have been published. Any other link waits for the
@@ -94,7 +94,7 @@ impl<'a> TcpLink<'a> {
     /// Ends the connection: first what is sent, and where the peer has not ended and no call
     /// failed, then what it still sends is taken for this long at most. A connection that is closed
     /// with bytes unread is reset, and its peer may lose what it was sent last (RFC 9112, section
-    /// 9.6).
+    /// 9.6). What is taken here is no part of the record.
     pub(crate) fn close(mut self, limit: Duration) {
         self.tell_last();
         let is_over = self.has_ended || self.wire.faults() > 0;

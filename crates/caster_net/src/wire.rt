@@ -65,7 +65,7 @@ impl<S> Wire<S> {
     }
 
     /// The stream alone. What is read of it and written to it then is in no record.
-    pub(crate) fn into_stream(self) -> S
+    pub fn into_stream(self) -> S
         ensures { result ≡ self.stream }
     {
         let Wire { stream, .. } = self;

@@ -11,4 +11,11 @@ mod door_tests;
 #[cfg(test)]
 mod link_tests;
 #[cfg(test)]
+mod opened_tests;
+pub mod records;
+#[cfg(test)]
+mod size_tests;
+#[cfg(test)]
 mod slow_tests;
+#[cfg(test)]
+mod wire_tests;
