@@ -8,8 +8,8 @@ use Rattle.cast_io.specs.declared.link.Got.TheVariants as got
 use Rattle.cast_io.specs.Told.{LinkTold, DoorTold, StreetTold}
 use Rattle.caster_net.specs.Honest.{BothTake}
 
--- a wire, and a link over it: the stream, the steps that it took, the bytes that writes were taken of,
--- and its count of faults
+-- a wire, and a link over it: the stream, the steps that it took, the bytes that its writes took, and
+-- its count of faults
 pub record WireState (S : Type 0) : Type 0 where
   pub stream : S
   pub taken : List Step
@@ -20,7 +20,7 @@ pub record WireState (S : Type 0) : Type 0 where
 abbrev pub new_wire : {S : Type 0} → S → WireState S
 new_wire stream = record { stream = stream; taken = []; bytes = []; faults = 0 }
 
--- nothing was done over this wire yet
+-- nothing was read or written over this wire yet
 abbrev pub IsUnused : {S : Type 0} → WireState S → Type 0
 IsUnused wire = wire ≡ new_wire wire.stream
 
@@ -34,14 +34,14 @@ link_told wire = record {
   faults = wire.faults;
 }
 
--- how many bytes a read gave, or a write was taken of
+-- how many bytes a read gave or a write took
 abbrev pub count_of : Got → ℕ
 count_of (got.Bytes n) = n
 count_of got.Idle = 0
 count_of got.End = 0
 count_of got.Failed = 0
 
--- the stream took just these bytes, and the wire notes just these more; nothing else came to its record
+-- the stream took just these bytes, and just these came to the record of the wire
 pub record Took {S : Type 0} (contents : S → Option (List ℕ)) (old new : WireState S) (bytes : List ℕ)
     : Type 0 where
   pub both : BothTake (contents old.stream) (contents new.stream) old.bytes new.bytes bytes
