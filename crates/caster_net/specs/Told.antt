@@ -1,11 +1,11 @@
 -- What contracts see of the adapters: what they gave and took, and not what is to come.
-use Rattle.std.specs.Prelude.{ℕ, ◌≡◌, List, [], Option, None, Some}
-use Rattle.cast_io.specs.declared.steps.Asked.{Asked}
+use Rattle.std.specs.Prelude.{ℕ, ◌≡◌, List, [], Option}
 use Rattle.cast_io.specs.declared.steps.SourceStep.{SourceStep}
 use Rattle.cast_io.specs.declared.steps.Step.{Step}
 use Rattle.cast_io.specs.declared.link.Got.{Got}
 use Rattle.cast_io.specs.declared.link.Got.TheVariants as got
-use Rattle.cast_io.specs.Told.{LinkTold, DoorTold, StreetTold}
+use Rattle.cast_io.specs.Logged.{LinkLog, DoorLog, StreetLog, link_logged}
+use Rattle.cast_io.specs.Told.{LinkTold}
 use Rattle.caster_net.specs.Honest.{BothTake}
 
 -- a wire, and a link over it: the stream, the steps that it took, the bytes that its writes took, and
@@ -24,15 +24,13 @@ new_wire stream = record { stream = stream; taken = []; bytes = []; faults = 0 }
 abbrev pub IsUnused : {S : Type 0} → WireState S → Type 0
 IsUnused wire = wire ≡ new_wire wire.stream
 
--- what a link over this wire tells
+-- the log of a link over this wire
+abbrev pub link_log : {S : Type 0} → WireState S → LinkLog
+link_log wire = record { taken = wire.taken; bytes = wire.bytes; faults = wire.faults }
+
+-- and what the link tells
 abbrev pub link_told : {S : Type 0} → WireState S → LinkTold
-link_told wire = record {
-  given = None;
-  left = None;
-  taken = Some wire.taken;
-  bytes = Some wire.bytes;
-  faults = wire.faults;
-}
+link_told wire = link_logged (link_log wire)
 
 -- how many bytes a read gave or a write took
 abbrev pub count_of : Got → ℕ
@@ -69,38 +67,10 @@ pub record StoreState : Type 0 where
   pub reads : ℕ
   pub faults : ℕ
 
--- what contracts see of a door: what the links told that came back, and its count of faults
-pub record DoorState : Type 0 where
-  pub back : List LinkTold
-  pub faults : ℕ
-
 -- a door to which no link came back, and that had no fault
-abbrev pub new_door : DoorState
+abbrev pub new_door : DoorLog
 new_door = record { back = []; faults = 0 }
 
--- what a door tells
-abbrev pub door_told : DoorState → DoorTold
-door_told door = record { left = None; back = Some door.back; faults = door.faults }
-
--- what contracts see of a street: what it was asked, what the doors and the links told that came back,
--- its count of faults, and its count of links that came back with faults
-pub record StreetState : Type 0 where
-  pub asked : List Asked
-  pub doors : List DoorTold
-  pub links : List LinkTold
-  pub faults : ℕ
-  pub link_faults : ℕ
-
 -- a street that was asked nothing, to which nothing came back, and that had no fault
-abbrev pub new_street : StreetState
+abbrev pub new_street : StreetLog
 new_street = record { asked = []; doors = []; links = []; faults = 0; link_faults = 0 }
-
--- what a street tells
-abbrev pub street_told : StreetState → StreetTold
-street_told street = record {
-  asked = Some street.asked;
-  doors = Some street.doors;
-  links = Some street.links;
-  faults = street.faults;
-  link_faults = street.link_faults;
-}

@@ -1,6 +1,7 @@
 //! A listener as a door.
 ghost use Rattle.std.specs.Prelude.{◌≡◌, IfOk};
-ghost use Rattle.caster_net.specs.Told.{door_told, new_door, new_wire};
+ghost use Rattle.cast_io.specs.Logged.{door_logged};
+ghost use Rattle.caster_net.specs.Told.{new_door, new_wire};
 
 use crate::bells::Bells;
 use crate::link::TcpLink;
@@ -86,11 +87,12 @@ pub struct TcpDoor<'a> {
 
 impl<'a> Model for TcpDoor<'a> {
     ghost use Rattle.std.specs.Prelude.{map};
-    ghost use Rattle.caster_net.specs.Told.{DoorState, link_told};
+    ghost use Rattle.cast_io.specs.Logged.{DoorLog};
+    ghost use Rattle.caster_net.specs.Told.{link_log};
 
-    ghost Value = { DoorState };
+    ghost Value = { DoorLog };
 
-    ghost view = { λ d. record { back = map link_told d.back; faults = d.faults } };
+    ghost view = { λ d. record { back = map link_log d.back; faults = d.faults } };
 }
 
 impl<'a> TcpDoor<'a> {
@@ -177,7 +179,7 @@ impl<'a> TcpDoor<'a> {
 impl<'a> Door for TcpDoor<'a> {
     type Link = TcpLink<'a>;
 
-    ghost told = { door_told };
+    ghost told = { door_logged };
 
     // An accept that fails is one that found nothing, but where the listener itself is gone: a
     // connection that ended before it was accepted, a network that is down, or descriptors or

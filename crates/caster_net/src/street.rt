@@ -1,7 +1,8 @@
 //! The network as a street.
 ghost use Rattle.std.specs.Prelude.{◌≡◌, ◌≤◌, [], vec_len, vec_capacity, IfOk, OnOk};
 ghost use Rattle.std.specs.List.{All};
-ghost use Rattle.caster_net.specs.Told.{IsUnused, new_door, new_street, street_told};
+ghost use Rattle.cast_io.specs.Logged.{street_logged};
+ghost use Rattle.caster_net.specs.Told.{IsUnused, new_door, new_street};
 
 use crate::bells::Bells;
 use crate::door::{Porch, TcpDoor};
@@ -35,16 +36,16 @@ pub struct TcpStreet<'a> {
 
 impl<'a> Model for TcpStreet<'a> {
     ghost use Rattle.std.specs.Prelude.{map};
-    ghost use Rattle.caster_net.specs.Told.{StreetState, door_told, link_told};
-
-    ghost Value = { StreetState };
-
+    ghost use Rattle.cast_io.specs.Logged.{StreetLog};
     ghost use Rattle.caster_net.specs.Notes.{asked_noted};
+    ghost use Rattle.caster_net.specs.Told.{link_log};
+
+    ghost Value = { StreetLog };
 
     ghost view = { λ s. record {
       asked = map asked_noted s.asked;
-      doors = map door_told s.doors;
-      links = map link_told s.links;
+      doors = s.doors;
+      links = map link_log s.links;
       faults = s.faults;
       link_faults = s.link_faults;
     } };
@@ -72,7 +73,7 @@ impl<'a> Street for TcpStreet<'a> {
 
     type Door = TcpDoor<'a>;
 
-    ghost told = { street_told };
+    ghost told = { street_logged };
 
     fn open(&mut self, addr: &str, doors: u32) -> Result<Vec<TcpDoor<'a>>, StreetFault> {
         self.asked.add(&AskedNote::Open(Journal::of_bytes(addr.as_bytes()), doors));
