@@ -2,8 +2,11 @@
 //! output, the file system and the sockets of std. Its status says what came of it.
 #![tactic(auto)]
 
+mod shipped;
+
 use caster_net::{Bells, FileStore, ReaderSource, TcpStreet, WriterSink};
-use caster_top::{caster, refuse_for_memory};
+use caster_top::refuse_for_memory;
+use shipped::caster_over;
 use std::alloc::AllocError;
 use std::env;
 use std::io::ErrorKind;
@@ -32,15 +35,7 @@ fn main(rt: HostRuntime) -> ExitCode {
     let bells = Bells::new(&rt);
     let mut street = TcpStreet::new(&rt, &bells);
     let status = match words(&rt) {
-        Ok(words) => caster(
-            &rt,
-            rt.alloc(),
-            &words,
-            &mut store,
-            &mut input,
-            &mut out,
-            &mut street,
-        ),
+        Ok(words) => caster_over(&rt, &words, &mut store, &mut input, &mut out, &mut street),
         Err(AllocError) => refuse_for_memory(&mut out),
     };
     ExitCode::from(status)

@@ -11,7 +11,7 @@ use Rattle.cast_io.specs.Stores.{content_of}
 use Rattle.cast_config.specs.declared.config.Config.{Config}
 use Rattle.cast_config.specs.Bare as settings
 use Rattle.cast_config.specs.Document.{IsRead}
-use Rattle.run_texts.specs.Texts.{report, made_text}
+use Rattle.run_texts.specs.Texts.{IsRunText, report, made_text}
 use Rattle.run_texts.proofs.BareLemmas.{bare_text}
 use Rattle.caster_top.specs.declared.answers.Answer.{Answer}
 use Rattle.caster_top.specs.declared.answers.Answer.TheVariants.{Done, Valid, NoConfig, NoSession, Usage, Long, ReadFault, NetworkFault, Memory}
@@ -335,12 +335,20 @@ bare_run words input files old new status capacity is follows are =
 pub bare_report : (words : List (List ℕ)) (input : Input) (files : Files) (old new : Option (List ℕ))
     (status capacity : ℕ) → status ≡ 0 → FollowsOutcome words input files status old new → AreBare words capacity
     → (bytes : List ℕ) × (events : List Event) × input bytes × (script_of Bare bytes ≡ Ok events)
+    × IsRunText (settings.bare capacity) events (report (settings.bare capacity) events)
     × Appends old new (report (settings.bare capacity) events)
 bare_report words input files old new status capacity is follows are =
     let run = bare_run words input files old new status capacity is follows are in
     let session = (script_read Bare run.0 run.1 run.4).session in
     let text = bare_text (settings.bare capacity) run.1 run.2 session run.5 in
-    (run.0, run.1, run.3, run.4, subst (λ (t : List ℕ). Appends old new t) text run.6)
+    (
+      run.0,
+      run.1,
+      run.3,
+      run.4,
+      subst (λ (t : List ℕ). IsRunText (settings.bare capacity) run.1 t) text run.5,
+      subst (λ (t : List ℕ). Appends old new t) text run.6,
+    )
 
 -- with status 0 the files are a configuration and a session, and the report of its run was written
 pub replay_run : (words : List (List ℕ)) (input : Input) (files : Files) (old new : Option (List ℕ))

@@ -49,7 +49,7 @@ module _ {words : List (List ℕ)} {input more_input : Input} {files more_files 
   done_more done = record {
     bare = λ capacity are.
         let is = done.bare capacity are in
-        (is.0, is.1, inputs is.0 (script_short Bare is.0 is.1 is.3) is.2, is.3, is.4);
+        (is.0, is.1, inputs is.0 (script_short Bare is.0 is.1 is.3) is.2, is.3, is.4, is.5);
     checked = λ path are.
         let is = done.checked path are in (is.0, config_more files more_files path is.0 each is.1, is.2);
     tabled = λ path are.
@@ -121,7 +121,7 @@ told_report words left first last files opened closed before after old new done 
     let is = done.bare capacity are in
     let same : bytes ≡ is.0 = told_only left bytes told is.0 is.2.0 in
     subst (λ (e : List Event). Appends old new (report (settings.bare capacity) e))
-    (same_events Bare bytes is.0 events is.1 same script is.3) is.4
+    (same_events Bare bytes is.0 events is.1 same script is.3) is.5
 
 pub told_config : (files : FilesTold) (first last : Log) (path : List ℕ) (c : Config)
     → IsConfigFrom (FileGave files first last) path c → IsConfigAt files path c

@@ -11,8 +11,8 @@ pub mod StatusLemmas
 pub mod ClauseLemmas
 pub mod FetchClauseLemmas
 pub mod PieceLemmas
-mod CastingLemmas
+pub mod CastingLemmas
 pub mod OfflineLemmas
-mod PromiseLemmas
+pub mod PromiseLemmas
 pub mod RunLemmas
 pub mod DoneLemmas

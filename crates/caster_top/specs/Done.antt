@@ -12,7 +12,7 @@ use Rattle.cast_config.specs.Bare as settings
 use Rattle.config_table.specs.Table.{table_records}
 use Rattle.session_core.specs.declared.report.Closed.{Closed}
 use Rattle.session_core.specs.Text.{closed_text}
-use Rattle.run_texts.specs.Texts.{report}
+use Rattle.run_texts.specs.Texts.{IsRunText, report}
 use Rattle.caster_serve.specs.Caster.{HasServed}
 use Rattle.caster_top.specs.declared.command.Aim.TheVariants.{Check, Table, Migrate}
 use Rattle.caster_top.specs.declared.command.Start.{Start}
@@ -27,6 +27,7 @@ pub record WasDone (words : List (List ℕ)) (input : Input) (files : Files)
     (before after : StreetTold) (old new : Option (List ℕ)) : Type 0 where
   pub bare : (capacity : ℕ) → AreBare words capacity
       → (bytes : List ℕ) × (events : List Event) × input bytes × (script_of Bare bytes ≡ Ok events)
+      × IsRunText (settings.bare capacity) events (report (settings.bare capacity) events)
       × Appends old new (report (settings.bare capacity) events)
   pub checked : (path : List ℕ) → AreOver Check words path
       → (c : Config) × IsConfigFrom files path c × Appends old new (one_line (codes "ok"))

@@ -1,0 +1,5 @@
+pub mod LogLemmas
+pub mod DoneLemmas
+pub mod CallerLemmas
+pub mod PeerLemmas
+pub mod RunLemmas

@@ -1,0 +1,4 @@
+pub mod Inputs
+pub mod Callers
+pub mod Peers
+pub mod Runs

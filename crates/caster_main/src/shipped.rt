@@ -1,0 +1,100 @@
+//! The call of the program over what it is shipped with.
+ghost use Rattle.std.specs.Prelude.{◌≡◌, ◌++◌, ◌⊎◌, ℕ, List, Ok, codes};
+ghost use Rattle.session_script.specs.declared.Event.{Event};
+ghost use Rattle.session_script.specs.declared.ScriptKind.TheVariants.{Bare};
+ghost use Rattle.session_script.specs.Script.{script_of};
+ghost use Rattle.session_script.specs.Writing.{script_text};
+ghost use Rattle.sourcetable.specs.Table.{table_text};
+ghost use Rattle.cast_config.specs.declared.config.Config.{Config};
+ghost use Rattle.cast_config.specs.Bare.{bare};
+ghost use Rattle.config_table.specs.Table.{table_records};
+ghost use Rattle.run_texts.specs.Texts.{IsRunText, IsWarmText, made_text, report};
+ghost use Rattle.session_core.specs.declared.report.Closed.{Closed};
+ghost use Rattle.session_core.specs.Text.{closed_text};
+ghost use Rattle.ntrip_fetch.specs.declared.target.Target.{Target};
+ghost use Rattle.caster_top.specs.declared.command.Aim.TheVariants.{Check, Migrate, Table};
+ghost use Rattle.caster_top.specs.Command.{AreBare, AreFetch, AreMake, AreOver, AreRecord, AreReplay, AreServe, AreWarm, texts};
+ghost use Rattle.caster_top.specs.Outcome.{IsDocumentOf, one_line};
+ghost use Rattle.caster_top.specs.Promised.{IsGreetedText, IsPromisedText};
+ghost use Rattle.caster_top.specs.Told.{IsConfigFrom, IsSessionFrom};
+ghost use Rattle.caster_logged.specs.Inputs.{HasRead, HasReadFile};
+ghost use Rattle.caster_logged.specs.Callers.{HasServedAll};
+ghost use Rattle.caster_logged.specs.Peers.{HasRecordedAll};
+ghost use Rattle.caster_logged.specs.Runs.{HasFetchedAll};
+
+use caster_net::{FileStore, ReaderSource, TcpStreet, WriterSink};
+use caster_top::caster;
+use std::io::{Stdin, Stdout};
+
+/// Runs the command that the words are over standard input, standard output, the file system and
+/// the sockets of std, as `caster_top::caster` says, and answers the status that the program ends
+/// with. For contracts each of these has a log of what the calls of the library gave and took, so
+/// what is written is said of these very bytes.
+pub fn caster_over(
+    rt: &HostRuntime,
+    words: &[String],
+    store: &mut FileStore<'_>,
+    input: &mut ReaderSource<Stdin>,
+    out: &mut WriterSink<Stdout>,
+    street: &mut TcpStreet<'_>,
+) -> u8
+    // The report is that of the script that the reads of standard input gave, up to its end.
+    ensures report { result ≡ 0 → (capacity : ℕ) → AreBare (texts words.now) capacity
+        → (bytes : List ℕ) × (events : List Event) × HasRead input.old.log input.new.log bytes
+        × (script_of Bare bytes ≡ Ok events) × IsPromisedText (bare capacity) events
+        (report (bare capacity) events)
+        × (out.new.taken ≡ out.old.taken ++ report (bare capacity) events) }
+
+    // What is done with the configuration that the reads of the file CONFIG gave, from its opening
+    // to its end.
+    ensures checked { result ≡ 0 → (path : List ℕ) → AreOver Check (texts words.now) path
+        → (c : Config) × IsConfigFrom (HasReadFile store.old.log store.new.log) path c
+        × (out.new.taken ≡ out.old.taken ++ one_line (codes "ok")) }
+    ensures tabled { result ≡ 0 → (path : List ℕ) → AreOver Table (texts words.now) path
+        → (c : Config) × IsConfigFrom (HasReadFile store.old.log store.new.log) path c
+        × (out.new.taken ≡ out.old.taken ++ table_text (table_records c)) }
+    ensures migrated { result ≡ 0 → (path : List ℕ) → AreOver Migrate (texts words.now) path
+        → (c : Config) × (text : List ℕ)
+        × IsConfigFrom (HasReadFile store.old.log store.new.log) path c × IsDocumentOf c text
+        × (out.new.taken ≡ out.old.taken ++ text) }
+
+    // The report is that of the session that the reads of the file SESSION gave, over that
+    // configuration, and it keeps the promise of recorded sessions.
+    ensures replayed { result ≡ 0 → (config session : List ℕ)
+        → AreReplay (texts words.now) config session
+        → (c : Config) × (events : List Event) × (text : List ℕ)
+        × IsConfigFrom (HasReadFile store.old.log store.new.log) config c
+        × IsSessionFrom (HasReadFile store.old.log store.new.log) session c events
+        × IsRunText c events text × IsPromisedText c events text
+        × (out.new.taken ≡ out.old.taken ++ text) }
+    ensures warmed { result ≡ 0 → (config session : List ℕ)
+        → AreWarm (texts words.now) config session
+        → (c : Config) × (events : List Event) × (text : List ℕ)
+        × IsConfigFrom (HasReadFile store.old.log store.new.log) config c
+        × IsSessionFrom (HasReadFile store.old.log store.new.log) session c events
+        × IsWarmText c events text × IsGreetedText c events text
+        × (out.new.taken ≡ out.old.taken ++ text) }
+    ensures made { result ≡ 0 → (seed frames rovers : ℕ)
+        → AreMake (texts words.now) seed frames rovers
+        → out.new.taken ≡ out.old.taken ++ made_text seed frames rovers }
+
+    // The doors and links that came back are those that it asked for, and what was called, written
+    // and counted is by the steps and bytes that they logged.
+    ensures served { result ≡ 0 → (config addr : List ℕ) (limit : ℕ)
+        → AreServe (texts words.now) config addr limit
+        → (c : Config) × (closed : Closed)
+        × IsConfigFrom (HasReadFile store.old.log store.new.log) config c
+        × HasServedAll c addr limit street.old street.new closed
+        × (out.new.taken ≡ out.old.taken ++ closed_text c closed) }
+    ensures recorded { result ≡ 0 → (config addr : List ℕ) (limit : ℕ)
+        → AreRecord (texts words.now) config addr limit
+        → (c : Config) × (events : List Event)
+        × IsConfigFrom (HasReadFile store.old.log store.new.log) config c
+        × HasRecordedAll c addr limit street.old street.new events
+        × (out.new.taken ≡ out.old.taken ++ script_text events) }
+    ensures fetched { (result ≡ 0) ⊎ (result ≡ 9) → (frames : ℕ) (targets : List Target)
+        → AreFetch (texts words.now) frames targets
+        → HasFetchedAll frames targets street.old street.new out.old.taken out.new.taken result }
+{
+    caster(rt, rt.alloc(), words, store, input, out, street)
+}
