@@ -3,3 +3,4 @@ pub mod DoneLemmas
 pub mod CallerLemmas
 pub mod PeerLemmas
 pub mod RunLemmas
+pub mod OverLemmas

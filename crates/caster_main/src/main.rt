@@ -35,7 +35,15 @@ fn main(rt: HostRuntime) -> ExitCode {
     let bells = Bells::new(&rt);
     let mut street = TcpStreet::new(&rt, &bells);
     let status = match words(&rt) {
-        Ok(words) => caster_over(&rt, &words, &mut store, &mut input, &mut out, &mut street),
+        Ok(words) => caster_over(
+            &rt,
+            rt.alloc(),
+            &words,
+            &mut store,
+            &mut input,
+            &mut out,
+            &mut street,
+        ),
         Err(AllocError) => refuse_for_memory(&mut out),
     };
     ExitCode::from(status)

@@ -1,5 +1,5 @@
 //! The call of the program over what it is shipped with.
-ghost use Rattle.std.specs.Prelude.{◌≡◌, ◌++◌, ◌⊎◌, ℕ, List, Ok, codes};
+ghost use Rattle.std.specs.Prelude.{◌≡◌, ◌++◌, ◌⊎◌, ℕ, List, Ok, Some, codes};
 ghost use Rattle.session_script.specs.declared.Event.{Event};
 ghost use Rattle.session_script.specs.declared.ScriptKind.TheVariants.{Bare};
 ghost use Rattle.session_script.specs.Script.{script_of};
@@ -14,6 +14,9 @@ ghost use Rattle.session_core.specs.Text.{closed_text};
 ghost use Rattle.ntrip_fetch.specs.declared.target.Target.{Target};
 ghost use Rattle.caster_top.specs.declared.command.Aim.TheVariants.{Check, Migrate, Table};
 ghost use Rattle.caster_top.specs.Command.{AreBare, AreFetch, AreMake, AreOver, AreRecord, AreReplay, AreServe, AreWarm, texts};
+ghost use Rattle.cast_io.specs.Logged.{street_logged};
+ghost use Rattle.caster_top.specs.Done.{WasDone};
+ghost use Rattle.caster_top.specs.Fetching.{HasFetched};
 ghost use Rattle.caster_top.specs.Outcome.{IsDocumentOf, one_line};
 ghost use Rattle.caster_top.specs.Promised.{IsGreetedText, IsPromisedText};
 ghost use Rattle.caster_top.specs.Told.{IsConfigFrom, IsSessionFrom};
@@ -24,14 +27,18 @@ ghost use Rattle.caster_logged.specs.Runs.{HasFetchedAll};
 
 use caster_net::{FileStore, ReaderSource, TcpStreet, WriterSink};
 use caster_top::caster;
+use std::alloc::Global;
 use std::io::{Stdin, Stdout};
+use std::sync::Wait;
+use std::thread::Threads;
 
 /// Runs the command that the words are over standard input, standard output, the file system and
 /// the sockets of std, as `caster_top::caster` says, and answers the status that the program ends
 /// with. For contracts each of these has a log of what the calls of the library gave and took, so
 /// what is written is said of these very bytes.
-pub fn caster_over(
-    rt: &HostRuntime,
+pub fn caster_over<R: Threads + Wait + Sync>(
+    rt: &R,
+    alloc: Global,
     words: &[String],
     store: &mut FileStore<'_>,
     input: &mut ReaderSource<Stdin>,
@@ -96,5 +103,31 @@ pub fn caster_over(
         → AreFetch (texts words.now) frames targets
         → HasFetchedAll frames targets street.old street.new out.old.taken out.new.taken result }
 {
-    caster(rt, rt.alloc(), words, store, input, out, street)
+    run_logged(rt, alloc, words, store, input, out, street)
+}
+
+// The same, with what was done in one word: by the logs of the input and of the files, and by what
+// street and output tell.
+fn run_logged<R: Threads + Wait + Sync>(
+    rt: &R,
+    alloc: Global,
+    words: &[String],
+    store: &mut FileStore<'_>,
+    input: &mut ReaderSource<Stdin>,
+    out: &mut WriterSink<Stdout>,
+    street: &mut TcpStreet<'_>,
+) -> u8
+    ensures done { result ≡ 0 → WasDone (texts words.now)
+        (HasRead input.old.log input.new.log) (HasReadFile store.old.log store.new.log)
+        (street_logged street.old) (street_logged street.new)
+        (Some out.old.taken) (Some out.new.taken) }
+    ensures made { result ≡ 0 → (seed frames rovers : ℕ)
+        → AreMake (texts words.now) seed frames rovers
+        → out.new.taken ≡ out.old.taken ++ made_text seed frames rovers }
+    ensures fetched { (result ≡ 0) ⊎ (result ≡ 9) → (frames : ℕ) (targets : List Target)
+        → AreFetch (texts words.now) frames targets
+        → HasFetched frames targets (street_logged street.old) (street_logged street.new)
+        (Some out.old.taken) (Some out.new.taken) result }
+{
+    caster(rt, alloc, words, store, input, out, street)
 }

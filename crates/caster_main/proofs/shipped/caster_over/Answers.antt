@@ -1,74 +1,37 @@
--- What is said of any input, files, street and output, where these log what they did.
-use Rattle.std.proofs.Common.{ℕ, List}
-use Rattle.caster_top.specs.declared.command.Start.TheVariants.{Cold, Warm}
-use Rattle.caster_top.specs.Done.{WasDone}
-use Rattle.caster_top.proofs.PromiseLemmas.{bare_promised, record_promised, replay_promised, warm_promised}
-use Rattle.caster_logged.specs.Inputs.{HasReadFile}
-use Rattle.caster_logged.proofs.CallerLemmas.{served_logged}
-use Rattle.caster_logged.proofs.DoneLemmas.{done_logged}
-use Rattle.caster_logged.proofs.PeerLemmas.{recorded_logged}
+-- What was done, said of each command.
+use Rattle.caster_logged.proofs.OverLemmas.{over_report, over_checked, over_tabled, over_migrated, over_replayed, over_warmed, over_served, over_recorded}
 use Rattle.caster_logged.proofs.RunLemmas.{fetched_logged}
 use Rattle.caster_main.proofs.shipped.caster_over.Goals as goal
 
 pub returns-clause-report : goal.returns-clause-report
-returns-clause-report c zero capacity are =
-    let is = (done_logged _ _ _ _ _ _ _ _ _ _ _ (c.caster.ensures.done zero)).bare capacity are in
-    (is.0, is.1, is.2, is.3, bare_promised _ capacity is.0 is.1 _ are is.3 is.4, is.5)
+returns-clause-report g c zero = over_report (c.run_logged.ensures.done zero)
 
 pub returns-clause-checked : goal.returns-clause-checked
-returns-clause-checked c zero path are =
-    (done_logged _ _ _ _ _ _ _ _ _ _ _ (c.caster.ensures.done zero)).checked path are
+returns-clause-checked g c zero = over_checked (c.run_logged.ensures.done zero)
 
 pub returns-clause-tabled : goal.returns-clause-tabled
-returns-clause-tabled c zero path are =
-    (done_logged _ _ _ _ _ _ _ _ _ _ _ (c.caster.ensures.done zero)).tabled path are
+returns-clause-tabled g c zero = over_tabled (c.run_logged.ensures.done zero)
 
 pub returns-clause-migrated : goal.returns-clause-migrated
-returns-clause-migrated c zero path are =
-    (done_logged _ _ _ _ _ _ _ _ _ _ _ (c.caster.ensures.done zero)).migrated path are
+returns-clause-migrated g c zero = over_migrated (c.run_logged.ensures.done zero)
 
 pub returns-clause-replayed : goal.returns-clause-replayed
-returns-clause-replayed c zero config session are =
-    let is = (done_logged _ _ _ _ _ _ _ _ _ _ _ (c.caster.ensures.done zero)).played Cold config session are in (
-      is.0,
-      is.1,
-      is.2,
-      is.3,
-      is.4,
-      is.5,
-      replay_promised _ config session is.0 is.1 is.2 is.3 is.4 is.5,
-      is.6,
-    )
+returns-clause-replayed g c zero = over_replayed (c.run_logged.ensures.done zero)
 
 pub returns-clause-warmed : goal.returns-clause-warmed
-returns-clause-warmed c zero config session are =
-    let is = (done_logged _ _ _ _ _ _ _ _ _ _ _ (c.caster.ensures.done zero)).played Warm config session are in (
-      is.0,
-      is.1,
-      is.2,
-      is.3,
-      is.4,
-      is.5,
-      warm_promised _ config session is.0 is.1 is.2 is.3 is.4 is.5,
-      is.6,
-    )
+returns-clause-warmed g c zero = over_warmed (c.run_logged.ensures.done zero)
 
 pub returns-clause-served : goal.returns-clause-served
-returns-clause-served c zero config addr limit are =
-    let is = (done_logged _ _ _ _ _ _ _ _ _ _ _ (c.caster.ensures.done zero)).served config addr limit are in
-    (is.0, is.1, is.2, served_logged is.0 addr limit _ _ is.1 is.3, is.4)
+returns-clause-served g c zero =
+    over_served _ _ _ c.args.street.now c.run_logged.new.street c.args.out.now.taken c.run_logged.new.out.taken
+    (c.run_logged.ensures.done zero)
 
 pub returns-clause-recorded : goal.returns-clause-recorded
-returns-clause-recorded c zero config addr limit are =
-    let is = (done_logged _ _ _ _ _ _ _ _ _ _ _ (c.caster.ensures.done zero)).recorded config addr limit are in (
-      is.0,
-      is.1,
-      is.2,
-      recorded_logged is.0 addr limit _ _ is.1 is.3
-          (record_promised _ config addr limit _ _ is.0 is.1 is.3 is.2),
-      is.4,
-    )
+returns-clause-recorded g c zero =
+    over_recorded _ _ _ c.args.street.now c.run_logged.new.street c.args.out.now.taken c.run_logged.new.out.taken
+    (c.run_logged.ensures.done zero)
 
 pub returns-clause-fetched : goal.returns-clause-fetched
-returns-clause-fetched c is frames targets are =
-    fetched_logged frames targets _ _ _ _ _ (c.caster.ensures.fetched is frames targets are)
+returns-clause-fetched g c is frames targets are =
+    fetched_logged frames targets c.args.street.now c.run_logged.new.street c.args.out.now.taken
+    c.run_logged.new.out.taken _ (c.run_logged.ensures.fetched is frames targets are)
