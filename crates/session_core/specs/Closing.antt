@@ -20,7 +20,7 @@ use Rattle.rover_session.specs.Standing.{rover_of}
 use Rattle.cast_config.specs.declared.config.Config.{Config}
 use Rattle.session_core.specs.declared.session.Session.{Session}
 use Rattle.session_core.specs.declared.stage.Stage.{Stage}
-use Rattle.session_core.specs.declared.stage.Stage.TheVariants.{Head, Over, Source, Relay, Rover}
+use Rattle.session_core.specs.declared.stage.Stage.TheVariants.{Source, Relay, Rover}
 use Rattle.session_core.specs.Owed.{Received, unasked, claimed, entered}
 use Rattle.session_core.specs.Run.{Histories}
 use Rattle.session_core.specs.Called.{Called}
@@ -32,13 +32,12 @@ releasing mount (Some claim) = asks (to_ring mount (Release claim)) (λ answer. 
 
 -- the one turn that gives back what is held, or none
 abbrev pub closing_at : Stage → Plan
-closing_at (Head head) = done
-closing_at Over = done
 closing_at (Source mount session) = releasing mount (Some session.claim)
 closing_at (Relay mount session) = releasing mount (relay_standing.claim_at session.stage)
 closing_at (Rover account session) =
     asks (to_book (Leave account (sent_in (rover_of session).segments)
     (overrun_in (rover_of session).segments))) (λ answer. done)
+closing_at _ = done
 
 -- what a connection makes when it is closed
 abbrev pub closing_of : Session → Plan
@@ -46,8 +45,6 @@ closing_of session = closing_at session.stage
 
 -- the claim or the account is held by this caller, under these caps of accounts
 abbrev pub IsHeldBy : List ℕ → ℕ → Histories → Stage → Type 0
-IsHeldBy caps me histories (Head head) = ⊤
-IsHeldBy caps me histories Over = ⊤
 IsHeldBy caps me histories (Source mount session) =
     (session.me ≡ me) × (mount < length histories.rings)
     × HeldSince me session.claim (history_at histories.rings mount)
@@ -59,6 +56,7 @@ IsHeldBy caps me histories (Relay mount session) =
     × relay_standing.StandsFor mount session text steps
 IsHeldBy caps me histories (Rover account session) =
     IsTrue (may_leave caps histories.book me account)
+IsHeldBy caps me histories _ = ⊤
 
 -- ---- what is told of it
 
@@ -68,19 +66,15 @@ received_claim None = unasked
 received_claim (Some claim) = claimed claim
 
 abbrev pub received_at : Stage → Received
-received_at (Head head) = unasked
-received_at Over = unasked
 received_at (Source mount session) = claimed session.claim
 received_at (Relay mount session) = received_claim (relay_standing.claim_at session.stage)
 received_at (Rover account session) = entered
+received_at _ = unasked
 
 -- the segments of a rover, the newest first
 abbrev pub segments_at : Stage → List Segment
-segments_at (Head head) = []
-segments_at Over = []
-segments_at (Source mount session) = []
-segments_at (Relay mount session) = []
 segments_at (Rover account session) = (rover_of session).segments
+segments_at _ = []
 
 -- the bytes of a source's payload that were no part of a frame: exactly so many, unless a turn was
 -- refused, and never more
@@ -98,11 +92,9 @@ pub record IsRelayJunk (session : RelaySession) (junk : ℕ) : Type 0 where
   pub at_most : IfSome (relay_standing.claim_at session.stage) (λ claim. IsAtMostJunk session junk)
 
 abbrev pub IsJunkAt : Stage → ℕ → Type 0
-IsJunkAt (Head head) junk = junk ≡ 0
-IsJunkAt Over junk = junk ≡ 0
 IsJunkAt (Source mount session) junk = IsSourceJunk session junk
 IsJunkAt (Relay mount session) junk = IsRelayJunk session junk
-IsJunkAt (Rover account session) junk = junk ≡ 0
+IsJunkAt _ junk = junk ≡ 0
 
 -- ---- what is called
 

@@ -7,7 +7,7 @@ use Rattle.session_core.specs.declared.ending.Ending.TheVariants as endings
 use Rattle.session_core.specs.declared.ending.Last.{Last}
 use Rattle.session_core.specs.declared.ending.Last.TheVariants as lasts
 use Rattle.session_core.specs.Judged.{Judged, waiting, refused, unanswered, table, source, rover}
-use Rattle.session_core.specs.Owed.{Received, unasked, claimed, taken, entered, full, received}
+use Rattle.session_core.specs.Owed.{Received, claimed, taken, entered, full, received}
 
 -- ---- by itself
 
@@ -26,18 +26,13 @@ claimed_ending true claim body =
     body_ending claim (is_ended reading.phase) (is_broken reading.phase) reading.taken
 
 abbrev pub source_ending : Bool → List ℕ → Received → Option Ending
-source_ending chunked body unasked = None
 source_ending chunked body (claimed claim) = claimed_ending chunked claim body
 source_ending chunked body (taken caller claim) = Some (endings.Taken caller claim)
-source_ending chunked body entered = None
-source_ending chunked body (full busy cap) = None
+source_ending chunked body _ = None
 
 abbrev pub rover_ending : Received → Option Ending
-rover_ending unasked = None
-rover_ending (claimed claim) = None
-rover_ending (taken caller claim) = None
-rover_ending entered = None
 rover_ending (full busy cap) = Some (endings.Full busy cap)
+rover_ending _ = None
 
 abbrev pub ended_by : Judged → Received → Option Ending
 ended_by waiting by = None
@@ -50,11 +45,9 @@ ended_by (rover terms tail) by = rover_ending by
 -- ---- as it was closed
 
 abbrev pub at_end : Received → Ending
-at_end unasked = endings.NoHead
 at_end (claimed claim) = endings.SourceEnd claim
-at_end (taken caller claim) = endings.NoHead
 at_end entered = endings.RoverEnd
-at_end (full busy cap) = endings.NoHead
+at_end _ = endings.NoHead
 
 abbrev pub ended_last : Last → Received → Ending
 ended_last lasts.End by = at_end by

@@ -11,7 +11,7 @@ use Rattle.session_core.specs.declared.ending.Ending.{Ending}
 use Rattle.session_core.specs.declared.ending.Ending.TheVariants as endings
 use Rattle.session_core.specs.declared.session.Session.{Session}
 use Rattle.session_core.specs.declared.stage.Stage.{Stage}
-use Rattle.session_core.specs.declared.stage.Stage.TheVariants.{Head, Over, Source, Relay, Rover}
+use Rattle.session_core.specs.declared.stage.Stage.TheVariants.{Head, Over}
 use Rattle.session_core.specs.Headings.{Heading, IsHeading}
 use Rattle.session_core.specs.Judged.{Opening, heading_judged}
 use Rattle.session_core.specs.Run.{Histories}
@@ -42,9 +42,7 @@ end_of_relay claim relays.Memory = endings.Memory
 abbrev pub IsBehindHead : Stage → Type 0
 IsBehindHead (Head head) = ⊥
 IsBehindHead Over = ⊥
-IsBehindHead (Source mount session) = Unit {0}
-IsBehindHead (Relay mount session) = Unit {0}
-IsBehindHead (Rover account session) = Unit {0}
+IsBehindHead _ = Unit {0}
 
 -- A connection whose head these bytes are was begun by what they say of it.
 pub record HasBegun (c : Config) (alone : Bool) (old now : Histories) (me : ℕ) (front : List ℕ)

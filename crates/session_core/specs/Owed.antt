@@ -18,7 +18,7 @@ use Rattle.access_groups.specs.declared.admission.Admission.{Admission}
 use Rattle.session_core.specs.declared.ending.Last.{Last}
 use Rattle.session_core.specs.Setting.{bases_at}
 use Rattle.session_core.specs.Headings.{Heading}
-use Rattle.session_core.specs.Judged.{Opening, SourceTerms, RoverTerms, Judged, waiting, refused, unanswered, table, source, rover, judged}
+use Rattle.session_core.specs.Judged.{Opening, SourceTerms, RoverTerms, Judged, source, rover, judged}
 
 -- ---- how a connection was received: by the answer to its first call
 
@@ -35,16 +35,12 @@ pub data Received : Type 0 where
 abbrev pub received_by_ring : RingAnswer → Received
 received_by_ring (rings.Given claim) = claimed claim
 received_by_ring (rings.Taken caller claim) = taken caller claim
-received_by_ring rings.Released = unasked
-received_by_ring (rings.At place) = unasked
-received_by_ring (rings.Joined cursor) = unasked
-received_by_ring (rings.Looked live) = unasked
-received_by_ring (rings.Read report) = unasked
+received_by_ring _ = unasked
 
 abbrev pub received_by_book : BookAnswer → Received
 received_by_book books.Entered = entered
 received_by_book (books.Full busy cap) = full busy cap
-received_by_book books.Left = unasked
+received_by_book _ = unasked
 
 abbrev pub received_by : Answer → Received
 received_by (of_ring answer) = received_by_ring answer
@@ -63,11 +59,8 @@ source_plan terms body =
 
 -- a rover that entered its account goes on so
 abbrev pub if_entered : Received → Plan → Plan
-if_entered unasked plan = done
-if_entered (claimed claim) plan = done
-if_entered (taken caller claim) plan = done
 if_entered entered plan = plan
-if_entered (full busy cap) plan = done
+if_entered _ plan = done
 
 -- what it may hear, as its session is told
 abbrev pub terms_of : Config → Admission → Terms
@@ -87,34 +80,20 @@ entering_plan c terms tail =
 
 -- all that the bytes so far owe
 abbrev pub plan_of : Config → Judged → Plan
-plan_of c waiting = done
-plan_of c (refused version reply end) = done
-plan_of c (unanswered end) = done
-plan_of c (table version) = done
 plan_of c (source terms body) = source_plan terms body
 plan_of c (rover terms tail) = entering_plan c terms tail
+plan_of c _ = done
 
 -- ---- when it is over
 
 -- a claim is given back, and an account is left with what its segments count
 abbrev pub closing_by : Judged → Received → List Segment → Plan
-closing_by waiting by segments = done
-closing_by (refused version reply end) by segments = done
-closing_by (unanswered end) by segments = done
-closing_by (table version) by segments = done
-closing_by (source terms body) unasked segments = done
 closing_by (source terms body) (claimed claim) segments =
     asks (to_ring terms.mount (Release claim)) (λ answer. done)
-closing_by (source terms body) (taken caller claim) segments = done
-closing_by (source terms body) entered segments = done
-closing_by (source terms body) (full busy cap) segments = done
-closing_by (rover terms tail) unasked segments = done
-closing_by (rover terms tail) (claimed claim) segments = done
-closing_by (rover terms tail) (taken caller claim) segments = done
 closing_by (rover terms tail) entered segments =
     asks (to_book (Leave terms.admission.account (sent_in segments) (overrun_in segments)))
     (λ answer. done)
-closing_by (rover terms tail) (full busy cap) segments = done
+closing_by _ _ segments = done
 
 abbrev pub closing : Judged → List Step → Plan
 closing judged steps = closing_by judged (received steps) (segments_after [] steps)

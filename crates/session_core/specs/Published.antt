@@ -46,10 +46,9 @@ IsClaimRefused lacks worn (claims.Worn given) = IsWornBy worn given
 IsClaimRefused lacks worn claims.Memory = Contains lacks true
 
 abbrev pub IsFeedRefused : List Bool → List ℕ → SourceHalt → Type 0
-IsFeedRefused lacks worn sources.Done = ⊤
-IsFeedRefused lacks worn (sources.BadChunk place) = ⊤
 IsFeedRefused lacks worn (sources.Worn given) = IsWornBy worn given
 IsFeedRefused lacks worn sources.Memory = Contains lacks true
+IsFeedRefused lacks worn _ = ⊤
 
 abbrev pub IsTurnRefused : List Bool → List ℕ → TurnFault → Type 0
 IsTurnRefused lacks worn (turns.Worn given) = IsWornBy worn given
@@ -68,13 +67,6 @@ pub record RelayFed (shapes : List RingShape) (alone : Bool) (old now : List (Hi
   pub stands : StandsFor mount session answer (steps ++ more)
 
 abbrev pub IsRelayRefused : List Bool → List ℕ → RelayHalt → Type 0
-IsRelayRefused lacks worn relays.BadHead = ⊤
-IsRelayRefused lacks worn relays.LongHead = ⊤
-IsRelayRefused lacks worn relays.Coding = ⊤
-IsRelayRefused lacks worn relays.Table = ⊤
-IsRelayRefused lacks worn (relays.Status status) = ⊤
-IsRelayRefused lacks worn (relays.Taken caller claim) = ⊤
-IsRelayRefused lacks worn relays.Done = ⊤
-IsRelayRefused lacks worn (relays.BadChunk place) = ⊤
 IsRelayRefused lacks worn (relays.Worn given) = IsWornBy worn given
 IsRelayRefused lacks worn relays.Memory = Contains lacks true
+IsRelayRefused lacks worn _ = ⊤

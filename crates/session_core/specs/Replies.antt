@@ -20,8 +20,8 @@ use Rattle.cast_config.specs.declared.config.Config.{Config}
 use Rattle.cast_config.specs.declared.config.Relay.{Relay}
 use Rattle.session_core.specs.Setting.{shapes}
 use Rattle.session_core.specs.Setting as setting
-use Rattle.session_core.specs.Judged.{Opening, sends_head, relays, bare_source, bare_rover, Judged, waiting, refused, unanswered, table, source, rover}
-use Rattle.session_core.specs.Owed.{Received, unasked, claimed, taken, entered, full}
+use Rattle.session_core.specs.Judged.{Opening, relays, Judged, waiting, refused, unanswered, table, source, rover}
+use Rattle.session_core.specs.Owed.{Received, claimed, taken, entered, full}
 
 -- ---- the reply
 
@@ -31,18 +31,14 @@ text_if None reply sourcetable = []
 text_if (Some version) reply sourcetable = reply_text version reply sourcetable
 
 abbrev pub source_reply : Option Version → Received → List ℕ
-source_reply version unasked = []
 source_reply version (claimed claim) = text_if version replies.SourceOk []
 source_reply version (taken caller claim) = text_if version replies.Taken []
-source_reply version entered = []
-source_reply version (full busy cap) = []
+source_reply version _ = []
 
 abbrev pub rover_reply : Option Version → Received → List ℕ
-rover_reply version unasked = []
-rover_reply version (claimed claim) = []
-rover_reply version (taken caller claim) = []
 rover_reply version entered = text_if version replies.RoverOk []
 rover_reply version (full busy cap) = text_if version replies.Full []
+rover_reply version _ = []
 
 abbrev pub reply_of : Config → Judged → Received → List ℕ
 reply_of c waiting by = []
@@ -79,10 +75,8 @@ request_if None = []
 request_if (Some relay) = relay_request relay
 
 abbrev pub opening_text : Config → Opening → List ℕ
-opening_text c sends_head = []
 opening_text c (relays n) = request_if (slice_get c.relay n)
-opening_text c (bare_source mount) = []
-opening_text c (bare_rover mount) = []
+opening_text c _ = []
 
 -- a bare rover is sent its frames as one of NTRIP 1.0 is
 abbrev pub sent_by : Config → List (History RingCall) → Opening → Judged → Received → List Segment

@@ -23,8 +23,8 @@ use Rattle.session_core.specs.declared.report.Closed.{Closed}
 use Rattle.session_core.specs.declared.report.Connection.{Connection}
 use Rattle.session_core.specs.declared.report.Report.{Report}
 use Rattle.session_core.specs.Headings.{Heading, incomplete, IsHeading, IsAnswering}
-use Rattle.session_core.specs.Judged.{Opening, sends_head, relays, bare_source, bare_rover, Judged, waiting, refused, unanswered, table, source, rover, judged}
-use Rattle.session_core.specs.Owed.{Received, unasked, claimed, taken, entered, full, received}
+use Rattle.session_core.specs.Judged.{Opening, sends_head, relays, bare_source, bare_rover, Judged, source, judged}
+use Rattle.session_core.specs.Owed.{Received, claimed, entered, received}
 use Rattle.session_core.specs.Endings.{ending_of}
 use Rattle.session_core.specs.Replies.{sent_by}
 use Rattle.session_core.specs.Run.{Histories, Connected, World, judged_of, world}
@@ -33,26 +33,16 @@ use Rattle.session_core.specs.Run.{Histories, Connected, World, judged_of, world
 
 -- the junk of the payload of a source that was given its claim
 abbrev pub junk_if : Received → Bool → List ℕ → ℕ
-junk_if unasked chunked body = 0
 junk_if (claimed claim) chunked body = (cut (payload chunked body)).junk
-junk_if (taken caller claim) chunked body = 0
-junk_if entered chunked body = 0
-junk_if (full busy cap) chunked body = 0
+junk_if _ chunked body = 0
 
 abbrev pub junk_of : Judged → Received → ℕ
-junk_of waiting by = 0
-junk_of (refused version reply end) by = 0
-junk_of (unanswered end) by = 0
-junk_of (table version) by = 0
 junk_of (source terms body) by = junk_if by terms.chunked body
-junk_of (rover terms tail) by = 0
+junk_of _ by = 0
 
 abbrev pub is_entered : Received → Bool
-is_entered unasked = false
-is_entered (claimed claim) = false
-is_entered (taken caller claim) = false
 is_entered entered = true
-is_entered (full busy cap) = false
+is_entered _ = false
 
 -- what a connection came to that was closed so, with every closing turn taken
 abbrev pub receipt_of : Judged → List Step → Last → Receipt

@@ -111,14 +111,11 @@ pub record IsRelay (c : Config) (me : ℕ) (histories : Histories) (opening : Op
 
 -- a relay of this mountpoint before the first byte of the answer
 abbrev pub IsNewRelay : ℕ → ℕ → Stage → Type 0
-IsNewRelay me mount (Head head) = ⊥
-IsNewRelay me mount Over = ⊥
-IsNewRelay me mount (Source at session) = ⊥
 IsNewRelay me mount (Relay at session) =
     (at ≡ mount) × (session.me ≡ me) × (relay_standing.claim_at session.stage ≡ None)
     × (relay_standing.halt_at session.stage ≡ None)
     × relay_standing.StandsFor mount session [] []
-IsNewRelay me mount (Rover account session) = ⊥
+IsNewRelay me mount _ = ⊥
 
 -- a rover that entered its account
 pub record IsRover (c : Config) (me : ℕ) (histories : Histories) (judged : Judged)
@@ -159,11 +156,9 @@ is_going (Rover account session) = is_none (rover_of session).halt
 
 -- a turn of a source or of a relay was refused
 abbrev pub is_refused_at : Stage → Bool
-is_refused_at (Head head) = false
-is_refused_at Over = false
 is_refused_at (Source mount session) = source_standing.is_cut_short session.halt
 is_refused_at (Relay mount session) = relay_standing.is_short_at session.stage
-is_refused_at (Rover account session) = false
+is_refused_at _ = false
 
 -- a session that has not ended is halted nowhere, and one whose turn was refused has ended by that
 pub record EndsAt (stage : Stage) (ended : Option Ending) : Type 0 where
@@ -245,11 +240,9 @@ pub record Begins (c : Config) (alone : Bool) (old now : Histories) (me : ℕ) (
 -- a connection that was just begun goes on, unless nothing is left to be closed, or it is a rover
 -- that was halted as it joined
 abbrev pub StartsAs : Stage → Option Ending → Type 0
-StartsAs (Head head) ended = ended ≡ None
 StartsAs Over ended = ⊤
-StartsAs (Source mount session) ended = ended ≡ None
-StartsAs (Relay mount session) ended = ended ≡ None
 StartsAs (Rover account session) ended = ended ≡ ended_joining (rover_of session).halt
+StartsAs _ ended = ended ≡ None
 
 -- this text was appended, behind which nothing comes, or memory was lacking and nothing was
 abbrev pub IsRepliedLast : Ending → List ℕ → Option Ending → List ℕ → List ℕ → Type 0

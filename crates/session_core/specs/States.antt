@@ -6,7 +6,7 @@ use Rattle.rover_session.specs.Standing.{Rover as RoverValue, rover_of}
 use Rattle.session_core.specs.declared.ending.Ending.{Ending}
 use Rattle.session_core.specs.declared.rover_state.RoverState.{RoverState}
 use Rattle.session_core.specs.declared.stage.Stage.{Stage}
-use Rattle.session_core.specs.declared.stage.Stage.TheVariants.{Head, Over, Source, Relay, Rover}
+use Rattle.session_core.specs.declared.stage.Stage.TheVariants.{Source, Relay, Rover}
 use Rattle.session_core.specs.declared.session.Session.{Session}
 
 -- with these segments, the newest first
@@ -24,12 +24,8 @@ state_of rover = state_in rover.version rover.segments
 
 -- of a session that ended so, if it did, at this stage
 abbrev pub state_at : Option Ending → Stage → Option RoverState
-state_at (Some end) stage = None
-state_at None (Head head) = None
-state_at None Over = None
-state_at None (Source mount session) = None
-state_at None (Relay mount session) = None
 state_at None (Rover account session) = state_of (rover_of session)
+state_at _ _ = None
 
 abbrev pub rover_state : Session → Option RoverState
 rover_state session = state_at session.ended session.stage
@@ -38,12 +34,10 @@ rover_state session = state_at session.ended session.stage
 
 -- the mountpoint of a source or a relay, and of a rover that stands so
 abbrev pub mount_at : Stage → Option RoverState → Option ℕ
-mount_at (Head head) rover = None
-mount_at Over rover = None
 mount_at (Source mount session) rover = Some mount
 mount_at (Relay mount session) rover = Some mount
-mount_at (Rover account session) None = None
 mount_at (Rover account session) (Some rover) = Some rover.mount
+mount_at _ _ = None
 
 abbrev pub session_mount : Session → Option ℕ
 session_mount session = mount_at session.stage (rover_state session)

@@ -35,21 +35,15 @@ flow_of (Some end) = flows.Ended
 
 -- whether it entered an account as a rover
 abbrev pub is_rover : Stage → Bool
-is_rover (stages.Head head) = false
-is_rover stages.Over = false
-is_rover (stages.Source mount session) = false
-is_rover (stages.Relay mount session) = false
 is_rover (stages.Rover account session) = true
+is_rover _ = false
 
 -- a rover was not halted, and its newest segment can be read on by this caller
 abbrev pub IsReadBy : List RingShape → ℕ → List (History RingCall) → Stage → Type 0
-IsReadBy shapes me histories (stages.Head head) = ⊤
-IsReadBy shapes me histories stages.Over = ⊤
-IsReadBy shapes me histories (stages.Source mount session) = ⊤
-IsReadBy shapes me histories (stages.Relay mount session) = ⊤
 IsReadBy shapes me histories (stages.Rover account session) =
     ((rover_of session).me ≡ me) × ((rover_of session).halt ≡ None)
     × WasResumable shapes me histories (rover_of session).segments
+IsReadBy shapes me histories _ = ⊤
 
 -- A rover's session made the read of its newest segment, or nothing where it has none, and stands
 -- with it for the same bytes. Where it was halted instead, it may have made nothing.
@@ -80,14 +74,11 @@ pub record RoverTurned (shapes : List RingShape) (alone : Bool) (old now : List 
 -- a turn of a rover leaves it one of the same account
 abbrev pub TurnedAt : List RingShape → Bool → List (History RingCall) → List (History RingCall) → ℕ
     → Stage → Stage → Option Ending → List ℕ → List ℕ → Type 0
-TurnedAt shapes alone old now budget (stages.Head head) after ended out_old out_new = ⊤
-TurnedAt shapes alone old now budget stages.Over after ended out_old out_new = ⊤
-TurnedAt shapes alone old now budget (stages.Source mount session) after ended out_old out_new = ⊤
-TurnedAt shapes alone old now budget (stages.Relay mount session) after ended out_old out_new = ⊤
 TurnedAt shapes alone old now budget (stages.Rover account session) after ended out_old out_new =
     (next : RoverSession) × (after ≡ stages.Rover account next)
     × RoverTurned shapes alone old now budget (rover_of session) (rover_of next) ended out_old
     out_new
+TurnedAt shapes alone old now budget _ after ended out_old out_new = ⊤
 
 -- ---- the whole
 
