@@ -5,11 +5,11 @@ use Rattle.caster_accounts.specs.declared.account.Sum.{Sum}
 use Rattle.caster_accounts.specs.Sums.{total}
 use Rattle.cast_config.specs.declared.config.Account.{Account}
 use Rattle.cast_config.specs.declared.config.Config.{Config}
-use Rattle.session_core.specs.declared.report.Closed.{Closed}
-use Rattle.session_core.specs.declared.report.MountTotal.{MountTotal}
-use Rattle.session_core.specs.Reports.{added, closed_of, mount_total, sums_from}
-use Rattle.session_core.specs.Run.{Histories}
-use Rattle.session_core.specs.Setting.{caps}
+use Rattle.session_model.specs.declared.report.Closed.{Closed}
+use Rattle.session_model.specs.declared.report.MountTotal.{MountTotal}
+use Rattle.session_model.specs.Reports.{added, closed_of, mount_total, sums_from}
+use Rattle.session_model.specs.Run.{Histories}
+use Rattle.session_model.specs.Setting.{caps}
 
 abbrev closed_with : List MountTotal → List Sum → Sum → Closed
 closed_with mounts accounts total = record { mounts = mounts; accounts = accounts; total = total }

@@ -7,7 +7,7 @@ use Rattle.turn_log.proofs.LockLists.{at_length, at_or}
 use Rattle.mount_ring.specs.declared.call.RingCall.{RingCall}
 use Rattle.caster_accounts.specs.declared.call.BookCall.{BookCall}
 use Rattle.session_calls.specs.Rings.{history_at}
-use Rattle.session_core.specs.Run.{Histories}
+use Rattle.session_model.specs.Run.{Histories}
 use Rattle.caster_places.specs.declared.piles.Piles.{Piles}
 use Rattle.caster_places.specs.Piles.{AreAllOf, HasAllOf, IsWhole}
 use Rattle.caster_places.specs.Rows.{ArePiles, AreWhole, BookLock, RingLocks, seen_of, seen_in_book}

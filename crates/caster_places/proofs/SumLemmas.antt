@@ -19,10 +19,10 @@ use Rattle.caster_accounts.specs.declared.call.BookCall.{BookCall}
 use Rattle.caster_accounts.specs.History.{fits}
 use Rattle.caster_accounts.specs.Sums.{nothing, after_any, total, total_of_all}
 use Rattle.caster_accounts.specs.Sums as sums
-use Rattle.session_core.specs.Reports.{added, sums_from}
-use Rattle.session_core.specs.Run.{Histories}
+use Rattle.session_model.specs.Reports.{added, sums_from}
+use Rattle.session_model.specs.Run.{Histories}
 use Rattle.cast_config.specs.declared.config.Account.{Account}
-use Rattle.session_core.proofs.ReportSums.{total_named}
+use Rattle.session_model.proofs.ReportSums.{total_named}
 use Rattle.caster_accounts.proofs.CallSums.{from, from_same, from_zero, from_plus, at_one, from_hit, step_sum, counted, IsNamed, AreNamed, named_after, plus_zero, from_none, sum_with, one_more, part_of_all}
 
 -- ---- calls of one caller

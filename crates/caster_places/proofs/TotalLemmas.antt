@@ -6,11 +6,11 @@ use Rattle.mount_ring.specs.declared.call.RingCall.{RingCall}
 use Rattle.mount_ring.specs.History.{state_of}
 use Rattle.caster_accounts.specs.declared.account.Sum.{Sum}
 use Rattle.caster_accounts.specs.Sums.{total}
-use Rattle.session_core.specs.declared.report.MountTotal.{MountTotal}
+use Rattle.session_model.specs.declared.report.MountTotal.{MountTotal}
 use Rattle.cast_config.specs.declared.config.Account.{Account}
-use Rattle.session_core.specs.Run.{Histories}
-use Rattle.session_core.specs.Reports.{mount_total, sums_from}
-use Rattle.session_core.proofs.ReportSums.{total_with, sums_more}
+use Rattle.session_model.specs.Run.{Histories}
+use Rattle.session_model.specs.Reports.{mount_total, sums_from}
+use Rattle.session_model.proofs.ReportSums.{total_with, sums_more}
 
 pub total_told : (published claims : ℕ) (h : History RingCall) → published ≡ length (state_of h).published
     → claims ≡ (state_of h).claims → total_with published claims ≡ mount_total h

@@ -4,7 +4,7 @@ use Rattle.std.specs.List.{All}
 use base.Stored.{Gv}
 use Rattle.mount_ring.specs.declared.shape.RingShape.{RingShape}
 use Rattle.cast_config.specs.declared.config.Config.{Config}
-use Rattle.session_core.specs.Setting.{shapes, caps}
+use Rattle.session_model.specs.Setting.{shapes, caps}
 
 -- The shapes of the rings, in the order of their mountpoints, and the caps of the accounts; the
 -- callers that the places speak for; whether they may lack memory; whether nobody else takes turns

@@ -19,7 +19,7 @@ use Rattle.caster_accounts.specs.declared.book.Book.{Book}
 use Rattle.caster_accounts.specs.declared.call.BookAnswer.{BookAnswer}
 use Rattle.caster_accounts.specs.declared.call.BookCall.{BookCall}
 use Rattle.session_calls.specs.Rings.{history_at}
-use Rattle.session_core.specs.Run.{Histories}
+use Rattle.session_model.specs.Run.{Histories}
 use Rattle.cast_config.specs.declared.config.Config.{Config}
 use Rattle.caster_places.specs.declared.piles.Piles.{Piles}
 use Rattle.caster_places.specs.declared.totals.Totals.{Totals}

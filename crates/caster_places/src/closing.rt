@@ -11,9 +11,9 @@ ghost use Rattle.caster_accounts.specs.History.{fits};
 ghost use Rattle.caster_accounts.specs.Kept.{caps_of};
 ghost use Rattle.caster_accounts.specs.Sums.{nothing, total_of_all};
 ghost use Rattle.cast_config.specs.Kept.{KeepsRules};
-ghost use Rattle.session_core.specs.Reports.{added, closed_of, mount_total, sums_from};
-ghost use Rattle.session_core.specs.Run.{Histories};
-ghost use Rattle.session_core.specs.Setting.{caps, shapes};
+ghost use Rattle.session_model.specs.Reports.{added, closed_of, mount_total, sums_from};
+ghost use Rattle.session_model.specs.Run.{Histories};
+ghost use Rattle.session_model.specs.Setting.{caps, shapes};
 ghost use Rattle.caster_places.specs.Piles.{AreAllOf, AreMatched, HasAllOf};
 ghost use Rattle.caster_places.specs.Rows.{ArePiles, AreWhole, AreWornWithin, IsRoomFor, left_by};
 

@@ -9,7 +9,7 @@ use turn_log::Turns;
 /// worn they are.
 pub trait AllPlaces {
     ghost use Rattle.std.specs.Prelude.{ℕ, List};
-    ghost use Rattle.session_core.specs.Run.{Histories};
+    ghost use Rattle.session_model.specs.Run.{Histories};
     ghost use Rattle.caster_places.specs.Known.{Known};
 
     /// What they have seen.
@@ -24,7 +24,7 @@ pub trait AllPlaces {
 
 impl<T: Turns<Ring>, B: Turns<Book>> AllPlaces for Places<T, B> {
     ghost use Rattle.session_core.specs.Beginnings.{worn_at};
-    ghost use Rattle.session_core.specs.Called.{seen_at};
+    ghost use Rattle.session_model.specs.Called.{seen_at};
     ghost use Rattle.caster_places.specs.Known.{known_at};
 
     ghost seen = { λ places. seen_at T.seen B.seen places.rings.items places.book };

@@ -7,7 +7,7 @@ ghost use lib.ListN.{get_elem?};
 ghost use Rattle.turn_log.specs.History.{IsLegal};
 ghost use Rattle.caster_accounts.specs.History.{fits};
 ghost use Rattle.session_calls.specs.Rings.{AllLater};
-ghost use Rattle.session_core.specs.Run.{Histories};
+ghost use Rattle.session_model.specs.Run.{Histories};
 ghost use Rattle.caster_places.specs.Piles.{AreThree, HasRoom, IsGivenBack};
 ghost use Rattle.caster_places.specs.Rows.{AreAt, ArePiles, AreWornWithin, HaveRoom};
 

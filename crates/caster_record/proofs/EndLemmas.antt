@@ -5,8 +5,8 @@ use Rattle.std.proofs.lemmas.List.{length-map}
 use Rattle.cast_io.specs.Told.{LinkTold, DoorTold}
 use Rattle.session_script.specs.declared.Event.{Event}
 use Rattle.session_script.specs.Numbers.{no_numbers}
-use Rattle.session_core.specs.Reports.{IsReport}
-use Rattle.session_core.specs.declared.report.Report.{Report}
+use Rattle.session_model.specs.Reports.{IsReport}
+use Rattle.session_model.specs.declared.report.Report.{Report}
 use Rattle.cast_config.specs.declared.config.Config.{Config}
 use Rattle.caster_replay.specs.Going.{numbers_from}
 use Rattle.caster_replay.specs.Kept.{sent_by_run}

@@ -10,8 +10,8 @@ use Rattle.cast_io.specs.declared.steps.Step.{Step}
 use Rattle.cast_io.specs.Told.{LinkTold}
 use Rattle.cast_io.specs.Links.{step_of}
 use Rattle.session_script.specs.declared.Event.{Event}
-use Rattle.session_core.specs.Headings.{Heading}
-use Rattle.session_core.specs.Run.{Connected, World, is_concerned}
+use Rattle.session_model.specs.Headings.{Heading}
+use Rattle.session_model.specs.Run.{Connected, World, is_concerned}
 use Rattle.rover_session.specs.Made.{segments_after}
 use Rattle.cast_config.specs.declared.config.Config.{Config}
 use Rattle.caster_replay.specs.Going.{GoesOn, IsBehind, is_going, is_behind, has_frames}

@@ -5,8 +5,8 @@ use Rattle.session_script.specs.declared.Event.{Event}
 use Rattle.session_script.specs.Script.{IsSession, script_of}
 use Rattle.session_script.specs.Writing.{lines_text, script_text}
 use Rattle.cast_config.specs.declared.config.Config.{Config}
-use Rattle.session_core.specs.Reports.{IsReport}
-use Rattle.session_core.specs.declared.report.Report.{Report}
+use Rattle.session_model.specs.Reports.{IsReport}
+use Rattle.session_model.specs.declared.report.Report.{Report}
 use Rattle.caster_replay.specs.Going.{GoesOn}
 use Rattle.caster_replay.specs.Sends.{told_sent}
 use Rattle.caster_record.specs.Moves.{Move, AskAll, taken_in, brought_in}

@@ -7,7 +7,7 @@ ghost use Rattle.cast_io.specs.Causes.{Rose};
 ghost use Rattle.cast_io.specs.Doors.{HasAccepted};
 ghost use Rattle.cast_io.specs.Links.{IsNewLink};
 ghost use Rattle.cast_io.specs.Told.{DoorTold};
-ghost use Rattle.session_core.specs.Reports.{IsReport};
+ghost use Rattle.session_model.specs.Reports.{IsReport};
 ghost use Rattle.caster_replay.specs.Going.{GoesOn};
 ghost use Rattle.caster_replay.specs.Kept.{sent_by_run};
 ghost use Rattle.caster_replay.specs.Sends.{told_sent};

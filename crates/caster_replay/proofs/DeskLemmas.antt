@@ -13,16 +13,17 @@ use Rattle.cast_config.specs.declared.config.Group.{Group}
 use Rattle.cast_config.specs.declared.config.Mount.{Mount}
 use Rattle.cast_config.specs.Served.{filters_of}
 use Rattle.type_filter.specs.Permitted.{FilterValue}
-use Rattle.session_core.specs.declared.ending.Last.{Last}
-use Rattle.session_core.specs.declared.report.Receipt.{Receipt}
+use Rattle.session_model.specs.declared.ending.Last.{Last}
+use Rattle.session_model.specs.declared.report.Receipt.{Receipt}
 use Rattle.session_core.specs.declared.session.Session.{Session}
-use Rattle.session_core.specs.Headings.{Heading}
-use Rattle.session_core.specs.Judged.{Opening, judged}
-use Rattle.session_core.specs.Reports.{IsHeadingOf, mount_total}
-use Rattle.session_core.specs.Run.{Histories}
-use Rattle.session_core.specs.Setting.{shapes_from}
-use Rattle.session_core.specs.Called.{alone_at, seen_at, OthersCalled}
-use Rattle.session_core.specs.Standing.{StandsFor, Fed, IsClosed}
+use Rattle.session_model.specs.Headings.{Heading}
+use Rattle.session_model.specs.Judged.{Opening, judged}
+use Rattle.session_model.specs.Reports.{IsHeadingOf, mount_total}
+use Rattle.session_model.specs.Run.{Histories}
+use Rattle.session_model.specs.Setting.{shapes_from}
+use Rattle.session_model.specs.Called.{alone_at, seen_at, OthersCalled}
+use Rattle.session_core.specs.Standing.{StandsFor, Fed}
+use Rattle.session_core.specs.Closed.{IsClosed}
 use Rattle.session_core.specs.Turned.{Turned, is_rover}
 use Rattle.caster_replay.specs.Calls.{Opens, Feeds, TakesTurn, Closes}
 

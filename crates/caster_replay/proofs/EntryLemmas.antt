@@ -14,17 +14,17 @@ use Rattle.session_script.specs.Numbers.{Numbers, no_numbers, may_open}
 use Rattle.session_script.specs.Script.{input_length, is_session_after, may_follow}
 use Rattle.session_script.specs.Script as scripts
 use Rattle.cast_config.specs.declared.config.Config.{Config}
-use Rattle.session_core.specs.declared.ending.Ending.TheVariants as endings
-use Rattle.session_core.specs.declared.ending.Last.{Last}
-use Rattle.session_core.specs.declared.ending.Last.TheVariants as lasts
-use Rattle.session_core.specs.declared.report.Receipt.{Receipt}
-use Rattle.session_core.specs.Judged.{Opening, sends_head, relays, bare_source, bare_rover}
-use Rattle.session_core.specs.Owed.{ends}
+use Rattle.session_model.specs.declared.ending.Ending.TheVariants as endings
+use Rattle.session_model.specs.declared.ending.Last.{Last}
+use Rattle.session_model.specs.declared.ending.Last.TheVariants as lasts
+use Rattle.session_model.specs.declared.report.Receipt.{Receipt}
+use Rattle.session_model.specs.Judged.{Opening, sends_head, relays, bare_source, bare_rover}
+use Rattle.session_model.specs.Owed.{ends}
 use Rattle.caster_replay.specs.declared.entry.Entry.{Entry}
 use Rattle.caster_replay.specs.declared.entry.State.TheVariants.{Closed}
 use Rattle.caster_replay.specs.Caster.{DesksValue}
 use Rattle.caster_replay.specs.Lives.{Live, live_of, live_in, lives_in, place_of}
-use Rattle.session_core.specs.Run.{Histories}
+use Rattle.session_model.specs.Run.{Histories}
 use Rattle.caster_replay.specs.Entries.{StandsAt, NamesRelay, ClosedAt, IsClosedAt}
 use Rattle.caster_replay.specs.Scripts.{IsKindFor, IsScriptFor, Begins, Ends, Plays}
 use Rattle.caster_replay.proofs.WorldKnownLemmas.{IsClean}

@@ -16,15 +16,15 @@ use Rattle.session_script.specs.declared.Event.TheVariants as events
 use Rattle.session_script.specs.Numbers.{Numbers, no_numbers, is_among, opening, closing}
 use Rattle.session_script.specs.Script as scripts
 use Rattle.cast_config.specs.declared.config.Config.{Config}
-use Rattle.session_core.specs.declared.ending.Ending.{Ending}
+use Rattle.session_model.specs.declared.ending.Ending.{Ending}
 use Rattle.session_core.specs.declared.session.Session.{Session}
 use Rattle.session_core.specs.declared.stage.Stage.{Stage}
 use Rattle.session_core.specs.declared.stage.Stage.TheVariants as stages
-use Rattle.session_core.specs.Headings.{Heading}
-use Rattle.session_core.specs.Judged.{Opening, sends_head, relays, bare_source, bare_rover, Judged}
-use Rattle.session_core.specs.Endings.{goes_on}
-use Rattle.session_core.specs.Reports.{IsHeadingOf, AreHeadings, opened_if, opened_as}
-use Rattle.session_core.specs.Run.{Histories, Connected, World, judged_of, is_concerned, is_opened, after_events}
+use Rattle.session_model.specs.Headings.{Heading}
+use Rattle.session_model.specs.Judged.{Opening, sends_head, relays, bare_source, bare_rover, Judged}
+use Rattle.session_model.specs.Endings.{goes_on}
+use Rattle.session_model.specs.Reports.{IsHeadingOf, AreHeadings, opened_if, opened_as}
+use Rattle.session_model.specs.Run.{Histories, Connected, World, judged_of, is_concerned, is_opened, after_events}
 use Rattle.session_core.specs.Standing.{IsAtStage, Stands}
 use Rattle.session_core.specs.States.{state_in, state_at, rover_state}
 use Rattle.caster_replay.specs.declared.entry.State.{State}

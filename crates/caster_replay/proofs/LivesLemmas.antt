@@ -7,11 +7,11 @@ use Rattle.std.proofs.lemmas.List.{length-map, set-set}
 use Rattle.std.proofs.lemmas.List.Sums.{prefix_len_is}
 use Rattle.session_script.specs.declared.Event.{Event}
 use Rattle.cast_config.specs.declared.config.Config.{Config}
-use Rattle.session_core.specs.declared.ending.Last.{Last}
-use Rattle.session_core.specs.Headings.{Heading}
-use Rattle.session_core.specs.Judged.{Opening}
-use Rattle.session_core.specs.Owed.{Happening, ends}
-use Rattle.session_core.specs.Run.{Histories, Connected, after_events}
+use Rattle.session_model.specs.declared.ending.Last.{Last}
+use Rattle.session_model.specs.Headings.{Heading}
+use Rattle.session_model.specs.Judged.{Opening}
+use Rattle.session_model.specs.Owed.{Happening, ends}
+use Rattle.session_model.specs.Run.{Histories, Connected, after_events}
 use Rattle.caster_replay.specs.declared.entry.Entry.{Entry}
 use Rattle.caster_replay.specs.declared.entry.State.{State}
 use Rattle.caster_replay.specs.Caster.{DesksValue, SamePlaces}

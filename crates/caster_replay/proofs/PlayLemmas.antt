@@ -9,22 +9,23 @@ use Rattle.session_script.specs.declared.Event.{Event}
 use Rattle.session_script.specs.declared.Event.TheVariants as events
 use Rattle.session_script.specs.Script.{input_length}
 use Rattle.cast_config.specs.declared.config.Config.{Config}
-use Rattle.session_core.specs.declared.ending.Ending.{Ending}
+use Rattle.session_model.specs.declared.ending.Ending.{Ending}
 use Rattle.session_core.specs.declared.ending.Flow.{Flow}
 use Rattle.session_core.specs.declared.ending.Flow.TheVariants as flows
-use Rattle.session_core.specs.declared.ending.Last.{Last}
-use Rattle.session_core.specs.declared.ending.Last.TheVariants as lasts
-use Rattle.session_core.specs.declared.report.Receipt.{Receipt}
+use Rattle.session_model.specs.declared.ending.Last.{Last}
+use Rattle.session_model.specs.declared.ending.Last.TheVariants as lasts
+use Rattle.session_model.specs.declared.report.Receipt.{Receipt}
 use Rattle.session_core.specs.declared.session.Session.{Session}
-use Rattle.session_core.specs.Headings.{incomplete}
-use Rattle.session_core.specs.Judged.{Opening, bare_source}
-use Rattle.session_core.specs.Owed.{Happening, arrives, takes_turn, ends}
-use Rattle.session_core.specs.Replies.{opening_text}
-use Rattle.session_core.specs.Run.{Histories}
-use Rattle.session_core.specs.Called.{is_halt}
-use Rattle.session_core.specs.Standing.{is_halted, StandsFor, ending_by}
+use Rattle.session_model.specs.Headings.{incomplete}
+use Rattle.session_model.specs.Judged.{Opening, bare_source}
+use Rattle.session_model.specs.Owed.{Happening, arrives, takes_turn, ends}
+use Rattle.session_model.specs.Replies.{opening_text}
+use Rattle.session_model.specs.Run.{Histories}
+use Rattle.session_model.specs.Called.{is_halt}
+use Rattle.session_core.specs.Standing.{is_halted, StandsFor}
+use Rattle.session_core.specs.Closed.{ending_by}
 use Rattle.session_core.specs.Turned.{flow_of, is_rover}
-use Rattle.session_core.proofs.WellLemmas.{events_well}
+use Rattle.session_model.proofs.WellLemmas.{events_well}
 use Rattle.caster_replay.specs.declared.entry.State.{State}
 use Rattle.caster_replay.specs.declared.entry.State.TheVariants.{Open, Closed}
 use Rattle.caster_replay.specs.Calls.{TakesTurn, Closes, Opens}

@@ -9,15 +9,15 @@ use Rattle.rover_session.specs.Standing.{rover_of as session_rover}
 use Rattle.session_calls.specs.Steps.{Step}
 use Rattle.session_script.specs.declared.Event.{Event}
 use Rattle.cast_config.specs.declared.config.Config.{Config}
-use Rattle.session_core.specs.declared.ending.Ending.{Ending}
+use Rattle.session_model.specs.declared.ending.Ending.{Ending}
 use Rattle.session_core.specs.declared.rover_state.RoverState.{RoverState}
 use Rattle.session_core.specs.declared.stage.Stage.{Stage}
 use Rattle.session_core.specs.declared.stage.Stage.TheVariants as stages
-use Rattle.session_core.specs.Headings.{Heading}
-use Rattle.session_core.specs.Judged.{Opening, Judged}
-use Rattle.session_core.specs.Replies.{version_of}
-use Rattle.session_core.specs.Reports.{IsHeadingOf, AreHeadings}
-use Rattle.session_core.specs.Run.{Histories, Connected, World, is_concerned, is_opened, after_events}
+use Rattle.session_model.specs.Headings.{Heading}
+use Rattle.session_model.specs.Judged.{Opening, Judged}
+use Rattle.session_model.specs.Replies.{version_of}
+use Rattle.session_model.specs.Reports.{IsHeadingOf, AreHeadings}
+use Rattle.session_model.specs.Run.{Histories, Connected, World, is_concerned, is_opened, after_events}
 use Rattle.session_core.specs.Standing.{IsAtStage, is_halted}
 use Rattle.session_core.specs.States.{state_in, state_at}
 use Rattle.caster_replay.specs.declared.entry.State.{State}

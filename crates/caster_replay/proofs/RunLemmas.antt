@@ -6,7 +6,7 @@ use Rattle.std.proofs.lemmas.List.{take_more, take_all}
 use Rattle.session_script.specs.declared.Event.{Event}
 use Rattle.cast_config.specs.declared.config.Config.{Config}
 use Rattle.session_core.specs.declared.rover_state.RoverState.{RoverState}
-use Rattle.session_core.specs.Run.{nothing_called}
+use Rattle.session_model.specs.Run.{nothing_called}
 use Rattle.caster_replay.specs.declared.entry.Entry.{Entry}
 use Rattle.caster_replay.specs.declared.run.Run.{Run}
 use Rattle.caster_replay.specs.Entries.{IsFoundAt, IsMissing, is_open_at, is_behind_at, rover_at}

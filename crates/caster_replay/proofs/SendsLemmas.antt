@@ -5,8 +5,8 @@ use Rattle.std.proofs.lemmas.Bool.{cases_Bool, eq-eqb, eqb-true, eqb-false, ne_e
 use Rattle.std.proofs.lemmas.List.{append-nil}
 use Rattle.session_script.specs.declared.Event.{Event}
 use Rattle.session_script.specs.declared.Event.TheVariants as events
-use Rattle.session_core.specs.declared.report.Connection.{Connection}
-use Rattle.session_core.specs.Judged.{Opening}
+use Rattle.session_model.specs.declared.report.Connection.{Connection}
+use Rattle.session_model.specs.Judged.{Opening}
 use Rattle.caster_replay.specs.declared.entry.State.{State}
 use Rattle.caster_replay.specs.declared.entry.State.TheVariants.{Open, Closed}
 use Rattle.caster_replay.specs.Entries.{IsUnsent}

@@ -4,9 +4,9 @@ use Rattle.turn_log.specs.History.{IsLegal}
 use Rattle.caster_accounts.specs.History.{fits}
 use Rattle.caster_accounts.specs.Sums.{total, total_of_all}
 use Rattle.cast_config.specs.declared.config.Account.{Account}
-use Rattle.session_core.specs.Reports.{added, sums_from}
-use Rattle.session_core.specs.Run.{Histories}
-use Rattle.session_core.proofs.ReportSums.{total_named}
+use Rattle.session_model.specs.Reports.{added, sums_from}
+use Rattle.session_model.specs.Run.{Histories}
+use Rattle.session_model.proofs.ReportSums.{total_named}
 use Rattle.caster_accounts.proofs.CallSums.{AreNamed, named_after}
 
 -- the sums of all accounts, where there are so many named ones beside the first

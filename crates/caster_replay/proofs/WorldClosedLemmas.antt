@@ -10,16 +10,17 @@ use Rattle.session_calls.specs.Steps.{to_ring, to_book, Step}
 use Rattle.session_calls.specs.Plans.{done, asks, IsMade}
 use Rattle.rover_session.specs.Made.{after_step, segments_after, sent_in, overrun_in}
 use Rattle.cast_config.specs.declared.config.Config.{Config}
-use Rattle.session_core.specs.declared.ending.Ending.{Ending}
-use Rattle.session_core.specs.declared.ending.Last.{Last}
-use Rattle.session_core.specs.declared.report.Receipt.{Receipt}
-use Rattle.session_core.specs.Judged.{Judged, waiting, refused, unanswered, table, source, rover}
-use Rattle.session_core.specs.Owed.{Received, unasked, claimed, taken, entered, full, received, closing_by, closing}
-use Rattle.session_core.specs.Endings.{ended_by, ended_last}
-use Rattle.session_core.specs.Reports.{junk_of, is_entered, receipt_of}
-use Rattle.session_core.specs.Run.{Histories, step_at}
-use Rattle.session_core.specs.Called.{Called}
-use Rattle.session_core.specs.Standing.{is_halted, ending_by, IsReceipt}
+use Rattle.session_model.specs.declared.ending.Ending.{Ending}
+use Rattle.session_model.specs.declared.ending.Last.{Last}
+use Rattle.session_model.specs.declared.report.Receipt.{Receipt}
+use Rattle.session_model.specs.Judged.{Judged, waiting, refused, unanswered, table, source, rover}
+use Rattle.session_model.specs.Owed.{Received, unasked, claimed, taken, entered, full, received, closing_by, closing}
+use Rattle.session_model.specs.Endings.{ended_by, ended_last}
+use Rattle.session_model.specs.Reports.{junk_of, is_entered, receipt_of}
+use Rattle.session_model.specs.Run.{Histories, step_at}
+use Rattle.session_model.specs.Called.{Called}
+use Rattle.session_core.specs.Standing.{is_halted}
+use Rattle.session_core.specs.Closed.{ending_by, IsReceipt}
 use Rattle.caster_replay.proofs.WorldMadeLemmas.{called_first}
 
 -- ---- what a closing turn leaves

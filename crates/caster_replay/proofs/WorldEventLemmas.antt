@@ -7,23 +7,24 @@ use Rattle.session_calls.specs.Plans.{Plan, left, IsMade}
 use Rattle.rover_session.specs.Owed.{reads}
 use Rattle.rover_session.specs.Made.{segments_after, owed_among}
 use Rattle.cast_config.specs.declared.config.Config.{Config}
-use Rattle.session_core.specs.declared.ending.Ending.{Ending}
-use Rattle.session_core.specs.declared.ending.Last.{Last}
-use Rattle.session_core.specs.declared.ending.Last.TheVariants as lasts
-use Rattle.session_core.specs.declared.report.Receipt.{Receipt}
+use Rattle.session_model.specs.declared.ending.Ending.{Ending}
+use Rattle.session_model.specs.declared.ending.Last.{Last}
+use Rattle.session_model.specs.declared.ending.Last.TheVariants as lasts
+use Rattle.session_model.specs.declared.report.Receipt.{Receipt}
 use Rattle.session_core.specs.declared.session.Session.{Session}
-use Rattle.session_core.specs.Headings.{Heading}
-use Rattle.session_core.specs.Judged.{Opening, Judged, judged}
-use Rattle.session_core.specs.Owed.{plan_of, Happening, arrives, takes_turn, ends, closing}
-use Rattle.session_core.specs.Reports.{IsHeadingOf}
-use Rattle.session_core.specs.Run.{Histories, Connected, Moved, judged_of, with_text, with_last, makes, closed_if, moved}
-use Rattle.session_core.specs.Called.{Called}
+use Rattle.session_model.specs.Headings.{Heading}
+use Rattle.session_model.specs.Judged.{Opening, Judged, judged}
+use Rattle.session_model.specs.Owed.{plan_of, Happening, arrives, takes_turn, ends, closing}
+use Rattle.session_model.specs.Reports.{IsHeadingOf}
+use Rattle.session_model.specs.Run.{Histories, Connected, Moved, judged_of, with_text, with_last, makes, closed_if, moved}
+use Rattle.session_model.specs.Called.{Called}
 use Rattle.session_core.specs.Turned.{Turned}
-use Rattle.session_core.specs.Standing.{is_halted, Stands, StandsFor, Fed, IsSettled, IsClosed}
+use Rattle.session_core.specs.Standing.{is_halted, Stands, StandsFor, Fed}
+use Rattle.session_core.specs.Closed.{IsSettled, IsClosed}
 use Rattle.session_core.proofs.CloseLemmas.{called_none}
-use Rattle.session_core.proofs.GoodLemmas.{good_left, good_plan}
-use Rattle.session_core.proofs.KeepLemmas.{AreFrames, AllSound}
-use Rattle.session_core.proofs.WellLemmas.{IsSoundOf, makes_moves}
+use Rattle.session_model.proofs.GoodLemmas.{good_left, good_plan}
+use Rattle.session_model.proofs.KeepLemmas.{AreFrames, AllSound}
+use Rattle.session_model.proofs.WellLemmas.{IsSoundOf, makes_moves}
 use Rattle.caster_replay.specs.Lives.{IsGoing, IsKept}
 use Rattle.caster_replay.specs.declared.entry.State.{State}
 use Rattle.caster_replay.specs.declared.entry.State.TheVariants.{Open, Closed}

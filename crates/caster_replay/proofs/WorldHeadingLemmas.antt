@@ -7,11 +7,11 @@ use Rattle.session_script.specs.declared.Event.{Event}
 use Rattle.session_script.specs.declared.Event.TheVariants as events
 use Rattle.session_calls.specs.Steps.{Step}
 use Rattle.cast_config.specs.declared.config.Config.{Config}
-use Rattle.session_core.specs.Headings.{Heading}
-use Rattle.session_core.specs.Judged.{Opening, sends_head, relays, bare_source, bare_rover, Judged, waiting, judged}
-use Rattle.session_core.specs.Endings.{goes_on}
-use Rattle.session_core.specs.Reports.{IsHeadingOf, opened_if, opened_as, bytes_to}
-use Rattle.session_core.proofs.LawLemmas.{of_stays}
+use Rattle.session_model.specs.Headings.{Heading}
+use Rattle.session_model.specs.Judged.{Opening, sends_head, relays, bare_source, bare_rover, Judged, waiting, judged}
+use Rattle.session_model.specs.Endings.{goes_on}
+use Rattle.session_model.specs.Reports.{IsHeadingOf, opened_if, opened_as, bytes_to}
+use Rattle.session_model.proofs.LawLemmas.{of_stays}
 use Rattle.caster_replay.specs.Runs.{is_cut}
 
 -- ---- what comes behind

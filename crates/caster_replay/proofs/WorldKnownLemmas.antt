@@ -8,16 +8,16 @@ use Rattle.std.proofs.lemmas.List.Elements.{All-head, All-tail, All-cons, All-ni
 use Rattle.session_script.specs.declared.Event.{Event}
 use Rattle.session_script.specs.declared.Event.TheVariants as events
 use Rattle.cast_config.specs.declared.config.Config.{Config}
-use Rattle.session_core.specs.declared.ending.Ending.{Ending}
-use Rattle.session_core.specs.declared.ending.Last.{Last}
-use Rattle.session_core.specs.declared.ending.Last.TheVariants as lasts
-use Rattle.session_core.specs.Headings.{Heading}
-use Rattle.session_core.specs.Judged.{Opening, sends_head, relays, bare_source, bare_rover, Judged}
-use Rattle.session_core.specs.Owed.{Happening, arrives, takes_turn, ends, owed}
-use Rattle.session_core.specs.Endings.{goes_on}
-use Rattle.session_core.specs.Reports.{opened_as, bytes_to}
-use Rattle.session_core.specs.Reports as reports
-use Rattle.session_core.specs.Run.{Histories, Connected, World, Moved, judged_of, with_text, makes, closed_if, moved, moved_if, is_concerned, happens_in, happens, placed_if, placed, is_opened, opened_if, fresh}
+use Rattle.session_model.specs.declared.ending.Ending.{Ending}
+use Rattle.session_model.specs.declared.ending.Last.{Last}
+use Rattle.session_model.specs.declared.ending.Last.TheVariants as lasts
+use Rattle.session_model.specs.Headings.{Heading}
+use Rattle.session_model.specs.Judged.{Opening, sends_head, relays, bare_source, bare_rover, Judged}
+use Rattle.session_model.specs.Owed.{Happening, arrives, takes_turn, ends, owed}
+use Rattle.session_model.specs.Endings.{goes_on}
+use Rattle.session_model.specs.Reports.{opened_as, bytes_to}
+use Rattle.session_model.specs.Reports as reports
+use Rattle.session_model.specs.Run.{Histories, Connected, World, Moved, judged_of, with_text, makes, closed_if, moved, moved_if, is_concerned, happens_in, happens, placed_if, placed, is_opened, opened_if, fresh}
 use Rattle.caster_replay.specs.Runs.{is_cut, IsKnown, AreKnown}
 use Rattle.caster_replay.proofs.WorldHeadingLemmas.{or_later, opened-append, opened_stays, unless_cut, cut_stays, uncut_on, bytes-append}
 use Rattle.caster_replay.proofs.WorldListLemmas.{moved_by, apart_moved, apart_first, none_later}

@@ -23,14 +23,14 @@ use Rattle.session_calls.specs.Steps.{Step, on_ring, book_part, on_book}
 use Rattle.session_calls.specs.Rings.{history_at, shape_at, answer_at}
 use Rattle.session_calls.proofs.WentLemmas.{went_both}
 use Rattle.cast_config.specs.declared.config.Config.{Config}
-use Rattle.session_core.specs.Setting.{shapes}
-use Rattle.session_core.specs.Judged.{Opening, Judged}
-use Rattle.session_core.specs.Owed.{Received}
-use Rattle.session_core.specs.Replies.{opening_text, reply_of, version_of, kept_of, kept_frames, sent_by}
-use Rattle.session_core.specs.Run.{Histories}
-use Rattle.session_core.specs.Called.{Called, OthersCalled, book_answer}
-use Rattle.session_core.specs.Promises.{IsSoundIn}
-use Rattle.session_core.proofs.KeepLemmas.{Later, AllSound}
+use Rattle.session_model.specs.Setting.{shapes}
+use Rattle.session_model.specs.Judged.{Opening, Judged}
+use Rattle.session_model.specs.Owed.{Received}
+use Rattle.session_model.specs.Replies.{opening_text, reply_of, version_of, kept_of, kept_frames, sent_by}
+use Rattle.session_model.specs.Run.{Histories}
+use Rattle.session_model.specs.Called.{Called, OthersCalled, book_answer}
+use Rattle.session_model.specs.Promises.{IsSoundIn}
+use Rattle.session_model.proofs.KeepLemmas.{Later, AllSound}
 
 -- ---- the histories
 

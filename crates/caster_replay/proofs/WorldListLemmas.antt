@@ -5,9 +5,9 @@ use Rattle.std.specs.Prelude.{nat_lt, ◌==◌, ◌||◌, insert}
 use Rattle.std.specs.List.{prefix_len}
 use Rattle.std.proofs.lemmas.Bool.{eq-eqb, ne_eqb, ltb-true, ltb-false, or_parts}
 use Rattle.cast_config.specs.declared.config.Config.{Config}
-use Rattle.session_core.specs.Headings.{Heading}
-use Rattle.session_core.specs.Owed.{Happening}
-use Rattle.session_core.specs.Run.{Histories, Connected, World, Moved, moved_if, is_concerned, happens_in, placed_if, placed, is_opened}
+use Rattle.session_model.specs.Headings.{Heading}
+use Rattle.session_model.specs.Owed.{Happening}
+use Rattle.session_model.specs.Run.{Histories, Connected, World, Moved, moved_if, is_concerned, happens_in, placed_if, placed, is_opened}
 use Rattle.caster_replay.specs.Runs.{AreAbove, IsIncreasing, Pairs}
 
 -- ---- in increasing order of number

@@ -17,10 +17,10 @@ use Rattle.session_calls.specs.Rings.{history_at, answer_at}
 use Rattle.session_calls.proofs.PlanLemmas.{made_rest}
 use Rattle.rover_session.specs.Made.{is_owed, owed_among}
 use Rattle.cast_config.specs.declared.config.Config.{Config}
-use Rattle.session_core.specs.Setting.{shapes}
+use Rattle.session_model.specs.Setting.{shapes}
 use Rattle.session_core.specs.Beginnings.{histories_of}
-use Rattle.session_core.specs.Run.{Histories, with_call, with_calls, step_at, made}
-use Rattle.session_core.specs.Called.{Called, book_answer}
+use Rattle.session_model.specs.Run.{Histories, with_call, with_calls, step_at, made}
+use Rattle.session_model.specs.Called.{Called, book_answer}
 
 -- ---- the calls at one mountpoint
 

@@ -7,20 +7,20 @@ use Rattle.std.proofs.lemmas.List.{append-nil}
 use Rattle.session_script.specs.declared.Event.{Event}
 use Rattle.session_script.specs.declared.Event.TheVariants as events
 use Rattle.cast_config.specs.declared.config.Config.{Config}
-use Rattle.session_core.specs.declared.ending.Ending.{Ending}
-use Rattle.session_core.specs.declared.ending.Last.TheVariants as lasts
-use Rattle.session_core.specs.declared.report.Closed as totals
-use Rattle.session_core.specs.declared.report.Connection.{Connection}
-use Rattle.session_core.specs.declared.report.Receipt.{Receipt}
-use Rattle.session_core.specs.declared.report.Report.{Report}
+use Rattle.session_model.specs.declared.ending.Ending.{Ending}
+use Rattle.session_model.specs.declared.ending.Last.TheVariants as lasts
+use Rattle.session_model.specs.declared.report.Closed as totals
+use Rattle.session_model.specs.declared.report.Connection.{Connection}
+use Rattle.session_model.specs.declared.report.Receipt.{Receipt}
+use Rattle.session_model.specs.declared.report.Report.{Report}
 use Rattle.session_core.specs.declared.session.Session.{Session}
-use Rattle.session_core.specs.Headings.{Heading}
-use Rattle.session_core.specs.Judged.{Opening, sends_head, relays, bare_source, bare_rover}
-use Rattle.session_core.specs.Owed.{Happening, arrives, ends}
-use Rattle.session_core.specs.Reports.{IsHeadingOf, AreHeadings, opened_as, bytes_to, told_of, closed_of, report_of, IsReport}
-use Rattle.session_core.specs.Run.{Histories, Connected, World, fresh, happens, happens_in, is_concerned, opens, is_opened, after_event, after_events, closes, world}
+use Rattle.session_model.specs.Headings.{Heading}
+use Rattle.session_model.specs.Judged.{Opening, sends_head, relays, bare_source, bare_rover}
+use Rattle.session_model.specs.Owed.{Happening, arrives, ends}
+use Rattle.session_model.specs.Reports.{IsHeadingOf, AreHeadings, opened_as, bytes_to, told_of, closed_of, report_of, IsReport}
+use Rattle.session_model.specs.Run.{Histories, Connected, World, fresh, happens, happens_in, is_concerned, opens, is_opened, after_event, after_events, closes, world}
 use Rattle.session_core.specs.Standing.{is_halted, StandsFor}
-use Rattle.session_core.proofs.KeepLemmas.{AreFrames}
+use Rattle.session_model.proofs.KeepLemmas.{AreFrames}
 use Rattle.caster_replay.specs.Lives.{Live, live_of, IsLive, place_of, end_of, AreTold}
 use Rattle.caster_replay.specs.Runs.{is_cut, AreKnown, Pairs}
 use Rattle.caster_replay.specs.Calls.{Opens, Closes}

@@ -7,16 +7,16 @@ use Rattle.std.proofs.lemmas.Bool.{eq-eqb, ltb-true, ltb-false}
 use Rattle.std.proofs.lemmas.List.{set-get_or}
 use Rattle.std.proofs.lemmas.List.Elements.{All-head, All-tail}
 use Rattle.cast_config.specs.declared.config.Config.{Config}
-use Rattle.session_core.specs.declared.report.Connection.{Connection}
-use Rattle.session_core.specs.Headings.{Heading}
-use Rattle.session_core.specs.Judged.{Opening}
-use Rattle.session_core.specs.Owed.{Happening, arrives}
-use Rattle.session_core.specs.Endings.{goes_on}
-use Rattle.session_core.specs.Reports.{told_of}
-use Rattle.session_core.specs.Run.{Histories, Connected, World, Moved, judged_of, moved, moved_if, is_concerned, happens_in, happens, placed_if, placed, is_opened, opened_if, opens, fresh}
-use Rattle.session_core.specs.Called.{Called, OthersCalled}
-use Rattle.session_core.proofs.KeepLemmas.{Later}
-use Rattle.session_core.proofs.WellLemmas.{IsSoundOf, IsWell, happens_stays, opens_stays}
+use Rattle.session_model.specs.declared.report.Connection.{Connection}
+use Rattle.session_model.specs.Headings.{Heading}
+use Rattle.session_model.specs.Judged.{Opening}
+use Rattle.session_model.specs.Owed.{Happening, arrives}
+use Rattle.session_model.specs.Endings.{goes_on}
+use Rattle.session_model.specs.Reports.{told_of}
+use Rattle.session_model.specs.Run.{Histories, Connected, World, Moved, judged_of, moved, moved_if, is_concerned, happens_in, happens, placed_if, placed, is_opened, opened_if, opens, fresh}
+use Rattle.session_model.specs.Called.{Called, OthersCalled}
+use Rattle.session_model.proofs.KeepLemmas.{Later}
+use Rattle.session_model.proofs.WellLemmas.{IsSoundOf, IsWell, happens_stays, opens_stays}
 use Rattle.caster_replay.specs.Lives.{IsKept, Live, IsLive, place_of, connection_of, IsToldBy, AreTold}
 use Rattle.caster_replay.specs.Runs.{AreAbove, IsIncreasing, Pairs}
 use Rattle.caster_replay.specs.declared.entry.State.{State}

@@ -12,26 +12,26 @@ use Rattle.rover_session.specs.Owed.{reads}
 use Rattle.rover_session.specs.Made.{segments_after, owed_among}
 use Rattle.session_calls.specs.Steps.{Step}
 use Rattle.cast_config.specs.declared.config.Config.{Config}
-use Rattle.session_core.specs.declared.ending.Ending.{Ending}
-use Rattle.session_core.specs.declared.ending.Last.{Last}
-use Rattle.session_core.specs.declared.ending.Last.TheVariants as lasts
-use Rattle.session_core.specs.declared.report.Receipt.{Receipt}
+use Rattle.session_model.specs.declared.ending.Ending.{Ending}
+use Rattle.session_model.specs.declared.ending.Last.{Last}
+use Rattle.session_model.specs.declared.ending.Last.TheVariants as lasts
+use Rattle.session_model.specs.declared.report.Receipt.{Receipt}
 use Rattle.session_core.specs.declared.session.Session.{Session}
 use Rattle.session_core.specs.declared.stage.Stage.{Stage}
 use Rattle.session_core.specs.declared.stage.Stage.TheVariants as stages
 use Rattle.rover_cursor.specs.declared.segment.Segment.{Segment}
 use Rattle.session_core.specs.Turned.{is_rover}
 use Rattle.session_core.proofs.CloseLemmas.{called_none}
-use Rattle.session_core.specs.Headings.{Heading, incomplete}
-use Rattle.session_core.specs.Judged.{Opening, sends_head, Judged, judged}
-use Rattle.session_core.specs.Owed.{Happening, arrives, takes_turn, ends}
-use Rattle.session_core.specs.Endings.{goes_on}
-use Rattle.session_core.specs.Reports.{IsHeadingOf, AreHeadings, opened_as, bytes_to}
-use Rattle.session_core.specs.Run.{Histories, Connected, Moved, World, makes, nothing_called, judged_of, fresh, happens, is_opened, after_event, after_events}
-use Rattle.session_core.specs.Called.{OthersCalled}
+use Rattle.session_model.specs.Headings.{Heading, incomplete}
+use Rattle.session_model.specs.Judged.{Opening, sends_head, Judged, judged}
+use Rattle.session_model.specs.Owed.{Happening, arrives, takes_turn, ends}
+use Rattle.session_model.specs.Endings.{goes_on}
+use Rattle.session_model.specs.Reports.{IsHeadingOf, AreHeadings, opened_as, bytes_to}
+use Rattle.session_model.specs.Run.{Histories, Connected, Moved, World, makes, nothing_called, judged_of, fresh, happens, is_opened, after_event, after_events}
+use Rattle.session_model.specs.Called.{OthersCalled}
 use Rattle.session_core.specs.Standing.{is_halted, IsAtStage, Fed}
-use Rattle.session_core.proofs.KeepLemmas.{AreFrames}
-use Rattle.session_core.proofs.WellLemmas.{IsSoundOf, events_well}
+use Rattle.session_model.proofs.KeepLemmas.{AreFrames}
+use Rattle.session_model.proofs.WellLemmas.{IsSoundOf, events_well}
 use Rattle.caster_replay.specs.Lives.{IsGoing, IsKept, Live, live_of, IsLive, place_of}
 use Rattle.caster_replay.specs.Runs.{IsKnown, AreKnown, HasHeadings}
 use Rattle.caster_replay.specs.Calls.{Feeds, TakesTurn, Closes}

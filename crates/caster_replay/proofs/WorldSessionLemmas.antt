@@ -15,10 +15,10 @@ use Rattle.session_script.specs.Script.{is_relay, may_follow, is_session_after, 
 use Rattle.session_script.specs.Script as scripts
 use Rattle.cast_config.specs.declared.config.Config.{Config}
 use Rattle.session_core.specs.declared.session.Session.{Session}
-use Rattle.session_core.specs.Judged.{Opening, sends_head, relays, bare_source, bare_rover}
-use Rattle.session_core.specs.Reports.{opened_as, bytes_to, opened_if}
-use Rattle.session_core.specs.Run.{Histories}
-use Rattle.session_core.specs.Called.{OthersCalled}
+use Rattle.session_model.specs.Judged.{Opening, sends_head, relays, bare_source, bare_rover}
+use Rattle.session_model.specs.Reports.{opened_as, bytes_to, opened_if}
+use Rattle.session_model.specs.Run.{Histories}
+use Rattle.session_model.specs.Called.{OthersCalled}
 use Rattle.session_core.specs.Standing.{StandsFor, Follows}
 use Rattle.session_core.specs.Turned.{is_rover}
 use Rattle.caster_replay.specs.Lives.{Live, live_of}

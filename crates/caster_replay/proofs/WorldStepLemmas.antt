@@ -7,22 +7,23 @@ use Rattle.session_calls.specs.Steps.{Step}
 use Rattle.session_calls.specs.Plans.{Plan, left, IsMade}
 use Rattle.rover_session.specs.Made.{segments_after, owed_among}
 use Rattle.cast_config.specs.declared.config.Config.{Config}
-use Rattle.session_core.specs.declared.ending.Ending.{Ending}
-use Rattle.session_core.specs.declared.ending.Last.{Last}
-use Rattle.session_core.specs.declared.ending.Last.TheVariants as lasts
-use Rattle.session_core.specs.declared.report.Receipt.{Receipt}
+use Rattle.session_model.specs.declared.ending.Ending.{Ending}
+use Rattle.session_model.specs.declared.ending.Last.{Last}
+use Rattle.session_model.specs.declared.ending.Last.TheVariants as lasts
+use Rattle.session_model.specs.declared.report.Receipt.{Receipt}
 use Rattle.session_core.specs.declared.session.Session.{Session}
-use Rattle.session_core.specs.Headings.{Heading}
-use Rattle.session_core.specs.Judged.{Judged, judged}
-use Rattle.session_core.specs.Owed.{Received, received, plan_of, arrives, closing}
-use Rattle.session_core.specs.Endings.{ended_by, goes_on}
-use Rattle.session_core.specs.Replies.{sent_by}
-use Rattle.session_core.specs.Reports.{IsHeadingOf, receipt_of, told_of}
-use Rattle.session_core.specs.Run.{Histories, Connected, Moved, judged_of, with_text, with_calls, makes, closed_if, moved}
-use Rattle.session_core.specs.Called.{Called, OthersCalled}
-use Rattle.session_core.specs.Standing.{is_halted, is_uncalled, is_halted_uncalled, IsMadeBy, IsSentBy, EndsAs, Stands, IsReceipt}
-use Rattle.session_core.proofs.LawLemmas.{said_same}
-use Rattle.session_core.proofs.KeepLemmas.{Later, AllSound}
+use Rattle.session_model.specs.Headings.{Heading}
+use Rattle.session_model.specs.Judged.{Judged, judged}
+use Rattle.session_model.specs.Owed.{Received, received, plan_of, arrives, closing}
+use Rattle.session_model.specs.Endings.{ended_by, goes_on}
+use Rattle.session_model.specs.Replies.{sent_by}
+use Rattle.session_model.specs.Reports.{IsHeadingOf, receipt_of, told_of}
+use Rattle.session_model.specs.Run.{Histories, Connected, Moved, judged_of, with_text, with_calls, makes, closed_if, moved}
+use Rattle.session_model.specs.Called.{Called, OthersCalled}
+use Rattle.session_core.specs.Standing.{is_halted, is_uncalled, is_halted_uncalled, IsMadeBy, IsSentBy, EndsAs, Stands}
+use Rattle.session_core.specs.Closed.{IsReceipt}
+use Rattle.session_model.proofs.LawLemmas.{said_same}
+use Rattle.session_model.proofs.KeepLemmas.{Later, AllSound}
 use Rattle.caster_replay.specs.Lives.{sent_to, IsGoing, IsOver, connection_of}
 use Rattle.caster_replay.proofs.WorldMadeLemmas.{made_is, owed_made}
 use Rattle.session_core.proofs.FeedHeadLemmas.{others_none}

@@ -5,8 +5,8 @@ use Rattle.mount_ring.specs.declared.shape.RingShape.{RingShape}
 use Rattle.cast_config.specs.declared.config.Config.{Config}
 use Rattle.last_frames.specs.Greeted.{Greeting}
 use Rattle.session_calls.specs.Rings.{history_at, shape_at}
-use Rattle.session_core.specs.Run.{Histories}
-use Rattle.session_core.specs.Setting.{shapes, caps}
+use Rattle.session_model.specs.Run.{Histories}
+use Rattle.session_model.specs.Setting.{shapes, caps}
 use Rattle.caster_replay.specs.Places.{greeting_since}
 
 -- what no call changes of the rings and of the book, and all calls so far

@@ -6,19 +6,19 @@ use Rattle.mount_ring.specs.declared.call.RingCall.{RingCall}
 use Rattle.mount_ring.specs.History.{state_of}
 use Rattle.session_calls.specs.Rings.{history_at}
 use Rattle.cast_config.specs.declared.config.Config.{Config}
-use Rattle.session_core.specs.declared.ending.Ending.{Ending}
+use Rattle.session_model.specs.declared.ending.Ending.{Ending}
 use Rattle.session_core.specs.declared.ending.Flow.{Flow}
 use Rattle.session_core.specs.declared.ending.Flow.TheVariants as flows
-use Rattle.session_core.specs.declared.ending.Last.{Last}
-use Rattle.session_core.specs.declared.ending.Last.TheVariants as lasts
-use Rattle.session_core.specs.declared.report.Receipt.{Receipt}
+use Rattle.session_model.specs.declared.ending.Last.{Last}
+use Rattle.session_model.specs.declared.ending.Last.TheVariants as lasts
+use Rattle.session_model.specs.declared.report.Receipt.{Receipt}
 use Rattle.session_core.specs.declared.rover_state.RoverState.{RoverState}
 use Rattle.session_core.specs.declared.session.Session.{Session}
 use Rattle.session_core.specs.States.{rover_state}
 use Rattle.session_core.specs.Beginnings.{bare_opening}
-use Rattle.session_core.specs.Called.{is_halt}
-use Rattle.session_core.specs.Judged.{Opening, sends_head, relays, bare_source, bare_rover}
-use Rattle.session_core.specs.Run.{Histories}
+use Rattle.session_model.specs.Called.{is_halt}
+use Rattle.session_model.specs.Judged.{Opening, sends_head, relays, bare_source, bare_rover}
+use Rattle.session_model.specs.Run.{Histories}
 use Rattle.session_core.specs.Standing.{Follows}
 use Rattle.session_core.specs.Turned.{flow_of}
 use Rattle.caster_replay.specs.declared.entry.Entry.{Entry}

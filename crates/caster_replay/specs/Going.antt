@@ -12,11 +12,11 @@ use Rattle.session_script.specs.declared.Event.{Event}
 use Rattle.session_script.specs.Numbers.{Numbers, no_numbers, may_speak}
 use Rattle.session_script.specs.Script as scripts
 use Rattle.cast_config.specs.declared.config.Config.{Config}
-use Rattle.session_core.specs.Headings.{Heading}
+use Rattle.session_model.specs.Headings.{Heading}
 use Rattle.session_core.specs.declared.rover_state.RoverState.{RoverState}
-use Rattle.session_core.specs.Replies.{version_of}
-use Rattle.session_core.specs.Reports.{AreHeadings}
-use Rattle.session_core.specs.Run.{Connected, World, judged_of, is_concerned, after_events}
+use Rattle.session_model.specs.Replies.{version_of}
+use Rattle.session_model.specs.Reports.{AreHeadings}
+use Rattle.session_model.specs.Run.{Connected, World, judged_of, is_concerned, after_events}
 use Rattle.session_core.specs.States.{state_in}
 
 -- ---- after these events

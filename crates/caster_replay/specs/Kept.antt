@@ -2,8 +2,8 @@
 use Rattle.std.specs.Prelude.{◌≡◌, ℕ, List, ◌++◌, ◌∷◌, Option}
 use Rattle.session_script.specs.declared.Event.{Event}
 use Rattle.cast_config.specs.declared.config.Config.{Config}
-use Rattle.session_core.specs.Run.{Histories}
-use Rattle.session_core.specs.Setting as setting
+use Rattle.session_model.specs.Run.{Histories}
+use Rattle.session_model.specs.Setting as setting
 use Rattle.last_frames.specs.Greeted.{Greeting}
 use Rattle.caster_replay.specs.declared.run.Run.{Run}
 use Rattle.caster_replay.specs.Caster.{greeting_at}

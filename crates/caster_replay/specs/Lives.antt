@@ -6,17 +6,17 @@ use Rattle.rover_session.specs.Made.{segments_after}
 use Rattle.session_script.specs.declared.Event.{Event}
 use Rattle.session_script.specs.declared.Event.TheVariants as events
 use Rattle.cast_config.specs.declared.config.Config.{Config}
-use Rattle.session_core.specs.declared.ending.Last.TheVariants as lasts
-use Rattle.session_core.specs.declared.report.Connection.{Connection}
-use Rattle.session_core.specs.declared.report.Receipt.{Receipt}
+use Rattle.session_model.specs.declared.ending.Last.TheVariants as lasts
+use Rattle.session_model.specs.declared.report.Connection.{Connection}
+use Rattle.session_model.specs.declared.report.Receipt.{Receipt}
 use Rattle.session_core.specs.declared.session.Session.{Session}
-use Rattle.session_core.specs.Headings.{Heading}
-use Rattle.session_core.specs.Owed.{received}
-use Rattle.session_core.specs.Endings.{goes_on}
-use Rattle.session_core.specs.Replies.{sent_by}
-use Rattle.session_core.specs.Reports.{receipt_of}
-use Rattle.session_core.specs.Run.{Histories, Connected, judged_of}
-use Rattle.session_core.specs.Called.{OthersCalled}
+use Rattle.session_model.specs.Headings.{Heading}
+use Rattle.session_model.specs.Owed.{received}
+use Rattle.session_model.specs.Endings.{goes_on}
+use Rattle.session_model.specs.Replies.{sent_by}
+use Rattle.session_model.specs.Reports.{receipt_of}
+use Rattle.session_model.specs.Run.{Histories, Connected, judged_of}
+use Rattle.session_model.specs.Called.{OthersCalled}
 use Rattle.session_core.specs.Standing.{Stands}
 use Rattle.caster_replay.specs.declared.entry.Entry.{Entry}
 use Rattle.caster_replay.specs.declared.entry.State.{State}

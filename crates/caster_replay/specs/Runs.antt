@@ -5,10 +5,10 @@ use Rattle.std.specs.List.{All}
 use Rattle.session_script.specs.declared.Event.{Event}
 use Rattle.session_script.specs.declared.Event.TheVariants as events
 use Rattle.cast_config.specs.declared.config.Config.{Config}
-use Rattle.session_core.specs.Headings.{Heading}
-use Rattle.session_core.specs.Endings.{goes_on}
-use Rattle.session_core.specs.Reports.{IsHeadingOf, AreHeadings, opened_as, bytes_to}
-use Rattle.session_core.specs.Run.{Histories, Connected, World, judged_of, is_opened, after_events}
+use Rattle.session_model.specs.Headings.{Heading}
+use Rattle.session_model.specs.Endings.{goes_on}
+use Rattle.session_model.specs.Reports.{IsHeadingOf, AreHeadings, opened_as, bytes_to}
+use Rattle.session_model.specs.Run.{Histories, Connected, World, judged_of, is_opened, after_events}
 use Rattle.caster_replay.specs.Lives.{Live, IsLive}
 
 -- ---- what the events say of a connection

@@ -2,7 +2,7 @@
 use Rattle.std.specs.Prelude.{◌≡◌, ◌≢◌, ℕ, ◌==◌, nat_lt, if◌then◌else◌, List, [], ◌∷◌, ◌++◌}
 use Rattle.session_script.specs.declared.Event.{Event}
 use Rattle.session_script.specs.declared.Event.TheVariants as events
-use Rattle.session_core.specs.declared.report.Connection.{Connection}
+use Rattle.session_model.specs.declared.report.Connection.{Connection}
 use Rattle.caster_replay.specs.Lives.{Live}
 
 -- all bytes that the connection of this number was sent, none where there is no such connection:

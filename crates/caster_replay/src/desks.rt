@@ -6,11 +6,11 @@ ghost use Rattle.mount_ring.specs.declared.shape.RingShape.{RingShape};
 ghost use Rattle.mount_ring.specs.History.{state_of};
 ghost use Rattle.session_calls.specs.Rings.{history_at};
 ghost use Rattle.cast_config.specs.Kept.{KeepsRules};
-ghost use Rattle.session_core.specs.Setting.{caps, shapes};
+ghost use Rattle.session_model.specs.Setting.{caps, shapes};
 ghost use Rattle.session_core.specs.Beginnings.{bare_opening};
-ghost use Rattle.session_core.specs.Called.{is_halt};
-ghost use Rattle.session_core.specs.Run.{nothing_called};
-ghost use Rattle.session_core.specs.Setting as setting;
+ghost use Rattle.session_model.specs.Called.{is_halt};
+ghost use Rattle.session_model.specs.Run.{nothing_called};
+ghost use Rattle.session_model.specs.Setting as setting;
 ghost use Rattle.session_core.specs.Standing.{Follows};
 ghost use Rattle.session_core.specs.Turned.{flow_of};
 ghost use Rattle.caster_replay.specs.Calls.{Closes, Feeds, Opens, TakesTurn};
@@ -39,7 +39,7 @@ pub(crate) struct Desks {
 
 impl Model for Desks {
     ghost use Rattle.std.specs.Prelude.{map};
-    ghost use Rattle.session_core.specs.Called.{seen_at};
+    ghost use Rattle.session_model.specs.Called.{seen_at};
     ghost use Rattle.caster_replay.specs.Caster.{DesksValue};
     ghost use Rattle.caster_replay.specs.Places.{place_cleared};
 

@@ -3,8 +3,8 @@
 ghost use Rattle.std.specs.Prelude.{◌≡◌, ℕ, length, IfOk, OnOk};
 ghost use Rattle.cast_config.specs.declared.config.Config.{Config as ConfigValue};
 ghost use Rattle.cast_config.specs.Kept.{KeepsRules};
-ghost use Rattle.session_core.specs.Called as called;
-ghost use Rattle.session_core.specs.Setting as setting;
+ghost use Rattle.session_model.specs.Called as called;
+ghost use Rattle.session_model.specs.Setting as setting;
 ghost use Rattle.caster_replay.specs.Caster.{ArePlaces, SamePlaces};
 ghost use Rattle.caster_replay.specs.Entries.{ClosedAt, FedAt, MayBeClosed, MayGoOn, TurnedAt, is_behind_at, is_ended_at, is_open_at, rover_at};
 

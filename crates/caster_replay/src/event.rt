@@ -2,7 +2,7 @@
 
 ghost use Rattle.std.specs.Prelude.{◌≡◌, ℕ, ◌++◌, [], ◌∷◌, OnOk, List};
 ghost use Rattle.cast_config.specs.Kept.{KeepsRules};
-ghost use Rattle.session_core.specs.Setting as setting;
+ghost use Rattle.session_model.specs.Setting as setting;
 ghost use Rattle.session_script.specs.declared.Event.{Event as EventValue};
 ghost use Rattle.caster_replay.specs.Lives.{lives_in};
 ghost use Rattle.caster_replay.specs.Scripts.{Plays, Stands};

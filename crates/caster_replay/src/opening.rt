@@ -3,8 +3,8 @@
 ghost use Rattle.std.specs.Prelude.{◌≡◌, ℕ, ◌<◌, ⊤, [], length, IfOk};
 ghost use Rattle.cast_config.specs.declared.config.Config.{Config as ConfigValue};
 ghost use Rattle.cast_config.specs.Kept.{KeepsRules};
-ghost use Rattle.session_core.specs.Run.{Histories};
-ghost use Rattle.session_core.specs.Judged.{relays, sends_head};
+ghost use Rattle.session_model.specs.Run.{Histories};
+ghost use Rattle.session_model.specs.Judged.{relays, sends_head};
 ghost use Rattle.session_core.specs.Beginnings.{bare_opening};
 ghost use Rattle.caster_replay.specs.Caster.{ArePlaces, SamePlaces};
 ghost use Rattle.caster_replay.specs.Entries.{HasOpened, IsUnsent, NamesRelay, opening_of};

@@ -2,7 +2,7 @@
 
 ghost use Rattle.std.specs.Prelude.{◌≡◌, ℕ, IfOk};
 ghost use Rattle.cast_config.specs.Kept.{KeepsRules};
-ghost use Rattle.session_core.specs.Reports.{IsReport};
+ghost use Rattle.session_model.specs.Reports.{IsReport};
 ghost use Rattle.caster_replay.specs.Kept.{StandsFor};
 ghost use Rattle.caster_replay.specs.Scripts.{IsScriptFor};
 

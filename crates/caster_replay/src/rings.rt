@@ -3,7 +3,7 @@
 ghost use Rattle.std.specs.Prelude.{◌≡◌, ◌<◌, ℕ, [], length, get_or, IfOk, None, Some, if◌then◌else◌};
 ghost use Rattle.cast_config.specs.Kept.{KeepsRules};
 ghost use Rattle.mount_ring.specs.declared.shape.RingShape.{RingShape};
-ghost use Rattle.session_core.specs.Setting.{anonymous_cap, caps, shapes};
+ghost use Rattle.session_model.specs.Setting.{anonymous_cap, caps, shapes};
 ghost use Rattle.caster_replay.specs.Places.{place_cleared, place_seen, place_shape};
 
 use crate::run_place::RunPlace;

@@ -3,8 +3,8 @@
 ghost use Rattle.std.specs.Prelude.{◌≡◌, ℕ, ◌≤◌, ◌+◌, [], ◌∷◌, ◌++◌, List, length, IsTrue, IfOk, OnOk, IfNone, IfSome, None, Some};
 ghost use Rattle.cast_config.specs.declared.config.Config.{Config as ConfigValue};
 ghost use Rattle.cast_config.specs.Kept.{KeepsRules};
-ghost use Rattle.session_core.specs.Reports.{IsReport};
-ghost use Rattle.session_core.specs.Setting as setting;
+ghost use Rattle.session_model.specs.Reports.{IsReport};
+ghost use Rattle.session_model.specs.Setting as setting;
 ghost use Rattle.session_script.specs.declared.Event.{Event as EventValue};
 ghost use Rattle.caster_replay.specs.Entries.{AreOver, IsOverAt};
 ghost use Rattle.caster_replay.specs.Going.{GoesOn, IsBehind, IsRover, MaySpeak};

@@ -3,7 +3,7 @@
 ghost use Rattle.std.specs.Prelude.{◌≡◌, ℕ, ◌^◌, ◌<◌, length, map, IfOk};
 ghost use Rattle.cast_config.specs.Kept.{KeepsRules};
 ghost use Rattle.cast_config.specs.declared.config.Config.{Config as ConfigValue};
-ghost use Rattle.session_core.specs.Reports.{closed_of, mount_total, sums_from};
+ghost use Rattle.session_model.specs.Reports.{closed_of, mount_total, sums_from};
 ghost use Rattle.caster_replay.specs.Caster.{ArePlaces};
 
 use crate::desks::Desks;

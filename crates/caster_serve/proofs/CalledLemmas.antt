@@ -7,9 +7,9 @@ use Rattle.turn_log.proofs.HeardLaws.{heard_none, heard_both, heard_less}
 use Rattle.session_calls.specs.Steps.{Step, on_book, book_part}
 use Rattle.session_calls.proofs.WentLemmas.{went_none, went_both, went_less}
 use Rattle.cast_config.specs.declared.config.Config.{Config}
-use Rattle.session_core.specs.Setting.{shapes}
-use Rattle.session_core.specs.Run.{Histories}
-use Rattle.session_core.specs.Called.{Called, OthersCalled, book_answer}
+use Rattle.session_model.specs.Setting.{shapes}
+use Rattle.session_model.specs.Run.{Histories}
+use Rattle.session_model.specs.Called.{Called, OthersCalled, book_answer}
 
 -- nothing called
 pub called_none : (c : Config) (h : Histories) (me : ℕ) → Called c false h h me []

@@ -15,8 +15,8 @@ use Rattle.caster_accounts.specs.declared.account.Sum.{Sum}
 use Rattle.cast_config.specs.declared.config.Config.{Config}
 use Rattle.cast_config.specs.declared.config.Relay.{Relay}
 use Rattle.session_calls.specs.Rings.{AllLater}
-use Rattle.session_core.specs.Run.{Histories}
-use Rattle.session_core.specs.Setting.{caps}
+use Rattle.session_model.specs.Run.{Histories}
+use Rattle.session_model.specs.Setting.{caps}
 use Rattle.caster_street.specs.Ends.{EndTold, at_door, over_link, Kind, a_worker, a_relay, IsUnused, door_failed, kind_of, kinds, relays_from}
 use Rattle.caster_places.specs.Known.{Fit}
 use Rattle.caster_places.specs.Leaves.{Leaves, left_in}

@@ -10,25 +10,26 @@ use Rattle.mount_ring.specs.declared.call.RingCall.{RingCall}
 use Rattle.turn_log.specs.History.{History}
 use Rattle.rover_session.specs.Made.{segments_after, owed_among}
 use Rattle.cast_config.specs.declared.config.Config.{Config}
-use Rattle.session_core.specs.declared.ending.Ending.{Ending}
-use Rattle.session_core.specs.declared.ending.Ending.TheVariants.{Memory}
-use Rattle.session_core.specs.declared.ending.Last.{Last}
-use Rattle.session_core.specs.declared.ending.Last.TheVariants as lasts
-use Rattle.session_core.specs.declared.report.Receipt.{Receipt}
+use Rattle.session_model.specs.declared.ending.Ending.{Ending}
+use Rattle.session_model.specs.declared.ending.Ending.TheVariants.{Memory}
+use Rattle.session_model.specs.declared.ending.Last.{Last}
+use Rattle.session_model.specs.declared.ending.Last.TheVariants as lasts
+use Rattle.session_model.specs.declared.report.Receipt.{Receipt}
 use Rattle.session_core.specs.declared.session.Session.{Session}
-use Rattle.session_core.specs.Headings.{Heading}
-use Rattle.session_core.specs.Judged.{Opening, Judged, waiting, judged}
-use Rattle.session_core.specs.Owed.{received, plan_of, closing}
-use Rattle.session_core.specs.Endings.{ended_by}
-use Rattle.session_core.specs.Replies.{opening_text, sent_by}
-use Rattle.session_core.specs.Reports.{IsHeadingOf, junk_of}
-use Rattle.session_core.specs.Promises.{IsSoundIn}
-use Rattle.session_core.specs.Run.{Histories}
-use Rattle.session_core.specs.Called.{Called, OthersCalled}
-use Rattle.session_core.specs.Standing.{StandsFor, EndsAs, IsMadeBy, IsSentBy, IsSettled, IsReceipt, IsClosed, is_halted, is_uncalled, is_halted_uncalled}
-use Rattle.session_core.proofs.KeepLemmas.{AllSound}
+use Rattle.session_model.specs.Headings.{Heading}
+use Rattle.session_model.specs.Judged.{Opening, Judged, waiting, judged}
+use Rattle.session_model.specs.Owed.{received, plan_of, closing}
+use Rattle.session_model.specs.Endings.{ended_by}
+use Rattle.session_model.specs.Replies.{opening_text, sent_by}
+use Rattle.session_model.specs.Reports.{IsHeadingOf, junk_of}
+use Rattle.session_model.specs.Promises.{IsSoundIn}
+use Rattle.session_model.specs.Run.{Histories}
+use Rattle.session_model.specs.Called.{Called, OthersCalled}
+use Rattle.session_core.specs.Standing.{StandsFor, EndsAs, IsMadeBy, IsSentBy, is_halted, is_uncalled, is_halted_uncalled}
+use Rattle.session_core.specs.Closed.{IsSettled, IsReceipt, IsClosed}
+use Rattle.session_model.proofs.KeepLemmas.{AllSound}
 use Rattle.session_core.proofs.ClosingLemmas.{closing_unasked, junk_unasked}
-use Rattle.caster_serve.specs.Courses.{happened, steps_of, text_of}
+use Rattle.session_model.specs.Courses.{happened, steps_of, text_of}
 use Rattle.caster_serve.specs.Links.{Stopped, is_torn}
 use Rattle.caster_serve.specs.Served.{Came, IsJudged, LinkGoes, LinkServed}
 use Rattle.caster_serve.proofs.CalledLemmas.{called_none, called_less, others_none}

@@ -3,10 +3,10 @@ use Rattle.std.proofs.Common.{◌≡◌, ◌∙◌, ◌⊎◌, ℕ, Bool, true, 
 use Rattle.std.proofs.lemmas.List.{append-nil, map-append}
 use Rattle.std.proofs.lemmas.Grind.{fold-append}
 use Rattle.session_calls.specs.Steps.{Step}
-use Rattle.session_core.specs.Judged.{Opening}
-use Rattle.session_core.specs.Owed.{Happening}
+use Rattle.session_model.specs.Judged.{Opening}
+use Rattle.session_model.specs.Owed.{Happening}
 use Rattle.cast_config.specs.declared.config.Config.{Config}
-use Rattle.caster_serve.specs.Courses.{Event, happened, steps_on, steps_of, with_bytes, text_of, IsGoingOn, IsOwed, IsFirstOwed, IsCourse, Ran}
+use Rattle.session_model.specs.Courses.{Event, happened, steps_on, steps_of, with_bytes, text_of, IsGoingOn, IsOwed, IsFirstOwed, IsCourse, Ran}
 
 -- what a connection made for an event, halted by it or not
 abbrev pub OwedBy : Bool → Config → Opening → List ℕ → List Step → Event → Type 0

@@ -26,16 +26,17 @@ use Rattle.upstream_relay.specs.Owed.{publishing, after_claim}
 use Rattle.rover_session.specs.Owed.{Terms, if_held, looks, chooses, changed, joins, follows, joins_each, plan_by}
 use Rattle.rover_session.specs.Made.{segments_after, owed_among, sent_in, overrun_in}
 use Rattle.cast_config.specs.declared.config.Config.{Config}
-use Rattle.session_core.specs.declared.ending.Last.{Last}
-use Rattle.session_core.specs.declared.report.Receipt.{Receipt}
-use Rattle.session_core.specs.Judged.{Opening, Judged, waiting, refused, unanswered, table, source, rover}
-use Rattle.session_core.specs.Owed.{Received, unasked, claimed, taken, entered, full, received_by_ring, received_by, received, if_entered, terms_of, plan_of, closing_by, closing}
-use Rattle.session_core.specs.Reports.{is_entered}
-use Rattle.session_core.specs.Run.{Histories}
-use Rattle.session_core.specs.Called.{Called, book_answer}
-use Rattle.session_core.specs.Standing.{IsMadeBy, IsSettled}
+use Rattle.session_model.specs.declared.ending.Last.{Last}
+use Rattle.session_model.specs.declared.report.Receipt.{Receipt}
+use Rattle.session_model.specs.Judged.{Opening, Judged, waiting, refused, unanswered, table, source, rover}
+use Rattle.session_model.specs.Owed.{Received, unasked, claimed, taken, entered, full, received_by_ring, received_by, received, if_entered, terms_of, plan_of, closing_by, closing}
+use Rattle.session_model.specs.Reports.{is_entered}
+use Rattle.session_model.specs.Run.{Histories}
+use Rattle.session_model.specs.Called.{Called, book_answer}
+use Rattle.session_core.specs.Standing.{IsMadeBy}
+use Rattle.session_core.specs.Closed.{IsSettled}
 use Rattle.cast_io.specs.declared.steps.Step.{Step as LinkTook}
-use Rattle.caster_serve.specs.Courses.{steps_of}
+use Rattle.session_model.specs.Courses.{steps_of}
 use Rattle.caster_serve.specs.Served.{LinkGoes}
 use Rattle.caster_places.specs.Leaves.{left_in, Leaves}
 use Rattle.caster_serve.specs.Works.{tallied}

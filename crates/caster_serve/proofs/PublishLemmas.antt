@@ -20,16 +20,17 @@ use Rattle.source_session.specs.Body.{frames_of}
 use Rattle.upstream_relay.specs.Owed.{publishing, after_claim}
 use Rattle.rover_session.specs.Made.{owed_among, is_call_owed, segments_after}
 use Rattle.cast_config.specs.declared.config.Config.{Config}
-use Rattle.session_core.specs.declared.ending.Last.{Last}
-use Rattle.session_core.specs.declared.report.Receipt.{Receipt}
-use Rattle.session_core.specs.Judged.{Opening, Judged, SourceTerms, source}
-use Rattle.session_core.specs.Owed.{Received, claimed, received_by_ring, received, source_plan, plan_of, closing_by}
-use Rattle.session_core.specs.Run.{Histories}
-use Rattle.session_core.specs.Called.{Called}
-use Rattle.session_core.specs.Setting.{shapes}
-use Rattle.session_core.specs.Standing.{IsMadeBy, IsSettled, is_halted}
+use Rattle.session_model.specs.declared.ending.Last.{Last}
+use Rattle.session_model.specs.declared.report.Receipt.{Receipt}
+use Rattle.session_model.specs.Judged.{Opening, Judged, SourceTerms, source}
+use Rattle.session_model.specs.Owed.{Received, claimed, received_by_ring, received, source_plan, plan_of, closing_by}
+use Rattle.session_model.specs.Run.{Histories}
+use Rattle.session_model.specs.Called.{Called}
+use Rattle.session_model.specs.Setting.{shapes}
+use Rattle.session_core.specs.Standing.{IsMadeBy, is_halted}
+use Rattle.session_core.specs.Closed.{IsSettled}
 use Rattle.cast_io.specs.declared.steps.Step.{Step as LinkTook}
-use Rattle.caster_serve.specs.Courses.{steps_of}
+use Rattle.session_model.specs.Courses.{steps_of}
 use Rattle.caster_serve.specs.Served.{LinkGoes}
 use Rattle.caster_serve.specs.Publishes.{AreDue, HasPublished}
 

@@ -9,20 +9,20 @@ use Rattle.session_calls.proofs.PlanLemmas.{made_rest}
 use Rattle.rover_session.specs.Owed.{reads}
 use Rattle.rover_session.specs.Made.{segments_after, owed_among, is_owed}
 use Rattle.cast_config.specs.declared.config.Config.{Config}
-use Rattle.session_core.specs.declared.ending.Ending.{Ending}
+use Rattle.session_model.specs.declared.ending.Ending.{Ending}
 use Rattle.session_core.specs.declared.session.Session.{Session}
 use Rattle.session_core.specs.declared.stage.Stage.{Stage}
 use Rattle.session_core.specs.declared.stage.Stage.TheVariants as stages
-use Rattle.session_core.specs.Headings.{Heading}
-use Rattle.session_core.specs.Judged.{Opening, Judged, judged}
-use Rattle.session_core.specs.Owed.{Happening, arrives, takes_turn, plan_of}
-use Rattle.session_core.specs.Reports.{IsHeadingOf}
-use Rattle.session_core.specs.Run.{Histories}
-use Rattle.session_core.specs.Called.{Called, OthersCalled}
+use Rattle.session_model.specs.Headings.{Heading}
+use Rattle.session_model.specs.Judged.{Opening, Judged, judged}
+use Rattle.session_model.specs.Owed.{Happening, arrives, takes_turn, plan_of}
+use Rattle.session_model.specs.Reports.{IsHeadingOf}
+use Rattle.session_model.specs.Run.{Histories}
+use Rattle.session_model.specs.Called.{Called, OthersCalled}
 use Rattle.session_core.specs.Standing.{Stands, StandsFor, IsAtStage, IsMadeBy, EndsAs, Follows, Fed, is_halted}
 use Rattle.session_core.specs.declared.ending.Flow.TheVariants as flows
 use Rattle.session_core.specs.Turned.{Turned, is_rover, flow_of}
-use Rattle.caster_serve.specs.Courses.{Event, happened, steps_of, text_of, IsGoingOn, Ran}
+use Rattle.session_model.specs.Courses.{Event, happened, steps_of, text_of, IsGoingOn, Ran}
 use Rattle.caster_serve.specs.Links.{IsLeftOut}
 use Rattle.caster_serve.specs.Served.{Reached, Arrived}
 use Rattle.caster_serve.proofs.CalledLemmas.{called_none, called_both, called_less, others_none}

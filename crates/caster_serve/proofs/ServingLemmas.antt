@@ -10,13 +10,13 @@ use Rattle.cast_io.specs.declared.link.Got.TheVariants as got
 use Rattle.cast_io.specs.Told.{LinkTold}
 use Rattle.cast_io.specs.Links.{HasRead, step_of}
 use Rattle.cast_config.specs.declared.config.Config.{Config}
-use Rattle.session_core.specs.declared.ending.Last.TheVariants as lasts
+use Rattle.session_model.specs.declared.ending.Last.TheVariants as lasts
 use Rattle.session_core.specs.declared.session.Session.{Session}
-use Rattle.session_core.specs.Judged.{Opening}
-use Rattle.session_core.specs.Owed.{Happening, arrives, takes_turn}
-use Rattle.session_core.specs.Run.{Histories}
+use Rattle.session_model.specs.Judged.{Opening}
+use Rattle.session_model.specs.Owed.{Happening, arrives, takes_turn}
+use Rattle.session_model.specs.Run.{Histories}
 use Rattle.session_core.specs.Standing.{StandsFor, Follows, is_halted}
-use Rattle.caster_serve.specs.Courses.{text_of, Ran}
+use Rattle.session_model.specs.Courses.{text_of, Ran}
 use Rattle.caster_serve.specs.Links.{IsLeftOut, happens_by, happens_in}
 use Rattle.caster_serve.specs.Sending.{HasSent, HasTorn}
 use Rattle.caster_serve.specs.Served.{Reached, Arrived, Serving, Came}

@@ -15,7 +15,7 @@ use Rattle.cast_config.specs.declared.config.Config.{Config}
 use Rattle.cast_config.specs.declared.config.Group.{Group}
 use Rattle.cast_config.specs.declared.config.Mount.{Mount}
 use Rattle.cast_config.specs.Served.{filters_of}
-use Rattle.session_core.specs.Setting.{shapes, shapes_from}
+use Rattle.session_model.specs.Setting.{shapes, shapes_from}
 use Rattle.session_core.proofs.HeldLemmas.{length_shapes}
 use Rattle.caster_places.specs.Piles.{AreMatched}
 use Rattle.caster_serve.specs.Sharing.{AllSay, AreDealt, AreNewPasses, IsNewPass, ring_of}

@@ -15,7 +15,7 @@ use Rattle.turn_log.specs.declared.lock.parts.Pass.{Pass}
 use Rattle.turn_log.specs.Lock.{turn_value, pass_number, pass_seen, IsPassOf}
 use Rattle.mount_ring.specs.Kept.{ring_shape}
 use Rattle.session_calls.specs.Rings.{AllLater}
-use Rattle.session_core.specs.Run.{Histories, nothing_called}
+use Rattle.session_model.specs.Run.{Histories, nothing_called}
 use Rattle.cast_config.specs.declared.config.Config.{Config}
 use Rattle.caster_street.specs.Ends.{EndTold}
 use Rattle.caster_places.specs.Piles.{AreMatched}

@@ -22,15 +22,15 @@ use Rattle.cast_config.specs.declared.config.Config.{Config}
 use Rattle.session_core.specs.declared.session.Session.{Session}
 use Rattle.session_core.specs.declared.stage.Stage.{Stage}
 use Rattle.session_core.specs.declared.stage.Stage.TheVariants as stages
-use Rattle.session_core.specs.Judged.{Opening, Judged}
-use Rattle.session_core.specs.Owed.{received}
-use Rattle.session_core.specs.Replies.{opening_text, reply_of, version_of, kept_of, kept_frames, sent_by}
-use Rattle.session_core.specs.Setting.{shapes}
-use Rattle.session_core.specs.Run.{Histories}
-use Rattle.session_core.specs.Called.{Called}
+use Rattle.session_model.specs.Judged.{Opening, Judged}
+use Rattle.session_model.specs.Owed.{received}
+use Rattle.session_model.specs.Replies.{opening_text, reply_of, version_of, kept_of, kept_frames, sent_by}
+use Rattle.session_model.specs.Setting.{shapes}
+use Rattle.session_model.specs.Run.{Histories}
+use Rattle.session_model.specs.Called.{Called}
 use Rattle.session_core.specs.Standing.{StandsFor, IsAtStage}
-use Rattle.session_core.specs.Promises.{IsSoundIn}
-use Rattle.session_core.proofs.KeepLemmas.{Later, AllSound, all_later}
+use Rattle.session_model.specs.Promises.{IsSoundIn}
+use Rattle.session_model.proofs.KeepLemmas.{Later, AllSound, all_later}
 
 -- ---- by what the session stands for
 

@@ -16,10 +16,10 @@ use Rattle.cast_config.specs.declared.config.Config.{Config}
 use Rattle.cast_config.specs.declared.config.Relay.{Relay}
 use Rattle.cast_config.specs.Kept.{KeepsRules}
 use Rattle.cast_config.proofs.KeptLemmas.{within}
-use Rattle.session_core.specs.declared.report.Closed.{Closed}
-use Rattle.session_core.specs.Run.{Histories}
-use Rattle.session_core.specs.Reports.{added, closed_of}
-use Rattle.session_core.specs.Setting.{caps}
+use Rattle.session_model.specs.declared.report.Closed.{Closed}
+use Rattle.session_model.specs.Run.{Histories}
+use Rattle.session_model.specs.Reports.{added, closed_of}
+use Rattle.session_model.specs.Setting.{caps}
 use Rattle.session_core.proofs.HeldLemmas.{length_shapes}
 use Rattle.caster_street.specs.Ends.{EndTold, HasAsked, HasTakenBack, IsUnused, a_worker, asked_of, doors_in, links_in, door_failed, kind_of, kinds, relays_from}
 use Rattle.caster_places.specs.declared.piles.Piles.{Piles}

@@ -10,9 +10,9 @@ use Rattle.cast_io.specs.Doors.{HasAccepted, HasHungUp}
 use Rattle.cast_io.proofs.ToldLemmas.{grew_none, grew_both, rose_since}
 use Rattle.caster_accounts.specs.declared.account.Sum.{Sum}
 use Rattle.cast_config.specs.declared.config.Config.{Config}
-use Rattle.session_core.specs.declared.report.Receipt.{Receipt}
-use Rattle.session_core.specs.Judged.{Opening, sends_head, relays}
-use Rattle.session_core.specs.Run.{Histories}
+use Rattle.session_model.specs.declared.report.Receipt.{Receipt}
+use Rattle.session_model.specs.Judged.{Opening, sends_head, relays}
+use Rattle.session_model.specs.Run.{Histories}
 use Rattle.caster_serve.specs.Links.{IsCausedBy}
 use Rattle.caster_serve.specs.Served.{LinkServed}
 use Rattle.caster_places.specs.Leaves.{Leaves}

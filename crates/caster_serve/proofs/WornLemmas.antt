@@ -11,20 +11,21 @@ use Rattle.cast_config.specs.declared.config.Config.{Config}
 use Rattle.session_calls.specs.Rings.{AllLater}
 use Rattle.turn_log.specs.declared.place.TurnFault.{TurnFault}
 use Rattle.turn_log.specs.declared.place.TurnFault.TheVariants as turns
-use Rattle.session_core.specs.declared.ending.Ending.{Ending}
-use Rattle.session_core.specs.declared.ending.Ending.TheVariants as endings
-use Rattle.session_core.specs.declared.ending.Last.{Last}
-use Rattle.session_core.specs.declared.ending.Last.TheVariants as lasts
-use Rattle.session_core.specs.declared.report.Receipt.{Receipt}
+use Rattle.session_model.specs.declared.ending.Ending.{Ending}
+use Rattle.session_model.specs.declared.ending.Ending.TheVariants as endings
+use Rattle.session_model.specs.declared.ending.Last.{Last}
+use Rattle.session_model.specs.declared.ending.Last.TheVariants as lasts
+use Rattle.session_model.specs.declared.report.Receipt.{Receipt}
 use Rattle.session_core.specs.declared.session.Session.{Session}
-use Rattle.session_core.specs.Called.{IsCause}
-use Rattle.session_core.specs.Endings.{at_end, ended_last}
-use Rattle.session_core.specs.Judged.{Opening}
+use Rattle.session_model.specs.Called.{IsCause}
+use Rattle.session_model.specs.Endings.{at_end, ended_last}
+use Rattle.session_model.specs.Judged.{Opening}
 use Rattle.session_core.specs.Published.{IsTurnRefused}
-use Rattle.session_core.specs.Owed.{Received, unasked, claimed, taken, entered, full, received}
-use Rattle.session_core.specs.Run.{Histories}
-use Rattle.session_core.specs.Standing.{StandsFor, ending_by}
-use Rattle.caster_serve.specs.Courses.{steps_of, text_of}
+use Rattle.session_model.specs.Owed.{Received, unasked, claimed, taken, entered, full, received}
+use Rattle.session_model.specs.Run.{Histories}
+use Rattle.session_core.specs.Standing.{StandsFor}
+use Rattle.session_core.specs.Closed.{ending_by}
+use Rattle.session_model.specs.Courses.{steps_of, text_of}
 use Rattle.caster_serve.specs.Served.{Came}
 use Rattle.caster_serve.specs.Wear.{Wear, IsWorn, IsWornBy, MayRefuse, IsRefusedBy}
 use Rattle.caster_serve.proofs.ClosedLemmas.{Closes}

@@ -9,9 +9,9 @@ use Rattle.cast_config.specs.declared.config.Config.{Config}
 use Rattle.cast_config.specs.Kept.{KeepsRules}
 use Rattle.cast_io.specs.Told.{LinkTold, DoorTold}
 use Rattle.cast_io.specs.Links.{IsNewLink}
-use Rattle.session_core.specs.Setting as setting
+use Rattle.session_model.specs.Setting as setting
 use Rattle.session_core.specs.Beginnings.{worn_at}
-use Rattle.session_core.specs.Called.{seen_at}
+use Rattle.session_model.specs.Called.{seen_at}
 use Rattle.caster_street.specs.Ends.{EndTold, at_door, over_link, end_told}
 use Rattle.caster_places.specs.Known.{Known, Fit, known_at}
 use Rattle.caster_serve.specs.declared.hands.Hand.{Hand}

@@ -5,10 +5,10 @@ use Rattle.cast_io.specs.declared.steps.Step.{Step}
 use Rattle.cast_io.specs.declared.steps.Step.TheVariants as took
 use Rattle.cast_io.specs.Causes.{Rose}
 use Rattle.cast_io.specs.Told.{LinkTold, Grew}
-use Rattle.session_core.specs.declared.ending.Last.{Last}
-use Rattle.session_core.specs.declared.ending.Last.TheVariants as lasts
-use Rattle.session_core.specs.Judged.{Opening, sends_head, relays}
-use Rattle.session_core.specs.Owed.{Happening, arrives, takes_turn}
+use Rattle.session_model.specs.declared.ending.Last.{Last}
+use Rattle.session_model.specs.declared.ending.Last.TheVariants as lasts
+use Rattle.session_model.specs.Judged.{Opening, sends_head, relays}
+use Rattle.session_model.specs.Owed.{Happening, arrives, takes_turn}
 use Rattle.caster_serve.specs.declared.role.Role.{Role}
 use Rattle.caster_serve.specs.declared.role.Role.TheVariants as roles
 

@@ -7,8 +7,8 @@ use Rattle.mount_ring.specs.declared.call.RingCall.TheVariants.{Claim, Release, 
 use Rattle.rover_session.specs.Made.{is_call_owed}
 use Rattle.session_calls.specs.Rings.{history_at}
 use Rattle.source_session.specs.Body.{frames_of}
-use Rattle.session_core.specs.Judged.{SourceTerms}
-use Rattle.session_core.specs.Run.{Histories}
+use Rattle.session_model.specs.Judged.{SourceTerms}
+use Rattle.session_model.specs.Run.{Histories}
 
 -- all frames that are due, and of a source that was halted the first of them
 abbrev pub AreDue : Bool → List (List ℕ) → List (List ℕ) → Type 0

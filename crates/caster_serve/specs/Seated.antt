@@ -8,8 +8,8 @@ use Rattle.caster_places.specs.Known.{Fit}
 use Rattle.caster_places.specs.Rows.{AreAt, ArePiles, AreWornWithin, RingLocks, BookLock}
 use Rattle.caster_places.specs.declared.piles.Piles.{Piles}
 use Rattle.session_calls.specs.Rings.{AllLater}
-use Rattle.session_core.specs.Run.{Histories}
-use Rattle.session_core.specs.Setting.{caps}
+use Rattle.session_model.specs.Run.{Histories}
+use Rattle.session_model.specs.Setting.{caps}
 use Rattle.caster_serve.specs.declared.shared.Shared.{Shared}
 use Rattle.caster_serve.specs.Callers.{Caller, AreServed, ends_of, is_whole, seen_of, uncalled}
 use Rattle.caster_serve.specs.Hands.{HandTold}

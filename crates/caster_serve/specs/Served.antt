@@ -6,22 +6,23 @@ use Rattle.cast_io.specs.Told.{LinkTold}
 use Rattle.session_calls.specs.Steps.{Step}
 use Rattle.rover_session.specs.Made.{segments_after, owed_among}
 use Rattle.cast_config.specs.declared.config.Config.{Config}
-use Rattle.session_core.specs.declared.ending.Ending.{Ending}
-use Rattle.session_core.specs.declared.ending.Ending.TheVariants.{Memory}
-use Rattle.session_core.specs.declared.ending.Last.{Last}
-use Rattle.session_core.specs.declared.report.Receipt.{Receipt}
+use Rattle.session_model.specs.declared.ending.Ending.{Ending}
+use Rattle.session_model.specs.declared.ending.Ending.TheVariants.{Memory}
+use Rattle.session_model.specs.declared.ending.Last.{Last}
+use Rattle.session_model.specs.declared.report.Receipt.{Receipt}
 use Rattle.session_core.specs.declared.session.Session.{Session}
-use Rattle.session_core.specs.Headings.{Heading}
-use Rattle.session_core.specs.Judged.{Opening, Judged, waiting, judged}
-use Rattle.session_core.specs.Owed.{Happening, received, plan_of, closing}
-use Rattle.session_core.specs.Endings.{ended_by}
-use Rattle.session_core.specs.Promises.{IsSoundIn}
-use Rattle.session_core.specs.Replies.{sent_by}
-use Rattle.session_core.specs.Reports.{IsHeadingOf}
-use Rattle.session_core.specs.Run.{Histories}
-use Rattle.session_core.specs.Called.{Called}
-use Rattle.session_core.specs.Standing.{StandsFor, EndsAs, IsMadeBy, IsSentBy, IsSettled, IsReceipt, is_halted, is_halted_uncalled}
-use Rattle.caster_serve.specs.Courses.{Event, Ran, happened, steps_of, text_of}
+use Rattle.session_model.specs.Headings.{Heading}
+use Rattle.session_model.specs.Judged.{Opening, Judged, waiting, judged}
+use Rattle.session_model.specs.Owed.{Happening, received, plan_of, closing}
+use Rattle.session_model.specs.Endings.{ended_by}
+use Rattle.session_model.specs.Promises.{IsSoundIn}
+use Rattle.session_model.specs.Replies.{sent_by}
+use Rattle.session_model.specs.Reports.{IsHeadingOf}
+use Rattle.session_model.specs.Run.{Histories}
+use Rattle.session_model.specs.Called.{Called}
+use Rattle.session_core.specs.Standing.{StandsFor, EndsAs, IsMadeBy, IsSentBy, is_halted, is_halted_uncalled}
+use Rattle.session_core.specs.Closed.{IsSettled, IsReceipt}
+use Rattle.session_model.specs.Courses.{Event, Ran, happened, steps_of, text_of}
 use Rattle.caster_serve.specs.Links.{LinkGrew, IsLeftOut, Stopped, IsCausedBy, happens_in, is_torn}
 
 -- ---- while it is served

@@ -14,8 +14,8 @@ use Rattle.cast_config.specs.declared.config.Group.{Group}
 use Rattle.cast_config.specs.declared.config.Mount.{Mount}
 use Rattle.cast_config.specs.Served.{filters_of}
 use Rattle.cast_config.specs.Kept.{KeepsRules}
-use Rattle.session_core.specs.Run.{Histories}
-use Rattle.session_core.specs.Setting.{shapes, caps, table}
+use Rattle.session_model.specs.Run.{Histories}
+use Rattle.session_model.specs.Setting.{shapes, caps, table}
 use Rattle.caster_places.specs.Piles.{AreMatched}
 use Rattle.caster_serve.specs.declared.shared.Shared.{Shared}
 use Rattle.caster_serve.specs.declared.shared.Passes.{Passes}

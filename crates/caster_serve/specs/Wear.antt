@@ -1,9 +1,9 @@
 -- Why the places of a caller refused turns: some place was worn, or may lack memory.
 use Rattle.std.specs.Prelude.{◌≡◌, ℕ, ◌^◌, ◌≤◌, ◌⊎◌, ◌||◌, ⊤, Bool, false, IsTrue, List, get_or}
 use Rattle.std.specs.List.{list_any}
-use Rattle.session_core.specs.declared.ending.Ending.{Ending}
-use Rattle.session_core.specs.declared.ending.Ending.TheVariants.{Worn}
-use Rattle.session_core.specs.declared.report.Receipt.{Receipt}
+use Rattle.session_model.specs.declared.ending.Ending.{Ending}
+use Rattle.session_model.specs.declared.ending.Ending.TheVariants.{Worn}
+use Rattle.session_model.specs.declared.report.Receipt.{Receipt}
 use Rattle.caster_places.specs.Known.{Known}
 
 -- Whether one of the places may lack memory, and by how many turns each is worn, that at the book

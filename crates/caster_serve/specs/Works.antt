@@ -7,13 +7,13 @@ use Rattle.cast_io.specs.Causes.{Rose}
 use Rattle.cast_io.specs.Told.{LinkTold, DoorTold, Grew, StillTold}
 use Rattle.caster_accounts.specs.declared.account.Sum.{Sum}
 use Rattle.cast_config.specs.declared.config.Config.{Config}
-use Rattle.session_core.specs.declared.ending.Last.{Last}
-use Rattle.session_core.specs.declared.report.Receipt.{Receipt}
-use Rattle.session_core.specs.Judged.{Opening, SourceTerms, source, sends_head, relays}
-use Rattle.session_core.specs.Owed.{claimed, received}
-use Rattle.session_core.specs.Run.{Histories}
+use Rattle.session_model.specs.declared.ending.Last.{Last}
+use Rattle.session_model.specs.declared.report.Receipt.{Receipt}
+use Rattle.session_model.specs.Judged.{Opening, SourceTerms, source, sends_head, relays}
+use Rattle.session_model.specs.Owed.{claimed, received}
+use Rattle.session_model.specs.Run.{Histories}
 use Rattle.session_core.specs.Standing.{is_halted}
-use Rattle.caster_serve.specs.Courses.{steps_of}
+use Rattle.session_model.specs.Courses.{steps_of}
 use Rattle.caster_serve.specs.Links.{IsCausedBy}
 use Rattle.caster_serve.specs.Served.{LinkGoes}
 use Rattle.caster_places.specs.Leaves.{Leaves}

@@ -4,11 +4,11 @@ ghost use Rattle.std.specs.Prelude.{◌≡◌, ℕ, List, [], ◌∷◌, length,
 ghost use Rattle.session_calls.specs.Rings.{AllLater};
 ghost use Rattle.cast_config.specs.declared.config.Config.{Config as ConfigValue};
 ghost use Rattle.cast_config.specs.Kept.{KeepsRules};
-ghost use Rattle.session_core.specs.Called.{IsCause};
-ghost use Rattle.session_core.specs.Judged.{Opening};
-ghost use Rattle.session_core.specs.Owed.{Happening, arrives, takes_turn};
-ghost use Rattle.session_core.specs.Run.{Histories};
-ghost use Rattle.session_core.specs.Setting as setting;
+ghost use Rattle.session_model.specs.Called.{IsCause};
+ghost use Rattle.session_model.specs.Judged.{Opening};
+ghost use Rattle.session_model.specs.Owed.{Happening, arrives, takes_turn};
+ghost use Rattle.session_model.specs.Run.{Histories};
+ghost use Rattle.session_model.specs.Setting as setting;
 ghost use Rattle.session_core.specs.Standing.{Follows};
 ghost use Rattle.caster_places.specs.Known.{Fit};
 ghost use Rattle.caster_serve.specs.Resting.{is_caught_up, next_of};

@@ -5,9 +5,9 @@ ghost use Rattle.std.specs.List.{All};
 ghost use Rattle.turn_log.specs.History.{IsLegal};
 ghost use Rattle.caster_accounts.specs.History.{fits};
 ghost use Rattle.caster_accounts.specs.Sums.{nothing};
-ghost use Rattle.session_core.specs.Reports.{added, closed_of};
-ghost use Rattle.session_core.specs.Run.{Histories};
-ghost use Rattle.session_core.specs.Setting.{caps};
+ghost use Rattle.session_model.specs.Reports.{added, closed_of};
+ghost use Rattle.session_model.specs.Run.{Histories};
+ghost use Rattle.session_model.specs.Setting.{caps};
 ghost use Rattle.caster_places.specs.Rows.{ArePiles, AreWhole, AreWornWithin, IsRoomFor, left_by};
 ghost use Rattle.caster_serve.specs.Sharing.{AreOpenFor, IsReady};
 

@@ -6,7 +6,7 @@ ghost use Rattle.mount_ring.specs.Kept.{ring_shape};
 ghost use Rattle.caster_accounts.specs.Kept.{caps_of};
 ghost use Rattle.turn_log.specs.Lock.{turn_passes, turn_value};
 ghost use Rattle.cast_config.specs.Kept.{KeepsRules};
-ghost use Rattle.session_core.specs.Setting.{anonymous_cap, caps, shapes};
+ghost use Rattle.session_model.specs.Setting.{anonymous_cap, caps, shapes};
 ghost use Rattle.caster_places.specs.Piles.{AreMatched};
 ghost use Rattle.caster_serve.specs.Sharing.{AreDealt, ring_of};
 

@@ -4,7 +4,7 @@ ghost use Rattle.std.specs.Prelude.{◌≡◌, ◌<◌, ℕ, length, IfOk};
 ghost use mathlib.Core.Option.{some};
 ghost use lib.ListN.{get_elem?};
 ghost use Rattle.cast_config.specs.Kept.{KeepsRules};
-ghost use Rattle.session_core.specs.Setting as setting;
+ghost use Rattle.session_model.specs.Setting as setting;
 ghost use Rattle.caster_places.specs.Known.{Fit};
 ghost use Rattle.caster_places.specs.Rows.{AreAt};
 ghost use Rattle.caster_serve.specs.Sharing.{AreNewPasses, AreOpenFor, ArePassesOf, IsReady, seen_by};

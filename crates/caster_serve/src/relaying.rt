@@ -3,8 +3,8 @@
 ghost use Rattle.std.specs.Prelude.{◌≡◌, ◌<◌, ◌+◌, ◌^◌, ℕ, length};
 ghost use Rattle.cast_config.specs.Kept.{KeepsRules};
 ghost use Rattle.cast_io.specs.Links.{IsNewLink};
-ghost use Rattle.session_core.specs.Judged.{relays};
-ghost use Rattle.session_core.specs.Setting as setting;
+ghost use Rattle.session_model.specs.Judged.{relays};
+ghost use Rattle.session_model.specs.Setting as setting;
 ghost use Rattle.caster_places.specs.Known.{Fit};
 ghost use Rattle.caster_places.specs.Leaves.{Leaves};
 ghost use Rattle.caster_serve.specs.Wear.{wear_of};

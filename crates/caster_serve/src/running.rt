@@ -4,11 +4,12 @@ ghost use Rattle.std.specs.Prelude.{◌≡◌, ◌+◌, ◌^◌, ◌<◌, ℕ, L
 ghost use Rattle.cast_io.specs.Told.{LinkTold};
 ghost use Rattle.cast_config.specs.Kept.{KeepsRules};
 ghost use Rattle.session_calls.specs.Rings.{AllLater};
-ghost use Rattle.session_core.specs.Called.{IsCause};
-ghost use Rattle.session_core.specs.Judged.{Opening, waiting};
-ghost use Rattle.session_core.specs.Run.{Histories};
-ghost use Rattle.session_core.specs.Setting as setting;
-ghost use Rattle.session_core.specs.Standing.{IsReceipt, StandsFor};
+ghost use Rattle.session_model.specs.Called.{IsCause};
+ghost use Rattle.session_model.specs.Judged.{Opening, waiting};
+ghost use Rattle.session_model.specs.Run.{Histories};
+ghost use Rattle.session_model.specs.Setting as setting;
+ghost use Rattle.session_core.specs.Standing.{StandsFor};
+ghost use Rattle.session_core.specs.Closed.{IsReceipt};
 ghost use Rattle.caster_places.specs.Known.{Fit};
 ghost use Rattle.caster_serve.specs.Links.{opening_of};
 ghost use Rattle.caster_serve.specs.Served.{Came, ComesTo, IsServedOn, LinkServed, Reached, Serving};

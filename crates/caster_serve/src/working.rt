@@ -2,8 +2,8 @@
 
 ghost use Rattle.std.specs.Prelude.{◌≡◌, ◌+◌, ◌^◌, ◌<◌, ◌≤◌, ℕ};
 ghost use Rattle.cast_config.specs.Kept.{KeepsRules};
-ghost use Rattle.session_core.specs.Judged.{sends_head};
-ghost use Rattle.session_core.specs.Setting as setting;
+ghost use Rattle.session_model.specs.Judged.{sends_head};
+ghost use Rattle.session_model.specs.Setting as setting;
 ghost use Rattle.caster_places.specs.Known.{Fit};
 ghost use Rattle.cast_io.specs.Links.{IsNewLink};
 ghost use Rattle.session_calls.specs.Rings.{AllLater};

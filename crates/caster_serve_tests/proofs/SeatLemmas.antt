@@ -8,7 +8,7 @@ use Rattle.cast_config.specs.declared.config.Mount.{Mount}
 use Rattle.cast_config.specs.Kept.{KeepsRules}
 use Rattle.cast_config.specs.Served.{filter_for}
 use Rattle.cast_config.proofs.KeptLemmas.{within}
-use Rattle.session_core.specs.Setting.{shapes, shapes_from}
+use Rattle.session_model.specs.Setting.{shapes, shapes_from}
 
 -- as many filters as groups
 filters_long : (groups : List Group) (n : ℕ) (front : List RingShape) (shape : RingShape) (mounts : List Mount)

@@ -8,10 +8,10 @@ use Rattle.cast_config.specs.declared.config.Config.{Config}
 use Rattle.cast_config.specs.Document.{IsRead}
 use Rattle.session_script.specs.declared.Event.{Event}
 use Rattle.session_script.specs.Writing.{script_text}
-use Rattle.session_core.proofs.ReportSums.{sums_long}
-use Rattle.session_core.specs.declared.report.Closed.{Closed}
-use Rattle.session_core.specs.Reports.{mount_total, closed_of}
-use Rattle.session_core.specs.Text.{closed_text}
+use Rattle.session_model.proofs.ReportSums.{sums_long}
+use Rattle.session_model.specs.declared.report.Closed.{Closed}
+use Rattle.session_model.specs.Reports.{mount_total, closed_of}
+use Rattle.session_model.specs.Text.{closed_text}
 use Rattle.caster_serve.specs.Caster.{Answered, HasServed}
 use Rattle.caster_serve.specs.declared.whole.ServeFault.{ServeFault}
 use Rattle.caster_serve.specs.declared.whole.ServeFault.TheVariants as faults

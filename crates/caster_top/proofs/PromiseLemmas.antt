@@ -12,10 +12,10 @@ use Rattle.cast_config.specs.declared.config.Config.{Config}
 use Rattle.cast_config.specs.Bare as settings
 use Rattle.cast_config.specs.Kept.{KeepsRules}
 use Rattle.cast_config.proofs.KeptLemmas.{bare_keeps_rules, keeps_rules}
-use Rattle.session_core.specs.declared.report.Connection.{Connection}
-use Rattle.session_core.specs.declared.report.Receipt.{Receipt}
-use Rattle.session_core.specs.declared.report.Report.{Report}
-use Rattle.session_core.specs.Reports as reports
+use Rattle.session_model.specs.declared.report.Connection.{Connection}
+use Rattle.session_model.specs.declared.report.Receipt.{Receipt}
+use Rattle.session_model.specs.declared.report.Report.{Report}
+use Rattle.session_model.specs.Reports as reports
 use Rattle.caster_warm.specs.Warm.{told_with, warm_report}
 use Rattle.run_promise.specs.Promised.{IsPromised}
 use Rattle.run_promise.proofs.PromiseLemmas.{promised}

@@ -5,8 +5,8 @@ use Rattle.session_script.specs.declared.Event.{Event}
 use Rattle.session_script.specs.declared.ScriptKind.TheVariants.{Bare}
 use Rattle.session_script.specs.Script.{script_of}
 use Rattle.session_script.specs.Writing.{script_text}
-use Rattle.session_core.specs.declared.report.Closed.{Closed}
-use Rattle.session_core.specs.Text.{closed_text}
+use Rattle.session_model.specs.declared.report.Closed.{Closed}
+use Rattle.session_model.specs.Text.{closed_text}
 use Rattle.cast_io.specs.Causes.{Rose}
 use Rattle.cast_io.specs.Pieces.{AppendsPrefix}
 use Rattle.cast_io.specs.Told.{StreetTold}

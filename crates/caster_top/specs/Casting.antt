@@ -6,8 +6,8 @@ use Rattle.cast_io.specs.Told.{StreetTold}
 use Rattle.cast_config.specs.declared.config.Config.{Config}
 use Rattle.session_script.specs.declared.Event.{Event}
 use Rattle.session_script.specs.Writing.{script_text}
-use Rattle.session_core.specs.declared.report.Closed.{Closed}
-use Rattle.session_core.specs.Text.{closed_text}
+use Rattle.session_model.specs.declared.report.Closed.{Closed}
+use Rattle.session_model.specs.Text.{closed_text}
 use Rattle.caster_serve.specs.Caster.{HasServed}
 use Rattle.caster_serve.specs.declared.whole.ServeFault.{ServeFault}
 use Rattle.caster_serve.specs.declared.whole.ServeFault.TheVariants as faults

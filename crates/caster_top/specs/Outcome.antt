@@ -18,8 +18,8 @@ use Rattle.cast_config.specs.Faults.{fault_line}
 use Rattle.cast_config.specs.Document.{IsRead}
 use Rattle.config_table.specs.Table.{table_records}
 use Rattle.config_write.specs.Written.{HasVersion}
-use Rattle.session_core.specs.declared.report.Closed.{Closed}
-use Rattle.session_core.specs.Text.{closed_text}
+use Rattle.session_model.specs.declared.report.Closed.{Closed}
+use Rattle.session_model.specs.Text.{closed_text}
 use Rattle.run_texts.specs.Texts.{IsRunText, IsWarmText, made_text}
 use Rattle.caster_top.specs.declared.command.Aim.{Aim}
 use Rattle.caster_top.specs.declared.command.Aim.TheVariants.{Check, Table, Migrate}

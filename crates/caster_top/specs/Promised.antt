@@ -8,10 +8,10 @@ use Rattle.session_script.specs.Script.{script_of}
 use Rattle.session_script.specs.Writing.{script_text}
 use Rattle.cast_config.specs.declared.config.Config.{Config}
 use Rattle.cast_config.specs.Bare as settings
-use Rattle.session_core.specs.declared.report.Connection.{Connection}
-use Rattle.session_core.specs.declared.report.Report.{Report}
-use Rattle.session_core.specs.Text.{closed_text, report_text}
-use Rattle.session_core.specs.declared.report.Closed.{Closed}
+use Rattle.session_model.specs.declared.report.Connection.{Connection}
+use Rattle.session_model.specs.declared.report.Report.{Report}
+use Rattle.session_model.specs.Text.{closed_text, report_text}
+use Rattle.session_model.specs.declared.report.Closed.{Closed}
 use Rattle.run_promise.specs.Promised.{IsPromised}
 use Rattle.warm_promise.specs.Greeted.{IsGreeted}
 use Rattle.serve_promise.specs.Callers.{AllPromised}

@@ -6,7 +6,7 @@ use Rattle.cast_io.specs.Streets.{HasAsked, HasShut}
 use Rattle.cast_io.specs.Told.{LinkTold, DoorTold, StreetTold}
 use Rattle.cast_config.specs.declared.config.Config.{Config}
 use Rattle.session_script.specs.declared.Event.{Event}
-use Rattle.session_core.specs.declared.report.Report.{Report}
+use Rattle.session_model.specs.declared.report.Report.{Report}
 use Rattle.caster_record.specs.Arriving.{HasTakenBack, HaveCome, HaveLeft}
 use Rattle.caster_record.specs.Recorded.{IsRecorded}
 

@@ -9,10 +9,10 @@ use Rattle.session_calls.specs.Rings.{history_at, shape_at}
 use Rattle.session_script.specs.declared.Event.{Event}
 use Rattle.cast_config.specs.declared.config.Config.{Config}
 use Rattle.session_core.specs.declared.rover_state.RoverState.{RoverState}
-use Rattle.session_core.specs.Headings.{Heading}
-use Rattle.session_core.specs.Reports.{AreHeadings}
-use Rattle.session_core.specs.Run.{Histories, after_events}
-use Rattle.session_core.specs.Setting.{shapes}
+use Rattle.session_model.specs.Headings.{Heading}
+use Rattle.session_model.specs.Reports.{AreHeadings}
+use Rattle.session_model.specs.Run.{Histories, after_events}
+use Rattle.session_model.specs.Setting.{shapes}
 use Rattle.caster_replay.specs.declared.run.Run.{Run}
 use Rattle.caster_replay.specs.Kept.{StandsFor, cleared_of, greeting_of}
 use Rattle.caster_replay.specs.Places.{greeting_since, cleared_at}

@@ -10,12 +10,12 @@ use Rattle.mount_ring.specs.declared.call.RingCall.{RingCall}
 use Rattle.session_script.specs.declared.Event.{Event}
 use Rattle.session_script.specs.declared.Event.TheVariants as events
 use Rattle.cast_config.specs.declared.config.Config.{Config}
-use Rattle.session_core.specs.declared.report.Closed as totals
-use Rattle.session_core.specs.declared.report.Connection.{Connection}
-use Rattle.session_core.specs.declared.report.Report.{Report}
-use Rattle.session_core.specs.Headings.{Heading}
-use Rattle.session_core.specs.Reports.{AreHeadings, IsReport, told_of}
-use Rattle.session_core.specs.Run.{Histories, Connected, World, after_event, after_events}
+use Rattle.session_model.specs.declared.report.Closed as totals
+use Rattle.session_model.specs.declared.report.Connection.{Connection}
+use Rattle.session_model.specs.declared.report.Report.{Report}
+use Rattle.session_model.specs.Headings.{Heading}
+use Rattle.session_model.specs.Reports.{AreHeadings, IsReport, told_of}
+use Rattle.session_model.specs.Run.{Histories, Connected, World, after_event, after_events}
 use Rattle.caster_replay.specs.declared.entry.State.{State}
 use Rattle.caster_replay.specs.declared.entry.State.TheVariants.{Open, Closed}
 use Rattle.caster_replay.specs.declared.run.Run.{Run}

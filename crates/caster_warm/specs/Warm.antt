@@ -9,13 +9,13 @@ use Rattle.rover_session.specs.Body.{body_of}
 use Rattle.session_calls.specs.Rings.{history_at, shape_at}
 use Rattle.session_script.specs.declared.Event.{Event}
 use Rattle.cast_config.specs.declared.config.Config.{Config}
-use Rattle.session_core.specs.declared.report.Connection.{Connection}
-use Rattle.session_core.specs.declared.report.Report.{Report}
+use Rattle.session_model.specs.declared.report.Connection.{Connection}
+use Rattle.session_model.specs.declared.report.Report.{Report}
 use Rattle.session_core.specs.declared.rover_state.RoverState.{RoverState}
-use Rattle.session_core.specs.Headings.{Heading}
-use Rattle.session_core.specs.Reports.{AreHeadings, report_of, report}
-use Rattle.session_core.specs.Run.{Histories, World, after_event, after_events}
-use Rattle.session_core.specs.Setting.{shapes}
+use Rattle.session_model.specs.Headings.{Heading}
+use Rattle.session_model.specs.Reports.{AreHeadings, report_of, report}
+use Rattle.session_model.specs.Run.{Histories, World, after_event, after_events}
+use Rattle.session_model.specs.Setting.{shapes}
 use Rattle.caster_replay.specs.Going.{rover_among}
 use Rattle.caster_replay.specs.Sends.{told_sent}
 use Rattle.caster_warm.specs.Numbers.{number_of, brings_bytes}

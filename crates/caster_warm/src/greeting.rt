@@ -3,9 +3,9 @@
 ghost use Rattle.std.specs.Prelude.{◌≡◌, ◌++◌, ℕ, List, OnOk};
 ghost use Rattle.cast_config.specs.declared.config.Config.{Config as ConfigValue};
 ghost use Rattle.rover_session.specs.Body.{body_of, frame_sent};
-ghost use Rattle.session_core.specs.Headings.{Heading};
-ghost use Rattle.session_core.specs.Reports.{AreHeadings};
-ghost use Rattle.session_core.specs.Run.{Histories, after_events};
+ghost use Rattle.session_model.specs.Headings.{Heading};
+ghost use Rattle.session_model.specs.Reports.{AreHeadings};
+ghost use Rattle.session_model.specs.Run.{Histories, after_events};
 ghost use Rattle.session_script.specs.declared.Event.{Event as EventValue};
 ghost use Rattle.caster_replay.specs.Going.{rover_among};
 ghost use Rattle.caster_replay.specs.Kept.{StandsFor, cleared_of, greeting_of};

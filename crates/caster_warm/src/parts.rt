@@ -3,9 +3,9 @@
 ghost use Rattle.std.specs.Prelude.{◌≡◌, ◌≤◌, ◌++◌, ◌∷◌, [], ℕ, List, drop, length, IfOk, OnOk};
 ghost use Rattle.cast_config.specs.declared.config.Config.{Config as ConfigValue};
 ghost use Rattle.cast_config.specs.Kept.{KeepsRules};
-ghost use Rattle.session_core.specs.Headings.{Heading};
-ghost use Rattle.session_core.specs.Reports.{AreHeadings};
-ghost use Rattle.session_core.specs.Run.{World, after_events};
+ghost use Rattle.session_model.specs.Headings.{Heading};
+ghost use Rattle.session_model.specs.Reports.{AreHeadings};
+ghost use Rattle.session_model.specs.Run.{World, after_events};
 ghost use Rattle.session_script.specs.declared.Event.{Event as EventValue};
 ghost use Rattle.caster_replay.specs.Kept.{Greets, MayCome, StandsFor, cleared_of, sent_by_run};
 ghost use Rattle.caster_replay.specs.Places.{cleared_at};

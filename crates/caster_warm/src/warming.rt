@@ -2,9 +2,9 @@
 
 ghost use Rattle.std.specs.Prelude.{◌≡◌, ℕ, [], map, IfOk};
 ghost use Rattle.cast_config.specs.Kept.{KeepsRules};
-ghost use Rattle.session_core.specs.Headings.{Heading};
-ghost use Rattle.session_core.specs.Reports.{AreHeadings};
-ghost use Rattle.session_core.specs.Run.{after_events};
+ghost use Rattle.session_model.specs.Headings.{Heading};
+ghost use Rattle.session_model.specs.Reports.{AreHeadings};
+ghost use Rattle.session_model.specs.Run.{after_events};
 ghost use Rattle.caster_replay.specs.Kept.{StandsFor};
 ghost use Rattle.caster_replay.specs.Scripts.{IsScriptFor};
 ghost use Rattle.caster_warm.specs.Parts.{sent_to};

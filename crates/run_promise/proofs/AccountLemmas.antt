@@ -37,17 +37,17 @@ use Rattle.ntrip_head.specs.declared.request.Version.{Version}
 use Rattle.ntrip_head.specs.declared.request.Version.TheVariants.{One, Two}
 use Rattle.ntrip_reply.specs.declared.kind.Reply.TheVariants as replies
 use Rattle.cast_config.specs.declared.config.Config.{Config}
-use Rattle.session_core.specs.declared.ending.Last.TheVariants as lasts
-use Rattle.session_core.specs.declared.report.Connection.{Connection}
-use Rattle.session_core.specs.Setting.{caps, bases_at}
+use Rattle.session_model.specs.declared.ending.Last.TheVariants as lasts
+use Rattle.session_model.specs.declared.report.Connection.{Connection}
+use Rattle.session_model.specs.Setting.{caps, bases_at}
 use Rattle.run_promise.specs.Selected.{Selects}
-use Rattle.session_core.specs.Judged.{SourceTerms, RoverTerms, Judged, waiting, refused, unanswered, table, source, rover}
-use Rattle.session_core.specs.Owed.{Received, claimed, taken, entered, full, received, received_by, if_entered, terms_of, plan_of, closing, closing_by}
-use Rattle.session_core.specs.Endings.{ended_by, claimed_ending, body_ending}
-use Rattle.session_core.specs.Replies.{text_if, opening_text, reply_of, kept_frames, sent_by}
-use Rattle.session_core.specs.Promises.{IsSoundIn, CountsAll, Keeps}
-use Rattle.session_core.specs.Reports.{receipt_of, is_entered}
-use Rattle.session_core.specs.Run.{Histories, Connected}
+use Rattle.session_model.specs.Judged.{SourceTerms, RoverTerms, Judged, waiting, refused, unanswered, table, source, rover}
+use Rattle.session_model.specs.Owed.{Received, claimed, taken, entered, full, received, received_by, if_entered, terms_of, plan_of, closing, closing_by}
+use Rattle.session_model.specs.Endings.{ended_by, claimed_ending, body_ending}
+use Rattle.session_model.specs.Replies.{text_if, opening_text, reply_of, kept_frames, sent_by}
+use Rattle.session_model.specs.Promises.{IsSoundIn, CountsAll, Keeps}
+use Rattle.session_model.specs.Reports.{receipt_of, is_entered}
+use Rattle.session_model.specs.Run.{Histories, Connected}
 use Rattle.run_promise.specs.Calls.{Call, without_reads}
 use Rattle.run_promise.specs.Promised.{Carries, Holds, IsReplied, HasEntered, asked, publishes, HasClaimed, WasTaken, Was}
 use Rattle.run_promise.proofs.MadeLemmas.{AreAnswered, StepsOn}

@@ -17,7 +17,7 @@ use Rattle.rover_cursor.specs.declared.segment.Segment.{Segment}
 use Rattle.rover_cursor.specs.Told.{published_in}
 use Rattle.session_calls.specs.Rings.{history_at, answer_at}
 use Rattle.cast_config.specs.declared.config.Config.{Config}
-use Rattle.session_core.specs.Setting.{shapes}
+use Rattle.session_model.specs.Setting.{shapes}
 use Rattle.run_promise.specs.Calls.{Call, call, at_one, AreAllCalls, after_one, segments_of, IsReadOn, ReadOn}
 use Rattle.run_promise.specs.Begun.{IsBegun}
 

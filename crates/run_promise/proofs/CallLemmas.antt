@@ -12,7 +12,7 @@ use Rattle.session_calls.specs.Steps.{Step, at_ring, at_book, on_ring}
 use Rattle.session_calls.specs.Rings.{history_at, answer_at, Went}
 use Rattle.rover_session.specs.Made.{after_step, segments_after, is_call_owed, owed_among}
 use Rattle.cast_config.specs.declared.config.Config.{Config}
-use Rattle.session_core.specs.Setting.{shapes}
+use Rattle.session_model.specs.Setting.{shapes}
 use Rattle.run_promise.specs.Calls.{Call, at_one, AreAllCalls, is_no_read, without_reads, after_one, ReadOn}
 use Rattle.run_promise.proofs.MadeLemmas.{StepsOn}
 

@@ -17,12 +17,12 @@ use Rattle.session_script.specs.Script as scripts
 use Rattle.session_calls.specs.Rings.{history_at, WentOn}
 use Rattle.cast_config.specs.declared.config.Config.{Config}
 use Rattle.cast_config.specs.Kept.{KeepsRules}
-use Rattle.session_core.specs.declared.ending.Last.TheVariants as lasts
-use Rattle.session_core.specs.Headings.{Heading}
-use Rattle.session_core.specs.Judged.{Opening, sends_head, relays, bare_source, bare_rover}
-use Rattle.session_core.specs.Owed.{Happening, arrives, takes_turn, ends}
-use Rattle.session_core.specs.Endings.{goes_on}
-use Rattle.session_core.specs.Run.{Histories, Connected, World, judged_of, moved_if, is_concerned, happens_in, happens, is_opened, opens, after_event, after_events, closes, world}
+use Rattle.session_model.specs.declared.ending.Last.TheVariants as lasts
+use Rattle.session_model.specs.Headings.{Heading}
+use Rattle.session_model.specs.Judged.{Opening, sends_head, relays, bare_source, bare_rover}
+use Rattle.session_model.specs.Owed.{Happening, arrives, takes_turn, ends}
+use Rattle.session_model.specs.Endings.{goes_on}
+use Rattle.session_model.specs.Run.{Histories, Connected, World, judged_of, moved_if, is_concerned, happens_in, happens, is_opened, opens, after_event, after_events, closes, world}
 use Rattle.caster_replay.specs.Runs.{is_cut, IsKnown, AreKnown}
 use Rattle.caster_replay.proofs.WorldHeadingLemmas.{cut_stays}
 use Rattle.caster_replay.proofs.WorldKnownLemmas.{IsClean}

@@ -12,14 +12,14 @@ use Rattle.source_session.specs.Body.{frames_of}
 use Rattle.rover_session.specs.Made.{owed_among}
 use Rattle.rover_session.proofs.MadeLemmas.{owed-append}
 use Rattle.cast_config.specs.declared.config.Config.{Config}
-use Rattle.session_core.specs.declared.ending.Ending.{Ending}
-use Rattle.session_core.specs.declared.ending.Last.{Last}
-use Rattle.session_core.specs.declared.ending.Last.TheVariants as lasts
-use Rattle.session_core.specs.Headings.{Heading}
-use Rattle.session_core.specs.Judged.{Opening, sends_head, relays, bare_source, bare_rover, Judged, waiting, refused, unanswered, table, source, rover}
-use Rattle.session_core.specs.Owed.{Received, unasked, received, received_by, closing, Happening, arrives, takes_turn, ends}
-use Rattle.session_core.specs.Reports.{is_entered}
-use Rattle.session_core.specs.Run.{Histories, Connected, World, Moved, nothing_called, made, judged_of, makes, closed_if, with_text, moved, moved_if, is_concerned, happens_in, happens, placed_if, placed, is_opened, opened_if, fresh, opens, after_event, after_events, closes, world}
+use Rattle.session_model.specs.declared.ending.Ending.{Ending}
+use Rattle.session_model.specs.declared.ending.Last.{Last}
+use Rattle.session_model.specs.declared.ending.Last.TheVariants as lasts
+use Rattle.session_model.specs.Headings.{Heading}
+use Rattle.session_model.specs.Judged.{Opening, sends_head, relays, bare_source, bare_rover, Judged, waiting, refused, unanswered, table, source, rover}
+use Rattle.session_model.specs.Owed.{Received, unasked, received, received_by, closing, Happening, arrives, takes_turn, ends}
+use Rattle.session_model.specs.Reports.{is_entered}
+use Rattle.session_model.specs.Run.{Histories, Connected, World, Moved, nothing_called, made, judged_of, makes, closed_if, with_text, moved, moved_if, is_concerned, happens_in, happens, placed_if, placed, is_opened, opened_if, fresh, opens, after_event, after_events, closes, world}
 use Rattle.caster_replay.specs.Runs.{AreAbove, IsIncreasing}
 use Rattle.caster_replay.proofs.WorldListLemmas.{apart_first, none_later}
 use Rattle.run_promise.specs.Promised.{is_rover}

@@ -36,13 +36,13 @@ use Rattle.access_groups.specs.declared.admission.Denial.TheVariants as denials
 use Rattle.access_groups.specs.declared.admission.SourceDenial.{SourceDenial}
 use Rattle.access_groups.specs.declared.admission.SourceDenial.TheVariants as sources
 use Rattle.access_groups.specs.Admission.{admission, source_admission}
-use Rattle.session_core.specs.Setting.{shapes}
-use Rattle.session_core.specs.Headings.{Heading, incomplete, too_long, whole, answered}
-use Rattle.session_core.specs.Judged.{Opening, sends_head, relays, bare_source, bare_rover, SourceTerms, Judged, waiting, source, once, source_judged, rover_judged, request_judged, said_judged, mount_fed, bare_admission, judged}
-use Rattle.session_core.specs.Owed.{Received, received, claimed, taken, plan_of, closing, closing_by}
-use Rattle.session_core.specs.Endings.{ended_by, body_ending, claimed_ending, goes_on}
-use Rattle.session_core.specs.Reports.{opened_as, bytes_to}
-use Rattle.session_core.specs.Run.{Histories, Connected, World, nothing_called, judged_of, is_opened}
+use Rattle.session_model.specs.Setting.{shapes}
+use Rattle.session_model.specs.Headings.{Heading, incomplete, too_long, whole, answered}
+use Rattle.session_model.specs.Judged.{Opening, sends_head, relays, bare_source, bare_rover, SourceTerms, Judged, waiting, source, once, source_judged, rover_judged, request_judged, said_judged, mount_fed, bare_admission, judged}
+use Rattle.session_model.specs.Owed.{Received, received, claimed, taken, plan_of, closing, closing_by}
+use Rattle.session_model.specs.Endings.{ended_by, body_ending, claimed_ending, goes_on}
+use Rattle.session_model.specs.Reports.{opened_as, bytes_to}
+use Rattle.session_model.specs.Run.{Histories, Connected, World, nothing_called, judged_of, is_opened}
 use Rattle.caster_replay.specs.Runs.{is_cut, IsKnown, AreKnown}
 use Rattle.run_promise.specs.Promised.{is_release, GoesOn}
 use Rattle.run_promise.proofs.MadeLemmas.{AreAnswered, StepsOn}

@@ -17,9 +17,9 @@ use Rattle.session_calls.proofs.WentLemmas.{went_none, went_both}
 use Rattle.rover_session.specs.Owed.{reads}
 use Rattle.rover_session.specs.Made.{after_step, segments_after, is_owed, owed_among}
 use Rattle.cast_config.specs.declared.config.Config.{Config}
-use Rattle.session_core.specs.Setting.{shapes, caps}
-use Rattle.session_core.specs.Run.{Histories, with_call, with_calls, step_at, made}
-use Rattle.session_core.proofs.GoodLemmas.{IsGoodAsk, IsGood}
+use Rattle.session_model.specs.Setting.{shapes, caps}
+use Rattle.session_model.specs.Run.{Histories, with_call, with_calls, step_at, made}
+use Rattle.session_model.proofs.GoodLemmas.{IsGoodAsk, IsGood}
 use Rattle.run_promise.specs.Calls.{IsReadOn}
 
 -- what two equal calls ask, and where

@@ -22,15 +22,15 @@ use Rattle.session_calls.proofs.WentLemmas.{alone_entries}
 use Rattle.rover_session.proofs.SegmentLemmas.{Extends}
 use Rattle.cast_config.specs.declared.config.Config.{Config}
 use Rattle.cast_config.specs.Kept.{KeepsRules}
-use Rattle.session_core.specs.declared.ending.Last.{Last}
-use Rattle.session_core.specs.declared.ending.Last.TheVariants as lasts
-use Rattle.session_core.specs.Setting.{shapes}
-use Rattle.session_core.specs.Headings.{Heading}
-use Rattle.session_core.specs.Judged.{sends_head, relays, bare_source, bare_rover, SourceTerms, Judged, waiting, refused, unanswered, table, source, rover}
-use Rattle.session_core.specs.Endings.{goes_on}
-use Rattle.session_core.specs.Owed.{Received, unasked, claimed, taken, entered, full, received, closing, closing_by, arrives, takes_turn, ends}
+use Rattle.session_model.specs.declared.ending.Last.{Last}
+use Rattle.session_model.specs.declared.ending.Last.TheVariants as lasts
+use Rattle.session_model.specs.Setting.{shapes}
+use Rattle.session_model.specs.Headings.{Heading}
+use Rattle.session_model.specs.Judged.{sends_head, relays, bare_source, bare_rover, SourceTerms, Judged, waiting, refused, unanswered, table, source, rover}
+use Rattle.session_model.specs.Endings.{goes_on}
+use Rattle.session_model.specs.Owed.{Received, unasked, claimed, taken, entered, full, received, closing, closing_by, arrives, takes_turn, ends}
 use Rattle.rover_session.specs.Made.{segments_after}
-use Rattle.session_core.specs.Run.{Histories, Connected, World, Moved, nothing_called, made, judged_of, moved, moved_if, is_concerned, happens_in, happens, is_opened, after_event, after_events, closes, world}
+use Rattle.session_model.specs.Run.{Histories, Connected, World, Moved, nothing_called, made, judged_of, moved, moved_if, is_concerned, happens_in, happens, is_opened, after_event, after_events, closes, world}
 use Rattle.caster_replay.specs.Runs.{IsIncreasing, IsKnown}
 use Rattle.caster_replay.proofs.WorldListLemmas.{none_above, moved_by, apart_moved, happens_nowhere}
 use Rattle.run_promise.specs.Promised.{is_release, GoesOn, AreEarlier}

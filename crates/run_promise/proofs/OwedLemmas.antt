@@ -8,8 +8,8 @@ use Rattle.session_calls.specs.Steps.{to_ring, to_book, Step, at_ring, at_book, 
 use Rattle.session_calls.specs.Plans.{Plan, done, asks, IsMade}
 use Rattle.rover_session.specs.Made.{after_step, is_owed, owed_among}
 use Rattle.cast_config.specs.declared.config.Config.{Config}
-use Rattle.session_core.specs.Judged.{SourceTerms, RoverTerms, Judged, waiting, refused, unanswered, table, source, rover}
-use Rattle.session_core.specs.Owed.{Received, unasked, claimed, taken, entered, full, received, closing_by}
+use Rattle.session_model.specs.Judged.{SourceTerms, RoverTerms, Judged, waiting, refused, unanswered, table, source, rover}
+use Rattle.session_model.specs.Owed.{Received, unasked, claimed, taken, entered, full, received, closing_by}
 use Rattle.run_promise.specs.Promised.{asked}
 use Rattle.run_promise.proofs.MadeLemmas.{asks_mount, asks_call, AreAnswered, StepsOn}
 use Rattle.run_promise.proofs.CallLemmas.{calls_of}

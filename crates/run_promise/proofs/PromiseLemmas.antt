@@ -15,13 +15,13 @@ use Rattle.session_calls.specs.Rings.{history_at}
 use Rattle.rover_session.specs.Made.{segments_after}
 use Rattle.cast_config.specs.declared.config.Config.{Config}
 use Rattle.cast_config.specs.Kept.{KeepsRules}
-use Rattle.session_core.specs.declared.report.Report.{Report}
-use Rattle.session_core.specs.Headings.{Heading}
-use Rattle.session_core.specs.Owed.{received_by, closing}
-use Rattle.session_core.specs.Promises as core
-use Rattle.session_core.specs.Reports.{told_of, is_entered, opened_as, AreHeadings, report, IsReport}
-use Rattle.session_core.specs.Run.{Histories, Connected, World, nothing_called, judged_of, is_opened, world}
-use Rattle.session_core.proofs.PromiseLemmas.{keeps_all}
+use Rattle.session_model.specs.declared.report.Report.{Report}
+use Rattle.session_model.specs.Headings.{Heading}
+use Rattle.session_model.specs.Owed.{received_by, closing}
+use Rattle.session_model.specs.Promises as core
+use Rattle.session_model.specs.Reports.{told_of, is_entered, opened_as, AreHeadings, report, IsReport}
+use Rattle.session_model.specs.Run.{Histories, Connected, World, nothing_called, judged_of, is_opened, world}
+use Rattle.session_model.proofs.PromiseLemmas.{keeps_all}
 use Rattle.caster_replay.specs.Runs.{IsIncreasing}
 use Rattle.run_promise.specs.Promised.{IsAccounted, AreOrdered, is_told, IsKept, AreEarlier, IsPromised}
 use Rattle.run_promise.proofs.CallLemmas.{calls_of, same_segments, same_reads, all_calls}

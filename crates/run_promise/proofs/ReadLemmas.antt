@@ -10,15 +10,15 @@ use Rattle.session_script.specs.declared.Event.TheVariants as events
 use Rattle.session_script.specs.declared.ScriptKind.{ScriptKind}
 use Rattle.session_script.specs.Script.{IsSession}
 use Rattle.cast_config.specs.declared.config.Config.{Config}
-use Rattle.session_core.specs.declared.ending.Ending.{Ending}
-use Rattle.session_core.specs.declared.ending.Last.{Last}
-use Rattle.session_core.specs.declared.ending.Last.TheVariants as lasts
-use Rattle.session_core.specs.Headings.{Heading}
-use Rattle.session_core.specs.Judged.{Opening, sends_head, relays, bare_source, bare_rover, Judged}
-use Rattle.session_core.specs.Owed.{received, closing, Happening, arrives, takes_turn, ends, owed}
-use Rattle.session_core.specs.Endings.{ended_by, goes_on}
-use Rattle.session_core.specs.Reports.{opened_as, bytes_to}
-use Rattle.session_core.specs.Run.{Histories, Connected, World, Moved, made, judged_of, makes, closed_if, with_text, moved, moved_if, is_concerned, happens_in, happens, is_opened, opened_if, fresh, opens, after_event, after_events, closes, world}
+use Rattle.session_model.specs.declared.ending.Ending.{Ending}
+use Rattle.session_model.specs.declared.ending.Last.{Last}
+use Rattle.session_model.specs.declared.ending.Last.TheVariants as lasts
+use Rattle.session_model.specs.Headings.{Heading}
+use Rattle.session_model.specs.Judged.{Opening, sends_head, relays, bare_source, bare_rover, Judged}
+use Rattle.session_model.specs.Owed.{received, closing, Happening, arrives, takes_turn, ends, owed}
+use Rattle.session_model.specs.Endings.{ended_by, goes_on}
+use Rattle.session_model.specs.Reports.{opened_as, bytes_to}
+use Rattle.session_model.specs.Run.{Histories, Connected, World, Moved, made, judged_of, makes, closed_if, with_text, moved, moved_if, is_concerned, happens_in, happens, is_opened, opened_if, fresh, opens, after_event, after_events, closes, world}
 use Rattle.caster_replay.specs.Runs.{IsKnown, AreKnown}
 use Rattle.caster_replay.proofs.WorldHeadingLemmas.{bytes-append, bytes_stay, unless_cut}
 use Rattle.caster_replay.proofs.WorldClosedLemmas.{received_closed}

@@ -20,7 +20,7 @@ use Rattle.rover_session.specs.Owed.{Terms, if_live, if_looked, looks, chooses, 
 use Rattle.rover_session.specs.Owed as rover
 use Rattle.rover_session.proofs.FollowLemmas.{choice_stays}
 use Rattle.cast_config.specs.declared.config.Config.{Config}
-use Rattle.session_core.specs.Setting.{shapes}
+use Rattle.session_model.specs.Setting.{shapes}
 use Rattle.run_promise.specs.Calls.{Call}
 use Rattle.run_promise.specs.Calls as calls
 use Rattle.run_promise.specs.Selected.{if_held, held, Chooses, Joins, Follows, JoinsEach, Selects}

@@ -12,7 +12,7 @@ use Rattle.session_calls.specs.Plans.{asks, IsMade}
 use Rattle.session_calls.specs.Rings.{answer_at}
 use Rattle.upstream_relay.specs.Owed.{publishing, after_claim}
 use Rattle.cast_config.specs.declared.config.Config.{Config}
-use Rattle.session_core.specs.Setting.{shapes}
+use Rattle.session_model.specs.Setting.{shapes}
 use Rattle.run_promise.specs.Promised.{asked, publishes}
 use Rattle.run_promise.proofs.MadeLemmas.{asks_mount, asks_call, AreAnswered}
 use Rattle.run_promise.proofs.CallLemmas.{calls_of}

@@ -22,17 +22,17 @@ use Rattle.rover_session.proofs.MadeLemmas.{owed-append}
 use Rattle.rover_session.proofs.SegmentLemmas.{Extends, went_extends}
 use Rattle.cast_config.specs.declared.config.Config.{Config}
 use Rattle.cast_config.specs.Kept.{KeepsRules}
-use Rattle.session_core.specs.declared.ending.Ending.{Ending}
-use Rattle.session_core.specs.declared.ending.Last.{Last}
-use Rattle.session_core.specs.Setting.{shapes}
-use Rattle.session_core.specs.Headings.{Heading}
-use Rattle.session_core.specs.Judged.{Opening, Judged, judged}
-use Rattle.session_core.specs.Owed.{Received, received, plan_of, closing, Happening, arrives, takes_turn, ends}
-use Rattle.session_core.specs.Endings.{ended_by, goes_on}
-use Rattle.session_core.specs.Run.{Histories, Connected, Moved, nothing_called, step_at, with_call, with_calls, made, judged_of, makes, closed_if, goes_to, with_text, with_last, moved, moved_if, fresh}
-use Rattle.session_core.proofs.GoodLemmas.{IsGood, good_left, good_plan}
-use Rattle.session_core.proofs.WellLemmas.{closing_good}
-use Rattle.session_core.proofs.GrowLemmas.{plan_grows}
+use Rattle.session_model.specs.declared.ending.Ending.{Ending}
+use Rattle.session_model.specs.declared.ending.Last.{Last}
+use Rattle.session_model.specs.Setting.{shapes}
+use Rattle.session_model.specs.Headings.{Heading}
+use Rattle.session_model.specs.Judged.{Opening, Judged, judged}
+use Rattle.session_model.specs.Owed.{Received, received, plan_of, closing, Happening, arrives, takes_turn, ends}
+use Rattle.session_model.specs.Endings.{ended_by, goes_on}
+use Rattle.session_model.specs.Run.{Histories, Connected, Moved, nothing_called, step_at, with_call, with_calls, made, judged_of, makes, closed_if, goes_to, with_text, with_last, moved, moved_if, fresh}
+use Rattle.session_model.proofs.GoodLemmas.{IsGood, good_left, good_plan}
+use Rattle.session_model.proofs.WellLemmas.{closing_good}
+use Rattle.session_model.proofs.GrowLemmas.{plan_grows}
 use Rattle.caster_replay.proofs.WorldClosedLemmas.{received_closed}
 use Rattle.run_promise.proofs.MadeLemmas.{made_is, IsAskWithin, IsWithin, made_went, AreAnswered, answered-append, made_answered, made_owed, owed_all, StepsOn, on-append, owed_on, turn_on}
 use Rattle.run_promise.proofs.WithinLemmas.{IsFed, plan_within, closing_within, left_within, judged_fed}

@@ -38,10 +38,10 @@ use Rattle.access_groups.specs.declared.admission.Denial.TheVariants as denials
 use Rattle.access_groups.specs.declared.admission.SourceDenial.{SourceDenial}
 use Rattle.access_groups.specs.declared.admission.SourceDenial.TheVariants as sources
 use Rattle.access_groups.specs.Admission.{admission, source_admission}
-use Rattle.session_core.specs.Setting.{base_at, bases_at}
-use Rattle.session_core.specs.Headings.{Heading, incomplete, too_long, whole, answered}
-use Rattle.session_core.specs.Judged.{Opening, sends_head, relays, bare_source, bare_rover, Judged, waiting, refused, unanswered, table, source, rover, source_judged, rover_judged, request_judged, once, heading_judged, said_judged, relay_judged, mount_fed, named, bare_admission, judged}
-use Rattle.session_core.specs.Owed.{Received, unasked, claimed, taken, entered, full, received_by, if_entered, terms_of, plan_of, closing_by}
+use Rattle.session_model.specs.Setting.{base_at, bases_at}
+use Rattle.session_model.specs.Headings.{Heading, incomplete, too_long, whole, answered}
+use Rattle.session_model.specs.Judged.{Opening, sends_head, relays, bare_source, bare_rover, Judged, waiting, refused, unanswered, table, source, rover, source_judged, rover_judged, request_judged, once, heading_judged, said_judged, relay_judged, mount_fed, named, bare_admission, judged}
+use Rattle.session_model.specs.Owed.{Received, unasked, claimed, taken, entered, full, received_by, if_entered, terms_of, plan_of, closing_by}
 use Rattle.session_core.proofs.AdmittedLemmas.{source_is}
 use Rattle.run_promise.proofs.MadeLemmas.{IsWithin}
 

@@ -10,7 +10,7 @@ use Rattle.rover_cursor.specs.declared.segment.Segment.{Segment}
 use Rattle.rover_cursor.specs.Segments.{after_answer}
 use Rattle.session_calls.specs.Rings.{history_at, answer_at}
 use Rattle.cast_config.specs.declared.config.Config.{Config}
-use Rattle.session_core.specs.Setting.{shapes}
+use Rattle.session_model.specs.Setting.{shapes}
 
 -- a call with the number of its mountpoint and its answer
 pub record Call : Type 0 where

@@ -18,15 +18,15 @@ use Rattle.ntrip_reply.specs.declared.kind.Reply.TheVariants as replies
 use Rattle.ntrip_reply.specs.Text.{reply_text}
 use Rattle.session_script.specs.declared.Event.{Event}
 use Rattle.cast_config.specs.declared.config.Config.{Config}
-use Rattle.session_core.specs.declared.report.Connection.{Connection}
-use Rattle.session_core.specs.declared.report.Report.{Report}
-use Rattle.session_core.specs.Setting.{bases_at}
-use Rattle.session_core.specs.Setting as setting
-use Rattle.session_core.specs.Headings.{Heading}
-use Rattle.session_core.specs.Judged.{Opening, SourceTerms, RoverTerms, Judged, waiting, refused, unanswered, table, source, rover, judged}
-use Rattle.session_core.specs.Replies.{text_if, opening_text, kept_frames}
-use Rattle.session_core.specs.Promises.{IsSoundIn, CountsAll}
-use Rattle.session_core.specs.Reports.{opened_as, bytes_to, AreHeadings, mount_total}
+use Rattle.session_model.specs.declared.report.Connection.{Connection}
+use Rattle.session_model.specs.declared.report.Report.{Report}
+use Rattle.session_model.specs.Setting.{bases_at}
+use Rattle.session_model.specs.Setting as setting
+use Rattle.session_model.specs.Headings.{Heading}
+use Rattle.session_model.specs.Judged.{Opening, SourceTerms, RoverTerms, Judged, waiting, refused, unanswered, table, source, rover, judged}
+use Rattle.session_model.specs.Replies.{text_if, opening_text, kept_frames}
+use Rattle.session_model.specs.Promises.{IsSoundIn, CountsAll}
+use Rattle.session_model.specs.Reports.{opened_as, bytes_to, AreHeadings, mount_total}
 use Rattle.caster_replay.specs.Runs.{is_cut}
 use Rattle.run_promise.specs.Calls.{Call, call, AreAllCalls, without_reads, segments_of, ReadOn}
 use Rattle.run_promise.specs.Selected.{Selects}

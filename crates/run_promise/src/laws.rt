@@ -10,7 +10,7 @@ ghost use Rattle.session_script.specs.declared.ScriptKind.{ScriptKind};
 ghost use Rattle.session_script.specs.Script.{IsSession};
 ghost use Rattle.cast_config.specs.declared.config.Config.{Config};
 ghost use Rattle.cast_config.specs.Kept.{KeepsRules};
-ghost use Rattle.session_core.specs.Reports.{IsReport};
+ghost use Rattle.session_model.specs.Reports.{IsReport};
 ghost use Rattle.run_promise.specs.Calls.{Call, AreAllCalls, ReadOn, segments_of};
 ghost use Rattle.run_promise.specs.Promised.{IsPromised};
 ghost use Rattle.run_promise.specs.Begun.{IsBegun};

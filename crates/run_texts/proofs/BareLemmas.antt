@@ -11,13 +11,13 @@ use Rattle.session_script.specs.Line.{is_event}
 use Rattle.session_script.specs.Numbers.{Numbers, no_numbers, opening, closing}
 use Rattle.session_script.specs.Script.{IsSession, after_event, may_follow, is_session_after}
 use Rattle.cast_config.specs.declared.config.Config.{Config}
-use Rattle.session_core.specs.declared.report.Report.{Report}
-use Rattle.session_core.specs.Headings.{Heading, incomplete}
-use Rattle.session_core.specs.Judged.{Opening, sends_head, relays, bare_source, bare_rover}
-use Rattle.session_core.specs.Reports as reports
-use Rattle.session_core.specs.Reports.{no_heads, opened_as, opened_if, bytes_to, IsHeadingOf, AreHeadings, IsReport}
-use Rattle.session_core.specs.Text.{report_text}
-use Rattle.session_core.proofs.LawLemmas.{one_of, one_report}
+use Rattle.session_model.specs.declared.report.Report.{Report}
+use Rattle.session_model.specs.Headings.{Heading, incomplete}
+use Rattle.session_model.specs.Judged.{Opening, sends_head, relays, bare_source, bare_rover}
+use Rattle.session_model.specs.Reports as reports
+use Rattle.session_model.specs.Reports.{no_heads, opened_as, opened_if, bytes_to, IsHeadingOf, AreHeadings, IsReport}
+use Rattle.session_model.specs.Text.{report_text}
+use Rattle.session_model.proofs.LawLemmas.{one_of, one_report}
 use Rattle.caster_warm.specs.Warm.{IsWarmReport, warm_report}
 use Rattle.run_texts.specs.Texts.{IsRunText, IsWarmText, bare_report, report}
 

@@ -9,17 +9,17 @@ use Rattle.session_calls.specs.Plans.{Plan}
 use Rattle.session_calls.specs.Rings.{history_at}
 use Rattle.cast_config.specs.declared.config.Config.{Config}
 use Rattle.cast_config.specs.declared.config.Mount.{Mount}
-use Rattle.session_core.specs.declared.ending.Ending.{Ending}
-use Rattle.session_core.specs.declared.ending.Last.TheVariants as lasts
-use Rattle.session_core.specs.declared.report.Report.{Report}
-use Rattle.session_core.specs.Headings.{Heading}
-use Rattle.session_core.specs.Judged.{Opening, sends_head, relays, bare_source, bare_rover, Judged}
-use Rattle.session_core.specs.Owed.{received, closing, Happening, arrives, takes_turn, ends, owed}
-use Rattle.session_core.specs.Endings.{ended_by}
-use Rattle.session_core.proofs.ReportSums.{sums_long}
-use Rattle.session_core.specs.Reports.{IsReport, report, mount_total}
+use Rattle.session_model.specs.declared.ending.Ending.{Ending}
+use Rattle.session_model.specs.declared.ending.Last.TheVariants as lasts
+use Rattle.session_model.specs.declared.report.Report.{Report}
+use Rattle.session_model.specs.Headings.{Heading}
+use Rattle.session_model.specs.Judged.{Opening, sends_head, relays, bare_source, bare_rover, Judged}
+use Rattle.session_model.specs.Owed.{received, closing, Happening, arrives, takes_turn, ends, owed}
+use Rattle.session_model.specs.Endings.{ended_by}
+use Rattle.session_model.proofs.ReportSums.{sums_long}
+use Rattle.session_model.specs.Reports.{IsReport, report, mount_total}
 use Rattle.caster_warm.specs.Warm.{IsWarmReport, warm_report}
-use Rattle.session_core.specs.Run.{Histories, Connected, World, Moved, nothing_called, with_call, with_calls, made, judged_of, makes, closed_if, with_text, with_last, moved, moved_if, is_concerned, happens_in, happens, is_opened, opened_if, fresh, opens, after_event, after_events, closes, world}
+use Rattle.session_model.specs.Run.{Histories, Connected, World, Moved, nothing_called, with_call, with_calls, made, judged_of, makes, closed_if, with_text, with_last, moved, moved_if, is_concerned, happens_in, happens, is_opened, opened_if, fresh, opens, after_event, after_events, closes, world}
 
 -- ---- the rings stay as many
 

@@ -4,7 +4,7 @@ use Rattle.std.specs.Global.{Vec}
 use Rattle.session_make.specs.Rounds.{events_of}
 use Rattle.cast_config.specs.declared.config.Config.{Config}
 use Rattle.cast_config.specs.Bare.{bare}
-use Rattle.session_core.specs.declared.report.Report.{Report}
+use Rattle.session_model.specs.declared.report.Report.{Report}
 use Rattle.run_texts.specs.Texts.{bare_report, summary, made_text}
 
 made_is : (seed frames rovers : ℕ) (c : Config) (r : Report) (text : List ℕ) → c ≡ bare 64

@@ -8,11 +8,11 @@ use Rattle.session_script.specs.declared.Event.{Event}
 use Rattle.session_make.specs.Rounds.{events_of}
 use Rattle.cast_config.specs.declared.config.Config.{Config}
 use Rattle.cast_config.specs.Bare.{bare}
-use Rattle.session_core.specs.declared.report.Connection.{Connection}
-use Rattle.session_core.specs.declared.report.Report.{Report}
-use Rattle.session_core.specs.Reports as reports
-use Rattle.session_core.specs.Reports.{IsReport, no_heads}
-use Rattle.session_core.specs.Text.{line, closed_text, report_text}
+use Rattle.session_model.specs.declared.report.Connection.{Connection}
+use Rattle.session_model.specs.declared.report.Report.{Report}
+use Rattle.session_model.specs.Reports as reports
+use Rattle.session_model.specs.Reports.{IsReport, no_heads}
+use Rattle.session_model.specs.Text.{line, closed_text, report_text}
 use Rattle.caster_warm.specs.Warm.{IsWarmReport}
 
 -- the text is that of the report of a recorded run of these events

@@ -3,7 +3,7 @@
 ghost use Rattle.std.specs.Prelude.{◌≡◌, ◌≤◌, ℕ, IfOk};
 ghost use Rattle.session_make.specs.Rounds.{events_of};
 ghost use Rattle.cast_config.specs.Kept.{KeepsRules};
-ghost use Rattle.session_core.specs.Reports.{IsReport};
+ghost use Rattle.session_model.specs.Reports.{IsReport};
 ghost use Rattle.run_texts.specs.Texts.{bare_report, made_text};
 
 use crate::summary::summary;

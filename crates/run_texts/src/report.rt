@@ -8,7 +8,7 @@ ghost use Rattle.run_texts.specs.Texts.{IsRunText, IsWarmText};
 use cast_config::Config;
 use caster_replay::replay;
 use caster_warm::warm;
-use session_core::report_text;
+use session_text::report_text;
 use session_script::Event;
 use std::alloc::{AllocError, Global};
 

@@ -7,7 +7,8 @@ ghost use Rattle.run_texts.specs.Texts.{laps_of, summary};
 
 use cast_config::Config;
 use rover_cursor::Segment;
-use session_core::{Connection, Report, closed_text};
+use session_core::{Connection, Report};
+use session_text::closed_text;
 use std::alloc::{AllocError, Global};
 
 /// Two counts added up. No run has so many laps that the sum is not a number of its type.

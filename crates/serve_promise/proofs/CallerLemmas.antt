@@ -23,18 +23,19 @@ use Rattle.session_calls.proofs.PlanLemmas.{made_begun}
 use Rattle.rover_session.specs.Made.{segments_after, owed_among}
 use Rattle.cast_config.specs.declared.config.Config.{Config}
 use Rattle.cast_config.specs.declared.config.Mount.{Mount}
-use Rattle.session_core.specs.declared.report.Closed.{Closed}
-use Rattle.session_core.specs.Setting.{shapes}
-use Rattle.session_core.specs.Called.{Called}
-use Rattle.session_core.specs.Judged.{Opening, sends_head, relays}
-use Rattle.session_core.specs.Owed.{received, plan_of, closing}
-use Rattle.session_core.specs.Run.{Histories, nothing_called}
-use Rattle.session_core.specs.Standing.{IsMadeBy, IsSettled, is_halted}
-use Rattle.session_core.proofs.GoodLemmas.{IsGoodAsk, IsGood, good_plan, good_closing}
+use Rattle.session_model.specs.declared.report.Closed.{Closed}
+use Rattle.session_model.specs.Setting.{shapes}
+use Rattle.session_model.specs.Called.{Called}
+use Rattle.session_model.specs.Judged.{Opening, sends_head, relays}
+use Rattle.session_model.specs.Owed.{received, plan_of, closing}
+use Rattle.session_model.specs.Run.{Histories, nothing_called}
+use Rattle.session_core.specs.Standing.{IsMadeBy, is_halted}
+use Rattle.session_core.specs.Closed.{IsSettled}
+use Rattle.session_model.proofs.GoodLemmas.{IsGoodAsk, IsGood, good_plan, good_closing}
 use Rattle.caster_street.specs.Ends.{EndTold, at_door, over_link, IsUnused}
 use Rattle.caster_places.specs.Rows.{AreWhole}
 use Rattle.caster_places.specs.Rows as rows
-use Rattle.caster_serve.specs.Courses.{steps_of}
+use Rattle.session_model.specs.Courses.{steps_of}
 use Rattle.caster_serve.specs.Wear.{Wear, only_worn}
 use Rattle.caster_serve.specs.Works.{Record, RecordGoes, Followed, links_of, receipts_of, tallied}
 use Rattle.caster_serve.specs.Callers.{Caller, ServedOver, IsServed, AreServed, uncalled, calls_in as call_counts, seen_of}

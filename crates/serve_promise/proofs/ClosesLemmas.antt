@@ -12,10 +12,10 @@ use Rattle.session_calls.specs.Steps.{Ask, to_ring, to_book, Step, at_ring, at_b
 use Rattle.session_calls.specs.Plans.{Plan, done, asks, IsMade}
 use Rattle.rover_session.specs.Made.{after_step, segments_after}
 use Rattle.cast_config.specs.declared.config.Config.{Config}
-use Rattle.session_core.specs.Judged.{Judged, waiting, refused, unanswered, table, source, rover}
-use Rattle.session_core.specs.Owed.{Received, unasked, claimed, taken, entered, full, received, closing, closing_by}
-use Rattle.session_core.specs.Run.{Histories, made}
-use Rattle.session_core.specs.Standing.{IsSettled}
+use Rattle.session_model.specs.Judged.{Judged, waiting, refused, unanswered, table, source, rover}
+use Rattle.session_model.specs.Owed.{Received, unasked, claimed, taken, entered, full, received, closing, closing_by}
+use Rattle.session_model.specs.Run.{Histories, made}
+use Rattle.session_core.specs.Closed.{IsSettled}
 use Rattle.run_promise.specs.Calls.{Call, without_reads}
 use Rattle.run_promise.specs.Promised.{is_release}
 use Rattle.run_promise.proofs.MadeLemmas.{made_is, AreAnswered, made_answered}

@@ -22,15 +22,15 @@ use Rattle.ntrip_head.specs.declared.request.Version.{Version}
 use Rattle.ntrip_head.specs.declared.request.Version.TheVariants.{One}
 use Rattle.ntrip_reply.specs.declared.kind.Reply.TheVariants as replies
 use Rattle.cast_config.specs.declared.config.Config.{Config}
-use Rattle.session_core.specs.declared.report.Receipt.{Receipt}
-use Rattle.session_core.specs.Setting.{bases_at}
-use Rattle.session_core.specs.Judged.{Opening, SourceTerms, RoverTerms, Judged, waiting, refused, unanswered, table, source, rover}
-use Rattle.session_core.specs.Owed.{Received, unasked, claimed, taken, entered, full, received, terms_of, plan_of, closing, closing_by}
-use Rattle.session_core.specs.Promises.{Keeps}
-use Rattle.session_core.specs.Replies.{text_if, opening_text, reply_of, kept_frames, sent_by}
-use Rattle.session_core.specs.Reports.{is_entered}
-use Rattle.session_core.specs.Run.{nothing_called, made}
-use Rattle.session_core.specs.Standing.{IsSettled}
+use Rattle.session_model.specs.declared.report.Receipt.{Receipt}
+use Rattle.session_model.specs.Setting.{bases_at}
+use Rattle.session_model.specs.Judged.{Opening, SourceTerms, RoverTerms, Judged, waiting, refused, unanswered, table, source, rover}
+use Rattle.session_model.specs.Owed.{Received, unasked, claimed, taken, entered, full, received, terms_of, plan_of, closing, closing_by}
+use Rattle.session_model.specs.Promises.{Keeps}
+use Rattle.session_model.specs.Replies.{text_if, opening_text, reply_of, kept_frames, sent_by}
+use Rattle.session_model.specs.Reports.{is_entered}
+use Rattle.session_model.specs.Run.{nothing_called, made}
+use Rattle.session_core.specs.Closed.{IsSettled}
 use Rattle.run_promise.specs.Calls.{Call, call, without_reads}
 use Rattle.run_promise.specs.Selected.{Selects}
 use Rattle.run_promise.specs.Promised.{Holds, IsReplied, asked, publishes, WasTaken}

@@ -18,11 +18,11 @@ use Rattle.session_calls.specs.Rings.{history_at, shape_at}
 use Rattle.rover_session.specs.Made.{segments_after}
 use Rattle.rover_session.proofs.LawLemmas.{body_plain}
 use Rattle.cast_config.specs.declared.config.Config.{Config}
-use Rattle.session_core.specs.Setting.{shapes}
-use Rattle.session_core.specs.Replies.{kept_of, kept_frames}
-use Rattle.session_core.specs.Run.{Connected}
-use Rattle.session_core.specs.Promises.{permits_of, published_at, IsSoundIn, CountsAll, sent_frames, Keeps}
-use Rattle.session_core.proofs.KeepLemmas.{Later, AllSound}
+use Rattle.session_model.specs.Setting.{shapes}
+use Rattle.session_model.specs.Replies.{kept_of, kept_frames}
+use Rattle.session_model.specs.Run.{Connected}
+use Rattle.session_model.specs.Promises.{permits_of, published_at, IsSoundIn, CountsAll, sent_frames, Keeps}
+use Rattle.session_model.proofs.KeepLemmas.{Later, AllSound}
 use Rattle.serve_promise.specs.Links.{AllFrames, GoOnTo}
 
 -- ---- what was sent are frames

@@ -19,23 +19,24 @@ use Rattle.rover_session.specs.Body.{body_of}
 use Rattle.rover_session.specs.Made.{after_step, segments_after, owed_among, sent_in, overrun_in}
 use Rattle.ntrip_head.specs.declared.request.Version.TheVariants.{One}
 use Rattle.cast_config.specs.declared.config.Config.{Config}
-use Rattle.session_core.specs.declared.ending.Ending.{Ending}
-use Rattle.session_core.specs.declared.ending.Last.{Last}
-use Rattle.session_core.specs.declared.ending.Last.TheVariants as lasts
-use Rattle.session_core.specs.declared.report.Receipt.{Receipt}
-use Rattle.session_core.specs.Called.{Called, is_halt}
-use Rattle.session_core.specs.Endings.{ended_last}
-use Rattle.session_core.specs.Judged.{Opening, Judged, judged}
-use Rattle.session_core.specs.Owed.{Received, unasked, claimed, taken, entered, full, received, plan_of, closing}
-use Rattle.session_core.specs.Promises.{IsSoundIn}
-use Rattle.session_core.specs.Replies.{opening_text, reply_of, version_of, sent_by}
-use Rattle.session_core.specs.Reports.{IsHeadingOf, is_entered}
-use Rattle.session_core.specs.Run.{Histories, Connected}
-use Rattle.session_core.specs.Standing.{IsMadeBy, IsSentBy, IsSettled, ending_by, is_halted, is_uncalled, is_halted_uncalled}
-use Rattle.session_core.proofs.GoodLemmas.{good_closing}
-use Rattle.session_core.proofs.KeepLemmas.{AllSound, all_later}
+use Rattle.session_model.specs.declared.ending.Ending.{Ending}
+use Rattle.session_model.specs.declared.ending.Last.{Last}
+use Rattle.session_model.specs.declared.ending.Last.TheVariants as lasts
+use Rattle.session_model.specs.declared.report.Receipt.{Receipt}
+use Rattle.session_model.specs.Called.{Called, is_halt}
+use Rattle.session_model.specs.Endings.{ended_last}
+use Rattle.session_model.specs.Judged.{Opening, Judged, judged}
+use Rattle.session_model.specs.Owed.{Received, unasked, claimed, taken, entered, full, received, plan_of, closing}
+use Rattle.session_model.specs.Promises.{IsSoundIn}
+use Rattle.session_model.specs.Replies.{opening_text, reply_of, version_of, sent_by}
+use Rattle.session_model.specs.Reports.{IsHeadingOf, is_entered}
+use Rattle.session_model.specs.Run.{Histories, Connected}
+use Rattle.session_core.specs.Standing.{IsMadeBy, IsSentBy, is_halted, is_uncalled, is_halted_uncalled}
+use Rattle.session_core.specs.Closed.{IsSettled, ending_by}
+use Rattle.session_model.proofs.GoodLemmas.{good_closing}
+use Rattle.session_model.proofs.KeepLemmas.{AllSound, all_later}
 use Rattle.caster_replay.proofs.WorldClosedLemmas.{received_closed}
-use Rattle.caster_serve.specs.Courses.{happened, steps_of, text_of}
+use Rattle.session_model.specs.Courses.{happened, steps_of, text_of}
 use Rattle.caster_serve.specs.Links.{is_torn}
 use Rattle.caster_serve.specs.Served.{LinkGoes}
 use Rattle.caster_serve.proofs.CalledLemmas.{called_both}

@@ -6,10 +6,10 @@ use Rattle.mount_ring.specs.declared.call.RingCall.{RingCall}
 use Rattle.rover_cursor.specs.declared.segment.Segment.{Segment}
 use Rattle.ntrip_head.specs.declared.request.Version.TheVariants.{One}
 use Rattle.cast_config.specs.declared.config.Config.{Config}
-use Rattle.session_core.specs.declared.report.Connection.{Connection}
-use Rattle.session_core.specs.Judged.{SourceTerms, RoverTerms, Judged, waiting, refused, unanswered, table, source, rover}
-use Rattle.session_core.specs.Promises.{IsSoundIn, CountsAll}
-use Rattle.session_core.specs.Replies.{kept_frames}
+use Rattle.session_model.specs.declared.report.Connection.{Connection}
+use Rattle.session_model.specs.Judged.{SourceTerms, RoverTerms, Judged, waiting, refused, unanswered, table, source, rover}
+use Rattle.session_model.specs.Promises.{IsSoundIn, CountsAll}
+use Rattle.session_model.specs.Replies.{kept_frames}
 use Rattle.run_promise.specs.Calls.{Call}
 use Rattle.run_promise.specs.Promised.{Holds, IsReplied, HasEntered, HasClaimed, WasTaken, Was}
 

@@ -19,14 +19,14 @@ use Rattle.session_calls.proofs.PlanLemmas.{made_begun}
 use Rattle.rover_session.specs.Owed.{reads}
 use Rattle.rover_session.specs.Made.{segments_after, is_owed, owed_among}
 use Rattle.cast_config.specs.declared.config.Config.{Config}
-use Rattle.session_core.specs.Setting.{shapes}
-use Rattle.session_core.specs.Called.{Called, book_answer}
-use Rattle.session_core.specs.Headings.{Heading}
-use Rattle.session_core.specs.Judged.{Opening, judged}
-use Rattle.session_core.specs.Owed.{Happening, arrives, takes_turn, ends, received, plan_of, owed}
-use Rattle.session_core.specs.Run.{Histories}
-use Rattle.session_core.proofs.GoodLemmas.{IsGoodAsk, IsGood, good_left, good_plan, good_closing}
-use Rattle.caster_serve.specs.Courses.{Event, happened, steps_on, steps_of, with_bytes, text_of, IsCourse, IsBroken, Ran}
+use Rattle.session_model.specs.Setting.{shapes}
+use Rattle.session_model.specs.Called.{Called, book_answer}
+use Rattle.session_model.specs.Headings.{Heading}
+use Rattle.session_model.specs.Judged.{Opening, judged}
+use Rattle.session_model.specs.Owed.{Happening, arrives, takes_turn, ends, received, plan_of, owed}
+use Rattle.session_model.specs.Run.{Histories}
+use Rattle.session_model.proofs.GoodLemmas.{IsGoodAsk, IsGood, good_left, good_plan, good_closing}
+use Rattle.session_model.specs.Courses.{Event, happened, steps_on, steps_of, with_bytes, text_of, IsCourse, IsBroken, Ran}
 use Rattle.caster_serve.specs.Links.{happens_in, IsLeftOut}
 use Rattle.caster_serve.proofs.CourseLemmas.{text-snoc}
 use Rattle.run_promise.specs.Calls.{IsReadOn}

@@ -17,17 +17,17 @@ use Rattle.rover_session.specs.Made.{sent_in, overrun_in}
 use Rattle.ntrip_head.specs.declared.request.Version.TheVariants.{One}
 use Rattle.ntrip_reply.specs.declared.kind.Reply.TheVariants as replies
 use Rattle.cast_config.specs.declared.config.Config.{Config}
-use Rattle.session_core.specs.declared.ending.Ending.TheVariants.{Memory}
-use Rattle.session_core.specs.declared.ending.Last.{Last}
-use Rattle.session_core.specs.declared.report.Connection.{Connection}
-use Rattle.session_core.specs.declared.report.Receipt.{Receipt}
-use Rattle.session_core.specs.Called.{is_halt}
-use Rattle.session_core.specs.Headings.{Heading}
-use Rattle.session_core.specs.Judged.{Opening, SourceTerms, RoverTerms, Judged, waiting, source, rover, judged}
-use Rattle.session_core.specs.Promises.{IsSoundIn, CountsAll}
-use Rattle.session_core.specs.Replies.{text_if, opening_text, kept_frames}
-use Rattle.session_core.specs.Reports.{IsHeadingOf}
-use Rattle.session_core.specs.Setting.{shapes, bases_at}
+use Rattle.session_model.specs.declared.ending.Ending.TheVariants.{Memory}
+use Rattle.session_model.specs.declared.ending.Last.{Last}
+use Rattle.session_model.specs.declared.report.Connection.{Connection}
+use Rattle.session_model.specs.declared.report.Receipt.{Receipt}
+use Rattle.session_model.specs.Called.{is_halt}
+use Rattle.session_model.specs.Headings.{Heading}
+use Rattle.session_model.specs.Judged.{Opening, SourceTerms, RoverTerms, Judged, waiting, source, rover, judged}
+use Rattle.session_model.specs.Promises.{IsSoundIn, CountsAll}
+use Rattle.session_model.specs.Replies.{text_if, opening_text, kept_frames}
+use Rattle.session_model.specs.Reports.{IsHeadingOf}
+use Rattle.session_model.specs.Setting.{shapes, bases_at}
 use Rattle.session_core.specs.Standing.{IsSentBy}
 use Rattle.caster_serve.specs.Links.{is_torn}
 use Rattle.run_promise.specs.Calls.{Call, call, at_one, without_reads, segments_of, ReadOn}

@@ -27,7 +27,7 @@ use Rattle.access_groups.specs.declared.admission.Denial.TheVariants as denials
 use Rattle.access_groups.specs.declared.admission.SourceDenial.{SourceDenial}
 use Rattle.access_groups.specs.declared.admission.SourceDenial.TheVariants as sources
 use Rattle.access_groups.specs.Admission.{◌>>=◌, given, party, anonymous_party, account_party, party_of, hears, bases_of, is_near, heard_bases, admission_of, admission_in, admission, source_at, source_of, source_admission}
-use Rattle.session_core.specs.Setting.{shapes, shapes_from, caps, base_at, bases_at}
+use Rattle.session_model.specs.Setting.{shapes, shapes_from, caps, base_at, bases_at}
 
 -- ---- numbers of mountpoints
 

@@ -8,13 +8,14 @@ use Rattle.cast_config.specs.declared.config.Config.{Config}
 use Rattle.session_core.specs.declared.ending.Bare.{Bare}
 use Rattle.session_core.specs.declared.ending.Bare.TheVariants as bare
 use Rattle.session_core.specs.declared.session.Session.{Session}
-use Rattle.session_core.specs.Headings.{incomplete}
-use Rattle.session_core.specs.Judged.{judged}
-use Rattle.session_core.specs.Replies.{opening_text, text_if}
-use Rattle.session_core.specs.Run.{Histories}
-use Rattle.session_core.specs.Called.{Called}
+use Rattle.session_model.specs.Headings.{incomplete}
+use Rattle.session_model.specs.Judged.{judged}
+use Rattle.session_model.specs.Replies.{opening_text, text_if}
+use Rattle.session_model.specs.Run.{Histories}
+use Rattle.session_model.specs.Called.{Called}
 use Rattle.session_core.specs.Beginnings.{bare_opening}
-use Rattle.session_core.specs.Standing.{Begins, BeginsFor, Fed, IsSentBy, Stands, due_by, is_halted_uncalled}
+use Rattle.session_core.specs.Standing.{Fed, IsSentBy, Stands, is_halted_uncalled}
+use Rattle.session_core.specs.Begun.{Begins, BeginsFor, due_by}
 use Rattle.session_core.proofs.CloseLemmas.{called_none}
 
 -- what is sent to nobody

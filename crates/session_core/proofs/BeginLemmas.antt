@@ -13,16 +13,17 @@ use Rattle.session_calls.specs.Steps.{Step}
 use Rattle.session_calls.specs.Plans.{Plan, IsMade}
 use Rattle.session_calls.proofs.PlanLemmas.{made_begun}
 use Rattle.cast_config.specs.declared.config.Config.{Config}
-use Rattle.session_core.specs.declared.ending.Ending.{Ending}
-use Rattle.session_core.specs.declared.ending.Ending.TheVariants as endings
+use Rattle.session_model.specs.declared.ending.Ending.{Ending}
+use Rattle.session_model.specs.declared.ending.Ending.TheVariants as endings
 use Rattle.session_core.specs.declared.stage.Stage.{Stage}
 use Rattle.session_core.specs.declared.stage.Stage.TheVariants.{Over}
-use Rattle.session_core.specs.Setting.{shapes}
-use Rattle.session_core.specs.Setting as setting
-use Rattle.session_core.specs.Judged.{refused, table}
-use Rattle.session_core.specs.Replies.{text_if}
-use Rattle.session_core.specs.Run.{Histories}
-use Rattle.session_core.specs.Standing.{IsMadeBy, IsSentBy, BeginsFor, IsRepliedLast, EndsAt, is_refused_at, is_halted, is_halted_uncalled}
+use Rattle.session_model.specs.Setting.{shapes}
+use Rattle.session_model.specs.Setting as setting
+use Rattle.session_model.specs.Judged.{refused, table}
+use Rattle.session_model.specs.Replies.{text_if}
+use Rattle.session_model.specs.Run.{Histories}
+use Rattle.session_core.specs.Standing.{IsMadeBy, IsSentBy, EndsAt, is_refused_at, is_halted, is_halted_uncalled}
+use Rattle.session_core.specs.Begun.{BeginsFor, IsRepliedLast}
 use Rattle.session_core.proofs.CloseLemmas.{called_none}
 
 -- ---- room for a reply

@@ -24,20 +24,20 @@ use Rattle.source_session.specs.Standing as source_standing
 use Rattle.upstream_relay.specs.Owed.{publishing}
 use Rattle.cast_config.specs.declared.config.Config.{Config}
 use Rattle.session_core.proofs.BeginLemmas.{over_ends}
-use Rattle.session_core.specs.declared.ending.Ending.{Ending}
+use Rattle.session_model.specs.declared.ending.Ending.{Ending}
 use Rattle.session_core.specs.declared.stage.Stage.{Stage}
 use Rattle.session_core.specs.declared.stage.Stage.TheVariants.{Over, Source}
-use Rattle.session_core.specs.Setting.{shapes}
+use Rattle.session_model.specs.Setting.{shapes}
 use Rattle.rtcm_frame.specs.Cut as frames
 use Rattle.chunk_body.specs.Answer as bodies
 use Rattle.chunk_body.specs.Machine as machine
-use Rattle.session_core.specs.Endings.{claimed_ending}
-use Rattle.session_core.specs.Judged.{SourceTerms, source}
-use Rattle.session_core.specs.Replies.{text_if}
+use Rattle.session_model.specs.Endings.{claimed_ending}
+use Rattle.session_model.specs.Judged.{SourceTerms, source}
+use Rattle.session_model.specs.Replies.{text_if}
 use Rattle.session_core.specs.Published.{steps_unclaimed}
-use Rattle.session_core.specs.Called.{book_answer}
+use Rattle.session_model.specs.Called.{book_answer}
 use Rattle.session_core.specs.Beginnings.{histories_of, end_unclaimed, text_unclaimed}
-use Rattle.session_core.specs.Standing.{BeginsFor}
+use Rattle.session_core.specs.Begun.{BeginsFor}
 
 -- ---- the rings alone were called
 

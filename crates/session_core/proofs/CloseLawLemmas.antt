@@ -9,23 +9,24 @@ use Rattle.session_calls.specs.Steps.{Step}
 use Rattle.session_calls.specs.Plans.{Plan, IsMade}
 use Rattle.rover_session.specs.Made.{segments_after, sent_in, overrun_in}
 use Rattle.cast_config.specs.declared.config.Config.{Config}
-use Rattle.session_core.specs.declared.ending.Ending.{Ending}
-use Rattle.session_core.specs.declared.ending.Last.{Last}
-use Rattle.session_core.specs.declared.report.Receipt.{Receipt}
+use Rattle.session_model.specs.declared.ending.Ending.{Ending}
+use Rattle.session_model.specs.declared.ending.Last.{Last}
+use Rattle.session_model.specs.declared.report.Receipt.{Receipt}
 use Rattle.session_core.specs.declared.session.Session.{Session}
 use Rattle.session_core.specs.declared.stage.Stage.{Stage}
-use Rattle.session_core.specs.Setting.{caps, shapes}
-use Rattle.session_core.specs.Headings.{Heading}
-use Rattle.session_core.specs.Judged.{Opening, Judged, judged}
-use Rattle.session_core.specs.Owed.{received, closing}
-use Rattle.session_core.specs.Endings.{ended_last}
-use Rattle.session_core.specs.Reports.{IsHeadingOf, junk_of, is_entered}
-use Rattle.session_core.specs.Run.{Histories}
-use Rattle.session_core.specs.Called.{Called, OthersCalled}
+use Rattle.session_model.specs.Setting.{caps, shapes}
+use Rattle.session_model.specs.Headings.{Heading}
+use Rattle.session_model.specs.Judged.{Opening, Judged, judged}
+use Rattle.session_model.specs.Owed.{received, closing}
+use Rattle.session_model.specs.Endings.{ended_last}
+use Rattle.session_model.specs.Reports.{IsHeadingOf, junk_of, is_entered}
+use Rattle.session_model.specs.Run.{Histories}
+use Rattle.session_model.specs.Called.{Called, OthersCalled}
 use Rattle.session_core.specs.Published.{IsTurnRefused, MayRefuse}
-use Rattle.session_core.specs.Standing.{IsLost, StandsFor, Follows, IsSettled, IsReceipt, IsClosed, IsAtStage}
+use Rattle.session_core.specs.Standing.{IsLost, StandsFor, Follows, IsAtStage}
+use Rattle.session_core.specs.Closed.{IsSettled, IsReceipt, IsClosed}
 use Rattle.session_core.specs.Closing.{closing_at, received_at, segments_at, IsJunkAt, IsHeldBy, Makes}
-use Rattle.session_core.proofs.LawLemmas.{one_of}
+use Rattle.session_model.proofs.LawLemmas.{one_of}
 use Rattle.session_core.proofs.HeldLemmas.{held_at, length_shapes}
 use Rattle.session_core.proofs.CloseLemmas.{called_none}
 use Rattle.session_core.proofs.EnteredLemmas.{contains_left, contains_last}

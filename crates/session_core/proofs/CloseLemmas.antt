@@ -17,9 +17,9 @@ use Rattle.session_calls.specs.Plans.{Plan, done, asks, IsMade}
 use Rattle.session_calls.specs.Rings.{Went}
 use Rattle.session_calls.proofs.WentLemmas.{went_none, went_less}
 use Rattle.cast_config.specs.declared.config.Config.{Config}
-use Rattle.session_core.specs.Setting.{caps, shapes}
-use Rattle.session_core.specs.Run.{Histories}
-use Rattle.session_core.specs.Called.{Called, book_answer}
+use Rattle.session_model.specs.Setting.{caps, shapes}
+use Rattle.session_model.specs.Run.{Histories}
+use Rattle.session_model.specs.Called.{Called, book_answer}
 use Rattle.session_core.specs.Closing.{Makes, releasing}
 
 -- ---- calls at the rings, and calls at the book

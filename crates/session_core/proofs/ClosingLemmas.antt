@@ -15,12 +15,12 @@ use Rattle.upstream_relay.specs.declared.fault.RelayHalt.{RelayHalt}
 use Rattle.upstream_relay.specs.declared.fault.RelayHalt.TheVariants as halts
 use Rattle.upstream_relay.specs.Owed.{owed, IsDone}
 use Rattle.upstream_relay.specs.Standing.{StandsAt, IsClaimed, IsHaltedBy, claim_at, halt_at, is_short_at}
-use Rattle.session_core.specs.Headings.{Heading, answered, IsAnswering}
-use Rattle.session_core.specs.Judged.{Judged, waiting, refused, unanswered, table, source, rover, relay_judged, once, said_judged}
-use Rattle.session_core.specs.Owed.{unasked, claimed, taken, received, closing_by}
-use Rattle.session_core.specs.Reports.{junk_of}
+use Rattle.session_model.specs.Headings.{Heading, answered, IsAnswering}
+use Rattle.session_model.specs.Judged.{Judged, waiting, refused, unanswered, table, source, rover, relay_judged, once, said_judged}
+use Rattle.session_model.specs.Owed.{unasked, claimed, taken, received, closing_by}
+use Rattle.session_model.specs.Reports.{junk_of}
 use Rattle.session_core.specs.Closing.{received_claim}
-use Rattle.session_core.proofs.AnsweringLemmas.{one_answering}
+use Rattle.session_model.proofs.AnsweringLemmas.{one_answering}
 use Rattle.session_core.proofs.RelayLemmas.{done_is_none}
 
 -- ---- what called nothing, or was told that its mountpoint is taken

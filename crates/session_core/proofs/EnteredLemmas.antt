@@ -37,18 +37,19 @@ use Rattle.rover_session.specs.Made.{segments_after, owed_among, IsMadeUntil, Is
 use Rattle.rover_session.specs.Body.{body_of}
 use Rattle.rover_session.specs.Standing.{Rover, rover_of, Told, IsResumable, frames_of, frames_sent}
 use Rattle.cast_config.specs.declared.config.Config.{Config}
-use Rattle.session_core.specs.declared.ending.Ending.{Ending}
-use Rattle.session_core.specs.declared.ending.Ending.TheVariants as endings
+use Rattle.session_model.specs.declared.ending.Ending.{Ending}
+use Rattle.session_model.specs.declared.ending.Ending.TheVariants as endings
 use Rattle.session_core.specs.declared.stage.Stage.{Stage}
 use Rattle.session_core.specs.declared.stage.Stage.TheVariants as stages
-use Rattle.session_core.specs.Setting.{shapes, caps}
-use Rattle.session_core.specs.Judged.{RoverTerms, rover}
-use Rattle.session_core.specs.Owed.{terms_of, entering_plan}
-use Rattle.session_core.specs.Replies.{text_if, kept_of, kept_frames}
-use Rattle.session_core.specs.Run.{Histories}
-use Rattle.session_core.specs.Called.{Called, book_answer, IsCause, seen_at}
+use Rattle.session_model.specs.Setting.{shapes, caps}
+use Rattle.session_model.specs.Judged.{RoverTerms, rover}
+use Rattle.session_model.specs.Owed.{terms_of, entering_plan}
+use Rattle.session_model.specs.Replies.{text_if, kept_of, kept_frames}
+use Rattle.session_model.specs.Run.{Histories}
+use Rattle.session_model.specs.Called.{Called, book_answer, IsCause, seen_at}
 use Rattle.session_core.specs.Beginnings.{histories_of, worn_at, end_unentered, ended_joining}
-use Rattle.session_core.specs.Standing.{BeginsFor, IsMadeBy, is_halted, is_halted_uncalled, EndsAs}
+use Rattle.session_core.specs.Standing.{IsMadeBy, is_halted, is_halted_uncalled, EndsAs}
+use Rattle.session_core.specs.Begun.{BeginsFor}
 use Rattle.session_core.proofs.BeginLemmas.{over_ends, sent_all}
 use Rattle.session_core.proofs.BegunLemmas.{went_as}
 

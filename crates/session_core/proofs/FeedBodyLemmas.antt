@@ -16,8 +16,8 @@ use Rattle.upstream_relay.specs.declared.session.RelaySession.{RelaySession}
 use Rattle.upstream_relay.specs.Called.{IsFed}
 use Rattle.rover_session.specs.Standing.{Rover, IsResumable, Told, frames_sent}
 use Rattle.cast_config.specs.declared.config.Config.{Config}
-use Rattle.session_core.specs.declared.ending.Ending.{Ending}
-use Rattle.session_core.specs.Setting.{shapes}
+use Rattle.session_model.specs.declared.ending.Ending.{Ending}
+use Rattle.session_model.specs.Setting.{shapes}
 use Rattle.session_core.specs.Published.{Published, RelayFed}
 use Rattle.session_core.specs.Feeding.{end_of_relay, end_of_source}
 use Rattle.session_core.proofs.BegunLemmas.{went_as}

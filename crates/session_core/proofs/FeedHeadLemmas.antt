@@ -21,23 +21,24 @@ use Rattle.ntrip_head.specs.Head.{IsOpen, IsHead, IsLong}
 use Rattle.ntrip_head.specs.Answer.{HeadAnswer}
 use Rattle.ntrip_reply.specs.declared.kind.Reply.TheVariants.{BadHead}
 use Rattle.cast_config.specs.declared.config.Config.{Config}
-use Rattle.session_core.specs.declared.ending.Ending.{Ending}
-use Rattle.session_core.specs.declared.ending.Ending.TheVariants.{LongHead}
+use Rattle.session_model.specs.declared.ending.Ending.{Ending}
+use Rattle.session_model.specs.declared.ending.Ending.TheVariants.{LongHead}
 use Rattle.session_core.specs.declared.session.Session.{Session}
 use Rattle.session_core.specs.declared.stage.Stage.{Stage}
 use Rattle.session_core.specs.declared.stage.Stage.TheVariants.{Head, Over, Source, Relay, Rover}
-use Rattle.session_core.specs.Setting.{shapes}
-use Rattle.session_core.specs.Headings.{Heading, incomplete, too_long, whole, IsHeading}
-use Rattle.session_core.specs.Judged.{Opening, sends_head, relays, Judged, refused, once, request_judged, heading_judged, judged}
-use Rattle.session_core.specs.Owed.{received}
-use Rattle.session_core.specs.Replies.{sent_by}
-use Rattle.session_core.specs.Reports.{IsHeadingOf}
-use Rattle.session_core.specs.Run.{Histories}
-use Rattle.session_core.specs.Called.{Called, OthersCalled, alone_at, book_answer}
+use Rattle.session_model.specs.Setting.{shapes}
+use Rattle.session_model.specs.Headings.{Heading, incomplete, too_long, whole, IsHeading}
+use Rattle.session_model.specs.Judged.{Opening, sends_head, relays, Judged, refused, once, request_judged, heading_judged, judged}
+use Rattle.session_model.specs.Owed.{received}
+use Rattle.session_model.specs.Replies.{sent_by}
+use Rattle.session_model.specs.Reports.{IsHeadingOf}
+use Rattle.session_model.specs.Run.{Histories}
+use Rattle.session_model.specs.Called.{Called, OthersCalled, alone_at, book_answer}
 use Rattle.session_core.specs.Feeding.{FedOn, HasBegun, HasBegunFor, IsBehindHead}
-use Rattle.session_core.specs.Standing.{Begins, BeginsFor, Fed, Follows, IsAtStage, IsLostAt, IsSentBy, Stands, StandsFor, StartsAs, is_going, is_halted_uncalled}
+use Rattle.session_core.specs.Standing.{Fed, Follows, IsAtStage, IsSentBy, Stands, StandsFor, is_going, is_halted_uncalled}
+use Rattle.session_core.specs.Begun.{Begins, BeginsFor, IsLostAt, StartsAs}
 use Rattle.session_core.proofs.CloseLemmas.{called_none}
-use Rattle.session_core.proofs.HeadingLemmas.{one_heading}
+use Rattle.session_model.proofs.HeadingLemmas.{one_heading}
 use Rattle.session_core.proofs.OverLemmas.{ended_more}
 
 -- ---- what the head says

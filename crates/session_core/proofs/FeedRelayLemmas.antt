@@ -45,27 +45,27 @@ use Rattle.upstream_relay.specs.Standing as relay_standing
 use Rattle.rover_session.specs.Made.{segments_after, owed_among}
 use Rattle.rover_session.proofs.MadeLemmas.{segments-append}
 use Rattle.cast_config.specs.declared.config.Config.{Config}
-use Rattle.session_core.specs.declared.ending.Ending.{Ending}
-use Rattle.session_core.specs.declared.ending.Ending.TheVariants as endings
+use Rattle.session_model.specs.declared.ending.Ending.{Ending}
+use Rattle.session_model.specs.declared.ending.Ending.TheVariants as endings
 use Rattle.session_core.specs.declared.session.Session.{Session}
 use Rattle.session_core.specs.declared.stage.Stage.{Stage}
 use Rattle.session_core.specs.declared.stage.Stage.TheVariants.{Relay}
-use Rattle.session_core.specs.Setting.{shapes}
-use Rattle.session_core.specs.Headings.{Heading, incomplete, too_long, whole, answered, IsAnswering}
-use Rattle.session_core.specs.Judged.{Opening, relays, Judged, waiting, unanswered, source, once, ending_by_answer, said_judged, relay_judged, mount_fed, judged}
-use Rattle.session_core.specs.Owed.{Received, unasked, claimed, taken, entered, full, received, plan_of}
-use Rattle.session_core.specs.Endings.{body_ending, claimed_ending, source_ending, ended_by}
-use Rattle.session_core.specs.Replies.{opening_text, source_reply, reply_of, sent_by}
-use Rattle.session_core.specs.Reports.{IsHeadingOf}
-use Rattle.session_core.specs.Run.{Histories}
-use Rattle.session_core.specs.Called.{book_answer, is_halt}
+use Rattle.session_model.specs.Setting.{shapes}
+use Rattle.session_model.specs.Headings.{Heading, incomplete, too_long, whole, answered, IsAnswering}
+use Rattle.session_model.specs.Judged.{Opening, relays, Judged, waiting, unanswered, source, once, ending_by_answer, said_judged, relay_judged, mount_fed, judged}
+use Rattle.session_model.specs.Owed.{Received, unasked, claimed, taken, entered, full, received, plan_of}
+use Rattle.session_model.specs.Endings.{body_ending, claimed_ending, source_ending, ended_by}
+use Rattle.session_model.specs.Replies.{opening_text, source_reply, reply_of, sent_by}
+use Rattle.session_model.specs.Reports.{IsHeadingOf}
+use Rattle.session_model.specs.Run.{Histories}
+use Rattle.session_model.specs.Called.{book_answer, is_halt}
 use Rattle.session_core.specs.Published.{RelayFed}
 use Rattle.session_core.specs.Feeding.{FedOn, end_of_source, end_of_relay}
 use Rattle.session_core.specs.Standing.{EndsAs, EndsAt, IsMadeBy, IsSentBy, IsAtStage, IsRelay, Stands, is_halted, is_halted_uncalled}
 use Rattle.session_core.proofs.BeginLemmas.{sent_all}
 use Rattle.session_core.proofs.RelayLemmas.{done_is_none}
 use Rattle.session_core.proofs.ClosingLemmas.{claimed_received}
-use Rattle.session_core.proofs.QuietLemmas.{AreSource, is_source_ask, source_owed, source_off, quiet_on}
+use Rattle.session_model.proofs.QuietLemmas.{AreSource, is_source_ask, source_owed, source_off, quiet_on}
 
 -- ---- how a body ends by itself
 

@@ -26,23 +26,23 @@ use Rattle.rover_session.specs.Standing as rover_standing
 use Rattle.rover_session.proofs.MadeLemmas.{owed-append}
 use Rattle.rover_session.proofs.SegmentLemmas.{Extends, all_sound, sent_later}
 use Rattle.cast_config.specs.declared.config.Config.{Config}
-use Rattle.session_core.specs.declared.ending.Ending.{Ending}
+use Rattle.session_model.specs.declared.ending.Ending.{Ending}
 use Rattle.session_core.specs.declared.session.Session.{Session}
 use Rattle.session_core.specs.declared.stage.Stage.{Stage}
 use Rattle.session_core.specs.declared.stage.Stage.TheVariants as stages
-use Rattle.session_core.specs.Setting.{shapes, caps}
-use Rattle.session_core.specs.Headings.{Heading}
-use Rattle.session_core.specs.Judged.{Opening, RoverTerms, Judged, waiting, rover, judged}
-use Rattle.session_core.specs.Owed.{received, terms_of, entering_plan, plan_of}
-use Rattle.session_core.specs.Endings.{ended_by}
-use Rattle.session_core.specs.Replies.{opening_text, reply_of, kept_frames, sent_by}
-use Rattle.session_core.specs.Run.{Histories}
-use Rattle.session_core.specs.Called.{Called, OthersCalled, book_answer}
+use Rattle.session_model.specs.Setting.{shapes, caps}
+use Rattle.session_model.specs.Headings.{Heading}
+use Rattle.session_model.specs.Judged.{Opening, RoverTerms, Judged, waiting, rover, judged}
+use Rattle.session_model.specs.Owed.{received, terms_of, entering_plan, plan_of}
+use Rattle.session_model.specs.Endings.{ended_by}
+use Rattle.session_model.specs.Replies.{opening_text, reply_of, kept_frames, sent_by}
+use Rattle.session_model.specs.Run.{Histories}
+use Rattle.session_model.specs.Called.{Called, OthersCalled, book_answer}
 use Rattle.session_core.specs.Beginnings.{ended_joining}
 use Rattle.session_core.specs.Standing.{Stands, IsAtStage, IsRover, IsMadeBy, IsSentBy, EndsAs, EndsAt, is_halted, is_halted_uncalled}
 use Rattle.session_core.specs.Feeding.{FedOn}
 use Rattle.session_core.proofs.BeginLemmas.{sent_all}
-use Rattle.session_core.proofs.MoreLemmas.{with_more, judged_more, heading_goes}
+use Rattle.session_model.proofs.MoreLemmas.{with_more, judged_more, heading_goes}
 use Rattle.session_core.proofs.HeldLemmas.{inside_on}
 use Rattle.session_core.proofs.EnteredLemmas.{plan_asks, begun_off_book, until_begun, sent_kept, made_joining, ends_joining, joined_goes}
 

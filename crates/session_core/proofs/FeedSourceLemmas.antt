@@ -28,24 +28,24 @@ use Rattle.upstream_relay.proofs.OwedLemmas.{body_on}
 use Rattle.rover_session.specs.Made.{segments_after, owed_among}
 use Rattle.rover_session.proofs.MadeLemmas.{owed_both, segments-append}
 use Rattle.cast_config.specs.declared.config.Config.{Config}
-use Rattle.session_core.specs.declared.ending.Ending.{Ending}
+use Rattle.session_model.specs.declared.ending.Ending.{Ending}
 use Rattle.session_core.specs.declared.session.Session.{Session}
 use Rattle.session_core.specs.declared.stage.Stage.{Stage}
 use Rattle.session_core.specs.declared.stage.Stage.TheVariants.{Source}
-use Rattle.session_core.specs.Setting.{shapes}
-use Rattle.session_core.specs.Headings.{Heading}
-use Rattle.session_core.specs.Judged.{Opening, SourceTerms, Judged, waiting, source, judged}
-use Rattle.session_core.specs.Owed.{Received, claimed, received, received_by, source_plan, plan_of}
-use Rattle.session_core.specs.Endings.{ended_by, claimed_ending}
-use Rattle.session_core.specs.Replies.{sent_by}
-use Rattle.session_core.specs.Run.{Histories}
-use Rattle.session_core.specs.Called.{Called, book_answer}
+use Rattle.session_model.specs.Setting.{shapes}
+use Rattle.session_model.specs.Headings.{Heading}
+use Rattle.session_model.specs.Judged.{Opening, SourceTerms, Judged, waiting, source, judged}
+use Rattle.session_model.specs.Owed.{Received, claimed, received, received_by, source_plan, plan_of}
+use Rattle.session_model.specs.Endings.{ended_by, claimed_ending}
+use Rattle.session_model.specs.Replies.{sent_by}
+use Rattle.session_model.specs.Run.{Histories}
+use Rattle.session_model.specs.Called.{Called, book_answer}
 use Rattle.session_core.specs.Published.{Published}
 use Rattle.session_core.specs.Feeding.{end_of_source, FedOn}
 use Rattle.session_core.specs.Standing.{IsMadeBy, IsSentBy, EndsAs, EndsAt, IsSource, IsAtStage, Stands, is_halted, is_halted_uncalled}
 use Rattle.session_core.proofs.BeginLemmas.{sent_all}
-use Rattle.session_core.proofs.MoreLemmas.{with_more, judged_more, heading_goes}
-use Rattle.session_core.proofs.QuietLemmas.{AreSource, source_owed, source_off, quiet_on}
+use Rattle.session_model.proofs.MoreLemmas.{with_more, judged_more, heading_goes}
+use Rattle.session_model.proofs.QuietLemmas.{AreSource, source_owed, source_off, quiet_on}
 use Rattle.session_core.proofs.FeedRelayLemmas.{source_ends}
 
 -- ---- steps that publish

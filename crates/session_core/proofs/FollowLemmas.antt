@@ -37,11 +37,11 @@ use Rattle.access_groups.specs.declared.admission.SourceDenial.TheVariants as so
 use Rattle.access_groups.specs.Admission.{admission, source_admission}
 use Rattle.session_core.specs.declared.session.Session.{Session}
 use Rattle.session_core.specs.declared.stage.Stage.TheVariants.{Source, Relay, Rover}
-use Rattle.session_core.specs.Setting.{shapes, bases_at}
-use Rattle.session_core.specs.Headings.{Heading, incomplete, too_long, whole, answered}
-use Rattle.session_core.specs.Judged.{Opening, sends_head, relays, bare_source, bare_rover, Judged, waiting, refused, unanswered, table, source, rover, once, source_judged, rover_judged, request_judged, heading_judged, said_judged, relay_judged, mount_fed, judged, bare_admission}
-use Rattle.session_core.specs.Run.{Histories}
-use Rattle.session_core.specs.Called.{OthersCalled}
+use Rattle.session_model.specs.Setting.{shapes, bases_at}
+use Rattle.session_model.specs.Headings.{Heading, incomplete, too_long, whole, answered}
+use Rattle.session_model.specs.Judged.{Opening, sends_head, relays, bare_source, bare_rover, Judged, waiting, refused, unanswered, table, source, rover, once, source_judged, rover_judged, request_judged, heading_judged, said_judged, relay_judged, mount_fed, judged, bare_admission}
+use Rattle.session_model.specs.Run.{Histories}
+use Rattle.session_model.specs.Called.{OthersCalled}
 use Rattle.session_core.specs.Standing.{Follows, IsAtStage, IsRelay, IsRover, IsSource, Stands}
 use Rattle.session_core.proofs.AdmittedLemmas.{IsReady, is_ready}
 

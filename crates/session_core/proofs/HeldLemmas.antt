@@ -19,10 +19,10 @@ use Rattle.cast_config.specs.declared.config.Group.{Group}
 use Rattle.cast_config.specs.declared.config.Mount.{Mount}
 use Rattle.session_core.specs.declared.stage.Stage.{Stage}
 use Rattle.session_core.specs.declared.stage.Stage.TheVariants.{Head, Over, Source, Relay, Rover}
-use Rattle.session_core.specs.Setting.{caps, shapes, shapes_from}
-use Rattle.session_core.specs.Judged.{Opening, Judged}
-use Rattle.session_core.specs.Run.{Histories}
-use Rattle.session_core.specs.Called.{OthersCalled}
+use Rattle.session_model.specs.Setting.{caps, shapes, shapes_from}
+use Rattle.session_model.specs.Judged.{Opening, Judged}
+use Rattle.session_model.specs.Run.{Histories}
+use Rattle.session_model.specs.Called.{OthersCalled}
 use Rattle.session_core.specs.Standing.{IsAtStage}
 use Rattle.session_core.specs.Closing.{IsHeldBy}
 

@@ -1,15 +1,3 @@
-pub mod Example
-pub mod Runs
-pub mod HeadingLemmas
-pub mod AnsweringLemmas
-pub mod GrowLemmas
-pub mod LawLemmas
-pub mod GoodLemmas
-pub mod KeepLemmas
-pub mod WellLemmas
-pub mod PromiseLemmas
-pub mod TextLemmas
-pub mod MoreLemmas
 pub mod PlacedLemmas
 pub mod SourceLemmas
 pub mod RelayLemmas
@@ -24,7 +12,6 @@ pub mod BegunLemmas
 pub mod EnteredLemmas
 pub mod AdmittedLemmas
 pub mod EarthLemmas
-pub mod QuietLemmas
 pub mod FeedRelayLemmas
 pub mod FeedSourceLemmas
 pub mod OverLemmas
@@ -34,5 +21,3 @@ pub mod FollowLemmas
 pub mod FeedBodyLemmas
 pub mod TurningLemmas
 pub mod FeedHeadLemmas
-pub mod DigitLemmas
-pub mod ReportSums

@@ -19,12 +19,12 @@ use Rattle.cast_config.specs.Kept.{KeepsRelay}
 use Rattle.session_core.specs.declared.session.Session.{Session}
 use Rattle.session_core.specs.declared.stage.Stage.{Stage}
 use Rattle.session_core.specs.declared.stage.Stage.TheVariants.{Head, Over, Source, Relay, Rover}
-use Rattle.session_core.specs.Headings.{incomplete}
-use Rattle.session_core.specs.Judged.{relays, mount_fed, judged, waiting}
-use Rattle.session_core.specs.Replies.{opening_text, sent_by}
-use Rattle.session_core.specs.Run.{Histories}
+use Rattle.session_model.specs.Headings.{incomplete}
+use Rattle.session_model.specs.Judged.{relays, mount_fed, judged, waiting}
+use Rattle.session_model.specs.Replies.{opening_text, sent_by}
+use Rattle.session_model.specs.Run.{Histories}
 use Rattle.session_core.specs.Standing.{StandsFor, IsNewRelay, IsMadeBy, IsSentBy, IsAtStage, EndsAt, is_halted, is_halted_uncalled}
-use Rattle.session_core.specs.Owed.{unasked}
+use Rattle.session_model.specs.Owed.{unasked}
 
 -- a relay that nothing halts was refused no turn
 short_halts : (stage : RelayStage) → relay_standing.halt_at stage ≡ None → IsTrue (relay_standing.is_short_at stage) → ⊥

@@ -19,20 +19,21 @@ use Rattle.rover_session.specs.Standing.{rover_of, Rover as RoverValue}
 use Rattle.rover_session.specs.Standing as rover_standing
 use Rattle.rover_session.proofs.FollowLemmas.{rover_begins}
 use Rattle.cast_config.specs.declared.config.Config.{Config}
-use Rattle.session_core.specs.declared.ending.Ending.{Ending}
+use Rattle.session_model.specs.declared.ending.Ending.{Ending}
 use Rattle.session_core.specs.declared.session.Session.{Session}
 use Rattle.session_core.specs.declared.stage.Stage.{Stage}
 use Rattle.session_core.specs.declared.stage.Stage.TheVariants.{Head, Over, Source, Relay, Rover}
-use Rattle.session_core.specs.Judged.{Opening, SourceTerms, RoverTerms, Judged, waiting, refused, unanswered, table, source, rover, judged}
-use Rattle.session_core.specs.Owed.{Received, unasked, claimed, taken, entered, full, received, received_by, if_entered, terms_of, plan_of, closing_by}
-use Rattle.session_core.specs.Endings.{ended_by}
-use Rattle.session_core.specs.Replies.{sent_by}
-use Rattle.session_core.specs.Reports.{junk_of, is_entered}
-use Rattle.session_core.specs.Run.{Histories}
+use Rattle.session_model.specs.Judged.{Opening, SourceTerms, RoverTerms, Judged, waiting, refused, unanswered, table, source, rover, judged}
+use Rattle.session_model.specs.Owed.{Received, unasked, claimed, taken, entered, full, received, received_by, if_entered, terms_of, plan_of, closing_by}
+use Rattle.session_model.specs.Endings.{ended_by}
+use Rattle.session_model.specs.Replies.{sent_by}
+use Rattle.session_model.specs.Reports.{junk_of, is_entered}
+use Rattle.session_model.specs.Run.{Histories}
 use Rattle.session_core.specs.Beginnings.{ended_joining}
-use Rattle.session_core.specs.Standing.{IsMadeBy, IsSentBy, EndsAs, IsOver, IsRover, IsAtStage, Stands, StartsAs, is_halted, is_halted_uncalled}
-use Rattle.session_core.proofs.GrowLemmas.{plan_grows}
-use Rattle.session_core.proofs.MoreLemmas.{with_more, judged_more, heading_goes}
+use Rattle.session_core.specs.Standing.{IsMadeBy, IsSentBy, EndsAs, IsOver, IsRover, IsAtStage, Stands, is_halted, is_halted_uncalled}
+use Rattle.session_core.specs.Begun.{StartsAs}
+use Rattle.session_model.proofs.GrowLemmas.{plan_grows}
+use Rattle.session_model.proofs.MoreLemmas.{with_more, judged_more, heading_goes}
 
 -- ---- what does not hang on the bytes behind a head
 

@@ -15,18 +15,19 @@ use Rattle.upstream_relay.specs.Standing.{claim_at, halt_at}
 use Rattle.upstream_relay.specs.Standing as relay_standing
 use Rattle.rover_session.specs.Made.{segments_after, sent_in, overrun_in}
 use Rattle.cast_config.specs.declared.config.Config.{Config}
-use Rattle.session_core.specs.declared.ending.Ending.{Ending}
-use Rattle.session_core.specs.declared.ending.Last.{Last}
-use Rattle.session_core.specs.declared.report.Receipt.{Receipt}
+use Rattle.session_model.specs.declared.ending.Ending.{Ending}
+use Rattle.session_model.specs.declared.ending.Last.{Last}
+use Rattle.session_model.specs.declared.report.Receipt.{Receipt}
 use Rattle.session_core.specs.declared.stage.Stage.{Stage}
 use Rattle.session_core.specs.declared.stage.Stage.TheVariants.{Head, Over, Source, Relay, Rover}
-use Rattle.session_core.specs.Headings.{Heading}
-use Rattle.session_core.specs.Judged.{Opening, relays, Judged, judged, rover, source, relay_judged, mount_fed, SourceTerms}
-use Rattle.session_core.specs.Owed.{Received, claimed, taken, received, closing, closing_by}
-use Rattle.session_core.specs.Endings.{ended_last}
-use Rattle.session_core.specs.Reports.{IsHeadingOf, junk_of, is_entered}
-use Rattle.session_core.specs.Run.{Histories}
-use Rattle.session_core.specs.Standing.{IsAtStage, EndsAt, IsReceipt, ending_by, is_halted, is_going}
+use Rattle.session_model.specs.Headings.{Heading}
+use Rattle.session_model.specs.Judged.{Opening, relays, Judged, judged, rover, source, relay_judged, mount_fed, SourceTerms}
+use Rattle.session_model.specs.Owed.{Received, claimed, taken, received, closing, closing_by}
+use Rattle.session_model.specs.Endings.{ended_last}
+use Rattle.session_model.specs.Reports.{IsHeadingOf, junk_of, is_entered}
+use Rattle.session_model.specs.Run.{Histories}
+use Rattle.session_core.specs.Standing.{IsAtStage, EndsAt, is_halted, is_going}
+use Rattle.session_core.specs.Closed.{IsReceipt, ending_by}
 use Rattle.session_core.specs.Closing.{closing_at, releasing, received_claim, received_at, segments_at, IsJunkAt, IsSourceJunk}
 use Rattle.session_core.proofs.ClosingLemmas.{closing_unasked, closing_taken, junk_unasked, junk_taken, IsReceived, relay_received, IsGiven, relay_given}
 

@@ -31,18 +31,18 @@ use Rattle.rover_session.proofs.LawLemmas.{body-append}
 use Rattle.rover_session.proofs.MadeLemmas.{owed-append}
 use Rattle.rover_session.proofs.SegmentLemmas.{all_sound, sent_later}
 use Rattle.cast_config.specs.declared.config.Config.{Config}
-use Rattle.session_core.specs.declared.ending.Ending.{Ending}
-use Rattle.session_core.specs.declared.ending.Ending.TheVariants as endings
+use Rattle.session_model.specs.declared.ending.Ending.{Ending}
+use Rattle.session_model.specs.declared.ending.Ending.TheVariants as endings
 use Rattle.session_core.specs.declared.session.Session.{Session}
 use Rattle.session_core.specs.declared.stage.Stage.{Stage}
 use Rattle.session_core.specs.declared.stage.Stage.TheVariants as stages
-use Rattle.session_core.specs.Setting.{caps, shapes}
-use Rattle.session_core.specs.Judged.{Opening, Judged, judged}
-use Rattle.session_core.specs.Owed.{Received, received, plan_of}
-use Rattle.session_core.specs.Endings.{ended_by}
-use Rattle.session_core.specs.Replies.{opening_text, reply_of, version_of, kept_frames, sent_by}
-use Rattle.session_core.specs.Run.{Histories}
-use Rattle.session_core.specs.Called.{OthersCalled, IsCause, is_halt, seen_at}
+use Rattle.session_model.specs.Setting.{caps, shapes}
+use Rattle.session_model.specs.Judged.{Opening, Judged, judged}
+use Rattle.session_model.specs.Owed.{Received, received, plan_of}
+use Rattle.session_model.specs.Endings.{ended_by}
+use Rattle.session_model.specs.Replies.{opening_text, reply_of, version_of, kept_frames, sent_by}
+use Rattle.session_model.specs.Run.{Histories}
+use Rattle.session_model.specs.Called.{OthersCalled, IsCause, is_halt, seen_at}
 use Rattle.session_core.specs.Beginnings.{ended_joining, histories_of}
 use Rattle.session_core.specs.Standing.{IsRover, IsAtStage, IsMadeBy, IsSentBy, EndsAs, EndsAt, Stands, StandsFor, Follows, is_halted, is_halted_uncalled}
 use Rattle.session_core.specs.Turned.{IsReadBy, ReadAt, RoverTurned, TurnedAt, Turned, is_rover}

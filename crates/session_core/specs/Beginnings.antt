@@ -14,15 +14,15 @@ use Rattle.ntrip_head.specs.declared.request.Version.{Version}
 use Rattle.ntrip_head.specs.declared.request.Request.{Request}
 use Rattle.ntrip_head.specs.declared.request.Request.TheVariants as requests
 use Rattle.ntrip_reply.specs.declared.kind.Reply.TheVariants as replies
-use Rattle.session_core.specs.declared.ending.Ending.{Ending}
-use Rattle.session_core.specs.declared.ending.Ending.TheVariants as endings
+use Rattle.session_model.specs.declared.ending.Ending.{Ending}
+use Rattle.session_model.specs.declared.ending.Ending.TheVariants as endings
 use Rattle.cast_config.specs.declared.config.Config.{Config}
 use Rattle.session_core.specs.declared.ending.Bare.{Bare}
 use Rattle.session_core.specs.declared.ending.Bare.TheVariants.{Source, Rover}
-use Rattle.session_core.specs.Setting as setting
-use Rattle.session_core.specs.Judged.{Opening, bare_source, bare_rover}
-use Rattle.session_core.specs.Replies.{text_if}
-use Rattle.session_core.specs.Run.{Histories}
+use Rattle.session_model.specs.Setting as setting
+use Rattle.session_model.specs.Judged.{Opening, bare_source, bare_rover}
+use Rattle.session_model.specs.Replies.{text_if}
+use Rattle.session_model.specs.Run.{Histories}
 
 -- the histories of all mountpoints and of the book
 abbrev pub histories_of : List (History RingCall) → History BookCall → Histories

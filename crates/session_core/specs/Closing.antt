@@ -21,9 +21,9 @@ use Rattle.cast_config.specs.declared.config.Config.{Config}
 use Rattle.session_core.specs.declared.session.Session.{Session}
 use Rattle.session_core.specs.declared.stage.Stage.{Stage}
 use Rattle.session_core.specs.declared.stage.Stage.TheVariants.{Source, Relay, Rover}
-use Rattle.session_core.specs.Owed.{Received, unasked, claimed, entered}
-use Rattle.session_core.specs.Run.{Histories}
-use Rattle.session_core.specs.Called.{Called}
+use Rattle.session_model.specs.Owed.{Received, unasked, claimed, entered}
+use Rattle.session_model.specs.Run.{Histories}
+use Rattle.session_model.specs.Called.{Called}
 
 -- a claim is given back, if one is held
 abbrev pub releasing : ℕ → Option ℕ → Plan

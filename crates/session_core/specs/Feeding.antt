@@ -7,16 +7,17 @@ use Rattle.upstream_relay.specs.declared.fault.RelayHalt.TheVariants as relays
 use Rattle.session_calls.specs.Steps.{Step}
 use Rattle.rover_session.specs.Made.{owed_among}
 use Rattle.cast_config.specs.declared.config.Config.{Config}
-use Rattle.session_core.specs.declared.ending.Ending.{Ending}
-use Rattle.session_core.specs.declared.ending.Ending.TheVariants as endings
+use Rattle.session_model.specs.declared.ending.Ending.{Ending}
+use Rattle.session_model.specs.declared.ending.Ending.TheVariants as endings
 use Rattle.session_core.specs.declared.session.Session.{Session}
 use Rattle.session_core.specs.declared.stage.Stage.{Stage}
 use Rattle.session_core.specs.declared.stage.Stage.TheVariants.{Head, Over}
-use Rattle.session_core.specs.Headings.{Heading, IsHeading}
-use Rattle.session_core.specs.Judged.{Opening, heading_judged}
-use Rattle.session_core.specs.Run.{Histories}
-use Rattle.session_core.specs.Called.{Called}
-use Rattle.session_core.specs.Standing.{Begins, IsLostAt, Stands}
+use Rattle.session_model.specs.Headings.{Heading, IsHeading}
+use Rattle.session_model.specs.Judged.{Opening, heading_judged}
+use Rattle.session_model.specs.Run.{Histories}
+use Rattle.session_model.specs.Called.{Called}
+use Rattle.session_core.specs.Standing.{Stands}
+use Rattle.session_core.specs.Begun.{Begins, IsLostAt}
 
 -- a source, under this claim, whose body is over or whose frame was not published
 abbrev pub end_of_source : ℕ → SourceHalt → Ending

@@ -1,11 +1,11 @@
 -- What a session stands for: how its connection opened, the bytes that came in, the calls that were
 -- made, the histories that the last of them left, and the bytes that were sent.
-use Rattle.std.specs.Prelude.{◌≡◌, ◌≢◌, ℕ, ◌+◌, ◌^◌, ◌<◌, ◌≤◌, ◌⊎◌, ⊤, Bool, true, false, ◌&&◌, IsTrue, List, [], ◌∷◌, ◌++◌, length, reverse, Option, None, Some, unwrap_or, slice_get, is_none}
+use Rattle.std.specs.Prelude.{◌≡◌, ◌≢◌, ℕ, ◌+◌, ◌^◌, ◌<◌, ◌⊎◌, Bool, true, false, ◌&&◌, IsTrue, List, [], ◌∷◌, ◌++◌, length, reverse, Option, None, Some, unwrap_or, slice_get, is_none}
 use Rattle.caster_accounts.specs.declared.call.BookCall.TheVariants.{Enter}
 use Rattle.caster_accounts.specs.declared.call.BookAnswer.TheVariants.{Entered}
 use Rattle.caster_accounts.specs.History.{may_leave}
 use Rattle.session_calls.specs.Steps.{Step, at_book}
-use Rattle.session_calls.specs.Plans.{Plan, done, IsMade}
+use Rattle.session_calls.specs.Plans.{Plan, done}
 use Rattle.session_calls.specs.Rings.{history_at}
 use Rattle.source_session.specs.declared.session.SourceSession.{SourceSession}
 use Rattle.source_session.specs.Calls.{IsHolding}
@@ -15,30 +15,26 @@ use Rattle.upstream_relay.specs.Called.{IsHoldingBy}
 use Rattle.upstream_relay.specs.Owed.{IsDone}
 use Rattle.upstream_relay.specs.Standing as relay_standing
 use Rattle.rover_session.specs.declared.session.RoverSession.{RoverSession}
-use Rattle.rover_session.specs.Made.{segments_after, owed_among, sent_in, overrun_in}
-use Rattle.rover_session.specs.Body.{body_of}
+use Rattle.rover_session.specs.Made.{segments_after, owed_among}
 use Rattle.rover_session.specs.Standing.{rover_of, IsResumable}
 use Rattle.rover_session.specs.Standing as rover_standing
 use Rattle.ntrip_head.specs.declared.request.Version.TheVariants.{One}
 use Rattle.ntrip_head.specs.Head.{IsOpen}
 use Rattle.cast_config.specs.declared.config.Config.{Config}
-use Rattle.session_core.specs.declared.ending.Ending.{Ending}
-use Rattle.session_core.specs.declared.ending.Ending.TheVariants.{Memory}
-use Rattle.session_core.specs.declared.ending.Last.{Last}
-use Rattle.session_core.specs.declared.report.Receipt.{Receipt}
+use Rattle.session_model.specs.declared.ending.Ending.{Ending}
+use Rattle.session_model.specs.declared.ending.Ending.TheVariants.{Memory}
 use Rattle.session_core.specs.declared.stage.Stage.{Stage}
 use Rattle.session_core.specs.declared.stage.Stage.TheVariants.{Head, Over, Source, Relay, Rover}
 use Rattle.session_core.specs.declared.session.Session.{Session}
-use Rattle.session_core.specs.Setting.{shapes, caps}
-use Rattle.session_core.specs.Headings.{Heading}
-use Rattle.session_core.specs.Judged.{Opening, sends_head, relays, SourceTerms, RoverTerms, Judged, waiting, source, rover, judged, mount_fed}
-use Rattle.session_core.specs.Owed.{claimed, received, terms_of, plan_of, closing}
-use Rattle.session_core.specs.Endings.{ended_by, ended_last}
-use Rattle.session_core.specs.Replies.{opening_text, reply_of, version_of, kept_frames, sent_by}
-use Rattle.session_core.specs.Reports.{IsHeadingOf, junk_of, is_entered}
-use Rattle.session_core.specs.Run.{Histories}
-use Rattle.session_core.specs.Called.{Called, OthersCalled, is_halt}
-use Rattle.session_core.specs.Beginnings.{ended_joining}
+use Rattle.session_model.specs.Setting.{shapes, caps}
+use Rattle.session_model.specs.Headings.{Heading}
+use Rattle.session_model.specs.Judged.{Opening, sends_head, relays, SourceTerms, RoverTerms, Judged, waiting, source, rover, judged, mount_fed}
+use Rattle.session_model.specs.Owed.{claimed, received, terms_of, plan_of, closing}
+use Rattle.session_model.specs.Endings.{ended_by}
+use Rattle.session_model.specs.Replies.{opening_text, sent_by}
+use Rattle.session_model.specs.Reports.{IsHeadingOf, junk_of, is_entered}
+use Rattle.session_model.specs.Run.{Histories}
+use Rattle.session_model.specs.Called.{Called, OthersCalled, is_halt}
 
 -- ---- halts
 
@@ -214,83 +210,3 @@ pub record Fed (c : Config) (alone : Bool) (old now : Histories) (session : Sess
   pub called : Called c alone old now session.me more
   pub no_read : owed_among more ≡ more
   pub stands : StandsFor c session opening text (steps ++ more) now (sent ++ added)
-
--- what is sent of a connection that is so judged, behind its opening
-abbrev pub due_by : Config → Histories → Judged → List Step → List ℕ
-due_by c histories j steps =
-    reply_of c j (received steps)
-    ++ body_of (unwrap_or (version_of j) One)
-    (kept_frames c histories.rings (reverse (segments_after [] steps)))
-
--- A connection that is so judged was begun: it made what it owes and was sent its reply.
-pub record Begins (c : Config) (alone : Bool) (old now : Histories) (me : ℕ) (j : Judged)
-    (stage : Stage) (ended : Option Ending) (before after : List ℕ) : Type 0 where
-  pub more : List Step
-  pub added : List ℕ
-  pub out : after ≡ before ++ added
-  pub called : Called c alone old now me more
-  pub no_read : owed_among more ≡ more
-  pub owes : IsMadeBy (is_halted ended) (plan_of c j) (owed_among more)
-  pub ends : EndsAs ended (ended_by j (received more))
-  pub stage_is : (opening : Opening) (text : List ℕ)
-      → IsAtStage c me now opening j text more stage
-  pub halts : EndsAt stage ended
-  pub sent_is : IsSentBy (is_halted_uncalled ended more) added (due_by c now j more)
-
--- a connection that was just begun goes on, unless nothing is left to be closed, or it is a rover
--- that was halted as it joined
-abbrev pub StartsAs : Stage → Option Ending → Type 0
-StartsAs Over ended = ⊤
-StartsAs (Rover account session) ended = ended ≡ ended_joining (rover_of session).halt
-StartsAs _ ended = ended ≡ None
-
--- this text was appended, behind which nothing comes, or memory was lacking and nothing was
-abbrev pub IsRepliedLast : Ending → List ℕ → Option Ending → List ℕ → List ℕ → Type 0
-IsRepliedLast end text ended before after =
-    ((ended ≡ Some end) × (after ≡ before ++ text))
-    ⊎ ((ended ≡ Some Memory) × (after ≡ before))
-
--- memory was lacking before anything was called or appended
-pub record IsLostAt (old now : Histories) (stage : Stage) (ended : Option Ending)
-    (before after : List ℕ) : Type 0 where
-  pub uncalled : now ≡ old
-  pub unsent : after ≡ before
-  pub stage_is : stage ≡ Over
-  pub ended_is : ended ≡ Some Memory
-
-abbrev pub BeginsFor : Config → Bool → Histories → Histories → ℕ → Judged → Stage → Option Ending
-    → List ℕ → List ℕ → Type 0
-BeginsFor c alone old now me j stage ended before after =
-    Begins c alone old now me j stage ended before after
-    ⊎ IsLostAt old now stage ended before after
-
--- ---- when it is over
-
--- each turn that closes it was taken, or none was
-abbrev pub IsSettled : Bool → Plan → List Step → Type 0
-IsSettled true plan steps = IsMade plan steps
-IsSettled false plan steps = steps ≡ []
-
-abbrev pub ending_by : Option Ending → Last → List Step → Ending
-ending_by None last steps = ended_last last (received steps)
-ending_by (Some end) last steps = end
-
--- the receipt of a connection with these steps, whose judgment is this
-pub record IsReceipt (ended : Option Ending) (j : Judged) (steps : List Step) (last : Last)
-    (receipt : Receipt) : Type 0 where
-  pub ending : receipt.ending ≡ ending_by ended last steps
-  pub segments : receipt.segments ≡ reverse (segments_after [] steps)
-  pub sent : receipt.sent ≡ sent_in (segments_after [] steps)
-  pub overrun : receipt.overrun ≡ overrun_in (segments_after [] steps)
-  pub junk : IsTrue (is_halted ended) ⊎ (receipt.junk ≡ junk_of j (received steps))
-  pub at_most : receipt.junk ≤ junk_of j (received steps)
-  pub entered : receipt.entered ≡ is_entered (received steps)
-
--- of a connection with this judgment and these steps so far
-pub record IsClosed (c : Config) (alone : Bool) (old now : Histories) (me : ℕ)
-    (ended : Option Ending) (j : Judged) (steps : List Step) (last : Last) (receipt : Receipt)
-    : Type 0 where
-  pub more : List Step
-  pub called : Called c alone old now me more
-  pub settled : IsSettled receipt.settled (closing j steps) more
-  pub receipt_is : IsReceipt ended j steps last receipt

@@ -13,15 +13,15 @@ use Rattle.rover_session.specs.Standing.{Rover, rover_of, IsResumable, WasResuma
 use Rattle.rover_session.specs.Standing as rover_standing
 use Rattle.rover_session.specs.declared.session.RoverSession.{RoverSession}
 use Rattle.cast_config.specs.declared.config.Config.{Config}
-use Rattle.session_core.specs.declared.ending.Ending.{Ending}
+use Rattle.session_model.specs.declared.ending.Ending.{Ending}
 use Rattle.session_core.specs.declared.ending.Flow.{Flow}
 use Rattle.session_core.specs.declared.ending.Flow.TheVariants as flows
 use Rattle.session_core.specs.declared.stage.Stage.{Stage}
 use Rattle.session_core.specs.declared.stage.Stage.TheVariants as stages
 use Rattle.session_core.specs.declared.session.Session.{Session}
-use Rattle.session_core.specs.Judged.{Opening}
-use Rattle.session_core.specs.Run.{Histories}
-use Rattle.session_core.specs.Called.{Called}
+use Rattle.session_model.specs.Judged.{Opening}
+use Rattle.session_model.specs.Run.{Histories}
+use Rattle.session_model.specs.Called.{Called}
 use Rattle.session_core.specs.Standing.{IsMadeBy, StandsFor, is_halted}
 
 -- ---- the answer

@@ -4,9 +4,9 @@ ghost use Rattle.std.specs.Prelude.{◌≡◌, ◌≤◌, ℕ, IsTrue, [], map, 
 ghost use Rattle.turn_log.specs.Turn.{SamePlace};
 ghost use Rattle.session_calls.specs.Rings.{AllLater, AllSpeak, SamePlaces};
 ghost use Rattle.cast_config.specs.Kept.{KeepsRules};
-ghost use Rattle.session_core.specs.Called.{IsCause, alone_at, seen_at};
+ghost use Rattle.session_model.specs.Called.{IsCause, alone_at, seen_at};
 ghost use Rattle.session_core.specs.Beginnings.{bare_opening, worn_at};
-ghost use Rattle.session_core.specs.Setting.{caps, shapes};
+ghost use Rattle.session_model.specs.Setting.{caps, shapes};
 ghost use Rattle.session_core.specs.Standing.{Fed};
 
 use crate::begun::{Begun, REPLY_ROOM};

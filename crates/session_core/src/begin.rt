@@ -6,21 +6,21 @@ ghost use Rattle.turn_log.specs.History.{History};
 ghost use Rattle.caster_accounts.specs.declared.call.BookCall.{BookCall};
 ghost use Rattle.session_calls.specs.Rings.{AllLater, AllSpeak, SamePlaces, all_alone};
 ghost use Rattle.cast_config.specs.declared.config.Config.{Config as ConfigValue};
-ghost use Rattle.session_core.specs.Setting.{shapes};
-ghost use Rattle.session_core.specs.Judged.{source_judged};
-ghost use Rattle.session_core.specs.Called.{IsCause};
-ghost use Rattle.session_core.specs.Standing.{BeginsFor, StartsAs};
-ghost use Rattle.session_core.specs.Replies.{text_if};
+ghost use Rattle.session_model.specs.Setting.{shapes};
+ghost use Rattle.session_model.specs.Judged.{source_judged};
+ghost use Rattle.session_model.specs.Called.{IsCause};
+ghost use Rattle.session_core.specs.Begun.{BeginsFor, StartsAs};
+ghost use Rattle.session_model.specs.Replies.{text_if};
 ghost use Rattle.session_core.specs.Beginnings.{text_unclaimed, end_unclaimed, histories_of};
 
 use crate::at::claim_at;
 use crate::begun::{Begun, REPLY_ROOM, push_reply};
-use crate::ending::Ending;
 use crate::stage::Stage;
 use mount_ring::Ring;
 use ntrip_head::Version;
 use ntrip_reply::Reply;
 use rtcm_frame::Cutter;
+use session_model::Ending;
 use source_session::ClaimFault;
 use turn_log::Turns;
 

@@ -4,18 +4,18 @@ ghost use Rattle.std.specs.Prelude.{◌≡◌, ℕ, ◌+◌, ◌≤◌, ◌++◌
 ghost use Rattle.std.specs.Vec.{vec_capacity};
 ghost use Rattle.ntrip_reply.specs.Text.{reply_text};
 ghost use Rattle.cast_config.specs.declared.config.Config.{Config as ConfigValue};
-ghost use Rattle.session_core.specs.Setting as setting;
-ghost use Rattle.session_core.specs.Judged.{Judged, refused};
-ghost use Rattle.session_core.specs.Judged as judged;
+ghost use Rattle.session_model.specs.Setting as setting;
+ghost use Rattle.session_model.specs.Judged.{Judged, refused};
+ghost use Rattle.session_model.specs.Judged as judged;
 ghost use Rattle.session_core.specs.Beginnings.{IsTableFor};
-ghost use Rattle.session_core.specs.Replies.{text_if};
-ghost use Rattle.session_core.specs.Run.{Histories};
-ghost use Rattle.session_core.specs.Standing.{BeginsFor, IsRepliedLast, StartsAs};
+ghost use Rattle.session_model.specs.Replies.{text_if};
+ghost use Rattle.session_model.specs.Run.{Histories};
+ghost use Rattle.session_core.specs.Begun.{BeginsFor, IsRepliedLast, StartsAs};
 
-use crate::ending::Ending;
 use crate::stage::Stage;
 use ntrip_head::Version;
 use ntrip_reply::{Reply, reply};
+use session_model::Ending;
 use std::alloc::AllocError;
 
 /// Room for each reply without a sourcetable.

@@ -3,13 +3,11 @@
 ghost use Rattle.std.specs.Prelude.{◌≡◌, [], false, reverse, unwrap_or};
 ghost use Rattle.rover_session.specs.Made.{overrun_in, sent_in};
 ghost use Rattle.session_core.specs.Closing.{IsJunkAt, received_at, segments_at};
-ghost use Rattle.session_core.specs.Endings.{ended_last};
-ghost use Rattle.session_core.specs.Reports.{is_entered};
+ghost use Rattle.session_model.specs.Endings.{ended_last};
+ghost use Rattle.session_model.specs.Reports.{is_entered};
 
-use crate::ending::{Ending, Last};
-use crate::lists::Segments;
-use crate::report::Receipt;
 use crate::stage::Stage;
+use session_model::{Ending, Last, Receipt, Segments};
 use std::alloc::Global;
 
 /// How a connection at this stage ends that came to its end.

@@ -15,17 +15,16 @@ ghost use Rattle.ntrip_head.specs.declared.request.Request.{Request as RequestVa
 ghost use Rattle.access_groups.specs.declared.admission.Admission.{Admission as AdmissionValue};
 ghost use Rattle.access_groups.specs.declared.admission.Denial.{Denial as DenialValue};
 ghost use Rattle.access_groups.specs.Admission.{Gives, admission as admission_of, source_admission};
-ghost use Rattle.session_core.specs.Setting.{shapes, caps};
-ghost use Rattle.session_core.specs.Setting as setting;
-ghost use Rattle.session_core.specs.Judged.{rover_judged, source_judged, bare_admission, fault_judged, request_judged};
-ghost use Rattle.session_core.specs.Run.{Histories};
-ghost use Rattle.session_core.specs.Called.{IsCause, seen_at, alone_at};
+ghost use Rattle.session_model.specs.Setting.{shapes, caps};
+ghost use Rattle.session_model.specs.Setting as setting;
+ghost use Rattle.session_model.specs.Judged.{rover_judged, source_judged, bare_admission, fault_judged, request_judged};
+ghost use Rattle.session_model.specs.Run.{Histories};
+ghost use Rattle.session_model.specs.Called.{IsCause, seen_at, alone_at};
 ghost use Rattle.session_core.specs.Beginnings.{histories_of, worn_at, IsRequestOnEarth, IsTableFor};
-ghost use Rattle.session_core.specs.Standing.{BeginsFor, IsLostAt, StartsAs};
+ghost use Rattle.session_core.specs.Begun.{BeginsFor, IsLostAt, StartsAs};
 
 use crate::begin::begin_source;
 use crate::begun::{Begun, refuse, send_table};
-use crate::ending::Ending;
 use crate::places::Places;
 use crate::rovers::begin_rover;
 use access_groups::{Denial, SourceDenial, admit, admit_source};
@@ -36,6 +35,7 @@ use gga_read::Position;
 use mount_ring::Ring;
 use ntrip_head::{Auth, HeadFault, Request, Version, read_head};
 use ntrip_reply::Reply;
+use session_model::Ending;
 use std::alloc::Global;
 use turn_log::Turns;
 

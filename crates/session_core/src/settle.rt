@@ -5,10 +5,10 @@ ghost use Rattle.turn_log.specs.Turn.{SamePlace};
 ghost use Rattle.session_calls.specs.Rings.{AllLater, AllSpeak, SamePlaces};
 ghost use Rattle.cast_config.specs.declared.config.Config.{Config};
 ghost use Rattle.session_core.specs.Beginnings.{lacks_at, worn_at};
-ghost use Rattle.session_core.specs.Called.{alone_at, seen_at};
+ghost use Rattle.session_model.specs.Called.{alone_at, seen_at};
 ghost use Rattle.session_core.specs.Closing.{IsHeldBy, Makes, closing_at};
 ghost use Rattle.session_core.specs.Published.{IsTurnRefused};
-ghost use Rattle.session_core.specs.Setting.{caps, shapes};
+ghost use Rattle.session_model.specs.Setting.{caps, shapes};
 
 use crate::at::release_at;
 use crate::book::leave;

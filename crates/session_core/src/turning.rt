@@ -7,20 +7,21 @@ ghost use Rattle.session_calls.specs.Steps.{Step};
 ghost use Rattle.session_calls.specs.Rings.{AllLater, AllSpeak, SamePlaces, all_alone};
 ghost use Rattle.cast_config.specs.declared.config.Config.{Config as ConfigValue};
 ghost use Rattle.session_core.specs.Beginnings.{ended_joining, worn_at};
-ghost use Rattle.session_core.specs.Called.{IsCause, OthersCalled, alone_at, is_halt, seen_at};
-ghost use Rattle.session_core.specs.Judged.{Opening};
-ghost use Rattle.session_core.specs.Run.{Histories};
-ghost use Rattle.session_core.specs.Setting.{caps, shapes};
+ghost use Rattle.session_model.specs.Called.{IsCause, OthersCalled, alone_at, is_halt, seen_at};
+ghost use Rattle.session_model.specs.Judged.{Opening};
+ghost use Rattle.session_model.specs.Run.{Histories};
+ghost use Rattle.session_model.specs.Setting.{caps, shapes};
 ghost use Rattle.session_core.specs.Standing.{Follows, StandsFor};
 ghost use Rattle.session_core.specs.Turned.{IsReadBy, Turned, TurnedAt, flow_of, is_rover};
 
-use crate::ending::{Ending, Flow};
+use crate::ending::Flow;
 use crate::places::Places;
 use crate::rovers::halted;
 use crate::session::Session;
 use crate::stage::Stage;
 use caster_accounts::Book;
 use mount_ring::Ring;
+use session_model::Ending;
 use turn_log::Turns;
 
 /// Whether a session goes on that ended so, if it did.

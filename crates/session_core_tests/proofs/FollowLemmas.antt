@@ -6,10 +6,10 @@ use Rattle.session_calls.specs.Steps.{Step, on_ring, on_book}
 use Rattle.session_calls.specs.Rings.{history_at, answer_at}
 use Rattle.cast_config.specs.declared.config.Config.{Config}
 use Rattle.session_core.specs.declared.session.Session.{Session}
-use Rattle.session_core.specs.Setting.{shapes}
-use Rattle.session_core.specs.Judged.{Opening}
-use Rattle.session_core.specs.Run.{Histories}
-use Rattle.session_core.specs.Called.{Called, OthersCalled, book_answer}
+use Rattle.session_model.specs.Setting.{shapes}
+use Rattle.session_model.specs.Judged.{Opening}
+use Rattle.session_model.specs.Run.{Histories}
+use Rattle.session_model.specs.Called.{Called, OthersCalled, book_answer}
 use Rattle.session_core.specs.Standing.{StandsFor, Follows, Fed}
 use Rattle.session_core.specs.Turned.{Turned, is_rover}
 use Rattle.session_core.proofs.FeedHeadLemmas.{others_none}

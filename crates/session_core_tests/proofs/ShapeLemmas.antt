@@ -7,8 +7,8 @@ use Rattle.cast_config.specs.declared.config.Config.{Config}
 use Rattle.cast_config.specs.declared.config.Mount.{Mount}
 use Rattle.cast_config.specs.declared.config.Group.{Group}
 use Rattle.cast_config.specs.Served.{filters_of}
-use Rattle.session_core.specs.Setting.{shapes, shapes_from}
-use Rattle.session_core.specs.Called.{alone_at}
+use Rattle.session_model.specs.Setting.{shapes, shapes_from}
+use Rattle.session_model.specs.Called.{alone_at}
 use Rattle.session_core.proofs.HeldLemmas.{length_shapes}
 
 abbrev ring_of : List Group → ℕ → Mount → RingShape

@@ -2,8 +2,8 @@
 
 ghost use Rattle.std.specs.Prelude.{◌≡◌, ◌≤◌, ℕ, IfOk, map};
 ghost use Rattle.cast_config.specs.Kept.{KeepsRules};
-ghost use Rattle.session_core.specs.Setting.{anonymous_cap, caps, shapes};
-ghost use Rattle.session_core.specs.Setting as setting;
+ghost use Rattle.session_model.specs.Setting.{anonymous_cap, caps, shapes};
+ghost use Rattle.session_model.specs.Setting as setting;
 
 use crate::{Act, Start, Tired, Told, Two, Who, serve_two, start_as, start_head};
 use cast_config::{Config, read_config};

@@ -4,9 +4,9 @@ ghost use Rattle.std.specs.Prelude.{◌≡◌, ◌≢◌, ◌≤◌, ℕ, IsTrue
 ghost use Rattle.turn_log.specs.Turn.{SamePlace};
 ghost use Rattle.session_calls.specs.Rings.{AllSpeak, SamePlaces};
 ghost use Rattle.cast_config.specs.Kept.{KeepsRules};
-ghost use Rattle.session_core.specs.Called.{OthersCalled, alone_at, seen_at};
-ghost use Rattle.session_core.specs.Setting.{caps, shapes};
-ghost use Rattle.session_core.specs.Setting as setting;
+ghost use Rattle.session_model.specs.Called.{OthersCalled, alone_at, seen_at};
+ghost use Rattle.session_model.specs.Setting.{caps, shapes};
+ghost use Rattle.session_model.specs.Setting as setting;
 ghost use Rattle.session_core.specs.Standing.{Follows};
 
 use cast_config::Config;

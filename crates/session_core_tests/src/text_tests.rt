@@ -4,7 +4,8 @@ ghost use Rattle.std.specs.Prelude.{◌≡◌, ◌≤◌, IfOk, length};
 
 use cast_config::{Config, read_config};
 use caster_accounts::Sum;
-use session_core::{Closed, MountTotal, MountTotals, Sums, closed_text};
+use session_core::{Closed, MountTotal, MountTotals, Sums};
+use session_text::closed_text;
 use std::alloc::Global;
 use std::test::Fail;
 

@@ -13,10 +13,10 @@ use Rattle.rover_cursor.specs.Sound.{kept, outside}
 use Rattle.rover_cursor.proofs.SoundLemmas.{kept-append, LapsBetween-le}
 use Rattle.session_calls.specs.Rings.{shape_at}
 use Rattle.cast_config.specs.declared.config.Config.{Config}
-use Rattle.session_core.specs.Setting.{shapes}
-use Rattle.session_core.specs.Replies.{kept_of}
-use Rattle.session_core.specs.Promises.{permits_of, published_at, IsSoundIn}
-use Rattle.session_core.proofs.KeepLemmas.{Later, AllSound}
+use Rattle.session_model.specs.Setting.{shapes}
+use Rattle.session_model.specs.Replies.{kept_of}
+use Rattle.session_model.specs.Promises.{permits_of, published_at, IsSoundIn}
+use Rattle.session_model.proofs.KeepLemmas.{Later, AllSound}
 use Rattle.warm_promise.specs.Greeted.{greeting_of, IsGreeting, AreGreeted}
 
 -- what the segments from the newest one on were sent, where these are later ones

@@ -6,13 +6,13 @@ use Rattle.std.proofs.lemmas.List.Elements.{All-head, All-tail, All-cons, All-ni
 use Rattle.cast_config.specs.declared.config.Config.{Config}
 use Rattle.cast_config.specs.Kept.{KeepsRules}
 use Rattle.session_core.specs.declared.rover_state.RoverState.{RoverState}
-use Rattle.session_core.specs.Headings.{Heading}
-use Rattle.session_core.specs.Owed.{Happening, arrives, takes_turn, ends}
-use Rattle.session_core.specs.Endings.{goes_on}
-use Rattle.session_core.specs.Reports.{told_of}
-use Rattle.session_core.specs.Run.{Histories, Connected, World, Moved, judged_of, moved, moved_if, happens_in, is_opened}
-use Rattle.session_core.proofs.KeepLemmas.{AreFrames}
-use Rattle.session_core.proofs.WellLemmas.{IsSoundOf}
+use Rattle.session_model.specs.Headings.{Heading}
+use Rattle.session_model.specs.Owed.{Happening, arrives, takes_turn, ends}
+use Rattle.session_model.specs.Endings.{goes_on}
+use Rattle.session_model.specs.Reports.{told_of}
+use Rattle.session_model.specs.Run.{Histories, Connected, World, Moved, judged_of, moved, moved_if, happens_in, is_opened}
+use Rattle.session_model.proofs.KeepLemmas.{AreFrames}
+use Rattle.session_model.proofs.WellLemmas.{IsSoundOf}
 use Rattle.caster_replay.specs.Going.{rover_among, rover_of}
 use Rattle.caster_replay.specs.Runs.{AreAbove, IsIncreasing}
 use Rattle.caster_replay.specs.Sends.{told_sent}

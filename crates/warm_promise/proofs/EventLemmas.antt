@@ -13,15 +13,15 @@ use Rattle.session_calls.specs.Rings.{history_at}
 use Rattle.rover_session.proofs.SegmentLemmas.{Extends}
 use Rattle.cast_config.specs.declared.config.Config.{Config}
 use Rattle.cast_config.specs.Kept.{KeepsRules}
-use Rattle.session_core.specs.declared.ending.Last.TheVariants as lasts
-use Rattle.session_core.specs.Headings.{Heading}
-use Rattle.session_core.specs.Judged.{Opening, sends_head, waiting, judged}
-use Rattle.session_core.specs.Owed.{Happening, arrives, takes_turn, ends}
-use Rattle.session_core.specs.Endings.{goes_on}
-use Rattle.session_core.specs.Run.{Histories, Connected, World, Moved, judged_of, moved, moved_if, is_concerned, happens, is_opened, opened_if, fresh, opens, closes}
-use Rattle.session_core.proofs.KeepLemmas.{Later}
-use Rattle.session_core.proofs.WellLemmas.{IsSoundOf, IsWell, happens_stays}
-use Rattle.session_core.proofs.WellLemmas as well
+use Rattle.session_model.specs.declared.ending.Last.TheVariants as lasts
+use Rattle.session_model.specs.Headings.{Heading}
+use Rattle.session_model.specs.Judged.{Opening, sends_head, waiting, judged}
+use Rattle.session_model.specs.Owed.{Happening, arrives, takes_turn, ends}
+use Rattle.session_model.specs.Endings.{goes_on}
+use Rattle.session_model.specs.Run.{Histories, Connected, World, Moved, judged_of, moved, moved_if, is_concerned, happens, is_opened, opened_if, fresh, opens, closes}
+use Rattle.session_model.proofs.KeepLemmas.{Later}
+use Rattle.session_model.proofs.WellLemmas.{IsSoundOf, IsWell, happens_stays}
+use Rattle.session_model.proofs.WellLemmas as well
 use Rattle.caster_replay.specs.Runs.{IsIncreasing}
 use Rattle.caster_replay.proofs.WorldKnownLemmas.{number_by, opened_same}
 use Rattle.caster_replay.proofs.WorldListLemmas.{moved_by}

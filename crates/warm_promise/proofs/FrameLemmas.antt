@@ -18,9 +18,9 @@ use Rattle.ntrip_head.specs.declared.request.Version.{Version}
 use Rattle.rover_session.specs.Body.{body_of}
 use Rattle.rover_session.proofs.LawLemmas.{body_plain}
 use Rattle.cast_config.specs.declared.config.Config.{Config}
-use Rattle.session_core.specs.Replies.{kept_of, kept_frames}
-use Rattle.session_core.specs.Promises.{permits_of, published_at}
-use Rattle.session_core.proofs.KeepLemmas.{AreFrames}
+use Rattle.session_model.specs.Replies.{kept_of, kept_frames}
+use Rattle.session_model.specs.Promises.{permits_of, published_at}
+use Rattle.session_model.proofs.KeepLemmas.{AreFrames}
 use Rattle.run_promise.specs.Promised.{Holds}
 use Rattle.run_promise.proofs.AccountLemmas.{holds_so}
 use Rattle.warm_promise.specs.Greeted.{IsGreeting}

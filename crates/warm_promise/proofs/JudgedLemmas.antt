@@ -34,15 +34,15 @@ use Rattle.rover_session.specs.Owed.{plan_by}
 use Rattle.rover_session.specs.Made.{segments_after, owed_among}
 use Rattle.rover_session.proofs.MadeLemmas.{owed-append}
 use Rattle.cast_config.specs.declared.config.Config.{Config}
-use Rattle.session_core.specs.declared.ending.Ending.TheVariants as endings
-use Rattle.session_core.specs.declared.ending.Last.{Last}
-use Rattle.session_core.specs.Headings.{Heading, incomplete, too_long, whole, answered}
-use Rattle.session_core.specs.Judged.{Opening, sends_head, relays, bare_source, bare_rover, RoverTerms, Judged, waiting, refused, unanswered, table, source, rover, source_judged, rover_judged, request_judged, once, heading_judged, said_judged, relay_judged, mount_fed, bare_admission, judged}
-use Rattle.session_core.specs.Owed.{Received, entered, received, received_by, if_entered, terms_of, plan_of, closing}
-use Rattle.session_core.specs.Endings.{goes_on}
-use Rattle.session_core.specs.Replies.{reply_of, version_of}
-use Rattle.session_core.specs.Reports.{is_entered}
-use Rattle.session_core.specs.Run.{Histories, Connected, judged_of}
+use Rattle.session_model.specs.declared.ending.Ending.TheVariants as endings
+use Rattle.session_model.specs.declared.ending.Last.{Last}
+use Rattle.session_model.specs.Headings.{Heading, incomplete, too_long, whole, answered}
+use Rattle.session_model.specs.Judged.{Opening, sends_head, relays, bare_source, bare_rover, RoverTerms, Judged, waiting, refused, unanswered, table, source, rover, source_judged, rover_judged, request_judged, once, heading_judged, said_judged, relay_judged, mount_fed, bare_admission, judged}
+use Rattle.session_model.specs.Owed.{Received, entered, received, received_by, if_entered, terms_of, plan_of, closing}
+use Rattle.session_model.specs.Endings.{goes_on}
+use Rattle.session_model.specs.Replies.{reply_of, version_of}
+use Rattle.session_model.specs.Reports.{is_entered}
+use Rattle.session_model.specs.Run.{Histories, Connected, judged_of}
 use Rattle.run_promise.proofs.MadeLemmas.{AreAnswered}
 use Rattle.run_promise.proofs.WalkLemmas.{IsNever, AreJoins, joins-append, HasSuch, walk_keeps, none_such}
 use Rattle.run_promise.proofs.OwedLemmas.{answered_front, answered_owed, received_owed, last_such, closing_such}

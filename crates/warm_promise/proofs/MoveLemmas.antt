@@ -17,19 +17,19 @@ use Rattle.rover_session.specs.Made.{segments_after, owed_among}
 use Rattle.rover_session.proofs.MadeLemmas.{segments-append}
 use Rattle.cast_config.specs.declared.config.Config.{Config}
 use Rattle.cast_config.specs.Kept.{KeepsRules}
-use Rattle.session_core.specs.declared.ending.Ending.{Ending}
-use Rattle.session_core.specs.declared.ending.Last.{Last}
-use Rattle.session_core.specs.Setting.{shapes}
-use Rattle.session_core.specs.Headings.{Heading}
-use Rattle.session_core.specs.Judged.{Opening, RoverTerms, Judged, waiting, rover, judged}
-use Rattle.session_core.specs.Owed.{Received, received, plan_of, closing, arrives, takes_turn, ends}
-use Rattle.session_core.specs.Endings.{ended_by, goes_on}
-use Rattle.session_core.specs.Promises.{permits_of, published_at, IsSoundIn}
-use Rattle.session_core.specs.Run.{Histories, Connected, Moved, with_calls, made, judged_of, makes, closed_if, with_text, moved}
-use Rattle.session_core.proofs.GoodLemmas.{IsGood, good_left, good_plan}
-use Rattle.session_core.proofs.KeepLemmas.{Later, AllSound, AreFrames, turn_keeps}
-use Rattle.session_core.proofs.WellLemmas.{IsSoundOf, closing_good}
-use Rattle.session_core.proofs.WellLemmas as well
+use Rattle.session_model.specs.declared.ending.Ending.{Ending}
+use Rattle.session_model.specs.declared.ending.Last.{Last}
+use Rattle.session_model.specs.Setting.{shapes}
+use Rattle.session_model.specs.Headings.{Heading}
+use Rattle.session_model.specs.Judged.{Opening, RoverTerms, Judged, waiting, rover, judged}
+use Rattle.session_model.specs.Owed.{Received, received, plan_of, closing, arrives, takes_turn, ends}
+use Rattle.session_model.specs.Endings.{ended_by, goes_on}
+use Rattle.session_model.specs.Promises.{permits_of, published_at, IsSoundIn}
+use Rattle.session_model.specs.Run.{Histories, Connected, Moved, with_calls, made, judged_of, makes, closed_if, with_text, moved}
+use Rattle.session_model.proofs.GoodLemmas.{IsGood, good_left, good_plan}
+use Rattle.session_model.proofs.KeepLemmas.{Later, AllSound, AreFrames, turn_keeps}
+use Rattle.session_model.proofs.WellLemmas.{IsSoundOf, closing_good}
+use Rattle.session_model.proofs.WellLemmas as well
 use Rattle.caster_replay.proofs.WorldClosedLemmas.{received_closed}
 use Rattle.run_promise.proofs.MadeLemmas.{IsWithin, made_is}
 use Rattle.run_promise.proofs.WalkLemmas.{IsNever, JoinsSuch}

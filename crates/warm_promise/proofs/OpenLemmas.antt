@@ -15,15 +15,15 @@ use Rattle.session_calls.specs.Plans.{Plan, left}
 use Rattle.rover_session.specs.Owed.{plan_by, Terms}
 use Rattle.cast_config.specs.declared.config.Config.{Config}
 use Rattle.cast_config.specs.Kept.{KeepsRules}
-use Rattle.session_core.specs.Headings.{Heading, incomplete, too_long, whole, answered}
-use Rattle.session_core.specs.Judged.{Opening, sends_head, relays, bare_source, bare_rover, RoverTerms, Judged, waiting, unanswered, rover, source_judged, rover_judged, once, said_judged, relay_judged, mount_fed, bare_admission, judged}
-use Rattle.session_core.specs.Owed.{Received, unasked, claimed, taken, entered, full, received, received_by, if_entered, terms_of, plan_of, arrives}
-use Rattle.session_core.specs.Endings.{ended_by}
-use Rattle.session_core.specs.Replies.{kept_frames}
-use Rattle.session_core.specs.Reports.{IsHeadingOf}
-use Rattle.session_core.specs.Run.{Histories, Moved, judged_of, makes, with_text, moved, fresh}
-use Rattle.session_core.proofs.GoodLemmas.{good_left, good_plan}
-use Rattle.session_core.proofs.GrowLemmas.{heading_before}
+use Rattle.session_model.specs.Headings.{Heading, incomplete, too_long, whole, answered}
+use Rattle.session_model.specs.Judged.{Opening, sends_head, relays, bare_source, bare_rover, RoverTerms, Judged, waiting, unanswered, rover, source_judged, rover_judged, once, said_judged, relay_judged, mount_fed, bare_admission, judged}
+use Rattle.session_model.specs.Owed.{Received, unasked, claimed, taken, entered, full, received, received_by, if_entered, terms_of, plan_of, arrives}
+use Rattle.session_model.specs.Endings.{ended_by}
+use Rattle.session_model.specs.Replies.{kept_frames}
+use Rattle.session_model.specs.Reports.{IsHeadingOf}
+use Rattle.session_model.specs.Run.{Histories, Moved, judged_of, makes, with_text, moved, fresh}
+use Rattle.session_model.proofs.GoodLemmas.{good_left, good_plan}
+use Rattle.session_model.proofs.GrowLemmas.{heading_before}
 use Rattle.turn_log.specs.History.{History}
 use Rattle.mount_ring.specs.declared.call.RingCall.{RingCall}
 use Rattle.run_promise.proofs.MadeLemmas.{IsWithin}

@@ -17,16 +17,16 @@ use Rattle.session_script.specs.Script.{IsSession}
 use Rattle.rover_session.specs.Body.{body_of}
 use Rattle.cast_config.specs.declared.config.Config.{Config}
 use Rattle.cast_config.specs.Kept.{KeepsRules}
-use Rattle.session_core.specs.declared.ending.Last.TheVariants as lasts
-use Rattle.session_core.specs.declared.report.Report.{Report}
-use Rattle.session_core.specs.Headings.{Heading}
-use Rattle.session_core.specs.Judged.{Opening, sends_head, relays, bare_source, bare_rover, RoverTerms, Judged, waiting, rover, judged}
-use Rattle.session_core.specs.Owed.{Received, entered, received, arrives, takes_turn, ends}
-use Rattle.session_core.specs.Replies.{opening_text, reply_of, version_of}
-use Rattle.session_core.specs.Reports.{told_of, is_entered, opened_as, opened_if, bytes_to, IsHeadingOf, AreHeadings, report}
-use Rattle.session_core.specs.Run.{Histories, Connected, World, judged_of, is_opened, opens, after_event, after_events, world}
-use Rattle.session_core.proofs.KeepLemmas.{AreFrames}
-use Rattle.session_core.proofs.WellLemmas.{IsWell, events_well, world_well}
+use Rattle.session_model.specs.declared.ending.Last.TheVariants as lasts
+use Rattle.session_model.specs.declared.report.Report.{Report}
+use Rattle.session_model.specs.Headings.{Heading}
+use Rattle.session_model.specs.Judged.{Opening, sends_head, relays, bare_source, bare_rover, RoverTerms, Judged, waiting, rover, judged}
+use Rattle.session_model.specs.Owed.{Received, entered, received, arrives, takes_turn, ends}
+use Rattle.session_model.specs.Replies.{opening_text, reply_of, version_of}
+use Rattle.session_model.specs.Reports.{told_of, is_entered, opened_as, opened_if, bytes_to, IsHeadingOf, AreHeadings, report}
+use Rattle.session_model.specs.Run.{Histories, Connected, World, judged_of, is_opened, opens, after_event, after_events, world}
+use Rattle.session_model.proofs.KeepLemmas.{AreFrames}
+use Rattle.session_model.proofs.WellLemmas.{IsWell, events_well, world_well}
 use Rattle.caster_replay.specs.Runs.{IsIncreasing}
 use Rattle.caster_replay.proofs.WorldHeadingLemmas.{opened-append, or_later}
 use Rattle.caster_replay.proofs.WorldRunnerLemmas.{after_one}

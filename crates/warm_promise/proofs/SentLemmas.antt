@@ -14,13 +14,13 @@ use Rattle.ntrip_head.specs.declared.request.Version.TheVariants.{One}
 use Rattle.rover_session.specs.Body.{body_of}
 use Rattle.rover_session.proofs.LawLemmas.{body-append}
 use Rattle.cast_config.specs.declared.config.Config.{Config}
-use Rattle.session_core.specs.Judged.{Opening, Judged, waiting}
-use Rattle.session_core.specs.Owed.{Received}
-use Rattle.session_core.specs.Promises.{IsSoundIn}
-use Rattle.session_core.specs.Replies.{opening_text, reply_of, version_of, kept_of, kept_frames, sent_by}
-use Rattle.session_core.specs.Run.{Histories}
+use Rattle.session_model.specs.Judged.{Opening, Judged, waiting}
+use Rattle.session_model.specs.Owed.{Received}
+use Rattle.session_model.specs.Promises.{IsSoundIn}
+use Rattle.session_model.specs.Replies.{opening_text, reply_of, version_of, kept_of, kept_frames, sent_by}
+use Rattle.session_model.specs.Run.{Histories}
 use Rattle.session_core.specs.States.{state_in}
-use Rattle.session_core.proofs.KeepLemmas.{Later, AllSound}
+use Rattle.session_model.proofs.KeepLemmas.{Later, AllSound}
 use Rattle.caster_replay.proofs.WorldLaterLemmas.{kept_later}
 use Rattle.caster_warm.specs.Warm.{greeting_text, greeting_for}
 use Rattle.run_promise.proofs.AccountLemmas.{all_reversed}

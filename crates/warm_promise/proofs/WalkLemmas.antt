@@ -20,12 +20,12 @@ use Rattle.session_calls.specs.Plans.{Plan, done, asks}
 use Rattle.session_calls.specs.Rings.{history_at, shape_at}
 use Rattle.rover_session.specs.Made.{after_step, segments_after}
 use Rattle.cast_config.specs.declared.config.Config.{Config}
-use Rattle.session_core.specs.Setting.{shapes}
-use Rattle.session_core.specs.Run.{Histories, with_call, with_calls, step_at, made}
-use Rattle.session_core.specs.Promises.{published_at}
-use Rattle.session_core.proofs.GoodLemmas.{IsGoodAsk, IsGood}
-use Rattle.session_core.proofs.KeepLemmas.{Later}
-use Rattle.session_core.proofs.QuietLemmas.{claim_quiet}
+use Rattle.session_model.specs.Setting.{shapes}
+use Rattle.session_model.specs.Run.{Histories, with_call, with_calls, step_at, made}
+use Rattle.session_model.specs.Promises.{published_at}
+use Rattle.session_model.proofs.GoodLemmas.{IsGoodAsk, IsGood}
+use Rattle.session_model.proofs.KeepLemmas.{Later}
+use Rattle.session_model.proofs.QuietLemmas.{claim_quiet}
 use Rattle.run_promise.proofs.MadeLemmas.{asked_same, IsAskWithin, IsWithin}
 use Rattle.run_promise.proofs.WalkLemmas.{IsNever, IsJoinAsk, JoinsSuch}
 use Rattle.warm_promise.specs.Greeted.{greeting_of}

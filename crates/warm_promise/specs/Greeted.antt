@@ -8,13 +8,13 @@ use Rattle.ntrip_head.specs.declared.request.Version.TheVariants.{One}
 use Rattle.ntrip_reply.specs.declared.kind.Reply.TheVariants as replies
 use Rattle.session_script.specs.declared.Event.{Event}
 use Rattle.cast_config.specs.declared.config.Config.{Config}
-use Rattle.session_core.specs.declared.report.Connection.{Connection}
-use Rattle.session_core.specs.declared.report.Report.{Report}
-use Rattle.session_core.specs.Headings.{Heading}
-use Rattle.session_core.specs.Judged.{Opening, sends_head, relays, bare_source, bare_rover, RoverTerms, rover, judged}
-use Rattle.session_core.specs.Promises.{permits_of, published_at}
-use Rattle.session_core.specs.Replies.{text_if, opening_text, kept_of, kept_frames}
-use Rattle.session_core.specs.Reports.{opened_as, bytes_to}
+use Rattle.session_model.specs.declared.report.Connection.{Connection}
+use Rattle.session_model.specs.declared.report.Report.{Report}
+use Rattle.session_model.specs.Headings.{Heading}
+use Rattle.session_model.specs.Judged.{Opening, sends_head, relays, bare_source, bare_rover, RoverTerms, rover, judged}
+use Rattle.session_model.specs.Promises.{permits_of, published_at}
+use Rattle.session_model.specs.Replies.{text_if, opening_text, kept_of, kept_frames}
+use Rattle.session_model.specs.Reports.{opened_as, bytes_to}
 use Rattle.run_promise.specs.Promised.{Holds, IsPromised}
 
 -- ---- the frames

@@ -3,9 +3,9 @@ use Rattle.std.proofs.Common.{◌≡◌, ◌∙◌, length, refl, sym, ap, arith
 use Rattle.std.proofs.lemmas.List.{length-map}
 use Rattle.mount_ring.specs.Kept.{ring_shape}
 use Rattle.turn_log.specs.Lock.{turn_value}
-use Rattle.session_core.specs.Run.{Histories}
-use Rattle.session_core.specs.Reports.{sums_from}
-use Rattle.session_core.specs.Setting.{caps}
+use Rattle.session_model.specs.Run.{Histories}
+use Rattle.session_model.specs.Reports.{sums_from}
+use Rattle.session_model.specs.Setting.{caps}
 use Rattle.session_core.proofs.HeldLemmas.{length_shapes}
 use Rattle.caster_places.proofs.PileLemmas.{closed_within}
 use Rattle.caster_places.proofs.RowLemmas.{rings_closing, book_closing, rows_whole}

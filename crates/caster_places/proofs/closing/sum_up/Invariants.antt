@@ -1,8 +1,8 @@
 -- the sums so far
 use Rattle.std.proofs.Common.{◌≡◌, ◌+◌, ◌≤◌, ◌++◌, take, length, vec_len, vec_capacity}
 use Rattle.caster_accounts.specs.Kept.{Keeps}
-use Rattle.session_core.specs.Run.{Histories}
-use Rattle.session_core.specs.Reports.{sums_from}
+use Rattle.session_model.specs.Run.{Histories}
+use Rattle.session_model.specs.Reports.{sums_from}
 use Rattle.caster_places.proofs.closing.sum_up.Given as goal
 
 abbrev pub invariant-loop-number : goal.invariant-loop-number

@@ -2,8 +2,8 @@
 use Rattle.std.proofs.Common.{◌∙◌, [], ◌∷◌, map, sym, subst, arith}
 use Rattle.std.proofs.lemmas.List.{length-map, map-append}
 use Rattle.session_calls.specs.Rings.{history_at}
-use Rattle.session_core.specs.Run.{Histories}
-use Rattle.session_core.specs.Called.{seen_at}
+use Rattle.session_model.specs.Run.{Histories}
+use Rattle.session_model.specs.Called.{seen_at}
 use Rattle.caster_places.specs.Piles.{IsPile}
 use Rattle.caster_places.specs.Rows.{seen_of}
 use Rattle.caster_places.proofs.ListLemmas.{three-length}

@@ -4,7 +4,7 @@ use Rattle.caster_replay.specs.declared.entry.Entry.{Entry}
 use Rattle.caster_replay.proofs.EntryLemmas.{room_so_far, about_of}
 use Rattle.caster_replay.proofs.ReplayLemmas.{entry_at, places_stay, may_close_at}
 use Rattle.caster_replay.proofs.LivesLemmas.{in_order, looked, silent_closed, stands_absent, runs_closed}
-use Rattle.session_core.specs.Owed.{ends}
+use Rattle.session_model.specs.Owed.{ends}
 use Rattle.caster_replay.proofs.lives.close.Goals as goal
 
 pub returns-then-not-stands_at : goal.returns-then-not-stands_at

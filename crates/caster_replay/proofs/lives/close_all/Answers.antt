@@ -4,7 +4,7 @@ use Rattle.caster_replay.specs.declared.entry.Entry.{Entry}
 use Rattle.caster_replay.specs.Entries.{AreOver}
 use Rattle.caster_replay.specs.Lives.{Live, end_of, live_in, lives_in}
 use Rattle.caster_replay.specs.Scripts.{Stands}
-use Rattle.session_core.specs.declared.ending.Last.TheVariants as lasts
+use Rattle.session_model.specs.declared.ending.Last.TheVariants as lasts
 use Rattle.caster_replay.proofs.LivesLemmas.{silent_closed}
 use Rattle.caster_replay.proofs.ReplayLemmas.{entry_at, closes_next, may_close_at, over_next, same_count}
 use Rattle.caster_replay.proofs.lives.close_all.Goals as goal

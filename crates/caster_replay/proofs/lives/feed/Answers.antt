@@ -2,8 +2,8 @@ use Rattle.std.proofs.Common.{◌∙◌, ◌++◌, ℕ, List, [], ◌∷◌, len
 use Rattle.std.proofs.lemmas.Grind.{get_or-set_at}
 use Rattle.std.proofs.lemmas.Result.{on_ok_weaker}
 use Rattle.session_script.specs.declared.Event.TheVariants as events
-use Rattle.session_core.specs.declared.ending.Last.TheVariants as lasts
-use Rattle.session_core.specs.Owed.{arrives}
+use Rattle.session_model.specs.declared.ending.Last.TheVariants as lasts
+use Rattle.session_model.specs.Owed.{arrives}
 use Rattle.caster_replay.specs.declared.entry.Entry.{Entry}
 use Rattle.caster_replay.specs.Entries.{MayBeClosed}
 use Rattle.caster_replay.specs.Lives.{Live, live_of, live_in, lives_in}

@@ -1,6 +1,6 @@
 use Rattle.std.proofs.Common.{◌∙◌, ◌++◌, ℕ, List, [], ◌∷◌, set, refl, ap, arith}
 use Rattle.session_script.specs.declared.Event.TheVariants as events
-use Rattle.session_core.specs.Owed.{takes_turn}
+use Rattle.session_model.specs.Owed.{takes_turn}
 use Rattle.caster_replay.specs.declared.entry.Entry.{Entry}
 use Rattle.caster_replay.specs.Lives.{live_in, lives_in}
 use Rattle.caster_replay.proofs.WorldRunnerLemmas.{about_turn}

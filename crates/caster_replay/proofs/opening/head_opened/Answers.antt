@@ -1,5 +1,5 @@
 use Rattle.std.proofs.Common.{ℕ, List, [], sym, subst}
-use Rattle.session_core.specs.Judged.{sends_head}
+use Rattle.session_model.specs.Judged.{sends_head}
 use Rattle.caster_replay.specs.Calls.{Opens}
 use Rattle.caster_replay.proofs.WorldReportLemmas.{opens_quiet}
 use Rattle.caster_replay.proofs.opening.head_opened.Goals as goal

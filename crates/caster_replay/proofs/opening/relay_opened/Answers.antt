@@ -1,6 +1,6 @@
 use Rattle.std.proofs.Common.{◌∙◌, ◌++◌, ℕ, List, sym, ap, subst}
-use Rattle.session_core.specs.Judged.{relays}
-use Rattle.session_core.specs.Replies.{opening_text}
+use Rattle.session_model.specs.Judged.{relays}
+use Rattle.session_model.specs.Replies.{opening_text}
 use Rattle.caster_replay.specs.Calls.{Opens}
 use Rattle.caster_replay.proofs.WorldReportLemmas.{opens_quiet}
 use Rattle.caster_replay.proofs.opening.relay_opened.Goals as goal

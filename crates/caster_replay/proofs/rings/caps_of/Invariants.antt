@@ -1,7 +1,7 @@
 -- the caps so far
 use Rattle.std.proofs.Common.{◌≡◌, ◌∷◌, map, take}
 use Rattle.cast_config.specs.declared.config.Account.{Account}
-use Rattle.session_core.specs.Setting.{anonymous_cap}
+use Rattle.session_model.specs.Setting.{anonymous_cap}
 use Rattle.caster_replay.proofs.rings.caps_of.Given as goal
 
 abbrev pub invariant-loop-account : goal.invariant-loop-account

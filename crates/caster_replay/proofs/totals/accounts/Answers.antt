@@ -1,9 +1,9 @@
 use Rattle.std.proofs.Common.{◌∙◌, ◌<◌, ◌++◌, List, [], ◌∷◌, length, take, sym, ap, subst, arith}
 use Rattle.caster_accounts.specs.declared.account.Sum.{Sum}
 use Rattle.caster_accounts.specs.Kept.{Keeps}
-use Rattle.session_core.specs.Reports.{sums_from}
+use Rattle.session_model.specs.Reports.{sums_from}
 use Rattle.caster_replay.specs.Caster.{DesksValue}
-use Rattle.session_core.proofs.ReportSums.{sums_more}
+use Rattle.session_model.proofs.ReportSums.{sums_more}
 use Rattle.caster_replay.proofs.totals.accounts.Goals as goal
 
 pub loop-number-preserved : goal.loop-number-preserved

@@ -1,6 +1,6 @@
 -- the sums so far
 use Rattle.std.proofs.Common.{◌≡◌, take}
-use Rattle.session_core.specs.Reports.{sums_from}
+use Rattle.session_model.specs.Reports.{sums_from}
 use Rattle.caster_replay.proofs.totals.accounts.Given as goal
 
 abbrev pub invariant-loop-number : goal.invariant-loop-number

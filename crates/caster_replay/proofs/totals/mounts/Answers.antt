@@ -1,11 +1,11 @@
 use Rattle.std.proofs.Common.{◌≡◌, ◌∙◌, ◌++◌, ◌+◌, ℕ, List, [], ◌∷◌, length, map, take, get_or, ap, subst, arith}
 use Rattle.mount_ring.specs.History.{state_of}
-use Rattle.session_core.specs.declared.report.MountTotal.{MountTotal}
-use Rattle.session_core.specs.Reports.{mount_total}
+use Rattle.session_model.specs.declared.report.MountTotal.{MountTotal}
+use Rattle.session_model.specs.Reports.{mount_total}
 use Rattle.caster_replay.specs.Caster.{DesksValue}
 use Rattle.caster_replay.specs.Places.{place_seen}
 use Rattle.caster_replay.proofs.DeskLemmas.{totals_more}
-use Rattle.session_core.proofs.ReportSums.{total_with}
+use Rattle.session_model.proofs.ReportSums.{total_with}
 use Rattle.caster_replay.proofs.totals.mounts.Goals as goal
 
 pub loop-place-preserved : goal.loop-place-preserved

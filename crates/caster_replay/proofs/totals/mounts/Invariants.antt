@@ -1,6 +1,6 @@
 -- the totals so far
 use Rattle.std.proofs.Common.{◌≡◌, map, take}
-use Rattle.session_core.specs.Reports.{mount_total}
+use Rattle.session_model.specs.Reports.{mount_total}
 use Rattle.caster_replay.proofs.totals.mounts.Given as goal
 
 abbrev pub invariant-loop-place : goal.invariant-loop-place

@@ -4,7 +4,7 @@ use Rattle.turn_log.specs.History.{IsLegal}
 use Rattle.caster_accounts.specs.History.{fits}
 use Rattle.caster_accounts.specs.Kept.{Keeps}
 use Rattle.cast_config.specs.declared.config.Account.{Account}
-use Rattle.session_core.specs.Setting.{caps}
+use Rattle.session_model.specs.Setting.{caps}
 use Rattle.caster_replay.specs.Caster.{DesksValue}
 use Rattle.caster_replay.proofs.SumLemmas.{total_is}
 use Rattle.caster_replay.proofs.totals.total.Goals as goal

@@ -1,8 +1,8 @@
 -- Bytes are fed, and unless they ended the connection a turn follows.
 use Rattle.std.proofs.Common.{◌∙◌, [], ◌∷◌, ◌++◌, sym}
-use Rattle.session_core.specs.Called.{alone_at, seen_at}
-use Rattle.session_core.specs.Owed.{arrives}
-use Rattle.caster_serve.specs.Courses.{steps_of, text_of}
+use Rattle.session_model.specs.Called.{alone_at, seen_at}
+use Rattle.session_model.specs.Owed.{arrives}
+use Rattle.session_model.specs.Courses.{steps_of, text_of}
 use Rattle.caster_serve.proofs.CalledLemmas.{others_none}
 use Rattle.caster_serve.proofs.PlaceLemmas.{fit_kept, known_same, speak_by}
 use Rattle.caster_serve.proofs.ReachLemmas.{bytes_ended, bytes_turned, ended_flow, follows_fed, reach_bytes}

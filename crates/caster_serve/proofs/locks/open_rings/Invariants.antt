@@ -3,7 +3,7 @@ use Rattle.std.proofs.Common.{◌≡◌, map, take}
 use Rattle.std.specs.List.{All}
 use Rattle.mount_ring.specs.Kept.{ring_shape}
 use Rattle.turn_log.specs.Lock.{turn_passes, turn_value}
-use Rattle.session_core.specs.Setting.{shapes}
+use Rattle.session_model.specs.Setting.{shapes}
 use Rattle.caster_places.specs.Piles.{AreMatched}
 use Rattle.caster_serve.specs.Sharing.{AreDealt}
 use Rattle.caster_serve.proofs.locks.open_rings.Given as goal

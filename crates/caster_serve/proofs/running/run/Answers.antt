@@ -1,6 +1,6 @@
 -- Each read of the link, behind what is to be written.
 use Rattle.std.proofs.Common.{◌∙◌, refl, sym, arith, inl, inr}
-use Rattle.session_core.specs.Called.{seen_at}
+use Rattle.session_model.specs.Called.{seen_at}
 use Rattle.caster_serve.specs.Links.{opening_of}
 use Rattle.caster_serve.proofs.PlaceLemmas.{fit_kept}
 use Rattle.caster_serve.proofs.ServingLemmas.{begins_serving, sent_on, torn, stops, going_by}

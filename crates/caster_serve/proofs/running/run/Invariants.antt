@@ -3,7 +3,7 @@ use Rattle.std.proofs.Common.{◌≡◌, ◌+◌, ◌^◌, ◌<◌, length}
 use Rattle.std.specs.Prelude.{IfSome}
 use Rattle.session_calls.specs.Rings.{AllLater}
 use Rattle.session_core.specs.Beginnings.{worn_at}
-use Rattle.session_core.specs.Called.{IsCause, seen_at}
+use Rattle.session_model.specs.Called.{IsCause, seen_at}
 use Rattle.caster_places.specs.Known.{known_at}
 use Rattle.caster_serve.specs.Links.{opening_of}
 use Rattle.caster_serve.specs.Served.{Serving}

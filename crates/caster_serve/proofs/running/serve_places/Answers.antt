@@ -1,11 +1,11 @@
 -- A session is opened, served and closed.
 use Rattle.std.proofs.Common.{◌≡◌, ◌∙◌, ℕ, Bool, true, false, [], map, refl, sym, ap, subst, arith}
-use Rattle.session_core.specs.Judged.{waiting}
-use Rattle.session_core.specs.Owed.{closing}
-use Rattle.session_core.specs.Standing.{IsSettled}
+use Rattle.session_model.specs.Judged.{waiting}
+use Rattle.session_model.specs.Owed.{closing}
+use Rattle.session_core.specs.Closed.{IsSettled}
 use Rattle.caster_serve.specs.Served.{LinkServed}
 use Rattle.session_core.specs.Beginnings.{worn_at}
-use Rattle.session_core.specs.Called.{alone_at, seen_at}
+use Rattle.session_model.specs.Called.{alone_at, seen_at}
 use Rattle.caster_serve.specs.Wear.{MayRefuse, lacks_in}
 use Rattle.caster_serve.specs.Links.{opening_of}
 use Rattle.caster_serve.proofs.PlaceLemmas.{fit_kept, known_same, speak_by}

@@ -2,7 +2,7 @@
 use Rattle.std.proofs.Common.{◌≡◌, ◌+◌, ◌^◌, ◌<◌, ℕ}
 use Rattle.session_calls.specs.Rings.{AllLater}
 use Rattle.session_core.specs.Beginnings.{worn_at}
-use Rattle.session_core.specs.Called.{seen_at}
+use Rattle.session_model.specs.Called.{seen_at}
 use Rattle.caster_places.specs.Known.{known_at}
 use Rattle.caster_serve.specs.Wear.{wear_of}
 use Rattle.caster_serve.specs.Works.{IsWithin, Works}

@@ -1,7 +1,7 @@
 use Rattle.std.proofs.Common.{◌∙◌, ◌++◌, ℕ, List, sym, ap}
 use Rattle.std.proofs.lemmas.List.{append-nil}
 use Rattle.std.proofs.lemmas.Result.{on_ok_weaker}
-use Rattle.session_core.specs.Run.{after_events}
+use Rattle.session_model.specs.Run.{after_events}
 use Rattle.caster_replay.specs.Going.{rover_among}
 use Rattle.caster_warm.specs.Warm.{greeting_for}
 use Rattle.caster_warm.proofs.PartLemmas.{greets_own, greets_nobody}

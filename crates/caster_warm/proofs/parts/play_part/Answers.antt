@@ -1,6 +1,6 @@
 use Rattle.std.proofs.Common.{◌∙◌, ◌++◌, [], ◌∷◌}
 use Rattle.session_script.specs.declared.Event.{Event}
-use Rattle.session_core.specs.Run.{after_events}
+use Rattle.session_model.specs.Run.{after_events}
 use Rattle.caster_replay.specs.Kept.{seen_of}
 use Rattle.caster_warm.proofs.PartLemmas.{are_next, bytes_here, cleared_before, part_here, sent_within, still_greets}
 use Rattle.caster_warm.proofs.parts.play_part.Goals as goal

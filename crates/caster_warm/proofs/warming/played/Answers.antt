@@ -2,7 +2,7 @@ use Rattle.std.proofs.Common.{◌∙◌, ◌++◌, ℕ, suc, List, [], take, dro
 use Rattle.std.proofs.lemmas.List.{take_all}
 use Rattle.session_script.specs.declared.Event.{Event}
 use Rattle.cast_config.specs.declared.config.Config.{Config}
-use Rattle.session_core.specs.Run.{after_events}
+use Rattle.session_model.specs.Run.{after_events}
 use Rattle.caster_replay.proofs.RunLemmas.{comes_next, stands_next, stands_whole}
 use Rattle.caster_warm.specs.Parts.{part_to}
 use Rattle.caster_warm.specs.Warm.{sent_by_events}

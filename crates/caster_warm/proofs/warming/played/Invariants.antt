@@ -1,8 +1,8 @@
 -- the run stands for the events so far, and what each connection was sent is noted
 use Rattle.std.proofs.Common.{◌≡◌, ℕ, [], take}
-use Rattle.session_core.specs.Headings.{Heading}
-use Rattle.session_core.specs.Reports.{AreHeadings}
-use Rattle.session_core.specs.Run.{after_events}
+use Rattle.session_model.specs.Headings.{Heading}
+use Rattle.session_model.specs.Reports.{AreHeadings}
+use Rattle.session_model.specs.Run.{after_events}
 use Rattle.caster_replay.specs.Kept.{Greets, StandsFor}
 use Rattle.caster_warm.specs.Parts.{sent_to}
 use Rattle.caster_warm.specs.Warm.{sent_by_events}

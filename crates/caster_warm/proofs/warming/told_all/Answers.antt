@@ -1,6 +1,6 @@
 use Rattle.std.proofs.Common.{◌∙◌, ◌++◌, List, [], ◌∷◌, sym, ap, append_assoc}
 use Rattle.std.proofs.lemmas.List.{map-append}
-use Rattle.session_core.specs.declared.report.Connection.{Connection}
+use Rattle.session_model.specs.declared.report.Connection.{Connection}
 use Rattle.caster_warm.specs.Parts.{sent_to}
 use Rattle.caster_warm.specs.Warm.{told_with}
 use Rattle.caster_warm.proofs.warming.told_all.Goals as goal

@@ -1,7 +1,7 @@
 -- What is made is a bare session, whose report is a function of its events.
 use Rattle.std.proofs.Common.{List, ◌∙◌, ap, subst}
 use Rattle.session_script.specs.declared.Event.{Event}
-use Rattle.session_core.specs.Reports.{IsReport}
+use Rattle.session_model.specs.Reports.{IsReport}
 use Rattle.run_texts.specs.Texts.{bare_report}
 use Rattle.run_texts.proofs.BareLemmas.{bare_is_report}
 use Rattle.run_texts.proofs.made.made_report.Goals as goal

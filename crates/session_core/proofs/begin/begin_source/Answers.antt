@@ -3,7 +3,7 @@ use Rattle.std.proofs.lemmas.List.{length-map}
 use Rattle.ntrip_reply.specs.declared.kind.Reply.TheVariants.{SourceOk}
 use Rattle.session_calls.specs.Rings.{all_alone}
 use Rattle.session_core.specs.Published.{steps_unclaimed}
-use Rattle.session_core.specs.Replies.{text_if}
+use Rattle.session_model.specs.Replies.{text_if}
 use Rattle.session_core.specs.Beginnings.{text_unclaimed}
 use Rattle.session_core.proofs.BegunLemmas.{went_as, begins_claimed, begins_unclaimed}
 use Rattle.session_core.proofs.HeldLemmas.{length_shapes}

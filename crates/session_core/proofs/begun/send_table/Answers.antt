@@ -1,8 +1,8 @@
 use Rattle.std.proofs.Common.{ℕ, List, subst}
 use Rattle.ntrip_reply.specs.declared.kind.Reply.TheVariants.{Table}
 use Rattle.ntrip_reply.specs.Text.{reply_text}
-use Rattle.session_core.specs.declared.ending.Ending.TheVariants.{TableSent}
-use Rattle.session_core.specs.Standing.{IsRepliedLast}
+use Rattle.session_model.specs.declared.ending.Ending.TheVariants.{TableSent}
+use Rattle.session_core.specs.Begun.{IsRepliedLast}
 use Rattle.session_core.proofs.BeginLemmas.{begins_table, replied_cause}
 use Rattle.session_core.proofs.begun.send_table.Goals as goal
 

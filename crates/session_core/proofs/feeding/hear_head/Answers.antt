@@ -1,6 +1,6 @@
 use Rattle.std.proofs.Common.{List, ℕ, subst}
 use Rattle.ntrip_client.specs.Steps.{IsStep}
-use Rattle.session_core.specs.Called.{alone_at, seen_at}
+use Rattle.session_model.specs.Called.{alone_at, seen_at}
 use Rattle.session_core.specs.Feeding.{HasBegunFor}
 use Rattle.session_core.proofs.FeedHeadLemmas.{whole_begun, long_begun}
 use Rattle.session_core.proofs.feeding.hear_head.Goals as goal

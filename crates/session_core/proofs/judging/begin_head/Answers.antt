@@ -1,6 +1,6 @@
 use Rattle.std.proofs.Common.{inl, inr, Ok, Err}
 use Rattle.ntrip_head.specs.Answer.{HeadAnswer}
-use Rattle.session_core.specs.Called.{alone_at, seen_at}
+use Rattle.session_model.specs.Called.{alone_at, seen_at}
 use Rattle.session_core.specs.Beginnings.{worn_at}
 use Rattle.session_core.proofs.EarthLemmas.{head_on_earth, fault_or_lost}
 use Rattle.session_core.proofs.judging.begin_head.Goals as goal

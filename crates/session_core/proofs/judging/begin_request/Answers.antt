@@ -6,11 +6,11 @@ use Rattle.session_calls.specs.Rings.{all_alone}
 use Rattle.session_calls.proofs.PlaceLemmas.{length_same}
 use Rattle.ntrip_head.specs.declared.request.Request.{Request}
 use Rattle.access_groups.specs.Admission.{source_admission}
-use Rattle.session_core.specs.Judged.{source_judged, request_judged}
-use Rattle.session_core.specs.Run.{Histories}
-use Rattle.session_core.specs.Called.{alone_at, seen_at}
+use Rattle.session_model.specs.Judged.{source_judged, request_judged}
+use Rattle.session_model.specs.Run.{Histories}
+use Rattle.session_model.specs.Called.{alone_at, seen_at}
 use Rattle.session_core.specs.Beginnings.{histories_of}
-use Rattle.session_core.specs.Standing.{BeginsFor}
+use Rattle.session_core.specs.Begun.{BeginsFor}
 use Rattle.session_core.proofs.EnteredLemmas.{back_whole, entered_back, worn_back, cause_left}
 use Rattle.session_core.proofs.judging.begin_request.Goals as goal
 

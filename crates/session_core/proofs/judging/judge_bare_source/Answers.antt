@@ -1,9 +1,9 @@
 use Rattle.std.proofs.Common.{◌∙◌, ℕ, [], length, map, sym, ap, subst, arith, Result, None, false}
 use Rattle.std.proofs.lemmas.List.{length-map}
 use Rattle.access_groups.specs.declared.admission.SourceDenial.{SourceDenial}
-use Rattle.session_core.specs.Judged.{source_judged}
+use Rattle.session_model.specs.Judged.{source_judged}
 use Rattle.session_core.specs.Beginnings.{histories_of}
-use Rattle.session_core.specs.Standing.{BeginsFor}
+use Rattle.session_core.specs.Begun.{BeginsFor}
 use Rattle.session_core.proofs.HeldLemmas.{length_shapes}
 use Rattle.session_core.proofs.judging.judge_bare_source.Goals as goal
 

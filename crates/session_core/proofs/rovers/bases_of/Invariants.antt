@@ -1,5 +1,5 @@
 use Rattle.std.proofs.Common.{◌≡◌, ◌++◌, drop}
-use Rattle.session_core.specs.Setting.{bases_at}
+use Rattle.session_model.specs.Setting.{bases_at}
 use Rattle.session_core.proofs.rovers.bases_of.Given as goal
 
 abbrev pub invariant-loop-number : goal.invariant-loop-number

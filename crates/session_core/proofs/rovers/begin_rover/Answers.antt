@@ -7,18 +7,18 @@ use Rattle.rover_session.specs.Owed.{Terms}
 use Rattle.rover_session.specs.Standing.{KnowsFilter, AreWithin}
 use Rattle.ntrip_reply.specs.declared.kind.Reply.TheVariants as replies
 use Rattle.session_calls.specs.Rings.{all_alone}
-use Rattle.session_core.specs.Setting.{shapes, bases_at}
-use Rattle.session_core.specs.Replies.{text_if}
+use Rattle.session_model.specs.Setting.{shapes, bases_at}
+use Rattle.session_model.specs.Replies.{text_if}
 use Rattle.caster_accounts.specs.History.{may_leave}
 use Rattle.rover_session.specs.Standing.{rover_of, IsResumable, frames_sent}
 use Rattle.session_calls.proofs.PlaceLemmas.{length_same}
-use Rattle.session_core.specs.declared.ending.Ending.{Ending}
+use Rattle.session_model.specs.declared.ending.Ending.{Ending}
 use Rattle.session_core.specs.declared.stage.Stage.TheVariants as stages
-use Rattle.session_core.specs.Judged.{rover}
-use Rattle.session_core.specs.Run.{Histories}
+use Rattle.session_model.specs.Judged.{rover}
+use Rattle.session_model.specs.Run.{Histories}
 use Rattle.session_core.specs.Beginnings.{ended_joining}
-use Rattle.session_core.specs.Standing.{BeginsFor}
-use Rattle.session_core.specs.Called.{alone_at, seen_at}
+use Rattle.session_core.specs.Begun.{BeginsFor}
+use Rattle.session_model.specs.Called.{alone_at, seen_at}
 use Rattle.session_core.proofs.HeldLemmas.{length_shapes}
 use Rattle.session_core.proofs.AdmittedLemmas.{IsReady, is_ready}
 use Rattle.session_core.proofs.EnteredLemmas.{heard_as, back_whole, entered_back, worn_back, told_as, called_none_by, begins_entered, begins_full, begins_unentered, cause_joined, cause_unentered}

@@ -1,5 +1,5 @@
 use Rattle.std.proofs.Common.{◌≡◌, ◌∙◌, ap}
-use Rattle.session_core.specs.Setting.{bases_at}
+use Rattle.session_model.specs.Setting.{bases_at}
 use Rattle.session_core.proofs.AdmittedLemmas.{IsReady, ready_by}
 use Rattle.session_core.proofs.rovers.new_session.Goals as goal
 

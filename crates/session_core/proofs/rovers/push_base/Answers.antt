@@ -2,7 +2,7 @@ use Rattle.std.proofs.Common.{◌≡◌, ◌∙◌, ◌++◌, [], List, sym, ap,
 use Rattle.std.specs.Prelude.{option_to_list, slice_get}
 use Rattle.std.proofs.lemmas.List.{append-nil}
 use Rattle.base_select.specs.declared.Base.{Base}
-use Rattle.session_core.specs.Setting.{base_at}
+use Rattle.session_model.specs.Setting.{base_at}
 use Rattle.session_core.proofs.rovers.push_base.Goals as goal
 
 pub returns-in-None : goal.returns-in-None

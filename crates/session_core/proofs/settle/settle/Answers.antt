@@ -9,7 +9,7 @@ use Rattle.session_calls.specs.Steps.{at_ring}
 use Rattle.session_calls.specs.Rings.{Went, all_alone}
 use Rattle.rover_session.specs.Made.{sent_in, overrun_in}
 use Rattle.rover_session.specs.Standing.{rover_of}
-use Rattle.session_core.specs.Called.{alone_at, seen_at}
+use Rattle.session_model.specs.Called.{alone_at, seen_at}
 use Rattle.session_core.specs.Closing.{IsHeldBy, closing_at, releasing}
 use Rattle.session_core.proofs.CloseLemmas.{makes_none, makes_release, makes_leave}
 use Rattle.session_core.proofs.CloseLawLemmas.{refused_ring, refused_book}

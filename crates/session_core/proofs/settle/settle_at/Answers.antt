@@ -5,10 +5,10 @@ use Rattle.std.specs.Vec.{vec_len}
 use Rattle.session_calls.proofs.PlaceLemmas.{length_same}
 use Rattle.cast_config.specs.declared.config.Config.{Config}
 use Rattle.session_core.specs.Beginnings.{lacks_at, worn_at}
-use Rattle.session_core.specs.Called.{alone_at, seen_at}
+use Rattle.session_model.specs.Called.{alone_at, seen_at}
 use Rattle.session_core.specs.Closing.{Makes, closing_at}
 use Rattle.session_core.specs.Published.{IsTurnRefused}
-use Rattle.session_core.specs.Setting.{caps, shapes}
+use Rattle.session_model.specs.Setting.{caps, shapes}
 use Rattle.session_core.proofs.EnteredLemmas.{back_whole}
 use Rattle.session_core.proofs.settle.settle_at.Goals as goal
 

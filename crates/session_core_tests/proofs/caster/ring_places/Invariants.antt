@@ -1,7 +1,7 @@
 -- the rings so far are those of the first mountpoints
 use Rattle.std.proofs.Common.{◌≡◌, map, take}
 use Rattle.turn_log.specs.Desks.{desk_shape}
-use Rattle.session_core.specs.Setting.{shapes}
+use Rattle.session_model.specs.Setting.{shapes}
 use Rattle.session_core_tests.specs.Refusing.{tired_shape}
 use Rattle.session_core_tests.proofs.caster.ring_places.Given as goal
 

@@ -1,4 +1,4 @@
-use Rattle.session_core.specs.Called.{alone_at, seen_at}
+use Rattle.session_model.specs.Called.{alone_at, seen_at}
 use Rattle.session_core_tests.proofs.FollowLemmas.{others_by}
 use Rattle.session_core_tests.proofs.serving.close_at.Goals as goal
 

@@ -1,5 +1,5 @@
 use Rattle.std.proofs.Common.{◌∙◌, ap, arith, take}
-use Rattle.session_core.specs.Called.{alone_at, seen_at}
+use Rattle.session_model.specs.Called.{alone_at, seen_at}
 use Rattle.session_core_tests.proofs.FollowLemmas.{taken_few, fed_follows, fed_others, turned_follows, turned_others}
 use Rattle.session_core_tests.proofs.serving.happen.Goals as goal
 

@@ -1,6 +1,6 @@
 -- The connection to which nothing happens follows the places still.
 use Rattle.std.proofs.Common.{sym}
-use Rattle.session_core.specs.Called.{seen_at}
+use Rattle.session_model.specs.Called.{seen_at}
 use Rattle.session_core_tests.proofs.FollowLemmas.{follows_less, follows_on}
 use Rattle.session_core_tests.proofs.serving.happen_to.Goals as goal
 

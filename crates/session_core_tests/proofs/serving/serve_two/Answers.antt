@@ -2,7 +2,7 @@ use Rattle.std.proofs.Common.{◌∙◌, ℕ, Bool, IsTrue, refl, sym, subst, ar
 use Rattle.turn_log.proofs.TurnLaws.{same_both}
 use Rattle.session_calls.proofs.PlaceLemmas.{speak_same}
 use Rattle.rover_session.proofs.AtLemmas.{same_places_both}
-use Rattle.session_core.specs.Called.{seen_at}
+use Rattle.session_model.specs.Called.{seen_at}
 use Rattle.session_core.proofs.FeedHeadLemmas.{alone_as}
 use Rattle.session_core_tests.proofs.FollowLemmas.{follows_less, follows_on}
 use Rattle.session_core_tests.proofs.serving.serve_two.Goals as goal

@@ -2,7 +2,7 @@
 use Rattle.std.proofs.Common.{◌≡◌}
 use Rattle.turn_log.specs.Turn.{SamePlace}
 use Rattle.session_calls.specs.Rings.{SamePlaces}
-use Rattle.session_core.specs.Called.{seen_at}
+use Rattle.session_model.specs.Called.{seen_at}
 use Rattle.session_core.specs.Standing.{Follows}
 use Rattle.session_core_tests.proofs.serving.serve_two.Given as goal
 

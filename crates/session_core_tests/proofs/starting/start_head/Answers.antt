@@ -1,5 +1,5 @@
 use Rattle.std.proofs.Common.{[]}
-use Rattle.session_core.specs.Judged.{sends_head}
+use Rattle.session_model.specs.Judged.{sends_head}
 use Rattle.session_core_tests.proofs.FollowLemmas.{follows_first}
 use Rattle.session_core_tests.proofs.starting.start_head.Goals as goal
 

@@ -1,6 +1,6 @@
 use Rattle.std.proofs.Common.{[]}
-use Rattle.session_core.specs.Judged.{relays}
-use Rattle.session_core.specs.Replies.{opening_text}
+use Rattle.session_model.specs.Judged.{relays}
+use Rattle.session_model.specs.Replies.{opening_text}
 use Rattle.session_core_tests.proofs.FollowLemmas.{follows_first}
 use Rattle.session_core_tests.proofs.starting.start_relay.Goals as goal
 

@@ -1,5 +1,5 @@
 use Rattle.std.proofs.Common.{◌∙◌, sym}
-use Rattle.session_core.specs.Run.{after_events}
+use Rattle.session_model.specs.Run.{after_events}
 use Rattle.caster_record.specs.Recording.{events_in}
 use Rattle.caster_record.proofs.StepLemmas.{none_behind}
 use Rattle.caster_record.proofs.recorder.Recorder.is_behind.Goals as goal

@@ -1,7 +1,7 @@
 use Rattle.std.proofs.Common.{◌∙◌, ◌<◌, ◌++◌, List, [], ◌∷◌, length, get_or, sym, ap, arith}
 use Rattle.std.proofs.lemmas.List.{take_all, take_more}
 use Rattle.mount_ring.specs.declared.shape.RingShape.{RingShape}
-use Rattle.session_core.specs.Setting.{shapes}
+use Rattle.session_model.specs.Setting.{shapes}
 use Rattle.caster_replay.proofs.DeskLemmas.{no_shape, shapes_count, uncalled_next}
 use Rattle.caster_replay.proofs.PlaceLemmas.{greet_more, counted_more, none_more}
 use Rattle.caster_replay.proofs.desks.Desks.new.Goals as goal

@@ -1,7 +1,7 @@
 -- the desks at the first rings, at which nothing was called
 use Rattle.std.proofs.Common.{◌≡◌, [], IsTrue, map, take, false}
 use Rattle.cast_config.specs.declared.config.Mount.{Mount}
-use Rattle.session_core.specs.Setting.{caps, shapes}
+use Rattle.session_model.specs.Setting.{caps, shapes}
 use Rattle.caster_replay.specs.Places.{AllGreet, NoneGreets, cleared_at}
 use Rattle.caster_replay.proofs.desks.Desks.new.Given as goal
 

@@ -1,5 +1,5 @@
 use Rattle.std.proofs.Common.{◌∙◌, sym, subst}
-use Rattle.session_core.specs.Run.{Histories}
+use Rattle.session_model.specs.Run.{Histories}
 use Rattle.caster_replay.specs.Lives.{lives_in}
 use Rattle.caster_replay.specs.Runs.{Runs}
 use Rattle.caster_replay.proofs.run.Run.clear.Goals as goal

@@ -1,6 +1,6 @@
 use Rattle.std.proofs.Common.{◌∙◌, List, sym, ap, subst}
-use Rattle.session_core.specs.declared.report.Connection.{Connection}
-use Rattle.session_core.specs.Reports.{IsReport}
+use Rattle.session_model.specs.declared.report.Connection.{Connection}
+use Rattle.session_model.specs.Reports.{IsReport}
 use Rattle.caster_replay.specs.Sends.{told_sent}
 use Rattle.caster_replay.proofs.run.Run.finish.Goals as goal
 

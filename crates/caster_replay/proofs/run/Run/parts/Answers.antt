@@ -1,6 +1,6 @@
 use Rattle.std.proofs.Common.{◌∙◌, sym, subst}
-use Rattle.session_core.specs.declared.report.Closed as totals
-use Rattle.session_core.specs.Reports.{IsReport}
+use Rattle.session_model.specs.declared.report.Closed as totals
+use Rattle.session_model.specs.Reports.{IsReport}
 use Rattle.caster_replay.specs.Lives.{lives_in}
 use Rattle.caster_replay.proofs.ReplayLemmas.{report_is}
 use Rattle.caster_replay.proofs.SendsLemmas.{told_sends}

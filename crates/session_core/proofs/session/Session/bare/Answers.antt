@@ -9,11 +9,12 @@ use Rattle.access_groups.specs.Admission.{admission}
 use Rattle.session_core.specs.declared.ending.Bare.{Bare}
 use Rattle.session_core.specs.declared.ending.Bare.TheVariants as bare
 use Rattle.session_core.specs.declared.session.Session.{Session}
-use Rattle.session_core.specs.Judged.{rover_judged, source_judged, bare_admission}
-use Rattle.session_core.specs.Run.{Histories}
-use Rattle.session_core.specs.Called.{alone_at, seen_at}
+use Rattle.session_model.specs.Judged.{rover_judged, source_judged, bare_admission}
+use Rattle.session_model.specs.Run.{Histories}
+use Rattle.session_model.specs.Called.{alone_at, seen_at}
 use Rattle.session_core.specs.Beginnings.{bare_opening, histories_of}
-use Rattle.session_core.specs.Standing.{BeginsFor, Fed}
+use Rattle.session_core.specs.Standing.{Fed}
+use Rattle.session_core.specs.Begun.{BeginsFor}
 use Rattle.session_core.proofs.BareLemmas.{bare_begun}
 use Rattle.session_core.proofs.EnteredLemmas.{back_whole, entered_back, worn_back, cause_left}
 use Rattle.session_core.proofs.session.Session.bare.Goals as goal

@@ -3,7 +3,7 @@ use Rattle.std.proofs.Common.{◌∙◌, map, sym}
 use Rattle.std.proofs.lemmas.List.{length-map}
 use Rattle.std.proofs.lemmas.Result.{on_ok_weaker}
 use Rattle.session_core.specs.Beginnings.{lacks_at, worn_at}
-use Rattle.session_core.specs.Called.{alone_at, seen_at}
+use Rattle.session_model.specs.Called.{alone_at, seen_at}
 use Rattle.session_core.specs.Closing.{closing_at}
 use Rattle.session_core.proofs.CloseLawLemmas.{called_either, closed_at, held_by, unsettled_by}
 use Rattle.session_core.proofs.session.Session.close.Goals as goal

@@ -5,9 +5,10 @@ use Rattle.session_calls.specs.Rings.{AllSpeak}
 use Rattle.session_calls.proofs.PlaceLemmas.{speak_same}
 use Rattle.session_core.specs.declared.begun.Begun.{Begun}
 use Rattle.session_core.specs.declared.session.Session.{Session}
-use Rattle.session_core.specs.Called.{alone_at, seen_at}
+use Rattle.session_model.specs.Called.{alone_at, seen_at}
 use Rattle.session_core.specs.Feeding.{FedOn, HasBegunFor}
-use Rattle.session_core.specs.Standing.{Follows, StartsAs}
+use Rattle.session_core.specs.Standing.{Follows}
+use Rattle.session_core.specs.Begun.{StartsAs}
 use Rattle.session_core.proofs.FeedHeadLemmas.{alone_as, begun_behind, begun_follows, fed_behind, fed_ended, fed_on, is_awaited, none_of, rest_of, some_of}
 use Rattle.session_core.proofs.session.Session.feed.Goals as goal
 

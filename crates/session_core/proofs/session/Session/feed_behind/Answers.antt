@@ -4,8 +4,8 @@ use Rattle.turn_log.specs.History.{History}
 use Rattle.mount_ring.specs.declared.call.RingCall.{RingCall}
 use Rattle.session_calls.specs.Rings.{all_alone}
 use Rattle.session_calls.proofs.PlaceLemmas.{length_same}
-use Rattle.session_core.specs.Run.{Histories}
-use Rattle.session_core.specs.Called.{OthersCalled, alone_at, seen_at}
+use Rattle.session_model.specs.Run.{Histories}
+use Rattle.session_model.specs.Called.{OthersCalled, alone_at, seen_at}
 use Rattle.session_core.specs.Beginnings.{histories_of}
 use Rattle.session_core.specs.Feeding.{FedOn}
 use Rattle.session_core.proofs.EnteredLemmas.{back_whole, entered_back, worn_back, cause_left}

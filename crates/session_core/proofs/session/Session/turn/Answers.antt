@@ -3,7 +3,7 @@ use Rattle.std.proofs.Common.{◌≡◌, ◌∙◌, length, map, refl, sym, ap, 
 use Rattle.std.specs.Vec.{vec_len}
 use Rattle.session_calls.specs.Rings.{all_alone}
 use Rattle.session_calls.proofs.PlaceLemmas.{length_same}
-use Rattle.session_core.specs.Called.{seen_at}
+use Rattle.session_model.specs.Called.{seen_at}
 use Rattle.session_core.specs.Turned.{TurnedAt}
 use Rattle.session_core.proofs.EnteredLemmas.{back_whole, cause_left, worn_back}
 use Rattle.session_core.proofs.TurningLemmas.{readable_by, turned_by, same_session, refused_back}

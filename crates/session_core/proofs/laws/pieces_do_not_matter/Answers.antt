@@ -1,5 +1,0 @@
-use Rattle.session_core.proofs.LawLemmas.{said_same}
-use Rattle.session_core.proofs.laws.pieces_do_not_matter.Goals as goal
-
-pub returns : goal.returns
-returns c = said_same

@@ -1,5 +1,0 @@
-use Rattle.session_core.proofs.PromiseLemmas.{keeps_all}
-use Rattle.session_core.proofs.laws.runs_keep_their_promise.Goals as goal
-
-pub returns : goal.returns
-returns c = keeps_all

@@ -1,5 +1,0 @@
-use Rattle.session_core.proofs.LawLemmas.{one_report}
-use Rattle.session_core.proofs.laws.scripts_have_one_report.Goals as goal
-
-pub returns : goal.returns
-returns c = one_report

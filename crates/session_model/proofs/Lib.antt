@@ -1,0 +1,13 @@
+pub mod Example
+pub mod Runs
+pub mod HeadingLemmas
+pub mod AnsweringLemmas
+pub mod GrowLemmas
+pub mod LawLemmas
+pub mod GoodLemmas
+pub mod KeepLemmas
+pub mod WellLemmas
+pub mod PromiseLemmas
+pub mod MoreLemmas
+pub mod QuietLemmas
+pub mod ReportSums

@@ -1,0 +1,12 @@
+pub mod Setting
+pub mod Headings
+pub mod Judged
+pub mod Owed
+pub mod Endings
+pub mod Replies
+pub mod Run
+pub mod Reports
+pub mod Text
+pub mod Promises
+pub mod Called
+pub mod Courses

@@ -1,0 +1,86 @@
+-- What a connection is sent: its reply, and behind it, if it is a rover, the frames of its
+-- segments.
+use Rattle.std.specs.Prelude.{ℕ, List, [], ◌++◌, slice_get, Option, None, Some, unwrap_or}
+use Rattle.std.specs.List.{flat_map}
+use Rattle.turn_log.specs.History.{History}
+use Rattle.mount_ring.specs.declared.call.RingCall.{RingCall}
+use Rattle.mount_ring.specs.History.{permits_at}
+use Rattle.rover_cursor.specs.declared.segment.Segment.{Segment}
+use Rattle.rover_cursor.specs.Sound.{kept}
+use Rattle.rover_cursor.specs.Told.{published_in}
+use Rattle.ntrip_head.specs.declared.request.Version.{Version}
+use Rattle.ntrip_head.specs.declared.request.Version.TheVariants.{One}
+use Rattle.ntrip_reply.specs.declared.kind.Reply.{Reply}
+use Rattle.ntrip_reply.specs.declared.kind.Reply.TheVariants as replies
+use Rattle.ntrip_reply.specs.Text.{reply_text}
+use Rattle.session_calls.specs.Rings.{history_at, shape_at}
+use Rattle.upstream_relay.specs.Request.{relay_request}
+use Rattle.rover_session.specs.Body.{body_of}
+use Rattle.cast_config.specs.declared.config.Config.{Config}
+use Rattle.cast_config.specs.declared.config.Relay.{Relay}
+use Rattle.session_model.specs.Setting.{shapes}
+use Rattle.session_model.specs.Setting as setting
+use Rattle.session_model.specs.Judged.{Opening, relays, Judged, waiting, refused, unanswered, table, source, rover}
+use Rattle.session_model.specs.Owed.{Received, claimed, taken, entered, full}
+
+-- ---- the reply
+
+-- nothing where no reply is made
+abbrev pub text_if : Option Version → Reply → List ℕ → List ℕ
+text_if None reply sourcetable = []
+text_if (Some version) reply sourcetable = reply_text version reply sourcetable
+
+abbrev pub source_reply : Option Version → Received → List ℕ
+source_reply version (claimed claim) = text_if version replies.SourceOk []
+source_reply version (taken caller claim) = text_if version replies.Taken []
+source_reply version _ = []
+
+abbrev pub rover_reply : Option Version → Received → List ℕ
+rover_reply version entered = text_if version replies.RoverOk []
+rover_reply version (full busy cap) = text_if version replies.Full []
+rover_reply version _ = []
+
+abbrev pub reply_of : Config → Judged → Received → List ℕ
+reply_of c waiting by = []
+reply_of c (refused version reply end) by = text_if version reply (setting.table c)
+reply_of c (unanswered end) by = []
+reply_of c (table version) by = reply_text version replies.Table (setting.table c)
+reply_of c (source terms body) by = source_reply terms.version by
+reply_of c (rover terms tail) by = rover_reply terms.version by
+
+-- ---- the body
+
+abbrev pub version_of : Judged → Option Version
+version_of waiting = None
+version_of (refused version reply end) = version
+version_of (unanswered end) = None
+version_of (table version) = Some version
+version_of (source terms body) = terms.version
+version_of (rover terms tail) = terms.version
+
+-- the frames that a segment kept of all that its mountpoint's history published
+abbrev pub kept_of : Config → List (History RingCall) → Segment → List (List ℕ)
+kept_of c histories segment =
+    kept (permits_at (shape_at (shapes c) segment.mount) segment.cursor.filter)
+    (published_in (history_at histories segment.mount)) segment
+
+abbrev pub kept_frames : Config → List (History RingCall) → List Segment → List (List ℕ)
+kept_frames c histories segments = flat_map (kept_of c histories) segments
+
+-- ---- all of it
+
+-- what a relay asks the other caster; nothing else is sent before a reply
+abbrev pub request_if : Option Relay → List ℕ
+request_if None = []
+request_if (Some relay) = relay_request relay
+
+abbrev pub opening_text : Config → Opening → List ℕ
+opening_text c (relays n) = request_if (slice_get c.relay n)
+opening_text c _ = []
+
+-- a bare rover is sent its frames as one of NTRIP 1.0 is
+abbrev pub sent_by : Config → List (History RingCall) → Opening → Judged → Received → List Segment
+    → List ℕ
+sent_by c histories opening judged by segments =
+    opening_text c opening ++ reply_of c judged by
+    ++ body_of (unwrap_or (version_of judged) One) (kept_frames c histories segments)

@@ -1,0 +1,7 @@
+-- the digits of the bytes so far were appended
+use Rattle.std.proofs.Common.{◌≡◌, ◌++◌, take}
+use Rattle.hex.specs.Hex.{encode_lower}
+use Rattle.session_text.proofs.report_lines.push_digits.Given as goal
+
+abbrev pub invariant-loop-byte : goal.invariant-loop-byte
+invariant-loop-byte l = l.out.items ≡ l.fn.out.items ++ encode_lower (take l.byte-index l.bytes)

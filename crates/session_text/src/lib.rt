@@ -1,0 +1,8 @@
+//! The text of a report, and of what a caster came to.
+#![tactic(auto)]
+
+mod report_lines;
+mod text;
+
+pub use report_lines::report_text;
+pub use text::{closed_text, room_for_closed};
