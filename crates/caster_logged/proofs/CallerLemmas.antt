@@ -12,11 +12,11 @@ use Rattle.session_calls.specs.Rings.{history_at}
 use Rattle.caster_accounts.specs.declared.account.Sum.{Sum}
 use Rattle.caster_accounts.specs.Sums.{nothing}
 use Rattle.cast_config.specs.declared.config.Config.{Config}
-use Rattle.session_core.specs.declared.report.Closed.{Closed}
-use Rattle.session_core.specs.declared.report.Receipt.{Receipt}
-use Rattle.session_core.specs.Judged.{Opening}
-use Rattle.session_core.specs.Reports.{added}
-use Rattle.session_core.specs.Run.{Histories, nothing_called}
+use Rattle.session_model.specs.declared.report.Closed.{Closed}
+use Rattle.session_model.specs.declared.report.Receipt.{Receipt}
+use Rattle.session_model.specs.Judged.{Opening}
+use Rattle.session_model.specs.Reports.{added}
+use Rattle.session_model.specs.Run.{Histories, nothing_called}
 use Rattle.caster_street.specs.Ends.{EndTold, at_door, over_link, kind_of, kinds, doors_in, links_in}
 use Rattle.caster_serve.specs.Callers.{Caller, ends_of as told_ends, is_whole}
 use Rattle.caster_serve.specs.Caster.{HasServed}

@@ -10,12 +10,12 @@ use Rattle.caster_accounts.specs.declared.account.Sum.{Sum}
 use Rattle.caster_accounts.specs.Sums.{nothing}
 use Rattle.session_calls.specs.Rings.{history_at}
 use Rattle.cast_config.specs.declared.config.Config.{Config}
-use Rattle.session_core.specs.declared.ending.Last.{Last}
-use Rattle.session_core.specs.declared.report.Closed.{Closed}
-use Rattle.session_core.specs.declared.report.Receipt.{Receipt}
-use Rattle.session_core.specs.Judged.{Opening, sends_head, relays}
-use Rattle.session_core.specs.Reports.{added, mount_total, sums_from}
-use Rattle.session_core.specs.Run.{Histories, nothing_called}
+use Rattle.session_model.specs.declared.ending.Last.{Last}
+use Rattle.session_model.specs.declared.report.Closed.{Closed}
+use Rattle.session_model.specs.declared.report.Receipt.{Receipt}
+use Rattle.session_model.specs.Judged.{Opening, sends_head, relays}
+use Rattle.session_model.specs.Reports.{added, mount_total, sums_from}
+use Rattle.session_model.specs.Run.{Histories, nothing_called}
 use Rattle.caster_street.specs.Ends.{EndTold, at_door, over_link, asked_of, kind_of, kinds}
 use Rattle.caster_serve.specs.Links.{IsCausedBy}
 use Rattle.caster_serve.specs.Wear.{only_worn, IsRefusedBy}

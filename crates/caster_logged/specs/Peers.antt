@@ -8,8 +8,8 @@ use Rattle.cast_config.specs.declared.config.Config.{Config}
 use Rattle.session_script.specs.declared.Event.{Event}
 use Rattle.session_script.specs.Script.{IsSession}
 use Rattle.session_script.specs.Writing.{script_text}
-use Rattle.session_core.specs.declared.report.Report.{Report}
-use Rattle.session_core.specs.Reports.{IsReport}
+use Rattle.session_model.specs.declared.report.Report.{Report}
+use Rattle.session_model.specs.Reports.{IsReport}
 use Rattle.caster_replay.specs.Sends.{told_sent}
 use Rattle.run_promise.specs.Promised.{IsPromised}
 use Rattle.caster_record.specs.Moves.{Move, brought_in, has_torn, taken_in}

@@ -7,7 +7,7 @@ ghost use Rattle.cast_io.specs.Logs.{GaveAll, GaveFile};
 ghost use Rattle.cast_io.specs.Told.{StreetTold};
 ghost use Rattle.cast_config.specs.declared.config.Config.{Config};
 ghost use Rattle.session_script.specs.declared.Event.{Event};
-ghost use Rattle.session_core.specs.declared.report.Closed.{Closed};
+ghost use Rattle.session_model.specs.declared.report.Closed.{Closed};
 ghost use Rattle.run_promise.specs.Promised.{IsPromised};
 ghost use Rattle.ntrip_fetch.specs.declared.target.Target.{Target};
 ghost use Rattle.caster_serve.specs.Caster.{HasServed};

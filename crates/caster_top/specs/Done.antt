@@ -10,8 +10,8 @@ use Rattle.cast_io.specs.Told.{StreetTold}
 use Rattle.cast_config.specs.declared.config.Config.{Config}
 use Rattle.cast_config.specs.Bare as settings
 use Rattle.config_table.specs.Table.{table_records}
-use Rattle.session_core.specs.declared.report.Closed.{Closed}
-use Rattle.session_core.specs.Text.{closed_text}
+use Rattle.session_model.specs.declared.report.Closed.{Closed}
+use Rattle.session_model.specs.Text.{closed_text}
 use Rattle.run_texts.specs.Texts.{IsRunText, report}
 use Rattle.caster_serve.specs.Caster.{HasServed}
 use Rattle.caster_top.specs.declared.command.Aim.TheVariants.{Check, Table, Migrate}
