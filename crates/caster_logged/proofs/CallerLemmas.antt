@@ -46,9 +46,9 @@ entries_of [] (log ∷ logs) same = absurd cc
 entries_of (entry ∷ entries) [] same = absurd cc
 entries_of (entry ∷ entries) (log ∷ logs) same =
     let rest = entries_of entries logs
-        (cons_tail entry.link (link_logged log) (links_of entries) (map link_logged logs) same) in
+    (cons_tail entry.link (link_logged log) (links_of entries) (map link_logged logs) same) in
     let head : entry.link ≡ link_logged log =
-        cons_head entry.link (link_logged log) (links_of entries) (map link_logged logs) same in (
+    cons_head entry.link (link_logged log) (links_of entries) (map link_logged logs) same in (
       entry_of log entry.receipt ∷ rest.0,
       ap (λ told. record_of told entry.receipt ∷ entries) head
           ∙ ap (λ more. record_of (link_logged log) entry.receipt ∷ more) rest.1,
@@ -108,9 +108,9 @@ caller_kept : (c : Config) (histories : Histories) (me : ℕ) (caller : CallerLo
 caller_kept c histories me caller is =
     let all = links_at caller.end caller.served is.entries is.links in
     let turns = subst (λ (o : Opening). told.AreKeptInTurn c o me histories is.entries (nothing_called c).rings
-        caller.seen.rings) (opening_is caller.end) is.in_turn in
+    caller.seen.rings) (opening_is caller.end) is.in_turn in
     let own = subst (λ (l : List Record). told.AreKeptInTurn c (opening_at caller.end) me histories l
-        (nothing_called c).rings caller.seen.rings) all.1 turns in
+    (nothing_called c).rings caller.seen.rings) all.1 turns in
     record {
       entries = all.0;
       links = all.2;
@@ -159,7 +159,7 @@ logged_over : (seen : Histories) (tally : Sum) (served : ℕ) (end : EndTold) (c
 logged_over seen tally served (at_door told) callers follow [] links d l = absurd cc
 logged_over seen tally served (at_door told) callers follow (log ∷ doors) links d l =
     let rest = follow doors links
-        (cons_tail told (door_logged log) (doors_in (told_ends callers)) (map door_logged doors) d) l in
+    (cons_tail told (door_logged log) (doors_in (told_ends callers)) (map door_logged doors) d) l in
     let head = cons_head told (door_logged log) (doors_in (told_ends callers)) (map door_logged doors) d in (
       caller_of seen tally served (door log) ∷ rest.0,
       one_more seen tally served (at_door told) (door log) callers doors links (ap at_door head) rest,
@@ -169,7 +169,7 @@ logged_over seen tally served (at_door told) callers follow (log ∷ doors) link
 logged_over seen tally served (over_link number told) callers follow doors [] d l = absurd cc
 logged_over seen tally served (over_link number told) callers follow doors (log ∷ links) d l =
     let rest = follow doors links d
-        (cons_tail told (link_logged log) (links_in (told_ends callers)) (map link_logged links) l) in
+    (cons_tail told (link_logged log) (links_in (told_ends callers)) (map link_logged links) l) in
     let head = cons_head told (link_logged log) (links_in (told_ends callers)) (map link_logged links) l in (
       caller_of seen tally served (link number log) ∷ rest.0,
       one_more seen tally served (over_link number told) (link number log) callers doors links
@@ -208,9 +208,9 @@ pub served_logged : (c : Config) (addr : List ℕ) (limit : ℕ) (old new : Stre
 served_logged c addr limit old new closed served =
     let is = all_promised c addr limit (street_logged old) (street_logged new) closed served in
     let doors = map_grew door_logged door_back door_is old.doors new.doors (doors_in (told_ends is.callers))
-        is.kept.given_back.doors in
+    is.kept.given_back.doors in
     let links = map_grew link_logged link_back link_is old.links new.links (links_in (told_ends is.callers))
-        is.kept.given_back.links in
+    is.kept.given_back.links in
     let all = are_logged is.callers doors.0 links.0 doors.2 links.2 in
     let own = all.0 in
     let same = all.1 in

@@ -69,14 +69,14 @@ recorded_logged c addr limit old new script recorded promised =
     let session = recorded.session in
     let is = session.recorded in
     let doors = map_grew door_logged door_back door_is old.doors new.doors (recorded.last ∷ [])
-        (subst (λ d. Grew d (Some (map door_logged new.doors)) (recorded.last ∷ [])) street.asked.doors
-        street.shut.doors) in
+    (subst (λ d. Grew d (Some (map door_logged new.doors)) (recorded.last ∷ [])) street.asked.doors
+    street.shut.doors) in
     let one = one_door recorded.last doors.0 doors.2 in
     let door = one.0 in
     let links = links_back recorded.first session.now recorded.last door session.links one.2 street.fresh session.come
-        session.back in
+    session.back in
     let count : length session.links ≡ length door.back =
-        ap (λ (l : List LinkTold). length l) links ∙ length-map door.back link_logged in
+    ap (λ (l : List LinkTold). length l) links ∙ length-map door.back link_logged in
     record {
       door = door;
       asked = grew_by old.asked new.asked (asked.Open addr 1 ∷ [])

@@ -189,10 +189,10 @@ fetched_logged most targets old new start now status fetched =
     let tried = fetched.tried in
     let all = runs_over most targets (street_logged old) (street_logged new) tried.runs new.links refl tried.are in
     let same : old.links ≡ all.earlier = map_same link_logged link_back link_is old.links all.earlier
-        (some_is (map link_logged old.links) (map link_logged all.earlier) all.told_before) in
+    (some_is (map link_logged old.links) (map link_logged all.earlier) all.told_before) in
     let tries : fetched.tries ≡ tries_in all.own = tried.tries_are ∙ all.tries in
     let count : length fetched.tries ≡ length all.own =
-        ap (λ (l : List Try). length l) tries ∙ length-map all.own (λ (run : RunLog). run.tried) in
+    ap (λ (l : List Try). length l) tries ∙ length-map all.own (λ (run : RunLog). run.tried) in
     record {
       runs = all.own;
       are = all.are;

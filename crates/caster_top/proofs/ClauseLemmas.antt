@@ -340,8 +340,7 @@ pub bare_report : (words : List (List ℕ)) (input : Input) (files : Files) (old
 bare_report words input files old new status capacity is follows are =
     let run = bare_run words input files old new status capacity is follows are in
     let session = (script_read Bare run.0 run.1 run.4).session in
-    let text = bare_text (settings.bare capacity) run.1 run.2 session run.5 in
-    (
+    let text = bare_text (settings.bare capacity) run.1 run.2 session run.5 in (
       run.0,
       run.1,
       run.3,
