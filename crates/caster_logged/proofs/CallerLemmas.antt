@@ -17,7 +17,7 @@ use Rattle.session_model.specs.declared.report.Receipt.{Receipt}
 use Rattle.session_model.specs.Judged.{Opening}
 use Rattle.session_model.specs.Reports.{added}
 use Rattle.session_model.specs.Run.{Histories, nothing_called}
-use Rattle.caster_street.specs.Ends.{EndTold, at_door, over_link, kind_of, kinds, doors_in, links_in}
+use Rattle.caster_serve.specs.Ends.{EndTold, at_door, over_link, kind_of, kinds, doors_in, links_in}
 use Rattle.caster_serve.specs.Callers.{Caller, ends_of as told_ends, is_whole}
 use Rattle.caster_serve.specs.Caster.{HasServed}
 use Rattle.caster_serve.specs.Works.{Record, IsTold, links_of, receipts_of, tallied}

@@ -16,9 +16,9 @@ use Rattle.session_model.specs.declared.report.Receipt.{Receipt}
 use Rattle.session_model.specs.Judged.{Opening, sends_head, relays}
 use Rattle.session_model.specs.Reports.{added, mount_total, sums_from}
 use Rattle.session_model.specs.Run.{Histories, nothing_called}
-use Rattle.caster_street.specs.Ends.{EndTold, at_door, over_link, asked_of, kind_of, kinds}
-use Rattle.caster_serve.specs.Links.{IsCausedBy}
-use Rattle.caster_serve.specs.Wear.{only_worn, IsRefusedBy}
+use Rattle.caster_serve.specs.Ends.{EndTold, at_door, over_link, asked_of, kind_of, kinds}
+use Rattle.caster_link.specs.Links.{IsCausedBy}
+use Rattle.caster_link.specs.Wear.{only_worn, IsRefusedBy}
 use Rattle.caster_serve.specs.Works.{tallied}
 use Rattle.caster_serve.specs.Callers.{Caller, calls_in, is_whole}
 use Rattle.serve_promise.specs.Links.{AllFrames, IsLinkKept}

@@ -17,24 +17,29 @@ use Rattle.cast_config.specs.declared.config.Relay.{Relay}
 use Rattle.session_calls.specs.Rings.{AllLater}
 use Rattle.session_model.specs.Run.{Histories}
 use Rattle.session_model.specs.Setting.{caps}
-use Rattle.caster_street.specs.Ends.{EndTold, at_door, over_link, Kind, a_worker, a_relay, IsUnused, door_failed, kind_of, kinds, relays_from}
+use Rattle.caster_serve.specs.Ends.{EndTold, at_door, over_link, Kind, a_worker, a_relay, IsUnused, door_failed, kind_of, kinds, relays_from}
 use Rattle.caster_places.specs.Known.{Fit}
 use Rattle.caster_places.specs.Leaves.{Leaves, left_in}
 use Rattle.caster_places.specs.Piles.{AreMatched}
 use Rattle.caster_places.specs.Rows.{AreAt, RingLocks, BookLock, left_by}
 use Rattle.caster_serve.specs.declared.shared.Shared.{Shared}
 use Rattle.caster_serve.specs.Sharing.{IsReady}
-use Rattle.caster_serve.specs.Wear.{Wear, lacks_in, only_worn}
+use Rattle.caster_link.specs.Wear.{Wear, lacks_in, only_worn}
 use Rattle.caster_serve.specs.Works.{IsWithin}
 use Rattle.caster_serve.specs.Callers.{Caller, Served, ServedOver, IsServed, AreServed, ends_of, is_whole, is_whole_at, seen_of, uncalled}
-use Rattle.caster_serve.specs.Hands.{HandTold, HandServed, FitsEnd, MayServe}
-use Rattle.caster_serve.specs.Seated.{AreAllAt, AreBelow, AreLegal, AreSeated, HavePlaces, IsSeated, ends_in, rows_of}
+use Rattle.caster_serve.specs.Hands.{HandTold}
+use Rattle.caster_serve.specs.Seated.{AreAllAt, AreBelow, AreLegal, AreSeated, HavePlaces, IsSeated}
+use Rattle.caster_serve.specs.Serving.{TaskTold, HandServed, FitsEnd, MayServe, caller_of}
 use Rattle.caster_serve.proofs.WorkLemmas.{relay_on, worked_on}
-use Rattle.caster_serve.proofs.WornLemmas.{WearsOn, later_none}
+use Rattle.caster_link.proofs.WornLemmas.{WearsOn, later_none}
 
 -- what each hand tells of its caller
-abbrev pub callers_of : List HandTold → List Caller
-callers_of hands = map (λ (hand : HandTold). hand.caller) hands
+abbrev pub callers_of : List (HandTold TaskTold) → List Caller
+callers_of hands = map caller_of hands
+
+-- a task over this end, of which nothing was done
+abbrev pub new_task : EndTold → TaskTold
+new_task end = record { end = end; tally = nothing; served = 0 }
 
 -- ---- before they serve
 
@@ -43,7 +48,7 @@ unmap P f [] all = All-nil (λ x. P (f x))
 unmap P f (x ∷ xs) all =
     All-cons (λ x. P (f x)) x xs (All-head P (f x) (map f xs) all) (unmap P f xs (All-tail P (f x) (map f xs) all))
 
-pub slice_may : {X : Type 0} (P : HandTold → Type 0) (told : X → HandTold) (slice olds : List X) → slice ≡ olds
+pub slice_may : {X : Type 0} (P : HandTold TaskTold → Type 0) (told : X → HandTold TaskTold) (slice olds : List X) → slice ≡ olds
     → All P (map told olds) → All (λ x. P (told x)) slice
 slice_may P told slice olds is all = subst (All (λ x. P (told x))) (sym is) (unmap P told olds all)
 
@@ -84,21 +89,34 @@ pub fit_ends : (c : Config) (ends : List EndTold) → map kind_of ends ≡ kinds
     → All (FitsEnd c) ends
 fit_ends c ends kinds_are unused = fits_each c ends (subst (All (KindFits c)) (sym kinds_are) (kinds_fit c)) unused
 
-may_one : (shared : Shared) (limit n : ℕ) (end : EndTold) (hand : HandTold) → IsReady shared → limit < 2 ^ 64
-    → FitsEnd shared.config.now end → IsSeated shared n end hand
+-- with such a task it is a caller before its first call
+is_uncalled : (shared : Shared) (n : ℕ) (end : EndTold) (hand : HandTold TaskTold)
+    → IsSeated shared n (new_task end) hand → caller_of hand ≡ uncalled shared.config.now end
+is_uncalled shared n end hand seated =
+    ap (λ (task : TaskTold). caller_of (record {
+      number = hand.number;
+      known = hand.known;
+      seen = hand.seen;
+      worn = hand.worn;
+      work = task;
+    })) seated.work_is
+    ∙ ap (λ (seen : Histories). record { seen = seen; tally = nothing; served = 0; end = end }) seated.uncalled
+
+may_one : (shared : Shared) (limit n : ℕ) (end : EndTold) (hand : HandTold TaskTold) → IsReady shared → limit < 2 ^ 64
+    → FitsEnd shared.config.now end → IsSeated shared n (new_task end) hand
     → MayServe shared.config.now shared.table.items limit hand
 may_one shared limit n end hand ready small fit seated = record {
   kept = ready.kept;
   table_is = ready.table_is;
   fit = subst (λ (k : ℕ). Fit shared.config.now k hand.known) (sym seated.numbered) seated.fit;
-  few = subst (λ (caller : Caller). caller.tally.sessions + limit < 2 ^ 64) (sym seated.fresh) (omega (arith, small));
-  room = subst (λ (caller : Caller). caller.tally.sessions + 1 < 2 ^ 64) (sym seated.fresh) (omega arith);
-  within = subst (λ (caller : Caller). IsWithin caller.tally) (sym seated.fresh) (omega arith, omega arith);
-  end = subst (λ (caller : Caller). FitsEnd shared.config.now caller.end) (sym seated.fresh) fit;
+  few = subst (λ (task : TaskTold). task.tally.sessions + limit < 2 ^ 64) (sym seated.work_is) (omega (arith, small));
+  room = subst (λ (task : TaskTold). task.tally.sessions + 1 < 2 ^ 64) (sym seated.work_is) (omega arith);
+  within = subst (λ (task : TaskTold). IsWithin task.tally) (sym seated.work_is) (omega arith, omega arith);
+  end = subst (λ (task : TaskTold). FitsEnd shared.config.now task.end) (sym seated.work_is) fit;
 }
 
-pub may_serve : (shared : Shared) (limit n : ℕ) (ends : List EndTold) (hands : List HandTold) → IsReady shared
-    → limit < 2 ^ 64 → All (FitsEnd shared.config.now) ends → AreSeated shared n ends hands
+pub may_serve : (shared : Shared) (limit n : ℕ) (ends : List EndTold) (hands : List (HandTold TaskTold)) → IsReady shared
+    → limit < 2 ^ 64 → All (FitsEnd shared.config.now) ends → AreSeated shared n (map new_task ends) hands
     → All (MayServe shared.config.now shared.table.items limit) hands
 may_serve shared limit n [] [] ready small fit seated = All-nil (MayServe shared.config.now shared.table.items limit)
 may_serve shared limit n [] (hand ∷ hands) ready small fit seated = absurd seated
@@ -108,9 +126,9 @@ may_serve shared limit n (end ∷ ends) (hand ∷ hands) ready small fit seated 
     (may_one shared limit n end hand ready small (All-head (FitsEnd shared.config.now) end ends fit) seated.0)
     (may_serve shared limit (n + 1) ends hands ready small (All-tail (FitsEnd shared.config.now) end ends fit) seated.1)
 
-pub may_serve_with : (shared : Shared) (table : List ℕ) (limit : ℕ) (ends : List EndTold) (hands : List HandTold)
+pub may_serve_with : (shared : Shared) (table : List ℕ) (limit : ℕ) (ends : List EndTold) (hands : List (HandTold TaskTold))
     → table ≡ shared.table.items → IsReady shared → limit < 2 ^ 64 → All (FitsEnd shared.config.now) ends
-    → AreSeated shared 0 ends hands → All (MayServe shared.config.now table limit) hands
+    → AreSeated shared 0 (map new_task ends) hands → All (MayServe shared.config.now table limit) hands
 may_serve_with shared table limit ends hands is ready small fit seated =
     subst (λ (t : List ℕ). All (MayServe shared.config.now t limit) hands) (sym is)
     (may_serve shared limit 0 ends hands ready small fit seated)
@@ -126,7 +144,7 @@ as_it_is olds news len long same =
     ∙ ap (take len) (append-nil news) ∙ take_all len news (omega (arith, long, same))
 
 -- each served, by its place in the list
-pub served_each : {X : Type 0} (c : Config) (limit : ℕ) (told : X → HandTold) (olds news : List X)
+pub served_each : {X : Type 0} (c : Config) (limit : ℕ) (told : X → HandTold TaskTold) (olds news : List X)
     → length news ≡ length olds
     → ((k : ℕ) (d : X) → k < length olds → HandServed c limit (told (slice_index_or olds k d))
     (told (slice_index_or news k d)))
@@ -145,7 +163,7 @@ pub slice_size : {X : Type 0} (olds slice news : List X) (len : ℕ) → slice �
 slice_size olds slice news len is long same =
     ap length (as_it_is olds news len long (same ∙ ap length is)) ∙ same ∙ ap length is
 
-pub slice_served : {X : Type 0} (c : Config) (limit : ℕ) (told : X → HandTold) (olds slice news : List X) (len : ℕ)
+pub slice_served : {X : Type 0} (c : Config) (limit : ℕ) (told : X → HandTold TaskTold) (olds slice news : List X) (len : ℕ)
     → slice ≡ olds → len ≡ length olds → length news ≡ length slice
     → ((k : ℕ) (d : X) → k < length slice → HandServed c limit (told (slice_index_or slice k d))
     (told (slice_index_or news k d)))
@@ -167,21 +185,21 @@ served_on c limit me wear later (over_link number before) (at_door after) old ne
 served_on c limit me wear later (over_link number before) (over_link now after) old new on served =
     (served.0, relay_on c number me wear later old.seen new.seen after old.tally new.tally on served.1)
 
-abbrev served_one : (shared : Shared) (limit n : ℕ) (worn : List ℕ) (end : EndTold) (old new : HandTold)
-    → IsUnused end → IsSeated shared n end old → HandServed shared.config.now limit old new
-    → AllLater new.worn worn → IsServed shared.config.now limit worn n new.caller
+abbrev served_one : (shared : Shared) (limit n : ℕ) (worn : List ℕ) (end : EndTold) (old new : HandTold TaskTold)
+    → IsUnused end → IsSeated shared n (new_task end) old → HandServed shared.config.now limit old new
+    → AllLater new.worn worn → IsServed shared.config.now limit worn n (caller_of new)
 served_one shared limit n worn end old new unused seated served below = record {
   end = end;
   unused = unused;
-  served = served_on shared.config.now limit n (only_worn new.worn) (only_worn worn) end new.caller.end
-      (uncalled shared.config.now end) new.caller (record { same = refl; later = below })
-      (subst (λ (caller : Caller). Served shared.config.now limit n (only_worn new.worn) caller new.caller)
-      seated.fresh
-      (subst (λ (k : ℕ). Served shared.config.now limit k (only_worn new.worn) old.caller new.caller) seated.numbered
+  served = served_on shared.config.now limit n (only_worn new.worn) (only_worn worn) end new.work.end
+      (uncalled shared.config.now end) (caller_of new) (record { same = refl; later = below })
+      (subst (λ (caller : Caller). Served shared.config.now limit n (only_worn new.worn) caller (caller_of new))
+      (is_uncalled shared n end old seated)
+      (subst (λ (k : ℕ). Served shared.config.now limit k (only_worn new.worn) (caller_of old) (caller_of new)) seated.numbered
       (subst (λ (lacks : Bool). Served shared.config.now limit old.number (record {
         may_lack = lacks;
         turns = new.worn;
-      }) old.caller new.caller) (ap lacks_in served.known ∙ seated.full) served.served)));
+      }) (caller_of old) (caller_of new)) (ap lacks_in served.known ∙ seated.full) served.served)));
 }
 
 kind_kept : (c : Config) (limit me : ℕ) (wear : Wear) (before after : EndTold) (old new : Caller)
@@ -192,14 +210,14 @@ kind_kept c limit me wear (over_link number before) (at_door after) old new serv
 kind_kept c limit me wear (over_link number before) (over_link now after) old new served = ap a_relay served.0
 
 -- what is known when they served
-pub record HaveServed (shared : Shared) (limit n : ℕ) (ends : List EndTold) (hands : List HandTold) : Type 0 where
+pub record HaveServed (shared : Shared) (limit n : ℕ) (ends : List EndTold) (hands : List (HandTold TaskTold)) : Type 0 where
   pub served : (worn : List ℕ) → AreBelow worn hands
       → AreServed shared.config.now limit worn n (callers_of hands)
   pub kinds_kept : map kind_of (ends_of (callers_of hands)) ≡ map kind_of ends
   pub at : AreAllAt n hands shared.rings.items shared.book
 
-pub have_served : (shared : Shared) (limit n : ℕ) (ends : List EndTold) (olds news : List HandTold)
-    → All IsUnused ends → AreSeated shared n ends olds → AreMatched (HandServed shared.config.now limit) olds news
+pub have_served : (shared : Shared) (limit n : ℕ) (ends : List EndTold) (olds news : List (HandTold TaskTold))
+    → All IsUnused ends → AreSeated shared n (map new_task ends) olds → AreMatched (HandServed shared.config.now limit) olds news
     → HaveServed shared limit n ends news
 have_served shared limit n [] [] [] unused seated served =
     record { served = λ worn below. tt; kinds_kept = refl; at = tt }
@@ -217,7 +235,7 @@ have_served shared limit n (end ∷ ends) (old ∷ olds) (new ∷ news) unused s
         later.served worn below.1,
       );
       kinds_kept = ap (λ k. k ∷ map kind_of (ends_of (callers_of news)))
-          (kind_kept shared.config.now limit n (only_worn new.worn) one.end new.caller.end (uncalled shared.config.now one.end) new.caller
+          (kind_kept shared.config.now limit n (only_worn new.worn) one.end new.work.end (uncalled shared.config.now one.end) (caller_of new)
           one.served)
           ∙ ap (λ l. kind_of end ∷ l) later.kinds_kept;
       at = (subst (λ known. AreAt n known shared.rings.items shared.book) (sym served.0.known) seated.0.at, later.at);
@@ -225,33 +243,25 @@ have_served shared limit n (end ∷ ends) (old ∷ olds) (new ∷ news) unused s
 
 -- ---- when they leave
 
-pub have_places : (mounts n : ℕ) (hands : List HandTold) (rings : RingLocks) (book : BookLock) → length rings ≡ mounts
+pub have_places : (mounts n : ℕ) (hands : List (HandTold TaskTold)) (rings : RingLocks) (book : BookLock) → length rings ≡ mounts
     → AreAllAt n hands rings book → HavePlaces mounts hands
 have_places mounts n [] rings book long at = tt
 have_places mounts n (hand ∷ hands) rings book long at =
     (ap length at.0.homes ∙ length-map rings turn_home ∙ long, have_places mounts (n + 1) hands rings book long at.1)
 
-pub legal_rows : (c : Config) (n : ℕ) (hands : List HandTold) (rings : RingLocks) (book : BookLock)
+pub legal_rows : (c : Config) (n : ℕ) (hands : List (HandTold TaskTold)) (rings : RingLocks) (book : BookLock)
     → caps_of (turn_value book) ≡ caps c → AreAllAt n hands rings book → AreLegal hands
     → All (λ (row : Histories). IsLegal (fits (caps c)) row.book) (seen_of (callers_of hands))
 legal_rows c n [] rings book caps_are at legal = All-nil (λ (row : Histories). IsLegal (fits (caps c)) row.book)
 legal_rows c n (hand ∷ hands) rings book caps_are at legal =
-    All-cons (λ (row : Histories). IsLegal (fits (caps c)) row.book) hand.caller.seen (seen_of (callers_of hands))
-    (subst (λ (list : List ℕ). IsLegal (fits list) hand.caller.seen.book) (at.0.caps ∙ caps_are) legal.0)
+    All-cons (λ (row : Histories). IsLegal (fits (caps c)) row.book) hand.seen (seen_of (callers_of hands))
+    (subst (λ (list : List ℕ). IsLegal (fits list) hand.seen.book) (at.0.caps ∙ caps_are) legal.0)
     (legal_rows c (n + 1) hands rings book caps_are at.1 legal.1)
 
-pub rows_are : (hands : List HandTold) → rows_of hands ≡ seen_of (callers_of hands)
-rows_are [] = refl
-rows_are (hand ∷ hands) = ap (λ l. hand.caller.seen ∷ l) (rows_are hands)
-
-pub ends_are : (hands : List HandTold) → ends_in hands ≡ ends_of (callers_of hands)
-ends_are [] = refl
-ends_are (hand ∷ hands) = ap (λ l. hand.caller.end ∷ l) (ends_are hands)
-
-pub whole_are : {X : Type 0} (limit : ℕ) (told : X → HandTold) (xs : List X)
-    → list_all (λ x. is_whole limit (told x).caller) xs ≡ list_all (is_whole limit) (callers_of (map told xs))
+pub whole_are : {X : Type 0} (limit : ℕ) (told : X → HandTold TaskTold) (xs : List X)
+    → list_all (λ x. is_whole limit (caller_of (told x))) xs ≡ list_all (is_whole limit) (callers_of (map told xs))
 whole_are limit told [] = refl
-whole_are limit told (x ∷ xs) = ap (λ b. is_whole limit (told x).caller && b) (whole_are limit told xs)
+whole_are limit told (x ∷ xs) = ap (λ b. is_whole limit (caller_of (told x)) && b) (whole_are limit told xs)
 
 -- ---- what they add up to
 

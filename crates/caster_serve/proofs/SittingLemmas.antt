@@ -6,8 +6,6 @@ use Rattle.std.proofs.lemmas.List.Elements.{All-nil, All-cons}
 use mathlib.Core.Option.{some}
 use lib.ListN.{get_elem?}
 use Rattle.turn_log.specs.History.{History, IsLegal}
-use Rattle.caster_accounts.specs.declared.account.Sum.{Sum}
-use Rattle.caster_accounts.specs.Sums.{nothing}
 use Rattle.caster_accounts.specs.History.{fits}
 use Rattle.turn_log.specs.declared.object.Played.{Ghosts}
 use Rattle.turn_log.specs.declared.lock.parts.Turn.{Turn}
@@ -16,15 +14,12 @@ use Rattle.turn_log.specs.Lock.{turn_value, pass_number, pass_seen, IsPassOf}
 use Rattle.mount_ring.specs.Kept.{ring_shape}
 use Rattle.session_calls.specs.Rings.{AllLater}
 use Rattle.session_model.specs.Run.{Histories, nothing_called}
-use Rattle.cast_config.specs.declared.config.Config.{Config}
-use Rattle.caster_street.specs.Ends.{EndTold}
 use Rattle.caster_places.specs.Piles.{AreMatched}
 use Rattle.caster_places.specs.Rows.{AreAt, ArePiles, HaveRoom, RingLocks, BookLock}
 use Rattle.caster_places.specs.declared.piles.Piles.{Piles}
 use Rattle.caster_serve.specs.declared.shared.Shared.{Shared}
 use Rattle.caster_serve.specs.declared.shared.Passes.{Passes}
 use Rattle.caster_serve.specs.Sharing.{AreNewPasses, ArePassesOf, IsNewPass, IsReady, seen_by}
-use Rattle.caster_serve.specs.Callers.{Caller, uncalled}
 use Rattle.caster_serve.specs.Hands.{HandTold}
 use Rattle.caster_serve.specs.Seated.{AreSeated, IsSeated, AreAllAt, AreBelow, AreLegal, HaveLeft, HavePlaces, rows_of}
 use Rattle.session_core.proofs.HeldLemmas.{length_shapes}
@@ -84,44 +79,46 @@ unseen number passes shared ready fresh =
 
 -- ---- callers that sat down
 
-pub seated_none : {E : Type 0} (shared : Shared) (tell : E → EndTold) (ends : List E)
-    → length ends ≡ 0 → AreSeated shared 0 (map tell ends) []
-seated_none shared tell [] none = tt
-seated_none shared tell (end ∷ ends) none = absurd (omega (arith, none))
+pub seated_none : {X : Type 0} (shared : Shared) (works : List X) → length works ≡ 0 → AreSeated shared 0 works []
+seated_none shared [] none = tt
+seated_none shared (work ∷ works) none = absurd (omega (arith, none))
 
-seated-snoc : (shared : Shared) (n : ℕ) (ends : List EndTold) (hands : List HandTold) (end : EndTold) (hand : HandTold)
-    → AreSeated shared n ends hands → IsSeated shared (n + length ends) end hand
-    → AreSeated shared n (ends ++ end ∷ []) (hands ++ hand ∷ [])
-seated-snoc shared n [] [] end hand so_far one = (subst (λ (k : ℕ). IsSeated shared k end hand) (omega arith) one, tt)
-seated-snoc shared n [] (x ∷ hands) end hand so_far one = absurd so_far
-seated-snoc shared n (e ∷ ends) [] end hand so_far one = absurd so_far
-seated-snoc shared n (e ∷ ends) (x ∷ hands) end hand so_far one = (
+seated-snoc : {X : Type 0} (shared : Shared) (n : ℕ) (works : List X) (hands : List (HandTold X)) (work : X)
+    (hand : HandTold X) → AreSeated shared n works hands → IsSeated shared (n + length works) work hand
+    → AreSeated shared n (works ++ work ∷ []) (hands ++ hand ∷ [])
+seated-snoc shared n [] [] work hand so_far one = (subst (λ (k : ℕ). IsSeated shared k work hand) (omega arith) one, tt)
+seated-snoc shared n [] (x ∷ hands) work hand so_far one = absurd so_far
+seated-snoc shared n (w ∷ works) [] work hand so_far one = absurd so_far
+seated-snoc shared n (w ∷ works) (x ∷ hands) work hand so_far one = (
   so_far.0,
-  seated-snoc shared (n + 1) ends hands end hand so_far.1
-      (subst (λ (k : ℕ). IsSeated shared k end hand) (omega arith) one),
+  seated-snoc shared (n + 1) works hands work hand so_far.1
+      (subst (λ (k : ℕ). IsSeated shared k work hand) (omega arith) one),
 )
 
 -- one more sat down behind the others
-pub seated_more : {X E : Type 0} (shared : Shared) (tell : E → EndTold) (told : X → HandTold) (ends front : List E)
-    (end : E)
-    (old mid new more : List X) (hand : X) (number : ℕ) → ends ≡ front ++ end ∷ [] → mid ≡ old ++ more
-    → AreSeated shared 0 (map tell front) (map told more) → new ≡ mid ++ hand ∷ [] → number ≡ length front
-    → IsSeated shared number (tell end) (told hand)
-    → (x : List X) × (new ≡ old ++ x) × AreSeated shared 0 (map tell ends) (map told x)
-seated_more shared tell told ends front end old mid new more hand number is before so_far pushed long one = (
+pub seated_more : {X Y : Type 0} (shared : Shared) (told : Y → HandTold X) (works front : List X) (work : X)
+    (old mid new more : List Y) (hand : Y) (number : ℕ) → works ≡ front ++ work ∷ [] → mid ≡ old ++ more
+    → AreSeated shared 0 front (map told more) → new ≡ mid ++ hand ∷ [] → number ≡ length front
+    → IsSeated shared number work (told hand)
+    → (x : List Y) × (new ≡ old ++ x) × AreSeated shared 0 works (map told x)
+seated_more shared told works front work old mid new more hand number is before so_far pushed long one = (
   more ++ hand ∷ [],
   pushed ∙ ap (λ l. l ++ hand ∷ []) before ∙ append_assoc old more (hand ∷ []),
-  subst (λ l. AreSeated shared 0 l (map told (more ++ hand ∷ [])))
-      (sym (ap (map tell) is ∙ map-append tell front (end ∷ [])))
-      (subst (AreSeated shared 0 (map tell front ++ tell end ∷ [])) (sym (map-append told more (hand ∷ [])))
-      (seated-snoc shared 0 (map tell front) (map told more) (tell end) (told hand) so_far
-      (subst (λ (k : ℕ). IsSeated shared k (tell end) (told hand))
-      (omega (arith, long, length-map front tell)) one))),
+  subst (λ l. AreSeated shared 0 l (map told (more ++ hand ∷ []))) (sym is)
+      (subst (AreSeated shared 0 (front ++ work ∷ [])) (sym (map-append told more (hand ∷ [])))
+      (seated-snoc shared 0 front (map told more) work (told hand) so_far
+      (subst (λ (k : ℕ). IsSeated shared k work (told hand)) (omega (arith, long)) one))),
 )
+
+-- all, where nobody sat down before
+pub all_seated : {X Y : Type 0} (shared : Shared) (told : Y → HandTold X) (works : List X) (none all more : List Y)
+    → none ≡ [] → all ≡ none ++ more → AreSeated shared 0 works (map told more) → AreSeated shared 0 works (map told all)
+all_seated shared told works none all more empty is seated =
+    subst (λ l. AreSeated shared 0 works (map told l)) (sym (is ∙ ap (λ l. l ++ more) empty)) seated
 
 -- ---- callers that leave
 
-all_at-last : (n : ℕ) (hands : List HandTold) (hand : HandTold) (rings : RingLocks) (book : BookLock)
+all_at-last : {X : Type 0} (n : ℕ) (hands : List (HandTold X)) (hand : HandTold X) (rings : RingLocks) (book : BookLock)
     → AreAllAt n (hands ++ hand ∷ []) rings book
     → AreAllAt n hands rings book × AreAt (n + length hands) hand.known rings book
 all_at-last n [] hand rings book all = (tt, subst (λ (k : ℕ). AreAt k hand.known rings book) (omega arith) all.0)
@@ -129,20 +126,20 @@ all_at-last n (x ∷ hands) hand rings book all =
     let later = all_at-last (n + 1) hands hand rings book all.1 in
     ((all.0, later.0), subst (λ (k : ℕ). AreAt k hand.known rings book) (omega arith) later.1)
 
-pub left_none : {X : Type 0} (told : X → HandTold) (hands : List X) (piles : Piles) → hands ≡ []
+pub left_none : {X Y : Type 0} (told : Y → HandTold X) (hands : List Y) (piles : Piles) → hands ≡ []
     → HaveLeft (map told hands) piles piles
 left_none told hands piles none rows rings book all so_far =
     subst (λ l. ArePiles (rows ++ rows_of (map told l)) piles rings book) (sym none)
     (subst (λ l. ArePiles l piles rings book) (sym (append-nil rows)) so_far)
 
 -- the last of them left behind the others
-pub left_more : {X : Type 0} (told : X → HandTold) (hands front : List X) (last : X) (old mid new : Piles)
+pub left_more : {X Y : Type 0} (told : Y → HandTold X) (hands front : List Y) (last : Y) (old mid new : Piles)
     → hands ≡ front ++ last ∷ [] → HaveLeft (map told front) old mid
     → ((number : ℕ) (rows : List Histories) (rings : RingLocks) (book : BookLock)
     → AreAt number (told last).known rings book → number ≡ length rows → ArePiles rows mid rings book
-    → ArePiles (rows ++ (told last).caller.seen ∷ []) new rings book)
+    → ArePiles (rows ++ (told last).seen ∷ []) new rings book)
     → HaveLeft (map told hands) old new
-left_more told hands front last old mid new is before one rows rings book all so_far =
+left_more {X} told hands front last old mid new is before one rows rings book all so_far =
     let told_are : map told hands ≡ map told front ++ told last ∷ [] =
     ap (map told) is ∙ map-append told front (last ∷ []) in
     let split = all_at-last (length rows) (map told front) (told last) rings book
@@ -153,51 +150,51 @@ left_more told hands front last old mid new is before one rows rings book all so
     omega (
       arith,
       length-append rows (rows_of (map told front)),
-      length-map (map told front) (λ (hand : HandTold). hand.caller.seen),
+      length-map (map told front) (λ (hand : HandTold X). hand.seen),
     ) in
     subst (λ l. ArePiles l new rings book)
-    (append_assoc rows (rows_of (map told front)) ((told last).caller.seen ∷ [])
+    (append_assoc rows (rows_of (map told front)) ((told last).seen ∷ [])
     ∙ ap (λ l. rows ++ l) (sym (ap rows_of told_are
-    ∙ map-append (λ (hand : HandTold). hand.caller.seen) (map told front) (told last ∷ []))))
+    ∙ map-append (λ (hand : HandTold X). hand.seen) (map told front) (told last ∷ []))))
     (one number (rows ++ rows_of (map told front)) rings book split.1 long first)
 
-places-last : (n : ℕ) (hands : List HandTold) (hand : HandTold) → HavePlaces n (hands ++ hand ∷ [])
+places-last : {X : Type 0} (n : ℕ) (hands : List (HandTold X)) (hand : HandTold X) → HavePlaces n (hands ++ hand ∷ [])
     → HavePlaces n hands × (length hand.known.homes ≡ n)
 places-last n [] hand all = (tt, all.0)
 places-last n (x ∷ hands) hand all =
     let later = places-last n hands hand all.1 in ((all.0, later.0), later.1)
 
 -- the last has its places, and so have those before it
-pub places_split : {X : Type 0} (told : X → HandTold) (n : ℕ) (hands front : List X) (last : X)
+pub places_split : {X Y : Type 0} (told : Y → HandTold X) (n : ℕ) (hands front : List Y) (last : Y)
     → hands ≡ front ++ last ∷ [] → HavePlaces n (map told hands)
     → HavePlaces n (map told front) × (length (told last).known.homes ≡ n)
 places_split told n hands front last is all =
     places-last n (map told front) (told last)
     (subst (HavePlaces n) (ap (map told) is ∙ map-append told front (last ∷ [])) all)
 
-legal-snoc : (hands : List HandTold) (hand : HandTold) → AreLegal hands
-    → IsLegal (fits hand.known.caps_are) hand.caller.seen.book → AreLegal (hands ++ hand ∷ [])
+legal-snoc : {X : Type 0} (hands : List (HandTold X)) (hand : HandTold X) → AreLegal hands
+    → IsLegal (fits hand.known.caps_are) hand.seen.book → AreLegal (hands ++ hand ∷ [])
 legal-snoc [] hand all one = (one, tt)
 legal-snoc (x ∷ hands) hand all one = (all.0, legal-snoc hands hand all.1 one)
 
-pub legal_more : {X : Type 0} (told : X → HandTold) (hands front : List X) (last : X)
+pub legal_more : {X Y : Type 0} (told : Y → HandTold X) (hands front : List Y) (last : Y)
     → hands ≡ front ++ last ∷ [] → AreLegal (map told front)
-    → IsLegal (fits (told last).known.caps_are) (told last).caller.seen.book → AreLegal (map told hands)
+    → IsLegal (fits (told last).known.caps_are) (told last).seen.book → AreLegal (map told hands)
 legal_more told hands front last is all one =
     subst AreLegal (sym (ap (map told) is ∙ map-append told front (last ∷ [])))
     (legal-snoc (map told front) (told last) all one)
 
-pub below_none : {X : Type 0} (told : X → HandTold) (worn : List ℕ) (hands : List X) → length hands ≡ 0
+pub below_none : {X Y : Type 0} (told : Y → HandTold X) (worn : List ℕ) (hands : List Y) → length hands ≡ 0
     → AreBelow worn (map told hands)
 below_none told worn [] none = tt
 below_none told worn (hand ∷ hands) none = absurd (omega (arith, none))
 
-below-snoc : (worn : List ℕ) (hands : List HandTold) (hand : HandTold) → AreBelow worn hands → AllLater hand.worn worn
+below-snoc : {X : Type 0} (worn : List ℕ) (hands : List (HandTold X)) (hand : HandTold X) → AreBelow worn hands → AllLater hand.worn worn
     → AreBelow worn (hands ++ hand ∷ [])
 below-snoc worn [] hand all one = (one, tt)
 below-snoc worn (x ∷ hands) hand all one = (all.0, below-snoc worn hands hand all.1 one)
 
-pub below_more : {X : Type 0} (told : X → HandTold) (worn : List ℕ) (hands front : List X) (last : X)
+pub below_more : {X Y : Type 0} (told : Y → HandTold X) (worn : List ℕ) (hands front : List Y) (last : Y)
     → hands ≡ front ++ last ∷ [] → AreBelow worn (map told front) → AllLater (told last).worn worn
     → AreBelow worn (map told hands)
 below_more told worn hands front last is all one =
@@ -217,21 +214,6 @@ pub front_new : (passes front : List Passes) (last : Passes) (shared : Shared) �
     → (number : ℕ) (pass : Passes) → get_elem? front number ≡ some pass → AreNewPasses number pass shared
 front_new passes front last shared is each number pass here =
     each number pass (ap (λ l. get_elem? l number) is ∙ at_front front last pass number here)
-
-pub is_uncalled : (c : Config) (seen : Histories) (tally : Sum) (end : EndTold) → seen ≡ nothing_called c
-    → tally ≡ nothing → ◌≡◌ {A = Caller} (record { seen = seen; tally = tally; served = 0; end = end }) (uncalled c end)
-is_uncalled c seen tally end none zeros =
-    ap (λ (h : Histories). record { seen = h; tally = tally; served = 0; end = end }) none
-    ∙ ap (λ (s : Sum). record { seen = nothing_called c; tally = s; served = 0; end = end }) zeros
-
--- a sum of nothing, by its parts
-abbrev sum_of : ℕ → ℕ → ℕ → Sum
-sum_of sessions sent overrun = record { sessions = sessions; sent = sent; overrun = overrun }
-
-pub is_nothing : (sum : Sum) → sum.sessions ≡ 0 → sum.sent ≡ 0 → sum.overrun ≡ 0 → sum ≡ nothing
-is_nothing sum no_sessions no_sent no_overrun =
-    ap (λ (n : ℕ). sum_of n sum.sent sum.overrun) no_sessions ∙ ap (λ (n : ℕ). sum_of 0 n sum.overrun) no_sent
-    ∙ ap (λ (n : ℕ). sum_of 0 0 n) no_overrun
 
 -- ---- room in the piles
 

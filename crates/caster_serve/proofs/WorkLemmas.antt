@@ -13,15 +13,15 @@ use Rattle.cast_config.specs.declared.config.Config.{Config}
 use Rattle.session_model.specs.declared.report.Receipt.{Receipt}
 use Rattle.session_model.specs.Judged.{Opening, sends_head, relays}
 use Rattle.session_model.specs.Run.{Histories}
-use Rattle.caster_serve.specs.Links.{IsCausedBy}
-use Rattle.caster_serve.specs.Served.{LinkServed}
+use Rattle.caster_link.specs.Links.{IsCausedBy}
+use Rattle.caster_link.specs.Served.{LinkServed}
 use Rattle.caster_places.specs.Leaves.{Leaves}
 use Rattle.caster_serve.proofs.LeaveLemmas.{leaves_none, leaves_both, leaves_of}
 use Rattle.caster_serve.specs.Visits.{Visit, HasCome, GoesOnBy, WentOn}
-use Rattle.caster_serve.specs.Wear.{Wear, IsRefusedBy, only_worn}
+use Rattle.caster_link.specs.Wear.{Wear, IsRefusedBy, only_worn}
 use Rattle.caster_serve.specs.Works.{Record, IsTold, RecordGoes, Followed, AreTaken, givens_among, givens_of, tallied, links_of, receipts_of, Works, OneServed, RelayGoes, Worked}
-use Rattle.caster_serve.proofs.PublishLemmas.{source_published}
-use Rattle.caster_serve.proofs.WornLemmas.{WearsOn, refused_on}
+use Rattle.caster_link.proofs.PublishLemmas.{source_published}
+use Rattle.caster_link.proofs.WornLemmas.{WearsOn, refused_on}
 
 -- ---- one link
 

@@ -5,8 +5,8 @@ use Rattle.caster_accounts.specs.declared.account.Sum.{Sum}
 use Rattle.caster_accounts.specs.Sums.{nothing}
 use Rattle.cast_config.specs.declared.config.Config.{Config}
 use Rattle.session_model.specs.Run.{Histories, nothing_called}
-use Rattle.caster_street.specs.Ends.{EndTold, at_door, over_link, IsUnused}
-use Rattle.caster_serve.specs.Wear.{Wear, only_worn}
+use Rattle.caster_serve.specs.Ends.{EndTold, at_door, over_link, IsUnused}
+use Rattle.caster_link.specs.Wear.{Wear, only_worn}
 use Rattle.caster_serve.specs.Works.{Worked, RelayGoes}
 
 -- what it has seen, what its rovers add up to, how many connections it served, and over what

@@ -8,7 +8,7 @@ use Rattle.cast_config.specs.declared.config.Config.{Config}
 use Rattle.session_model.specs.declared.report.Closed.{Closed}
 use Rattle.session_model.specs.Run.{Histories}
 use Rattle.session_model.specs.Reports.{added, closed_of}
-use Rattle.caster_street.specs.Ends.{EndTold, IsUnused, asked_of, doors_in, links_in, kind_of, kinds}
+use Rattle.caster_serve.specs.Ends.{EndTold, IsUnused, asked_of, doors_in, links_in, kind_of, kinds}
 use Rattle.caster_places.specs.Rows.{AreWhole}
 use Rattle.caster_serve.specs.declared.whole.ServeFault.{ServeFault}
 use Rattle.caster_serve.specs.declared.whole.ServeFault.TheVariants as faults

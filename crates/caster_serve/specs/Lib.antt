@@ -1,14 +1,10 @@
-pub mod Links
-pub mod Sending
-pub mod Served
 pub mod Sharing
 pub mod Works
-pub mod Publishes
 pub mod Callers
 pub mod Hands
 pub mod Seated
 pub mod Prepared
 pub mod Caster
 pub mod Visits
-pub mod Resting
-pub mod Wear
+pub mod Serving
+pub mod Ends

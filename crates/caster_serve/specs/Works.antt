@@ -13,13 +13,13 @@ use Rattle.session_model.specs.Judged.{Opening, SourceTerms, source, sends_head,
 use Rattle.session_model.specs.Owed.{claimed, received}
 use Rattle.session_model.specs.Run.{Histories}
 use Rattle.session_core.specs.Standing.{is_halted}
-use Rattle.session_model.specs.Courses.{steps_of}
-use Rattle.caster_serve.specs.Links.{IsCausedBy}
-use Rattle.caster_serve.specs.Served.{LinkGoes}
+use Rattle.caster_link.specs.Courses.{steps_of}
+use Rattle.caster_link.specs.Links.{IsCausedBy}
+use Rattle.caster_link.specs.Served.{LinkGoes}
 use Rattle.caster_places.specs.Leaves.{Leaves}
-use Rattle.caster_serve.specs.Publishes.{PublishesBody}
+use Rattle.caster_link.specs.Publishes.{PublishesBody}
 use Rattle.caster_serve.specs.Visits.{Visit, HasCome, WentOn}
-use Rattle.caster_serve.specs.Wear.{Wear, IsRefusedBy}
+use Rattle.caster_link.specs.Wear.{Wear, IsRefusedBy}
 
 -- what a link told when it came back, and the receipt of its connection
 pub record Record : Type 0 where

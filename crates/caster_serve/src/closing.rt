@@ -20,7 +20,7 @@ impl<'c> Shared<'c> {
     ///
     /// What is shared is taken apart here by all its four parts, so a further one, such as one more
     /// lock, could not stand in it unseen.
-    pub(crate) fn close(self, piles: Piles, totals: Totals) -> Closed
+    pub fn close(self, piles: Piles, totals: Totals) -> Closed
         requires ready { IsReady self }
         requires opened { AreOpenFor (length piles.book.items) self }
         requires rows { (rows : List Histories)

@@ -2,33 +2,30 @@
 //! mountpoints' locks.
 #![tactic(auto)]
 
-mod arriving;
-mod calling;
+mod accept_loop;
+mod callers;
 mod closing;
-mod dealing;
+mod connection;
 mod hands;
-pub mod laws;
+mod listeners;
 mod locks;
 mod opening;
-mod relaying;
-mod role;
-mod running;
-mod seat_hands;
-mod seating;
-mod sending;
-mod serving;
+mod passes;
+mod relay;
+mod seats;
 mod shared;
 mod tally;
+mod task;
+mod threads;
 mod whole;
 mod worker;
-mod working;
 
+pub use accept_loop::work_places;
+pub use caster_link::{Role, Setup, serve_places};
 pub use caster_places::AllPlaces;
-pub use role::Role;
-pub use running::serve_places;
-pub use serving::serve_link;
+pub use connection::serve_link;
+pub use hands::{AtPlaces, Hand, leave_all, sit_all};
 pub use shared::{Passes, Shared};
 pub use tally::Tally;
 pub use whole::{ServeFault, serve};
 pub use worker::{Worker, work};
-pub use working::work_places;

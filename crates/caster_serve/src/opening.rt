@@ -7,14 +7,16 @@ ghost use Rattle.cast_config.specs.Kept.{KeepsRules};
 ghost use Rattle.session_model.specs.Setting as setting;
 ghost use Rattle.caster_places.specs.Known.{Fit};
 ghost use Rattle.caster_places.specs.Rows.{AreAt};
+ghost use Rattle.caster_link.specs.Setups.{IsSetUp};
 ghost use Rattle.caster_serve.specs.Sharing.{AreNewPasses, AreOpenFor, ArePassesOf, IsReady, seen_by};
 
-use crate::dealing::deal_out;
 use crate::locks::{open_book, open_rings};
-use crate::seating::sit_down;
+use crate::passes::deal_out;
+use crate::seats::sit_down;
 use crate::shared::{Passes, Shared};
 use cast_config::Config;
 use caster_accounts::Book;
+use caster_link::Setup;
 use caster_places::AllPlaces;
 use config_table::table_of;
 use mount_ring::Ring;
@@ -64,6 +66,21 @@ impl<'c> Shared<'c> {
         };
         let list = deal_out(alloc, &shared, piles, of_book, passes)?;
         Ok((shared, list))
+    }
+
+    /// What stays the same while connections are served as this caller.
+    pub fn setup(&self, alloc: Global, me: u32) -> Setup<'_>
+        requires ready { IsReady self.now }
+        ensures ready { IsSetUp result }
+        ensures config { result.config.now ≡ self.now.config.now }
+        ensures me { result.me ≡ me }
+    {
+        Setup {
+            alloc,
+            config: self.config,
+            table: &self.table,
+            me,
+        }
     }
 
     /// Sits down at the locks with these passes, which are of one number. Where there is no memory,

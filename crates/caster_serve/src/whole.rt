@@ -3,16 +3,17 @@
 ghost use Rattle.std.specs.Prelude.{◌≡◌, ◌<◌, ◌≤◌, ◌^◌, ℕ, length, map, IfOk};
 ghost use Rattle.std.specs.List.{All};
 ghost use Rattle.cast_config.specs.Kept.{KeepsRules};
-ghost use Rattle.caster_street.specs.Ends.{IsUnused, end_told, kind_of, kinds};
+ghost use Rattle.caster_serve.specs.Ends.{IsUnserved, IsUnused, end_told, kind_of, kinds};
 ghost use Rattle.caster_serve.specs.Caster.{Ended, HasServed};
 ghost use Rattle.caster_serve.specs.Prepared.{IsPrepared};
 
-use crate::calling::serve_ends;
+use crate::callers::serve_tasks;
+use crate::listeners::{ask_all, give_back};
 use crate::shared::{Passes, Shared};
+use crate::task::Task;
 use cast_config::Config;
 use cast_io::{Street, StreetFault};
 use caster_places::{Piles, Totals};
-use caster_street::{End, ask_all, give_back};
 use session_core::Closed;
 use std::alloc::{AllocError, Global};
 use std::sync::Wait;
@@ -57,24 +58,25 @@ fn prepare<'c>(alloc: Global, config: &'c Config, callers: u32) -> Result<Ready<
     })
 }
 
-/// All callers serve over these ends, which are given back then, and the locks are closed.
+/// All callers do these tasks, whose ends are given back then, and the locks are closed.
 fn serve_given<N: Street, R: Threads + Wait + Sync>(
     rt: &R,
     alloc: Global,
     ready: Ready,
-    mut ends: Vec<End<N::Door, N::Link>>,
+    mut tasks: Vec<Task<N::Door, N::Link>>,
     limit: u64,
     street: &mut N,
 ) -> Result<Closed, ServeFault>
 where
     N::Door: Send,
     N::Link: Send,
-    requires prepared { IsPrepared (length ends.items) ready }
-    requires some_caller { 0 < length ends.items }
-    requires few { length ends.items < 2 ^ 32 }
-    requires kinds { map kind_of (map (end_told N.Door.told N.Link.told) ends.items)
+    requires prepared { IsPrepared (length tasks.items) ready }
+    requires some_caller { 0 < length tasks.items }
+    requires few { length tasks.items < 2 ^ 32 }
+    requires kinds { map kind_of (map (end_told N.Door.told N.Link.told) tasks.items)
         ≡ kinds ready.shared.config.now }
-    requires unused { All IsUnused (map (end_told N.Door.told N.Link.told) ends.items) }
+    requires unused { All IsUnused (map (end_told N.Door.told N.Link.told) tasks.items) }
+    requires unserved { All IsUnserved tasks.items }
     ensures asked { (N.told street.new).asked ≡ (N.told street.old).asked }
     ensures later { (N.told street.old).faults ≤ (N.told street.new).faults }
     ensures ended { Ended ready.entry.shared.config.now limit (N.told street.old)
@@ -86,8 +88,8 @@ where
         mut piles,
         totals,
     } = ready;
-    let served = serve_ends(rt, alloc, &shared, passes, &mut ends, &mut piles, limit);
-    give_back(street, ends);
+    let served = serve_tasks(rt, alloc, &shared, passes, &mut tasks, &mut piles, limit);
+    give_back(street, tasks);
     let Ok(is_whole) = served else {
         return Err(ServeFault::Memory);
     };
@@ -124,24 +126,24 @@ where
         result }
 {
     let callers = config.workers + config.relay.as_slice().len() as u32;
-    let Ok(mut ends) = Vec::with_capacity(alloc, callers as usize) else {
+    let Ok(mut tasks) = Vec::with_capacity(alloc, callers as usize) else {
         return Err(ServeFault::Memory);
     };
-    match ask_all(config, addr, street, &mut ends) {
+    match ask_all(config, addr, street, &mut tasks) {
         Ok(()) => {}
         Err(StreetFault::Failed) => {
-            give_back(street, ends);
+            give_back(street, tasks);
             return Err(ServeFault::Network);
         }
         Err(StreetFault::Memory) => {
-            give_back(street, ends);
+            give_back(street, tasks);
             return Err(ServeFault::Memory);
         }
     }
     match prepare(alloc, config, callers) {
-        Ok(ready) => serve_given(rt, alloc, ready, ends, limit, street),
+        Ok(ready) => serve_given(rt, alloc, ready, tasks, limit, street),
         Err(AllocError) => {
-            give_back(street, ends);
+            give_back(street, tasks);
             Err(ServeFault::Memory)
         }
     }

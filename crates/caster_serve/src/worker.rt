@@ -5,12 +5,12 @@ ghost use Rattle.caster_accounts.specs.Sums.{nothing};
 ghost use Rattle.caster_places.specs.Known.{Fit};
 ghost use Rattle.caster_serve.specs.Sharing.{IsReady};
 ghost use Rattle.session_calls.specs.Rings.{AllLater};
-ghost use Rattle.caster_serve.specs.Wear.{only_worn};
+ghost use Rattle.caster_link.specs.Wear.{only_worn};
 ghost use Rattle.caster_serve.specs.Works.{Worked};
 
+use crate::accept_loop::work_places;
 use crate::shared::Shared;
 use crate::tally::Tally;
-use crate::working::work_places;
 use cast_io::Door;
 use caster_accounts::Book;
 use caster_places::AllPlaces;
@@ -99,13 +99,10 @@ pub fn work<'a, D: Door, R: Wait + Sync>(
         (D.told worker.old.door) (D.told worker.new.door) worker.old.tally worker.new.tally
         limit count }
 {
-    let number = worker.number;
+    let setup = shared.setup(alloc, worker.number);
     work_places(
         rt,
-        alloc,
-        shared.config,
-        &shared.table,
-        number,
+        &setup,
         &mut worker.places,
         &mut worker.door,
         &mut worker.tally,

@@ -32,11 +32,11 @@ use Rattle.session_model.specs.Run.{Histories, nothing_called}
 use Rattle.session_core.specs.Standing.{IsMadeBy, is_halted}
 use Rattle.session_core.specs.Closed.{IsSettled}
 use Rattle.session_model.proofs.GoodLemmas.{IsGoodAsk, IsGood, good_plan, good_closing}
-use Rattle.caster_street.specs.Ends.{EndTold, at_door, over_link, IsUnused}
+use Rattle.caster_serve.specs.Ends.{EndTold, at_door, over_link, IsUnused}
 use Rattle.caster_places.specs.Rows.{AreWhole}
 use Rattle.caster_places.specs.Rows as rows
-use Rattle.session_model.specs.Courses.{steps_of}
-use Rattle.caster_serve.specs.Wear.{Wear, only_worn}
+use Rattle.caster_link.specs.Courses.{steps_of}
+use Rattle.caster_link.specs.Wear.{Wear, only_worn}
 use Rattle.caster_serve.specs.Works.{Record, RecordGoes, Followed, links_of, receipts_of, tallied}
 use Rattle.caster_serve.specs.Callers.{Caller, ServedOver, IsServed, AreServed, uncalled, calls_in as call_counts, seen_of}
 use Rattle.caster_serve.specs.Caster.{AllServed, HasServed}

@@ -14,9 +14,9 @@ use Rattle.session_model.specs.declared.report.Closed.{Closed}
 use Rattle.session_model.specs.Judged.{Opening, sends_head, relays}
 use Rattle.session_model.specs.Reports.{added, mount_total, sums_from}
 use Rattle.session_model.specs.Run.{Histories, nothing_called}
-use Rattle.caster_street.specs.Ends.{EndTold, at_door, over_link, kind_of, kinds}
-use Rattle.caster_serve.specs.Links.{IsCausedBy}
-use Rattle.caster_serve.specs.Wear.{only_worn, IsRefusedBy}
+use Rattle.caster_serve.specs.Ends.{EndTold, at_door, over_link, kind_of, kinds}
+use Rattle.caster_link.specs.Links.{IsCausedBy}
+use Rattle.caster_link.specs.Wear.{only_worn, IsRefusedBy}
 use Rattle.caster_serve.specs.Works.{Record, IsTold, links_of, receipts_of, tallied}
 use Rattle.caster_serve.specs.Callers.{Caller, calls_in, ends_of, is_whole}
 use Rattle.caster_serve.specs.Caster.{HasGivenBack}

@@ -29,7 +29,7 @@ use Rattle.session_model.specs.Replies.{text_if, opening_text, kept_frames}
 use Rattle.session_model.specs.Reports.{IsHeadingOf}
 use Rattle.session_model.specs.Setting.{shapes, bases_at}
 use Rattle.session_core.specs.Standing.{IsSentBy}
-use Rattle.caster_serve.specs.Links.{is_torn}
+use Rattle.caster_link.specs.Links.{is_torn}
 use Rattle.run_promise.specs.Calls.{Call, call, at_one, without_reads, segments_of, ReadOn}
 use Rattle.run_promise.specs.Begun.{IsBegun}
 use Rattle.run_promise.specs.Selected.{Selects}

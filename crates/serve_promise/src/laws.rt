@@ -12,7 +12,7 @@ ghost use Rattle.session_model.specs.declared.report.Closed.{Closed};
 ghost use Rattle.session_model.specs.declared.report.Receipt.{Receipt};
 ghost use Rattle.session_model.specs.Judged.{Opening};
 ghost use Rattle.session_model.specs.Run.{Histories};
-ghost use Rattle.caster_serve.specs.Served.{LinkGoes};
+ghost use Rattle.caster_link.specs.Served.{LinkGoes};
 ghost use Rattle.caster_serve.specs.Callers.{Caller};
 ghost use Rattle.caster_serve.specs.Caster.{AllServed, HasServed};
 ghost use Rattle.serve_promise.specs.Links.{AllFrames, GoOnTo, IsLinkKept};

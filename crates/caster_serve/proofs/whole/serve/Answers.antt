@@ -24,18 +24,18 @@ returns-in-Err-Memory g c =
 
 pub serve_given-requires-clause-prepared : goal.serve_given-requires-clause-prepared
 serve_given-requires-clause-prepared g c κs within =
-    let long = as_many_ends c.args.config.now _ c.ask_all.new.ends.items c.in-Ok-ask_all.ensures.kinds in
+    let long = as_many_ends c.args.config.now _ c.ask_all.new.tasks.items c.in-Ok-ask_all.ensures.kinds in
     subst (λ (n : ℕ). IsPrepared n c.in-Ok-prepare.ready) (omega (arith, long, ap length c.as_slice.ensures))
     c.in-Ok-prepare.ensures.prepared
 
 pub serve_given-requires-clause-some_caller : goal.serve_given-requires-clause-some_caller
 serve_given-requires-clause-some_caller g c κs within =
-    let long = as_many_ends c.args.config.now _ c.ask_all.new.ends.items c.in-Ok-ask_all.ensures.kinds in
+    let long = as_many_ends c.args.config.now _ c.ask_all.new.tasks.items c.in-Ok-ask_all.ensures.kinds in
     (some_ends _ c.args.config.now _ c.requires.kept.1 long).0
 
 pub serve_given-requires-clause-few : goal.serve_given-requires-clause-few
 serve_given-requires-clause-few g c κs within =
-    let long = as_many_ends c.args.config.now _ c.ask_all.new.ends.items c.in-Ok-ask_all.ensures.kinds in
+    let long = as_many_ends c.args.config.now _ c.ask_all.new.tasks.items c.in-Ok-ask_all.ensures.kinds in
     (some_ends _ c.args.config.now _ c.requires.kept.1 long).1
 
 pub returns-in-Ok-prepare : goal.returns-in-Ok-prepare

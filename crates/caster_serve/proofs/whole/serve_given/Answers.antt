@@ -9,7 +9,7 @@ returns-in_default-clause-ended g c =
 
 pub close-closed-requires-clause-opened : goal.close-closed-requires-clause-opened
 close-closed-requires-clause-opened g c =
-    let so_many = passes_are _ _ _ c.args.ends.items _ _ _ c.requires.kinds c.in-Ok.ensures.called in record {
+    let so_many = passes_are _ _ _ c.args.tasks.items _ _ _ c.requires.kinds c.in-Ok.ensures.called in record {
       rings = λ k d less. c.requires.prepared.opened.rings k d less ∙ sym so_many;
       book = c.requires.prepared.opened.book ∙ sym so_many;
     }

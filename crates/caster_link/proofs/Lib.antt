@@ -1,0 +1,10 @@
+pub mod CalledLemmas
+pub mod CourseLemmas
+pub mod ReachLemmas
+pub mod LinkLemmas
+pub mod PlaceLemmas
+pub mod ServingLemmas
+pub mod SoundLemmas
+pub mod ClosedLemmas
+pub mod PublishLemmas
+pub mod WornLemmas

@@ -1,0 +1,47 @@
+-- A turn is one event more.
+use Rattle.std.proofs.Common.{◌∙◌, ap}
+use Rattle.session_model.specs.Called.{alone_at, seen_at}
+use Rattle.caster_link.specs.Courses.{steps_of, text_of}
+use Rattle.caster_link.proofs.CalledLemmas.{others_none}
+use Rattle.caster_link.proofs.PlaceLemmas.{known_same, speak_by}
+use Rattle.caster_link.proofs.ReachLemmas.{turned_arrived}
+use Rattle.caster_link.proofs.WornLemmas.{worn_later}
+use Rattle.caster_link.proofs.arriving.take_turn.Goals as goal
+
+pub turn-requires-clause-rings : goal.turn-requires-clause-rings
+turn-requires-clause-rings g c =
+    speak_by g.T.Turns.speaks c.args.places.now.rings.items c.args.session.now.me c.requires.ready.1.rings
+
+pub turn-requires-clause-follows : goal.turn-requires-clause-follows
+turn-requires-clause-follows g c =
+    let ready = c.requires.ready in (ready.0, ready.1.shapes_fit, ready.1.caps_fit, ready.2)
+
+pub returns-clause-known : goal.returns-clause-known
+returns-clause-known g c =
+    let t = g.T.Turns in let b = g.B.Turns in
+    known_same t.shape b.shape t.speaks b.speaks t.may_lack b.may_lack t.alone b.alone t.home b.home
+    c.args.places.now.rings.items c.turn.new.places.rings.items c.args.places.now.book c.turn.new.places.book
+    c.turn.ensures.same_rings c.turn.ensures.same_book
+
+pub returns-clause-later : goal.returns-clause-later
+returns-clause-later g c =
+    worn_later g.T.Turns.shape g.T.Turns.worn c.args.places.now.rings.items c.turn.new.places.rings.items _ _
+    c.turn.ensures.same_rings.0 c.turn.ensures.worn_rings c.turn.ensures.worn_book
+
+pub returns-clause-turned : goal.returns-clause-turned
+returns-clause-turned g c = λ config opening me start sent whats fit reached.
+    let t = g.T.Turns in let b = g.B.Turns in
+    let items = c.args.places.now.rings.items in
+    let book = c.args.places.now.book in
+    let new = c.turn.new.places in
+    let now = seen_at t.seen b.seen items book in
+    turned_arrived config opening me (alone_at t.alone b.alone items book) start now
+    (seen_at t.seen b.seen new.rings.items new.book) c.args.session.now c.turn.new.self sent
+    c.args.out.now.items c.turn.new.out.items whats reached c.requires.goes_on c.turn.ensures.me
+    (λ apart. let s = c.turn.ensures.bystander apart in (
+      s.0,
+      ap (λ l. seen_at t.seen b.seen l new.book) s.1 ∙ ap (λ k. seen_at t.seen b.seen items k) s.2,
+      s.3,
+    ))
+    (λ is. c.turn.ensures.turned is config opening (text_of whats) (steps_of reached.events) now sent
+    fit.shapes_fit fit.caps_fit reached.stands (others_none now c.args.session.now.me))

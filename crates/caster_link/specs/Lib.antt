@@ -1,0 +1,8 @@
+pub mod Courses
+pub mod Links
+pub mod Sending
+pub mod Served
+pub mod Publishes
+pub mod Resting
+pub mod Wear
+pub mod Setups

@@ -1,5 +1,0 @@
-use Rattle.caster_serve.proofs.PublishLemmas.{source_published}
-use Rattle.caster_serve.proofs.laws.sources_publish_their_frames.Goals as goal
-
-pub returns : goal.returns
-returns c = source_published
