@@ -29,7 +29,7 @@ use Rattle.session_core.specs.Standing.{StandsFor, EndsAs, IsMadeBy, IsSentBy, i
 use Rattle.session_core.specs.Closed.{IsSettled, IsReceipt, IsClosed}
 use Rattle.session_model.proofs.KeepLemmas.{AllSound}
 use Rattle.session_core.proofs.ClosingLemmas.{closing_unasked, junk_unasked}
-use Rattle.caster_link.specs.Courses.{happened, steps_of, text_of}
+use Rattle.session_model.specs.Courses.{happened, steps_of, text_of}
 use Rattle.caster_link.specs.Links.{Stopped, is_torn}
 use Rattle.caster_link.specs.Served.{Came, IsJudged, LinkGoes, LinkServed}
 use Rattle.caster_link.proofs.CalledLemmas.{called_none, called_less, others_none}

@@ -6,7 +6,7 @@ use Rattle.session_calls.specs.Steps.{Step}
 use Rattle.session_model.specs.Judged.{Opening}
 use Rattle.session_model.specs.Owed.{Happening}
 use Rattle.cast_config.specs.declared.config.Config.{Config}
-use Rattle.caster_link.specs.Courses.{Event, happened, steps_on, steps_of, with_bytes, text_of, IsGoingOn, IsOwed, IsFirstOwed, IsCourse, Ran}
+use Rattle.session_model.specs.Courses.{Event, happened, steps_on, steps_of, with_bytes, text_of, IsGoingOn, IsOwed, IsFirstOwed, IsCourse, Ran}
 
 -- what a connection made for an event, halted by it or not
 abbrev pub OwedBy : Bool → Config → Opening → List ℕ → List Step → Event → Type 0

@@ -30,7 +30,7 @@ use Rattle.session_model.specs.Setting.{shapes}
 use Rattle.session_core.specs.Standing.{IsMadeBy, is_halted}
 use Rattle.session_core.specs.Closed.{IsSettled}
 use Rattle.cast_io.specs.declared.steps.Step.{Step as LinkTook}
-use Rattle.caster_link.specs.Courses.{steps_of}
+use Rattle.session_model.specs.Courses.{steps_of}
 use Rattle.caster_link.specs.Served.{LinkGoes}
 use Rattle.caster_link.specs.Publishes.{AreDue, HasPublished}
 

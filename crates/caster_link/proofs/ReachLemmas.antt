@@ -22,7 +22,7 @@ use Rattle.session_model.specs.Called.{Called, OthersCalled}
 use Rattle.session_core.specs.Standing.{Stands, StandsFor, IsAtStage, IsMadeBy, EndsAs, Follows, Fed, is_halted}
 use Rattle.session_core.specs.declared.ending.Flow.TheVariants as flows
 use Rattle.session_core.specs.Turned.{Turned, is_rover, flow_of}
-use Rattle.caster_link.specs.Courses.{Event, happened, steps_of, text_of, IsGoingOn, Ran}
+use Rattle.session_model.specs.Courses.{Event, happened, steps_of, text_of, IsGoingOn, Ran}
 use Rattle.caster_link.specs.Links.{IsLeftOut}
 use Rattle.caster_link.specs.Served.{Reached, Arrived}
 use Rattle.caster_link.proofs.CalledLemmas.{called_none, called_both, called_less, others_none}

@@ -16,7 +16,7 @@ use Rattle.session_model.specs.Judged.{Opening}
 use Rattle.session_model.specs.Owed.{Happening, arrives, takes_turn}
 use Rattle.session_model.specs.Run.{Histories}
 use Rattle.session_core.specs.Standing.{StandsFor, Follows, is_halted}
-use Rattle.caster_link.specs.Courses.{text_of, Ran}
+use Rattle.session_model.specs.Courses.{text_of, Ran}
 use Rattle.caster_link.specs.Links.{IsLeftOut, happens_by, happens_in}
 use Rattle.caster_link.specs.Sending.{HasSent, HasTorn}
 use Rattle.caster_link.specs.Served.{Reached, Arrived, Serving, Came}

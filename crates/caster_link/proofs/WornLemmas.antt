@@ -25,7 +25,7 @@ use Rattle.session_model.specs.Owed.{Received, unasked, claimed, taken, entered,
 use Rattle.session_model.specs.Run.{Histories}
 use Rattle.session_core.specs.Standing.{StandsFor}
 use Rattle.session_core.specs.Closed.{ending_by}
-use Rattle.caster_link.specs.Courses.{steps_of, text_of}
+use Rattle.session_model.specs.Courses.{steps_of, text_of}
 use Rattle.caster_link.specs.Served.{Came}
 use Rattle.caster_link.specs.Wear.{Wear, IsWorn, IsWornBy, MayRefuse, IsRefusedBy}
 use Rattle.caster_link.proofs.ClosedLemmas.{Closes}

@@ -1,4 +1,3 @@
-pub mod Courses
 pub mod Links
 pub mod Sending
 pub mod Served

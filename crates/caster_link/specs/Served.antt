@@ -22,7 +22,7 @@ use Rattle.session_model.specs.Run.{Histories}
 use Rattle.session_model.specs.Called.{Called}
 use Rattle.session_core.specs.Standing.{StandsFor, EndsAs, IsMadeBy, IsSentBy, is_halted, is_halted_uncalled}
 use Rattle.session_core.specs.Closed.{IsSettled, IsReceipt}
-use Rattle.caster_link.specs.Courses.{Event, Ran, happened, steps_of, text_of}
+use Rattle.session_model.specs.Courses.{Event, Ran, happened, steps_of, text_of}
 use Rattle.caster_link.specs.Links.{LinkGrew, IsLeftOut, Stopped, IsCausedBy, happens_in, is_torn}
 
 -- ---- while it is served

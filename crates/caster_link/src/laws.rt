@@ -11,7 +11,7 @@ ghost use Rattle.session_model.specs.Judged.{Opening, SourceTerms, source};
 ghost use Rattle.session_model.specs.Owed.{claimed, received};
 ghost use Rattle.session_model.specs.Run.{Histories};
 ghost use Rattle.session_core.specs.Standing.{is_halted};
-ghost use Rattle.caster_link.specs.Courses.{steps_of};
+ghost use Rattle.session_model.specs.Courses.{steps_of};
 ghost use Rattle.caster_link.specs.Publishes.{AreDue, HasPublished};
 ghost use Rattle.caster_link.specs.Served.{LinkGoes};
 

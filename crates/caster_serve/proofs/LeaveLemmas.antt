@@ -36,7 +36,7 @@ use Rattle.session_model.specs.Called.{Called, book_answer}
 use Rattle.session_core.specs.Standing.{IsMadeBy}
 use Rattle.session_core.specs.Closed.{IsSettled}
 use Rattle.cast_io.specs.declared.steps.Step.{Step as LinkTook}
-use Rattle.caster_link.specs.Courses.{steps_of}
+use Rattle.session_model.specs.Courses.{steps_of}
 use Rattle.caster_link.specs.Served.{LinkGoes}
 use Rattle.caster_places.specs.Leaves.{left_in, Leaves}
 use Rattle.caster_serve.specs.Works.{tallied}

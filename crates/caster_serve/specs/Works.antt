@@ -13,7 +13,7 @@ use Rattle.session_model.specs.Judged.{Opening, SourceTerms, source, sends_head,
 use Rattle.session_model.specs.Owed.{claimed, received}
 use Rattle.session_model.specs.Run.{Histories}
 use Rattle.session_core.specs.Standing.{is_halted}
-use Rattle.caster_link.specs.Courses.{steps_of}
+use Rattle.session_model.specs.Courses.{steps_of}
 use Rattle.caster_link.specs.Links.{IsCausedBy}
 use Rattle.caster_link.specs.Served.{LinkGoes}
 use Rattle.caster_places.specs.Leaves.{Leaves}

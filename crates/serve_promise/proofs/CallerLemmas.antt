@@ -35,7 +35,7 @@ use Rattle.session_model.proofs.GoodLemmas.{IsGoodAsk, IsGood, good_plan, good_c
 use Rattle.caster_serve.specs.Ends.{EndTold, at_door, over_link, IsUnused}
 use Rattle.caster_places.specs.Rows.{AreWhole}
 use Rattle.caster_places.specs.Rows as rows
-use Rattle.caster_link.specs.Courses.{steps_of}
+use Rattle.session_model.specs.Courses.{steps_of}
 use Rattle.caster_link.specs.Wear.{Wear, only_worn}
 use Rattle.caster_serve.specs.Works.{Record, RecordGoes, Followed, links_of, receipts_of, tallied}
 use Rattle.caster_serve.specs.Callers.{Caller, ServedOver, IsServed, AreServed, uncalled, calls_in as call_counts, seen_of}

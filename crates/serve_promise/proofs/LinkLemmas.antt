@@ -36,7 +36,7 @@ use Rattle.session_core.specs.Closed.{IsSettled, ending_by}
 use Rattle.session_model.proofs.GoodLemmas.{good_closing}
 use Rattle.session_model.proofs.KeepLemmas.{AllSound, all_later}
 use Rattle.caster_replay.proofs.WorldClosedLemmas.{received_closed}
-use Rattle.caster_link.specs.Courses.{happened, steps_of, text_of}
+use Rattle.session_model.specs.Courses.{happened, steps_of, text_of}
 use Rattle.caster_link.specs.Links.{is_torn}
 use Rattle.caster_link.specs.Served.{LinkGoes}
 use Rattle.caster_link.proofs.CalledLemmas.{called_both}

@@ -26,7 +26,7 @@ use Rattle.session_model.specs.Judged.{Opening, judged}
 use Rattle.session_model.specs.Owed.{Happening, arrives, takes_turn, ends, received, plan_of, owed}
 use Rattle.session_model.specs.Run.{Histories}
 use Rattle.session_model.proofs.GoodLemmas.{IsGoodAsk, IsGood, good_left, good_plan, good_closing}
-use Rattle.caster_link.specs.Courses.{Event, happened, steps_on, steps_of, with_bytes, text_of, IsCourse, IsBroken, Ran}
+use Rattle.session_model.specs.Courses.{Event, happened, steps_on, steps_of, with_bytes, text_of, IsCourse, IsBroken, Ran}
 use Rattle.caster_link.specs.Links.{happens_in, IsLeftOut}
 use Rattle.caster_link.proofs.CourseLemmas.{text-snoc}
 use Rattle.run_promise.specs.Calls.{IsReadOn}

@@ -2,7 +2,7 @@
 use Rattle.std.proofs.Common.{◌∙◌, [], ◌∷◌, ◌++◌, sym}
 use Rattle.session_model.specs.Called.{alone_at, seen_at}
 use Rattle.session_model.specs.Owed.{arrives}
-use Rattle.caster_link.specs.Courses.{steps_of, text_of}
+use Rattle.session_model.specs.Courses.{steps_of, text_of}
 use Rattle.caster_link.proofs.CalledLemmas.{others_none}
 use Rattle.caster_link.proofs.PlaceLemmas.{fit_kept, known_same, speak_by}
 use Rattle.caster_link.proofs.ReachLemmas.{bytes_ended, bytes_turned, ended_flow, follows_fed, reach_bytes}

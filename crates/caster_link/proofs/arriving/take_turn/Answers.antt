@@ -1,7 +1,7 @@
 -- A turn is one event more.
 use Rattle.std.proofs.Common.{◌∙◌, ap}
 use Rattle.session_model.specs.Called.{alone_at, seen_at}
-use Rattle.caster_link.specs.Courses.{steps_of, text_of}
+use Rattle.session_model.specs.Courses.{steps_of, text_of}
 use Rattle.caster_link.proofs.CalledLemmas.{others_none}
 use Rattle.caster_link.proofs.PlaceLemmas.{known_same, speak_by}
 use Rattle.caster_link.proofs.ReachLemmas.{turned_arrived}

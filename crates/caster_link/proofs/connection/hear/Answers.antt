@@ -1,7 +1,7 @@
 -- What the session does for each read.
 use Rattle.std.proofs.Common.{◌≡◌, ◌∙◌, ◌+◌, ℕ, [], ◌++◌, length, take, arith, refl, sym, ap, length-take}
 use Rattle.cast_io.specs.declared.link.Got.TheVariants as got
-use Rattle.caster_link.specs.Courses.{text_of}
+use Rattle.session_model.specs.Courses.{text_of}
 use Rattle.caster_link.proofs.PlaceLemmas.{fit_kept}
 use Rattle.caster_link.proofs.ServingLemmas.{still, ends_so, fails_so, goes_on_by, long_bytes, long_idle, follows_serving}
 use Rattle.caster_link.proofs.WornLemmas.{later_none, not_ended}
