@@ -1,11 +1,12 @@
 //! What contracts of another crate can say of the records of the adapters. Each function makes one
 //! call, and its contract says what the record is then.
-ghost use Rattle.std.specs.Prelude.{◌≡◌, ◌<◌, ℕ, List, [], ◌∷◌, ◌++◌, length, take, IfOk, OnOk};
+ghost use Rattle.std.specs.Prelude.{◌≡◌, ◌<◌, ℕ, List, [], ◌∷◌, ◌++◌, length, take, IfOk, OnOk, map};
 ghost use Rattle.cast_io.specs.Links.{step_of};
 ghost use Rattle.cast_io.specs.Logs.{step_of_open, step_of_read};
 ghost use Rattle.cast_io.specs.declared.link.Got.TheVariants as got;
 ghost use Rattle.cast_io.specs.declared.steps.Asked.TheVariants as asked;
-ghost use Rattle.caster_net.specs.Told.{link_log};
+ghost use Rattle.cast_io.specs.Logged.{door_logged, link_logged};
+ghost use Rattle.caster_net.specs.Told.{link_told};
 
 use cast_io::{Door, Failed, Got, Link, Sink, Source, Store, Street, StreetFault};
 use caster_net::{FileStore, ReaderSource, TcpDoor, TcpLink, TcpStreet, Wire, WriterSink};
@@ -50,7 +51,8 @@ pub fn sent(link: &mut TcpLink<'_>, piece: &[u8]) -> Result<(), Failed>
 
 /// A link is given back to its door.
 pub fn hung_up<'a>(door: &mut TcpDoor<'a>, link: TcpLink<'a>)
-    ensures { door.new.back ≡ door.old.back ++ link_log link.entry ∷ [] }
+    ensures { map link_logged door.new.back
+        ≡ map link_logged door.old.back ++ link_told link.entry ∷ [] }
 {
     door.hang_up(link);
 }
@@ -76,14 +78,16 @@ pub fn dialled<'a>(street: &mut TcpStreet<'a>, addr: &str) -> Result<TcpLink<'a>
 
 /// A link is given back to its street.
 pub fn left<'a>(street: &mut TcpStreet<'a>, link: TcpLink<'a>)
-    ensures { street.new.links ≡ street.old.links ++ link_log link.entry ∷ [] }
+    ensures { map link_logged street.new.links
+        ≡ map link_logged street.old.links ++ link_told link.entry ∷ [] }
 {
     street.hang_up(link);
 }
 
 /// A door is given back to its street.
 pub fn shut<'a>(street: &mut TcpStreet<'a>, door: TcpDoor<'a>)
-    ensures { street.new.doors ≡ street.old.doors ++ door.entry ∷ [] }
+    ensures { map door_logged street.new.doors
+        ≡ map door_logged street.old.doors ++ door_logged door.entry ∷ [] }
 {
     street.shut(door);
 }

@@ -8,8 +8,8 @@ ghost use Rattle.run_texts.specs.Texts.{IsRunText, IsWarmText};
 use cast_config::Config;
 use caster_replay::replay;
 use caster_warm::warm;
-use session_text::report_text;
 use session_script::Event;
+use session_text::report_text;
 use std::alloc::{AllocError, Global};
 
 /// The report of a script that is played over this configuration, as text. All bytes that come in

@@ -6,7 +6,10 @@ use cast_config::Config;
 use caster_accounts::Sum;
 use mount_ring::{Cursor, Lap};
 use rover_cursor::{Laps, Segment};
-use session_core::{Closed, Connection, Connections, Ending, MountTotal, MountTotals, Receipt, Report, Segments, Sent, Sums};
+use session_core::{
+    Closed, Connection, Connections, Ending, MountTotal, MountTotals, Receipt, Report, Segments,
+    Sent, Sums,
+};
 use session_text::report_text;
 use std::alloc::Global;
 use std::test::Fail;
