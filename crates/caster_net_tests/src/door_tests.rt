@@ -68,6 +68,17 @@ fn is_stopped<R: Threads>(
     Ok(matches!(door.accept(), Arrived::Idle))
 }
 
+// What arrives at a door, and whether it finds nothing once its bell is rung.
+fn life_of<R: Threads>(
+    rt: &R,
+    host: &HostRuntime,
+    door: &mut TcpDoor<'_>,
+    place: &str,
+) -> Result<(([bool; 3], usize), bool), Fail> {
+    let arrivals = arrivals_of(host, door, place)?;
+    Ok((arrivals, is_stopped(rt, host, door)?))
+}
+
 #[test]
 fn a_door_gives_each_link_once_until_its_bell_is_rung(rt: HostRuntime) -> Result<(), Fail> {
     let bells = Bells::new(&rt);
@@ -77,10 +88,12 @@ fn a_door_gives_each_link_once_until_its_bell_is_rung(rt: HostRuntime) -> Result
     let Some(mut door) = doors.pop() else {
         panic!(rt; "no doors");
     };
-    let arrivals = arrivals_of(&rt, &mut door, &place)?;
-    let is_stopped = is_stopped(&rt, &rt, &mut door)?;
+    let count = doors.len();
+    drop(doors);
+    let life = life_of(&rt, &rt, &mut door, &place);
     street.shut(door);
-    assert_eq!(rt; (doors.len(), is_taken, is_stopped), (1, true, true));
+    let (arrivals, is_stopped) = life?;
+    assert_eq!(rt; (count, is_taken, is_stopped), (1, true, true));
     assert_eq!(rt; arrivals, ([true, true, true], 0));
     Ok(())
 }

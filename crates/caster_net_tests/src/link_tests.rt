@@ -75,18 +75,32 @@ fn give(source: &mut TcpLink<'_>, base: &mut TcpStream) -> io::Result<()> {
 
 // Whether the rest of a rover is short when it was told its mountpoint; behind it, where nothing
 // happens; where its peer sends; and where a source at its mountpoint gave a frame.
+fn rests_at_one(
+    rt: &HostRuntime,
+    rover: &mut TcpLink<'_>,
+    reports: &mut TcpStream,
+    source: &mut TcpLink<'_>,
+    base: &mut TcpStream,
+) -> io::Result<[bool; 4]> {
+    rover.set_mount(1);
+    let told = is_short(rt, rover)?;
+    let quiet = is_short(rt, rover)?;
+    let _ = reports.write(b"$")?;
+    let reported = is_short(rt, rover)?;
+    let _ = rover.read(&mut [0u8; 4]);
+    source.set_mount(1);
+    give(source, base)?;
+    Ok([told, quiet, reported, is_short(rt, rover)?])
+}
+
+// The same of two links that were dialled, which are hung up then.
 fn rests_of(rt: &HostRuntime, street: &mut TcpStreet<'_>) -> Result<[bool; 4], Fail> {
     let (mut rover, mut reports) = pair(rt, street)?;
-    rover.set_mount(1);
-    let told = is_short(rt, &mut rover)?;
-    let quiet = is_short(rt, &mut rover)?;
-    let _ = reports.write(b"$")?;
-    let reported = is_short(rt, &mut rover)?;
-    let _ = rover.read(&mut [0u8; 4]);
     let (mut source, mut base) = pair(rt, street)?;
-    source.set_mount(1);
-    give(&mut source, &mut base)?;
-    Ok([told, quiet, reported, is_short(rt, &mut rover)?])
+    let rests = rests_at_one(rt, &mut rover, &mut reports, &mut source, &mut base);
+    street.hang_up(rover);
+    street.hang_up(source);
+    Ok(rests?)
 }
 
 #[test]
@@ -100,19 +114,32 @@ fn a_rest_ends_with_the_peer_or_the_bell(rt: HostRuntime) -> Result<(), Fail> {
 
 // Whether the rest of a rover at one mountpoint is short where a source at another gave a frame; as
 // it is told that other one; behind it, where nothing happens; and where that source gave one more.
-fn rests_apart(rt: &HostRuntime, street: &mut TcpStreet<'_>) -> Result<[bool; 4], Fail> {
-    let (mut rover, _reports) = pair(rt, street)?;
-    let (mut source, mut base) = pair(rt, street)?;
+fn rests_at_two(
+    rt: &HostRuntime,
+    rover: &mut TcpLink<'_>,
+    source: &mut TcpLink<'_>,
+    base: &mut TcpStream,
+) -> io::Result<[bool; 4]> {
     source.set_mount(2);
     rover.set_mount(1);
     rover.rest();
-    give(&mut source, &mut base)?;
-    let apart = is_short(rt, &mut rover)?;
+    give(source, base)?;
+    let apart = is_short(rt, rover)?;
     rover.set_mount(2);
-    let moved = is_short(rt, &mut rover)?;
-    let quiet = is_short(rt, &mut rover)?;
-    give(&mut source, &mut base)?;
-    Ok([apart, moved, quiet, is_short(rt, &mut rover)?])
+    let moved = is_short(rt, rover)?;
+    let quiet = is_short(rt, rover)?;
+    give(source, base)?;
+    Ok([apart, moved, quiet, is_short(rt, rover)?])
+}
+
+// The same of two links that were dialled, which are hung up then.
+fn rests_apart(rt: &HostRuntime, street: &mut TcpStreet<'_>) -> Result<[bool; 4], Fail> {
+    let (mut rover, _reports) = pair(rt, street)?;
+    let (mut source, mut base) = pair(rt, street)?;
+    let rests = rests_at_two(rt, &mut rover, &mut source, &mut base);
+    street.hang_up(rover);
+    street.hang_up(source);
+    Ok(rests?)
 }
 
 #[test]
@@ -124,18 +151,30 @@ fn each_mountpoint_has_a_bell(rt: HostRuntime) -> Result<(), Fail> {
     Ok(())
 }
 
-// Whether a link that was told no mountpoint rests long where frames are given, and whether one that
-// gave a frame rings for it as it is hung up.
+// Whether a link that was told no mountpoint rests short where frames are given.
+fn rest_beside(
+    rt: &HostRuntime,
+    caller: &mut TcpLink<'_>,
+    source: &mut TcpLink<'_>,
+    base: &mut TcpStream,
+) -> io::Result<bool> {
+    give(source, base)?;
+    is_short(rt, caller)
+}
+
+// The same of links that were dialled, and whether one that gave a frame rings for it as it is hung up.
 fn rests_untold(rt: &HostRuntime, street: &mut TcpStreet<'_>) -> Result<[bool; 2], Fail> {
     let (mut caller, _head) = pair(rt, street)?;
     let (mut rover, _reports) = pair(rt, street)?;
     let (mut source, mut base) = pair(rt, street)?;
     rover.set_mount(3);
     rover.rest();
-    give(&mut source, &mut base)?;
-    let untold = is_short(rt, &mut caller)?;
+    let untold = rest_beside(rt, &mut caller, &mut source, &mut base);
     street.hang_up(source);
-    Ok([untold, is_short(rt, &mut rover)?])
+    let rung = is_short(rt, &mut rover);
+    street.hang_up(caller);
+    street.hang_up(rover);
+    Ok([untold?, rung?])
 }
 
 #[test]

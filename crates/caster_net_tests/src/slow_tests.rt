@@ -1,6 +1,6 @@
 //! Peers that take little, and nothing.
 use crate::link_tests::pair;
-use cast_io::Link;
+use cast_io::{Link, Street};
 use caster_net::{Bells, TcpLink, TcpStreet};
 use std::io::Read;
 use std::net::TcpStream;
@@ -61,9 +61,9 @@ fn writes_of<R: Threads>(
     street: &mut TcpStreet<'_>,
     piece: &[u8],
 ) -> Result<([(bool, u64); 2], usize), Fail> {
+    let mut room = vec![in host.alloc(); 0u8; LITTLE]?;
     let (mut slow, mut taker) = pair(host, street)?;
     let (mut stuck, _peer) = pair(host, street)?;
-    let mut room = vec![in host.alloc(); 0u8; LITTLE]?;
     let (to_slow, (to_stuck, came)) = thread::join(
         rt,
         || write_fails(host, &mut slow, piece),
@@ -75,6 +75,8 @@ fn writes_of<R: Threads>(
             )
         },
     );
+    street.hang_up(slow);
+    street.hang_up(stuck);
     Ok(([to_slow?, to_stuck?], came?))
 }
 
