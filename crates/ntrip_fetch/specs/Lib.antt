@@ -5,3 +5,4 @@ pub mod Writing
 pub mod Stages
 pub mod Fetched
 pub mod Tries
+pub mod Sinks

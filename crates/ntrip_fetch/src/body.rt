@@ -1,10 +1,10 @@
 //! The body of an answer, as its bytes come.
 
-ghost use Rattle.std.specs.Prelude.{◌≡◌, ◌<◌, ◌≤◌, ◌+◌, ◌^◌, ℕ, true, List, [], ◌∷◌, ◌++◌, length, Option, Some, None, is_some, OnOk, OnErr, IfOk};
-ghost use Rattle.cast_io.specs.Causes.{Rose};
+ghost use Rattle.std.specs.Prelude.{◌≡◌, ◌<◌, ◌≤◌, ◌+◌, ◌^◌, ℕ, true, List, [], ◌∷◌, ◌++◌, length, Option, Some, None, is_some, OnErr, IfOk};
 ghost use Rattle.rtcm_frame.specs.Cut.{IsWaiting};
 ghost use Rattle.source_session.specs.Body.{payload};
 ghost use Rattle.source_session.specs.Standing.{GoesOnAt};
+ghost use Rattle.ntrip_fetch.specs.Sinks.{Counts};
 ghost use Rattle.ntrip_fetch.specs.Writing.{IsTorn, wanted};
 ghost use Rattle.ntrip_fetch.specs.Stages.{IsAtBody, BodyIs};
 
@@ -69,9 +69,9 @@ fn take_byte<O: Sink>(
     requires read { chunks.old.taken < 2 ^ 63 }
     requires fewer { count.old < most }
     requires waits { IsWaiting cutter.old.bytes }
-    ensures few { cutter.new.junk + length cutter.new.bytes
-        ≤ cutter.old.junk + length cutter.old.bytes + 1 }
-    ensures read { chunks.new.taken ≤ chunks.old.taken + 1 }
+    ensures few { (cutter.new.junk + length cutter.new.bytes
+        ≤ cutter.old.junk + length cutter.old.bytes + 1)
+        × (chunks.new.taken ≤ chunks.old.taken + 1) }
     ensures within { count.new ≤ most }
     ensures took { IfOk result (λ left. (start : Option (List ℕ)) (text : List ℕ)
         → IsAtBody start (O.taken out.old) most (Some chunks.old) cutter.old text count.old
@@ -82,9 +82,7 @@ fn take_byte<O: Sink>(
     ensures torn { OnErr result ((start : Option (List ℕ)) (text : List ℕ)
         → IsAtBody start (O.taken out.old) most (Some chunks.old) cutter.old text count.old
         → IsTorn start (O.taken out.new) (wanted most (payload true (text ++ byte ∷ [])))) }
-    ensures unharmed { OnOk result (O.faults out.new ≡ O.faults out.old) }
-    ensures later { O.faults out.old ≤ O.faults out.new }
-    ensures cause { OnErr result (Rose (O.faults out.old) (O.faults out.new)) }
+    ensures sink { Counts (O.faults out.old) (O.faults out.new) result }
 {
     match chunks.push(byte) {
         Step::More => Ok(None),
@@ -119,9 +117,7 @@ fn take_chunked<O: Sink>(
     ensures torn { OnErr result ((start : Option (List ℕ)) (text : List ℕ)
         → IsAtBody start (O.taken out.old) most (Some chunks.old) cutter.old text count.old
         → IsTorn start (O.taken out.new) (wanted most (payload true (text ++ bytes.now)))) }
-    ensures unharmed { OnOk result (O.faults out.new ≡ O.faults out.old) }
-    ensures later { O.faults out.old ≤ O.faults out.new }
-    ensures cause { OnErr result (Rose (O.faults out.old) (O.faults out.new)) }
+    ensures sink { Counts (O.faults out.old) (O.faults out.new) result }
 {
     for byte in bytes {
         let left = take_byte(chunks, cutter, count, most, *byte, out)?;
@@ -150,9 +146,7 @@ fn take_plain<O: Sink>(
     ensures torn { OnErr result ((start : Option (List ℕ)) (text : List ℕ)
         → IsAtBody start (O.taken out.old) most None cutter.old text count.old
         → IsTorn start (O.taken out.new) (wanted most (text ++ bytes.now))) }
-    ensures unharmed { OnOk result (O.faults out.new ≡ O.faults out.old) }
-    ensures later { O.faults out.old ≤ O.faults out.new }
-    ensures cause { OnErr result (Rose (O.faults out.old) (O.faults out.new)) }
+    ensures sink { Counts (O.faults out.old) (O.faults out.new) result }
 {
     write_plain(cutter, count, most, bytes, out)?;
     Ok(enough_at(*count, most))
@@ -179,9 +173,7 @@ pub(crate) fn take_body<O: Sink>(
         → IsAtBody start (O.taken out.old) most body.old.chunks body.old.cutter text count.old
         → IsTorn start (O.taken out.new)
         (wanted most (payload (is_some body.old.chunks) (text ++ bytes.now)))) }
-    ensures unharmed { OnOk result (O.faults out.new ≡ O.faults out.old) }
-    ensures later { O.faults out.old ≤ O.faults out.new }
-    ensures cause { OnErr result (Rose (O.faults out.old) (O.faults out.new)) }
+    ensures sink { Counts (O.faults out.old) (O.faults out.new) result }
 {
     match &mut body.chunks {
         None => take_plain(&mut body.cutter, count, most, bytes, out),

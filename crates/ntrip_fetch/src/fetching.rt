@@ -1,10 +1,10 @@
 //! One target is tried after the other.
 
-ghost use Rattle.std.specs.Prelude.{◌≡◌, ◌≢◌, true, false, ◌≤◌, ◌+◌, ◌⊎◌, ◌++◌, ℕ, List, [], length, map, take, sum_by, vec_len, vec_capacity, IfOk, IfErr, IsTrue, IsErrOf, OnOk};
+ghost use Rattle.std.specs.Prelude.{◌≡◌, ◌≢◌, true, false, ◌≤◌, ◌+◌, ◌⊎◌, ◌++◌, ℕ, List, [], length, map, take, sum_by, vec_len, vec_capacity, IfOk, IfErr, IsTrue, OnOk};
 ghost use Rattle.std.specs.List.{All};
 ghost use Rattle.std.specs.Str.{is_utf8};
-ghost use Rattle.cast_io.specs.Causes.{Rose};
 ghost use Rattle.cast_io.specs.Told.{Grew};
+ghost use Rattle.ntrip_fetch.specs.Sinks.{CountsFor};
 ghost use Rattle.ntrip_fetch.specs.Tries.{CanBeTried, HasStopped, HasTried, dial_of};
 
 use crate::left::{FetchFault, Left, Try};
@@ -44,11 +44,7 @@ fn fetch_from<N: Street, O: Sink, R: Wait>(
         (O.taken out.old) (O.taken out.new) more) }
     ensures stopped { IfErr result (HasStopped frames targets.now (N.told street.old)
         (N.told street.new) (O.taken out.old) (O.taken out.new)) }
-    ensures unharmed { OnOk result (O.faults out.new ≡ O.faults out.old) }
-    ensures calm { IsErrOf result FetchFault.Memory → O.faults out.new ≡ O.faults out.old }
-    ensures later { O.faults out.old ≤ O.faults out.new }
-    ensures cause { IsErrOf result FetchFault.Sink
-        → Rose (O.faults out.old) (O.faults out.new) }
+    ensures sink { CountsFor (O.faults out.old) (O.faults out.new) result }
 {
     let Some((target, later)) = targets.split_first() else {
         return Ok(());
@@ -92,11 +88,7 @@ pub fn fetch<N: Street, O: Sink, R: Wait>(
         ⊎ (vec_len tries ≡ length targets.now)) }
     ensures stopped { IfErr result (HasStopped frames targets.now (N.told street.old)
         (N.told street.new) (O.taken out.old) (O.taken out.new)) }
-    ensures unharmed { OnOk result (O.faults out.new ≡ O.faults out.old) }
-    ensures calm { IsErrOf result FetchFault.Memory → O.faults out.new ≡ O.faults out.old }
-    ensures later { O.faults out.old ≤ O.faults out.new }
-    ensures cause { IsErrOf result FetchFault.Sink
-        → Rose (O.faults out.old) (O.faults out.new) }
+    ensures sink { CountsFor (O.faults out.old) (O.faults out.new) result }
 {
     let mut tries = Vec::with_capacity(alloc, targets.len())?;
     fetch_from(rt, alloc, targets, frames, street, out, &mut tries)?;

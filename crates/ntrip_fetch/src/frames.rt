@@ -1,8 +1,8 @@
 //! Writing the frames of a body as its bytes come.
 
 ghost use Rattle.std.specs.Prelude.{◌≡◌, ◌<◌, ◌≤◌, ◌+◌, ◌^◌, ℕ, List, ◌++◌, length, Option, OnOk, OnErr};
-ghost use Rattle.cast_io.specs.Causes.{Rose};
 ghost use Rattle.rtcm_frame.specs.Cut.{IsWaiting};
+ghost use Rattle.ntrip_fetch.specs.Sinks.{Counts};
 ghost use Rattle.ntrip_fetch.specs.Writing.{IsWriting, HasWritten, IsTorn, wanted};
 
 use cast_io::{Failed, Sink};
@@ -28,9 +28,7 @@ pub(crate) fn write_ready<O: Sink>(
     ensures torn { OnErr result ((start : Option (List ℕ)) (bytes : List ℕ)
         → IsWriting start (O.taken out.old) bytes cutter.old count.old
         → IsTorn start (O.taken out.new) (wanted most bytes)) }
-    ensures unharmed { OnOk result (O.faults out.new ≡ O.faults out.old) }
-    ensures later { O.faults out.old ≤ O.faults out.new }
-    ensures cause { OnErr result (Rose (O.faults out.old) (O.faults out.new)) }
+    ensures sink { Counts (O.faults out.old) (O.faults out.new) result }
 {
     while *count < most {
         let Some(frame) = cutter.next() else {
@@ -65,9 +63,7 @@ pub(crate) fn write_plain<O: Sink>(
     ensures torn { OnErr result ((start : Option (List ℕ)) (body : List ℕ)
         → IsWriting start (O.taken out.old) body cutter.old count.old
         → IsTorn start (O.taken out.new) (wanted most (body ++ bytes.now))) }
-    ensures unharmed { OnOk result (O.faults out.new ≡ O.faults out.old) }
-    ensures later { O.faults out.old ≤ O.faults out.new }
-    ensures cause { OnErr result (Rose (O.faults out.old) (O.faults out.new)) }
+    ensures sink { Counts (O.faults out.old) (O.faults out.new) result }
 {
     let mut at = 0;
     while at < bytes.len() && *count < most {

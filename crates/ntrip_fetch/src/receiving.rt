@@ -1,9 +1,9 @@
 //! A fetch over one link.
 
-ghost use Rattle.std.specs.Prelude.{◌≡◌, ◌+◌, ◌^◌, ◌<◌, ◌≤◌, ℕ, List, [], length, Option, IfOk, IsErrOf, OnErr, OnOk};
-ghost use Rattle.cast_io.specs.Causes.{Rose};
+ghost use Rattle.std.specs.Prelude.{◌≡◌, ◌+◌, ◌^◌, ◌<◌, ◌≤◌, ℕ, List, [], length, Option, IfOk, IsErrOf, OnErr};
 ghost use Rattle.cast_io.specs.Told.{LinkTold};
 ghost use Rattle.ntrip_client.specs.Answer.{IsAnswer};
+ghost use Rattle.ntrip_fetch.specs.Sinks.{Counts, CountsFor};
 ghost use Rattle.ntrip_fetch.specs.Request.{IsSpoken, target_request};
 ghost use Rattle.ntrip_fetch.specs.Fetched.{LinkBroken, LinkFetched, HasReceived, HeardIs, Receiving, ReceivingBroken};
 
@@ -48,9 +48,7 @@ fn hear<L: Link, O: Sink>(
         → Receiving most before (L.told link.old) start (O.taken out.old) stage.old frames.old
         given.old
         → ReceivingBroken most before (L.told link.new) start (O.taken out.new)) }
-    ensures unharmed { OnOk result (O.faults out.new ≡ O.faults out.old) }
-    ensures later { O.faults out.old ≤ O.faults out.new }
-    ensures cause { OnErr result (Rose (O.faults out.old) (O.faults out.new)) }
+    ensures sink { Counts (O.faults out.old) (O.faults out.new) result }
 {
     match link.read(piece) {
         Got::Bytes(count) => {
@@ -84,10 +82,7 @@ fn receive<L: Link, O: Sink, R: Wait>(
     ensures broken { IsErrOf result FetchFault.Sink → ReceivingBroken most (L.told link.old)
         (L.told link.new) (O.taken out.old) (O.taken out.new) }
     ensures only { IsErrOf result FetchFault.Memory → ⊥ }
-    ensures unharmed { OnOk result (O.faults out.new ≡ O.faults out.old) }
-    ensures later { O.faults out.old ≤ O.faults out.new }
-    ensures cause { IsErrOf result FetchFault.Sink
-        → Rose (O.faults out.old) (O.faults out.new) }
+    ensures sink { CountsFor (O.faults out.old) (O.faults out.new) result }
 {
     let mut stage = Stage::Head(head);
     let mut frames: u64 = 0;
@@ -145,11 +140,7 @@ pub fn fetch_link<L: Link, O: Sink, R: Wait>(
         (L.told link.new) (O.taken out.old) (O.taken out.new) }
     ensures nothing { IsErrOf result FetchFault.Memory
         → (L.told link.new ≡ L.told link.old) × (O.taken out.new ≡ O.taken out.old) }
-    ensures unharmed { OnOk result (O.faults out.new ≡ O.faults out.old) }
-    ensures calm { IsErrOf result FetchFault.Memory → O.faults out.new ≡ O.faults out.old }
-    ensures later { O.faults out.old ≤ O.faults out.new }
-    ensures cause { IsErrOf result FetchFault.Sink
-        → Rose (O.faults out.old) (O.faults out.new) }
+    ensures sink { CountsFor (O.faults out.old) (O.faults out.new) result }
 {
     let mut request = Vec::new(alloc);
     request_of(t, &mut request)?;

@@ -1,8 +1,8 @@
 //! From the head of an answer to its body.
 
-ghost use Rattle.std.specs.Prelude.{◌≡◌, ◌≤◌, ◌<◌, ◌+◌, ◌^◌, ℕ, List, [], ◌++◌, length, Option, OnOk, OnErr, IfOk};
-ghost use Rattle.cast_io.specs.Causes.{Rose};
+ghost use Rattle.std.specs.Prelude.{◌≡◌, ◌≤◌, ◌<◌, ◌+◌, ◌^◌, ℕ, List, [], ◌++◌, length, Option, OnErr, IfOk};
 ghost use Rattle.ntrip_client.specs.Answer.{IsAnswer};
+ghost use Rattle.ntrip_fetch.specs.Sinks.{Counts};
 ghost use Rattle.ntrip_fetch.specs.Writing.{HasWritten};
 ghost use Rattle.ntrip_fetch.specs.Stages.{DecidedIs, IsAtStage, StageIs, StageTorn};
 
@@ -50,9 +50,7 @@ fn decide<O: Sink>(
     ensures torn { OnErr result ((start : Option (List ℕ))
         → HasWritten start (O.taken out.old) [] count.old
         → StageTorn start (O.taken out.new) most (head.old ++ bytes.now)) }
-    ensures unharmed { OnOk result (O.faults out.new ≡ O.faults out.old) }
-    ensures later { O.faults out.old ≤ O.faults out.new }
-    ensures cause { OnErr result (Rose (O.faults out.old) (O.faults out.new)) }
+    ensures sink { Counts (O.faults out.old) (O.faults out.new) result }
 {
     let taken = head.feed(bytes);
     match taken.answer {
@@ -85,9 +83,7 @@ pub(crate) fn take<O: Sink>(
     ensures torn { OnErr result ((start : Option (List ℕ)) (before : List ℕ)
         → IsAtStage start (O.taken out.old) most stage.old before count.old
         → StageTorn start (O.taken out.new) most (before ++ bytes.now)) }
-    ensures unharmed { OnOk result (O.faults out.new ≡ O.faults out.old) }
-    ensures later { O.faults out.old ≤ O.faults out.new }
-    ensures cause { OnErr result (Rose (O.faults out.old) (O.faults out.new)) }
+    ensures sink { Counts (O.faults out.old) (O.faults out.new) result }
 {
     match stage {
         Stage::Body(body) => take_body(body, count, most, bytes, out),

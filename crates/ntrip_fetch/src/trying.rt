@@ -1,8 +1,8 @@
 //! One target is tried.
 
-ghost use Rattle.std.specs.Prelude.{◌≡◌, ◌≢◌, ◌<◌, ◌≤◌, IfOk, IfErr, IsTrue, IsErrOf, OnOk};
+ghost use Rattle.std.specs.Prelude.{◌≡◌, ◌≢◌, ◌<◌, ◌≤◌, IfOk, IfErr, IsTrue};
 ghost use Rattle.std.specs.Str.{is_utf8};
-ghost use Rattle.cast_io.specs.Causes.{Rose};
+ghost use Rattle.ntrip_fetch.specs.Sinks.{CountsFor};
 ghost use Rattle.ntrip_fetch.specs.Request.{IsSpoken};
 ghost use Rattle.ntrip_fetch.specs.Tries.{RunEnded, RunStopped};
 
@@ -44,11 +44,7 @@ pub(crate) fn try_one<N: Street, O: Sink, R: Wait>(
         (N.told street.new) (O.taken out.old) (O.taken out.new)) }
     ensures within { IfOk result (λ tried. tried.frames ≤ most) }
     ensures fewer { IfOk result (λ tried. tried.left ≢ Left.Enough → tried.frames < most) }
-    ensures unharmed { OnOk result (O.faults out.new ≡ O.faults out.old) }
-    ensures calm { IsErrOf result FetchFault.Memory → O.faults out.new ≡ O.faults out.old }
-    ensures later { O.faults out.old ≤ O.faults out.new }
-    ensures cause { IsErrOf result FetchFault.Sink
-        → Rose (O.faults out.old) (O.faults out.new) }
+    ensures sink { CountsFor (O.faults out.old) (O.faults out.new) result }
 {
     match street.dial(address_of(target)) {
         Ok(mut link) => {

@@ -33,8 +33,8 @@ loop-byte-preserved g c =
     let byte = get_or bytes i 0 in
     let none : c.in_ok-left.left ≡ None = is_none c.in_ok-left.left cc in
     let open_ = c.in_ok-left.ensures.goes_on none in record {
-      few = omega (arith, c.loop-byte.invariant.few, c.take_byte.ensures.few, c.loop-byte-test.true);
-      read = omega (arith, c.loop-byte.invariant.read, c.take_byte.ensures.read, c.loop-byte-test.true);
+      few = omega (arith, c.loop-byte.invariant.few, c.take_byte.ensures.few.0, c.loop-byte-test.true);
+      read = omega (arith, c.loop-byte.invariant.read, c.take_byte.ensures.few.1, c.loop-byte-test.true);
       fewer = open_.0;
       waits = open_.1;
       took = λ start text x.
@@ -44,7 +44,7 @@ loop-byte-preserved g c =
           (subst (BodyIs start (g.O.Sink.taken c.take_byte.new.out) c.args.most (Some c.take_byte.new.chunks)
           c.take_byte.new.cutter ((text ++ take i bytes) ++ byte ∷ []) c.take_byte.new.count) none
           (c.in_ok-left.ensures.took start (text ++ take i bytes) (c.loop-byte.invariant.took start text x)));
-      unharmed = c.in_ok-left.ensures.unharmed ∙ c.loop-byte.invariant.unharmed;
+      unharmed = c.in_ok-left.ensures.sink.unharmed ∙ c.loop-byte.invariant.unharmed;
     }
 
 pub returns-clause-took : goal.returns-clause-took

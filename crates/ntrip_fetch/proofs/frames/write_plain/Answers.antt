@@ -77,7 +77,7 @@ loop-at-preserved g c =
           c.feed-fed.new.self c.loop-at.count (λ given gave. c.feed-fed.ensures.stands given (body ++ take at bytes)
           gave)
           (c.loop-at.invariant.writing start body before)));
-      unharmed = c.in_ok-write_ready.ensures.unharmed ∙ c.loop-at.invariant.unharmed;
+      unharmed = c.in_ok-write_ready.ensures.sink.unharmed ∙ c.loop-at.invariant.unharmed;
     }
 
 pub returns-else-count-most-clause-written : goal.returns-else-count-most-clause-written

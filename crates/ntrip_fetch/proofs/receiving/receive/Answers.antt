@@ -31,7 +31,7 @@ loop-preserved g c = record {
   finite = tt;
   size = c.hear.auto.piece ∙ c.loop.invariant.size;
   few = c.hear.ensures.few;
-  unharmed = c.in-Ok-None.ensures.unharmed ∙ c.loop.invariant.unharmed;
+  unharmed = c.in-Ok-None.ensures.sink.unharmed ∙ c.loop.invariant.unharmed;
   receiving = subst (HeardIs c.args.most (g.L.Link.told c.args.link.now) (g.L.Link.told c.hear.new.link)
       (g.O.Sink.taken c.args.out.now) (g.O.Sink.taken c.hear.new.out) c.hear.new.stage c.hear.new.frames
       c.hear.new.given) c.in-Ok-None.field-0-is
