@@ -1,6 +1,6 @@
 //! Doors at a loopback address, and what their rests end with.
 use cast_io::{Arrived, Door, Got, Link, Street, StreetFault};
-use caster_net::{Bells, TcpDoor, TcpStreet};
+use caster_net::{Bells, TcpDoor, TcpLink, TcpStreet};
 use std::io::{ErrorKind, Read, Write};
 use std::net::{TcpListener, TcpStream};
 use std::test::Fail;
@@ -31,8 +31,8 @@ fn two_doors<'a>(
     (doors, is_taken)
 }
 
-// Whether a door finds nothing before a peer dials, one link that does not wait behind it, and nothing
-// behind that; and how many bytes the peer reads when the link was hung up.
+// Whether a door finds nothing before a peer dials, one link that does not wait behind it, and
+// nothing behind that; and how many bytes the peer reads when the link was hung up.
 fn arrivals_of(
     rt: &HostRuntime,
     door: &mut TcpDoor<'_>,
@@ -79,21 +79,32 @@ fn life_of<R: Threads>(
     Ok((arrivals, is_stopped(rt, host, door)?))
 }
 
-#[test]
-fn a_door_gives_each_link_once_until_its_bell_is_rung(rt: HostRuntime) -> Result<(), Fail> {
-    let bells = Bells::new(&rt);
-    let mut street = TcpStreet::new(&rt, &bells);
-    let place = free_place(&rt)?;
-    let (mut doors, is_taken) = two_doors(&rt, &mut street, &place);
+// The same of the last of two doors; how many others there were; and whether the place was taken
+// then.
+fn lives_of<R: Threads>(
+    rt: &R,
+    host: &HostRuntime,
+    place: &str,
+) -> Result<(([bool; 3], usize), (usize, bool, bool)), Fail> {
+    let bells = Bells::new(host);
+    let mut street = TcpStreet::new(host, &bells);
+    let (mut doors, is_taken) = two_doors(host, &mut street, place);
     let Some(mut door) = doors.pop() else {
-        panic!(rt; "no doors");
+        return Err(Fail::from("no doors"));
     };
     let count = doors.len();
     drop(doors);
-    let life = life_of(&rt, &rt, &mut door, &place);
+    let life = life_of(rt, host, &mut door, place);
     street.shut(door);
     let (arrivals, is_stopped) = life?;
-    assert_eq!(rt; (count, is_taken, is_stopped), (1, true, true));
+    Ok((arrivals, (count, is_taken, is_stopped)))
+}
+
+#[test]
+fn a_door_gives_each_link_once_until_its_bell_is_rung(rt: HostRuntime) -> Result<(), Fail> {
+    let place = free_place(&rt)?;
+    let (arrivals, doors) = lives_of(&rt, &rt, &place)?;
+    assert_eq!(rt; doors, (1, true, true));
     assert_eq!(rt; arrivals, ([true, true, true], 0));
     Ok(())
 }
@@ -105,45 +116,84 @@ fn rest_of(rt: &HostRuntime, door: &mut TcpDoor<'_>) -> io::Result<u128> {
     Ok(begun.elapsed(rt)?.as_micros())
 }
 
-// How long so many rests of one door alone take, in microseconds: where nothing comes, where a client
-// does, and where the link of one client gets a byte.
-fn rests_alone(rt: &HostRuntime, door: &mut TcpDoor<'_>, place: &str) -> Result<[u128; 3], Fail> {
+// How long a rest of a door takes where another client comes, whose link is hung up then.
+fn rest_with_client(rt: &HostRuntime, door: &mut TcpDoor<'_>, place: &str) -> io::Result<u128> {
+    let other = TcpStream::connect(rt, place)?;
+    let took = rest_of(rt, door);
+    let came = door.accept();
+    drop(other);
+    if let Arrived::Link(link) = came {
+        door.hang_up(link);
+    }
+    took
+}
+
+// How long rests of one door take, in microseconds: where nothing comes, where a client does, and
+// where the link of one client gets a byte.
+fn rest_thrice(
+    rt: &HostRuntime,
+    door: &mut TcpDoor<'_>,
+    place: &str,
+    client: &mut TcpStream,
+    link: &mut TcpLink<'_>,
+) -> io::Result<[u128; 3]> {
+    let quiet = rest_of(rt, door)?;
+    let came = rest_with_client(rt, door, place)?;
+    let _ = client.write(b"$")?;
+    let sent = rest_of(rt, door)?;
+    let _ = link.read(&mut [0u8; 4]);
+    Ok([quiet, came, sent])
+}
+
+// How long so many of each take in all, beside the link of this client.
+fn rests_beside(
+    rt: &HostRuntime,
+    door: &mut TcpDoor<'_>,
+    place: &str,
+    client: &mut TcpStream,
+    link: &mut TcpLink<'_>,
+) -> io::Result<[u128; 3]> {
     let mut took = [0u128; 3];
+    for _ in 0..TIMES {
+        let each = rest_thrice(rt, door, place, client, link)?;
+        for (sum, one) in took.iter_mut().zip(each) {
+            *sum = sum.saturating_add(one);
+        }
+    }
+    Ok(took)
+}
+
+// The same of one door alone, whose one client was accepted before.
+fn rests_alone(rt: &HostRuntime, door: &mut TcpDoor<'_>, place: &str) -> io::Result<[u128; 3]> {
     let mut client = TcpStream::connect(rt, place)?;
     door.rest();
     let Arrived::Link(mut link) = door.accept() else {
-        return Err(io::Error::from(ErrorKind::NotConnected).into());
+        return Err(io::Error::from(ErrorKind::NotConnected));
     };
-    for _ in 0..TIMES {
-        took[0] = took[0].saturating_add(rest_of(rt, door)?);
-        let other = TcpStream::connect(rt, place)?;
-        took[1] = took[1].saturating_add(rest_of(rt, door)?);
-        let came = door.accept();
-        drop(other);
-        if let Arrived::Link(link) = came {
-            door.hang_up(link);
-        }
-        let _ = client.write(b"$")?;
-        took[2] = took[2].saturating_add(rest_of(rt, door)?);
-        let _ = link.read(&mut [0u8; 4]);
-    }
+    let took = rests_beside(rt, door, place, &mut client, &mut link);
     door.hang_up(link);
-    Ok(took)
+    took
+}
+
+// The same of a street's one door, which is shut then.
+fn rests_of_one(rt: &HostRuntime, place: &str) -> Result<[u128; 3], Fail> {
+    let bells = Bells::new(rt);
+    let mut street = TcpStreet::new(rt, &bells);
+    let Ok(mut doors) = street.open(place, 1) else {
+        return Err(Fail::from("no doors"));
+    };
+    let Some(mut door) = doors.pop() else {
+        return Err(Fail::from("no door"));
+    };
+    let took = rests_alone(rt, &mut door, place);
+    street.shut(door);
+    Ok(took?)
 }
 
 #[test]
 fn a_rest_of_one_door_ends_with_a_client_and_with_bytes(rt: HostRuntime) -> Result<(), Fail> {
-    let bells = Bells::new(&rt);
-    let mut street = TcpStreet::new(&rt, &bells);
     let place = free_place(&rt)?;
-    let Ok(mut doors) = street.open(&place, 1) else {
-        panic!(rt; "no doors");
-    };
-    let Some(mut door) = doors.pop() else {
-        panic!(rt; "no door");
-    };
-    let [quiet, came, sent] = rests_alone(&rt, &mut door, &place)?;
-    street.shut(door);
+    let [quiet, came, sent] = rests_of_one(&rt, &place)?;
     assert!(rt; came < quiet);
     assert!(rt; sent < quiet);
     Ok(())

@@ -1,5 +1,5 @@
-//! Readers, writers and files of std as sources, sinks and stores, and loopback sockets as links, doors
-//! and streets, by the public calls of `caster_net`.
+//! Readers, writers and files of std as sources, sinks and stores, and loopback sockets as links,
+//! doors and streets, by the public calls of `caster_net`.
 //!
 //! They stand in a crate of their own, so that the crate that they try is proved once.
 #![tactic(auto)]

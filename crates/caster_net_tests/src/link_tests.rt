@@ -44,16 +44,47 @@ fn traffic_of(
     Ok(([nothing, some, end], came, fails))
 }
 
+// The same of a link that was dialled, which is hung up then.
+fn traffic(rt: &HostRuntime) -> Result<([Got; 3], [u8; 2], bool), Fail> {
+    let bells = Bells::new(rt);
+    let mut street = TcpStreet::new(rt, &bells);
+    let (mut link, peer) = pair(rt, &mut street)?;
+    let traffic = traffic_of(&mut link, peer);
+    street.hang_up(link);
+    Ok(traffic?)
+}
+
 #[test]
 fn a_link_reads_what_comes_and_writes_at_once(rt: HostRuntime) -> Result<(), Fail> {
-    let bells = Bells::new(&rt);
-    let mut street = TcpStreet::new(&rt, &bells);
-    let (mut link, peer) = pair(&rt, &mut street)?;
-    let (got, came, fails) = traffic_of(&mut link, peer)?;
-    street.hang_up(link);
+    let (got, came, fails) = traffic(&rt)?;
     assert_eq!(rt; got, [Got::Idle, Got::Bytes(3), Got::End]);
     assert_eq!(rt; (came, fails), (*b"de", true));
     Ok(())
+}
+
+// Two links that were dialled, each with its peer: of a rover that reports, and of a source with
+// its base.
+#[derive(Drop)]
+pub(crate) struct Pairs<'a> {
+    pub(crate) rover: TcpLink<'a>,
+    pub(crate) reports: TcpStream,
+    pub(crate) source: TcpLink<'a>,
+    pub(crate) base: TcpStream,
+}
+
+// Dials twice.
+pub(crate) fn dial_twice<'a>(
+    rt: &HostRuntime,
+    street: &mut TcpStreet<'a>,
+) -> Result<Pairs<'a>, Fail> {
+    let (rover, reports) = pair(rt, street)?;
+    let (source, base) = pair(rt, street)?;
+    Ok(Pairs {
+        rover,
+        reports,
+        source,
+        base,
+    })
 }
 
 // Whether a rest ends well before the longest one does.
@@ -75,122 +106,112 @@ fn give(source: &mut TcpLink<'_>, base: &mut TcpStream) -> io::Result<()> {
 
 // Whether the rest of a rover is short when it was told its mountpoint; behind it, where nothing
 // happens; where its peer sends; and where a source at its mountpoint gave a frame.
-fn rests_at_one(
-    rt: &HostRuntime,
-    rover: &mut TcpLink<'_>,
-    reports: &mut TcpStream,
-    source: &mut TcpLink<'_>,
-    base: &mut TcpStream,
-) -> io::Result<[bool; 4]> {
-    rover.set_mount(1);
-    let told = is_short(rt, rover)?;
-    let quiet = is_short(rt, rover)?;
-    let _ = reports.write(b"$")?;
-    let reported = is_short(rt, rover)?;
-    let _ = rover.read(&mut [0u8; 4]);
-    source.set_mount(1);
-    give(source, base)?;
-    Ok([told, quiet, reported, is_short(rt, rover)?])
+fn rests_at_one(rt: &HostRuntime, two: &mut Pairs<'_>) -> io::Result<[bool; 4]> {
+    two.rover.set_mount(1);
+    let told = is_short(rt, &mut two.rover)?;
+    let quiet = is_short(rt, &mut two.rover)?;
+    let _ = two.reports.write(b"$")?;
+    let reported = is_short(rt, &mut two.rover)?;
+    let _ = two.rover.read(&mut [0u8; 4]);
+    two.source.set_mount(1);
+    give(&mut two.source, &mut two.base)?;
+    Ok([told, quiet, reported, is_short(rt, &mut two.rover)?])
 }
 
 // The same of two links that were dialled, which are hung up then.
-fn rests_of(rt: &HostRuntime, street: &mut TcpStreet<'_>) -> Result<[bool; 4], Fail> {
-    let (mut rover, mut reports) = pair(rt, street)?;
-    let (mut source, mut base) = pair(rt, street)?;
-    let rests = rests_at_one(rt, &mut rover, &mut reports, &mut source, &mut base);
-    street.hang_up(rover);
-    street.hang_up(source);
+fn rests_of(rt: &HostRuntime) -> Result<[bool; 4], Fail> {
+    let bells = Bells::new(rt);
+    let mut street = TcpStreet::new(rt, &bells);
+    let mut two = dial_twice(rt, &mut street)?;
+    let rests = rests_at_one(rt, &mut two);
+    street.hang_up(two.rover);
+    street.hang_up(two.source);
     Ok(rests?)
 }
 
 #[test]
 fn a_rest_ends_with_the_peer_or_the_bell(rt: HostRuntime) -> Result<(), Fail> {
-    let bells = Bells::new(&rt);
-    let mut street = TcpStreet::new(&rt, &bells);
-    let got = rests_of(&rt, &mut street)?;
+    let got = rests_of(&rt)?;
     assert_eq!(rt; got, [true, false, true, true]);
     Ok(())
 }
 
 // Whether the rest of a rover at one mountpoint is short where a source at another gave a frame; as
 // it is told that other one; behind it, where nothing happens; and where that source gave one more.
-fn rests_at_two(
-    rt: &HostRuntime,
-    rover: &mut TcpLink<'_>,
-    source: &mut TcpLink<'_>,
-    base: &mut TcpStream,
-) -> io::Result<[bool; 4]> {
-    source.set_mount(2);
-    rover.set_mount(1);
-    rover.rest();
-    give(source, base)?;
-    let apart = is_short(rt, rover)?;
-    rover.set_mount(2);
-    let moved = is_short(rt, rover)?;
-    let quiet = is_short(rt, rover)?;
-    give(source, base)?;
-    Ok([apart, moved, quiet, is_short(rt, rover)?])
+fn rests_at_two(rt: &HostRuntime, two: &mut Pairs<'_>) -> io::Result<[bool; 4]> {
+    two.source.set_mount(2);
+    two.rover.set_mount(1);
+    two.rover.rest();
+    give(&mut two.source, &mut two.base)?;
+    let apart = is_short(rt, &mut two.rover)?;
+    two.rover.set_mount(2);
+    let moved = is_short(rt, &mut two.rover)?;
+    let quiet = is_short(rt, &mut two.rover)?;
+    give(&mut two.source, &mut two.base)?;
+    Ok([apart, moved, quiet, is_short(rt, &mut two.rover)?])
 }
 
 // The same of two links that were dialled, which are hung up then.
-fn rests_apart(rt: &HostRuntime, street: &mut TcpStreet<'_>) -> Result<[bool; 4], Fail> {
-    let (mut rover, _reports) = pair(rt, street)?;
-    let (mut source, mut base) = pair(rt, street)?;
-    let rests = rests_at_two(rt, &mut rover, &mut source, &mut base);
-    street.hang_up(rover);
-    street.hang_up(source);
+fn rests_apart(rt: &HostRuntime) -> Result<[bool; 4], Fail> {
+    let bells = Bells::new(rt);
+    let mut street = TcpStreet::new(rt, &bells);
+    let mut two = dial_twice(rt, &mut street)?;
+    let rests = rests_at_two(rt, &mut two);
+    street.hang_up(two.rover);
+    street.hang_up(two.source);
     Ok(rests?)
 }
 
 #[test]
 fn each_mountpoint_has_a_bell(rt: HostRuntime) -> Result<(), Fail> {
-    let bells = Bells::new(&rt);
-    let mut street = TcpStreet::new(&rt, &bells);
-    let got = rests_apart(&rt, &mut street)?;
+    let got = rests_apart(&rt)?;
     assert_eq!(rt; got, [false, true, false, true]);
     Ok(())
 }
 
-// Whether a link that was told no mountpoint rests short where frames are given.
-fn rest_beside(
-    rt: &HostRuntime,
-    caller: &mut TcpLink<'_>,
-    source: &mut TcpLink<'_>,
-    base: &mut TcpStream,
-) -> io::Result<bool> {
-    give(source, base)?;
-    is_short(rt, caller)
+// Whether a link that was told no mountpoint rests short where frames are given. It is told one
+// then.
+fn rest_beside(rt: &HostRuntime, two: &mut Pairs<'_>) -> io::Result<bool> {
+    give(&mut two.source, &mut two.base)?;
+    let untold = is_short(rt, &mut two.rover)?;
+    two.rover.set_mount(3);
+    two.rover.rest();
+    Ok(untold)
 }
 
-// The same of links that were dialled, and whether one that gave a frame rings for it as it is hung up.
-fn rests_untold(rt: &HostRuntime, street: &mut TcpStreet<'_>) -> Result<[bool; 2], Fail> {
-    let (mut caller, _head) = pair(rt, street)?;
-    let (mut rover, _reports) = pair(rt, street)?;
-    let (mut source, mut base) = pair(rt, street)?;
-    rover.set_mount(3);
-    rover.rest();
-    let untold = rest_beside(rt, &mut caller, &mut source, &mut base);
-    street.hang_up(source);
-    let rung = is_short(rt, &mut rover);
-    street.hang_up(caller);
-    street.hang_up(rover);
+// The same of links that were dialled, and whether one that gave a frame rings for it as it is hung
+// up.
+fn rests_untold(rt: &HostRuntime) -> Result<[bool; 2], Fail> {
+    let bells = Bells::new(rt);
+    let mut street = TcpStreet::new(rt, &bells);
+    let mut two = dial_twice(rt, &mut street)?;
+    let untold = rest_beside(rt, &mut two);
+    street.hang_up(two.source);
+    let rung = is_short(rt, &mut two.rover);
+    street.hang_up(two.rover);
     Ok([untold?, rung?])
 }
 
 #[test]
 fn a_link_without_a_mountpoint_rings_at_its_end(rt: HostRuntime) -> Result<(), Fail> {
-    let bells = Bells::new(&rt);
-    let mut street = TcpStreet::new(&rt, &bells);
-    let got = rests_untold(&rt, &mut street)?;
+    let got = rests_untold(&rt)?;
     assert_eq!(rt; got, [false, true]);
     Ok(())
 }
 
+// Whether a link that was dialled sends small pieces at once.
+fn is_prompt(rt: &HostRuntime) -> Result<bool, Fail> {
+    let bells = Bells::new(rt);
+    let mut street = TcpStreet::new(rt, &bells);
+    let (link, _peer) = pair(rt, &mut street)?;
+    let is_prompt = link.is_prompt();
+    street.hang_up(link);
+    Ok(is_prompt?)
+}
+
 #[test]
 fn small_pieces_are_sent_at_once(rt: HostRuntime) -> Result<(), Fail> {
-    let bells = Bells::new(&rt);
-    let mut street = TcpStreet::new(&rt, &bells);
-    let (link, _peer) = pair(&rt, &mut street)?;
-    assert!(rt; link.is_prompt()?);
+    let is_prompt = is_prompt(&rt)?;
+    assert!(rt; is_prompt);
     Ok(())
 }

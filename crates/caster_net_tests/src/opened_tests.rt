@@ -1,11 +1,12 @@
-//! What is opened, and what is reached, is what the record names. No contract can say so: the calls go
-//! through `records`, where contracts say what the record is, and each test looks at what was opened.
+//! What is opened, and what is reached, is what the record names. No contract can say so: the calls
+//! go through `records`, where contracts say what the record is, and each test looks at what was
+//! opened.
 use crate::records::{dialled, opened, opened_at, read_on};
 use cast_io::{Arrived, Door, Failed, Street};
 use caster_net::{Bells, FileStore, TcpDoor, TcpStreet};
 use std::net::{TcpListener, TcpStream};
 use std::test::Fail;
-use std::{fs, process};
+use std::{fs, io, process};
 
 // The path of a file of this run, with this name.
 fn path_of(rt: &HostRuntime, name: &str) -> Result<String, Fail> {
@@ -21,21 +22,29 @@ fn front_of(store: &mut FileStore<'_>, path: &str) -> Result<[u8; 3], Failed> {
     Ok(front)
 }
 
+// The same of the files of two paths in turn, and of the second once both are gone. They hold `one`
+// and `two` before.
+fn fronts_of(rt: &HostRuntime, one: &str, two: &str) -> io::Result<[Result<[u8; 3], Failed>; 4]> {
+    let mut store = FileStore::new(rt);
+    fs::write(rt, one, b"one")?;
+    fs::write(rt, two, b"two")?;
+    let first = front_of(&mut store, one);
+    let second = front_of(&mut store, two);
+    let again = front_of(&mut store, one);
+    fs::remove_file(rt, one)?;
+    fs::remove_file(rt, two)?;
+    let gone = front_of(&mut store, two);
+    Ok([first, second, again, gone])
+}
+
 #[test]
 fn a_store_opens_the_path_that_it_records(rt: HostRuntime) -> Result<(), Fail> {
     let (one, two) = (path_of(&rt, "one")?, path_of(&rt, "two")?);
-    fs::write(&rt, &one, b"one")?;
-    fs::write(&rt, &two, b"two")?;
-    let mut store = FileStore::new(&rt);
-    let fronts = [
-        front_of(&mut store, &one),
-        front_of(&mut store, &two),
-        front_of(&mut store, &one),
-    ];
-    fs::remove_file(&rt, &one)?;
-    fs::remove_file(&rt, &two)?;
-    assert_eq!(rt; fronts, [Ok(*b"one"), Ok(*b"two"), Ok(*b"one")]);
-    assert_eq!(rt; front_of(&mut store, &two), Err(Failed));
+    let fronts = fronts_of(&rt, &one, &two)?;
+    assert_eq!(rt;
+        fronts,
+        [Ok(*b"one"), Ok(*b"two"), Ok(*b"one"), Err(Failed)]
+    );
     Ok(())
 }
 
@@ -47,18 +56,26 @@ fn listener_of(rt: &HostRuntime) -> Result<(TcpListener, String), Fail> {
     Ok((listener, format!(in rt.alloc(); "{addr}")?))
 }
 
+// Whether a link is dialled at this address. It is hung up then.
+fn is_dialled(rt: &HostRuntime, place: &str) -> bool {
+    let bells = Bells::new(rt);
+    let mut street = TcpStreet::new(rt, &bells);
+    match dialled(&mut street, place) {
+        Ok(link) => {
+            street.hang_up(link);
+            true
+        }
+        Err(_) => false,
+    }
+}
+
 #[test]
 fn a_street_dials_the_address_that_it_records(rt: HostRuntime) -> Result<(), Fail> {
-    let bells = Bells::new(&rt);
-    let mut street = TcpStreet::new(&rt, &bells);
     let (one, _) = listener_of(&rt)?;
     let (two, place) = listener_of(&rt)?;
-    let Ok(link) = dialled(&mut street, &place) else {
-        panic!(rt; "no link");
-    };
-    let reached = [one.accept().is_ok(), two.accept().is_ok()];
-    street.hang_up(link);
-    assert_eq!(rt; reached, [false, true]);
+    let is_dialled = is_dialled(&rt, &place);
+    let reached = [is_dialled, one.accept().is_ok(), two.accept().is_ok()];
+    assert_eq!(rt; reached, [true, false, true]);
     Ok(())
 }
 
@@ -88,20 +105,27 @@ fn is_reached(door: &mut TcpDoor<'_>) -> bool {
     }
 }
 
-#[test]
-fn a_street_opens_the_address_that_it_records(rt: HostRuntime) -> Result<(), Fail> {
-    let bells = Bells::new(&rt);
-    let mut street = TcpStreet::new(&rt, &bells);
-    let (one, _) = door_of(&rt, &mut street)?;
-    let (two, place) = door_of(&rt, &mut street)?;
+// Whether a link comes to the first and to the second of two doors where a client comes to the
+// address of the second.
+fn are_reached(rt: &HostRuntime) -> Result<[bool; 2], Fail> {
+    let bells = Bells::new(rt);
+    let mut street = TcpStreet::new(rt, &bells);
+    let (one, _) = door_of(rt, &mut street)?;
+    let (two, place) = door_of(rt, &mut street)?;
     let (Some(mut one), Some(mut two)) = (one, two) else {
-        panic!(rt; "no doors");
+        return Err(Fail::from("no doors"));
     };
-    let peer = TcpStream::connect(&rt, &place)?;
+    let peer = TcpStream::connect(rt, &place)?;
     let reached = [is_reached(&mut one), is_reached(&mut two)];
     drop(peer);
     street.shut(one);
     street.shut(two);
+    Ok(reached)
+}
+
+#[test]
+fn a_street_opens_the_address_that_it_records(rt: HostRuntime) -> Result<(), Fail> {
+    let reached = are_reached(&rt)?;
     assert_eq!(rt; reached, [false, true]);
     Ok(())
 }

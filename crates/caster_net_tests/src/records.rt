@@ -13,8 +13,8 @@ use caster_net::{FileStore, ReaderSource, TcpDoor, TcpLink, TcpStreet, Wire, Wri
 use std::io::{Read, Write};
 use std::os::fd::RawFd;
 
-/// One read of a wire over these bytes. It gives the first of them, and is at the end only where there
-/// are none.
+/// One read of a wire over these bytes. It gives the first of them, and is at the end only where
+/// there are none.
 pub fn slice_read(bytes: &[u8], buf: &mut [u8]) -> Got
     requires { 0 < length buf.old }
     ensures first { (n : ℕ) → result ≡ got.Bytes n

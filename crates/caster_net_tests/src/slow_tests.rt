@@ -1,5 +1,5 @@
 //! Peers that take little, and nothing.
-use crate::link_tests::pair;
+use crate::link_tests::{Pairs, dial_twice};
 use cast_io::{Link, Street};
 use caster_net::{Bells, TcpLink, TcpStreet};
 use std::io::Read;
@@ -12,8 +12,8 @@ use std::{io, thread};
 // More bytes than the system keeps of a connection.
 const PIECE: usize = 32 << 20;
 
-// How much a peer takes now and then, in bytes, and how often it does before it takes all, with half a
-// second between two times: eleven seconds together.
+// How much a peer takes now and then, in bytes, and how often it does before it takes all, with
+// half a second between two times: eleven seconds together.
 const LITTLE: usize = 128 << 10;
 
 const TIMES: u32 = 22;
@@ -55,37 +55,54 @@ fn write_fails(rt: &HostRuntime, link: &mut TcpLink<'_>, piece: &[u8]) -> io::Re
 
 // What comes of writes side by side, to a peer that takes little and to one that takes nothing; and
 // how much the first one got.
-fn writes_of<R: Threads>(
+fn writes_at<R: Threads>(
     rt: &R,
     host: &HostRuntime,
-    street: &mut TcpStreet<'_>,
+    two: &mut Pairs<'_>,
     piece: &[u8],
-) -> Result<([(bool, u64); 2], usize), Fail> {
-    let mut room = vec![in host.alloc(); 0u8; LITTLE]?;
-    let (mut slow, mut taker) = pair(host, street)?;
-    let (mut stuck, _peer) = pair(host, street)?;
+    room: &mut [u8],
+) -> io::Result<([(bool, u64); 2], usize)> {
+    let Pairs {
+        rover: slow,
+        reports: taker,
+        source: stuck,
+        base: _,
+    } = two;
     let (to_slow, (to_stuck, came)) = thread::join(
         rt,
-        || write_fails(host, &mut slow, piece),
+        || write_fails(host, slow, piece),
         || {
             thread::join(
                 rt,
-                || write_fails(host, &mut stuck, piece),
-                || take_all(host, &mut taker, &mut room),
+                || write_fails(host, stuck, piece),
+                || take_all(host, taker, room),
             )
         },
     );
-    street.hang_up(slow);
-    street.hang_up(stuck);
     Ok(([to_slow?, to_stuck?], came?))
+}
+
+// The same of two links that were dialled, which are hung up then.
+fn writes_of<R: Threads>(
+    rt: &R,
+    host: &HostRuntime,
+    piece: &[u8],
+    room: &mut [u8],
+) -> Result<([(bool, u64); 2], usize), Fail> {
+    let bells = Bells::new(host);
+    let mut street = TcpStreet::new(host, &bells);
+    let mut two = dial_twice(host, &mut street)?;
+    let writes = writes_at(rt, host, &mut two, piece, room);
+    street.hang_up(two.rover);
+    street.hang_up(two.source);
+    Ok(writes?)
 }
 
 #[test]
 fn who_takes_little_is_kept_and_who_takes_nothing_is_not(rt: HostRuntime) -> Result<(), Fail> {
-    let bells = Bells::new(&rt);
-    let mut street = TcpStreet::new(&rt, &bells);
     let piece = vec![in rt.alloc(); 0u8; PIECE]?;
-    let ([to_slow, to_stuck], came) = writes_of(&rt, &rt, &mut street, &piece)?;
+    let mut room = vec![in rt.alloc(); 0u8; LITTLE]?;
+    let ([to_slow, to_stuck], came) = writes_of(&rt, &rt, &piece, &mut room)?;
     assert_eq!(rt; (to_slow.0, came), (false, PIECE));
     assert!(rt; to_slow.1 >= 10);
     assert!(rt; to_stuck.0 && (9..20).contains(&to_stuck.1));

@@ -1,5 +1,5 @@
-//! Wires over streams that give and take little, over what std knows the bytes of, and over a pair of
-//! sockets.
+//! Wires over streams that give and take little, over what std knows the bytes of, and over a pair
+//! of sockets.
 use crate::records::{slice_read, vec_written};
 use cast_io::{Failed, Got};
 use caster_net::Wire;
