@@ -1,0 +1,6 @@
+-- One caller less.
+use Rattle.std.proofs.Common.{length}
+use Rattle.caster_press.proofs.callers.+leave_all.Given as goal
+
+abbrev pub decreases-leave_all : goal.decreases-leave_all
+decreases-leave_all g l = length l.callers.items

@@ -1,0 +1,13 @@
+-- A caller that puts lines of a list.
+use Rattle.std.specs.Prelude.{◌≡◌, ℕ, ◌^◌, ◌<◌, ◌≤◌, List, length, take}
+use Rattle.caster_press.specs.declared.line.Line.{Line}
+use Rattle.caster_press_tests.specs.declared.script.Script.{Script}
+
+-- the lines that were put
+abbrev pub lines_put : Script → List Line
+lines_put script = take script.put script.lines.items
+
+-- the list is what it was, and all of it was put, or the lock was worn by so many turns
+pub record HasWritten (old new : Script) (worn : ℕ) : Type 0 where
+  pub same : new.lines.items ≡ old.lines.items
+  pub all : new.put < length new.lines.items → 2 ^ 62 ≤ worn

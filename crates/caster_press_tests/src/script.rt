@@ -1,0 +1,44 @@
+//! A caller that puts lines of a list.
+ghost use Rattle.std.specs.Prelude.{◌≡◌, [], take};
+
+use caster_press::{AtPress, Line, Writer};
+
+/// The work of putting the lines of a list, in order.
+#[derive(Drop)]
+pub struct Script {
+    lines: Vec<Line>,
+    put: usize,
+}
+
+impl Script {
+    /// The work of putting these lines, none of which was put.
+    pub fn new(lines: Vec<Line>) -> Script
+        ensures { ⟦<Script as Writer>⟧.lines result ≡ [] }
+    {
+        Script { lines, put: 0 }
+    }
+
+    /// How many lines were put.
+    pub fn count(&self) -> usize
+        ensures { take result self.now.lines.items ≡ ⟦<Script as Writer>⟧.lines self.now }
+    {
+        self.put
+    }
+}
+
+impl Writer for Script {
+    ghost use Rattle.caster_press_tests.specs.Scripts.{HasWritten, lines_put};
+
+    ghost lines = { lines_put };
+
+    ghost wrote = { HasWritten };
+
+    fn write<P: AtPress>(&mut self, place: &mut P, me: u32) {
+        while self.put < self.lines.len() {
+            let Ok(()) = place.put(me, &self.lines[self.put]) else {
+                return;
+            };
+            self.put += 1;
+        }
+    }
+}
