@@ -18,17 +18,17 @@ use Rattle.session_model.specs.declared.report.Receipt.{Receipt}
 use Rattle.session_core.specs.declared.session.Session.{Session}
 use Rattle.session_model.specs.Headings.{Heading}
 use Rattle.session_model.specs.Judged.{Opening, Judged, waiting, judged}
-use Rattle.session_model.specs.Owed.{received, plan_of, closing}
+use Rattle.session_model.specs.Owed.{nothing, came_to, plan_of, closing}
 use Rattle.session_model.specs.Endings.{ended_by}
 use Rattle.session_model.specs.Replies.{opening_text, sent_by}
-use Rattle.session_model.specs.Reports.{IsHeadingOf, junk_of}
+use Rattle.session_model.specs.Reports.{IsHeadingOf}
 use Rattle.session_model.specs.Promises.{IsSoundIn}
 use Rattle.session_model.specs.Run.{Histories}
 use Rattle.session_model.specs.Called.{Called, OthersCalled}
 use Rattle.session_core.specs.Standing.{StandsFor, EndsAs, IsMadeBy, IsSentBy, is_halted, is_uncalled, is_halted_uncalled}
-use Rattle.session_core.specs.Closed.{IsSettled, IsReceipt, IsClosed}
+use Rattle.session_core.specs.Closed.{ending_by, IsSettled, IsReceipt, IsClosed}
 use Rattle.session_model.proofs.KeepLemmas.{AllSound}
-use Rattle.session_core.proofs.ClosingLemmas.{closing_unasked, junk_unasked}
+use Rattle.session_core.proofs.ClosingLemmas.{free_closed, free_junk, free_out, uncalled_free}
 use Rattle.session_model.specs.Courses.{happened, steps_of, text_of}
 use Rattle.caster_link.specs.Links.{Stopped, is_torn}
 use Rattle.caster_link.specs.Served.{Came, IsJudged, LinkGoes, LinkServed}
@@ -52,10 +52,10 @@ sent_through true true written sent due first second = (
 
 -- of one whose session was lost nothing is sent but how it opened
 lost_due : (c : Config) (rings : List (History RingCall)) (opening : Opening) (steps : List Step) → steps ≡ []
-    → sent_by c rings opening waiting (received steps) (reverse (segments_after [] steps))
+    → sent_by c rings opening (came_to waiting steps) (reverse (segments_after [] steps))
     ≡ opening_text c opening ++ []
 lost_due c rings opening steps none =
-    ap (λ (s : List Step). sent_by c rings opening waiting (received s) (reverse (segments_after [] s))) none
+    ap (λ (s : List Step). sent_by c rings opening (came_to waiting s) (reverse (segments_after [] s))) none
     ∙ append-nil (opening_text c opening ++ [])
 
 lost_cut : (ended : Option Ending) (steps : List Step) → ended ≡ Some Memory → steps ≡ []
@@ -74,20 +74,22 @@ lost_settled : (settled : Bool) (j : Judged) (steps more : List Step) → steps 
     → IsSettled settled (closing j steps) more → IsSettled settled (closing waiting steps) more
 lost_settled settled j steps more none is =
     subst (λ (p : Plan). IsSettled settled p more)
-    (ap (closing j) none ∙ closing_unasked j [] ∙ sym (ap (closing waiting) none)) is
+    (free_closed (came_to j steps) (segments_after [] steps) (uncalled_free steps none j)
+    ∙ sym (free_closed (came_to waiting steps) (segments_after [] steps) (uncalled_free steps none waiting))) is
 
 lost_receipt : (ended : Option Ending) (j : Judged) (steps : List Step) (last : Last) (receipt : Receipt)
     → ended ≡ Some Memory → steps ≡ [] → IsReceipt ended j steps last receipt
     → IsReceipt ended waiting steps last receipt
 lost_receipt ended j steps last receipt halted none is = record {
-  ending = is.ending;
+  ending = is.ending ∙ ap (λ (e : Option Ending). ending_by e last (came_to j steps)) halted
+      ∙ sym (ap (λ (e : Option Ending). ending_by e last nothing) halted);
   segments = is.segments;
   sent = is.sent;
   overrun = is.overrun;
   junk = inl (ap is_halted halted);
   at_most = subst (λ (n : ℕ). receipt.junk ≤ n)
-      (ap (λ (s : List Step). junk_of j (received s)) none ∙ junk_unasked j) is.at_most;
-  entered = is.entered;
+      (free_junk (came_to j steps) (uncalled_free steps none j)) is.at_most;
+  entered = is.entered ∙ free_out (came_to j steps) (uncalled_free steps none j);
 }
 
 -- ---- the whole
@@ -96,10 +98,10 @@ goes_by : (c : Config) (opening : Opening) (me : ℕ) (alone : Bool) (start betw
     (session : Session) (before after : LinkTold) (last : Last) (receipt : Receipt)
     (came : Came c opening me start between session before after last) (j : Judged) (more : List Step)
     → IsJudged c opening (text_of came.whats) (steps_of came.reached.events) session.ended j
-    → EndsAs session.ended (ended_by j (received (steps_of came.reached.events)))
+    → EndsAs session.ended (ended_by (came_to j (steps_of came.reached.events)))
     → IsMadeBy (is_halted session.ended) (plan_of c j) (owed_among (steps_of came.reached.events))
     → IsSentBy (is_halted_uncalled session.ended (steps_of came.reached.events)) came.sent
-    (sent_by c between.rings opening j (received (steps_of came.reached.events))
+    (sent_by c between.rings opening (came_to j (steps_of came.reached.events))
     (reverse (segments_after [] (steps_of came.reached.events))))
     → Called c alone between now session.me more
     → IsSettled receipt.settled (closing j (steps_of came.reached.events)) more
@@ -173,7 +175,7 @@ goes_on_stands c opening me alone start between now session before after last re
     (inr (lost.ended, lost.uncalled, refl)) (inl (ap is_halted lost.ended))
     (lost_owes c session.ended steps lost.ended lost.uncalled)
     (subst (λ (cut : Bool). IsSentBy cut came.sent
-    (sent_by c between.rings opening waiting (received steps) (reverse (segments_after [] steps))))
+    (sent_by c between.rings opening (came_to waiting steps) (reverse (segments_after [] steps))))
     (sym (lost_cut session.ended steps lost.ended lost.uncalled))
     ([], lost_due c between.rings opening steps lost.uncalled ∙ ap (λ (l : List ℕ). l ++ []) (sym lost.unsent)))
     closed.called (lost_settled receipt.settled j steps closed.more lost.uncalled closed.settled)
@@ -219,7 +221,7 @@ unopened c opening me now told receipt settled is = record {
     judged_is = inr (refl, refl, refl);
     ends = inl refl;
     owes = tt;
-    bytes = (sent_by c now.rings opening waiting (received []) (reverse (segments_after [] [])), refl);
+    bytes = (sent_by c now.rings opening (came_to waiting []) (reverse (segments_after [] [])), refl);
     closed_by = [];
     closed = called_none c now me;
     settled = settled;

@@ -1,5 +1,5 @@
 -- A source publishes the frames of its body, and nothing else.
-use Rattle.std.proofs.Common.{◌≡◌, ◌∙◌, ◌⊎◌, ◌++◌, ℕ, Bool, true, false, List, [], ◌∷◌, map, refl, sym, ap, subst, inl, inr, append_assoc}
+use Rattle.std.proofs.Common.{◌≡◌, ◌∙◌, ◌⊎◌, ◌++◌, ℕ, Bool, true, false, List, [], ◌∷◌, map, refl, sym, ap, subst, inl, inr, Option, Some, append_assoc}
 use Rattle.std.specs.Prelude.{eqb, cond, get_or}
 use Rattle.std.specs.List.{filter}
 use Rattle.std.proofs.lemmas.Bool.{eq-eqb}
@@ -13,7 +13,7 @@ use Rattle.mount_ring.specs.declared.call.RingCall.TheVariants as calls
 use Rattle.mount_ring.specs.declared.call.RingAnswer.{RingAnswer}
 use Rattle.mount_ring.specs.declared.call.RingAnswer.TheVariants as rings
 use Rattle.rover_cursor.specs.declared.segment.Segment.{Segment}
-use Rattle.session_calls.specs.Steps.{to_ring, of_ring, Step, at_ring, at_book, on_ring}
+use Rattle.session_calls.specs.Steps.{to_ring, Answer, of_ring, Step, at_ring, at_book, on_ring}
 use Rattle.session_calls.specs.Plans.{done, asks, IsMade, IsBegun}
 use Rattle.session_calls.specs.Rings.{history_at, answer_at}
 use Rattle.source_session.specs.Body.{frames_of}
@@ -23,7 +23,8 @@ use Rattle.cast_config.specs.declared.config.Config.{Config}
 use Rattle.session_model.specs.declared.ending.Last.{Last}
 use Rattle.session_model.specs.declared.report.Receipt.{Receipt}
 use Rattle.session_model.specs.Judged.{Opening, Judged, SourceTerms, source}
-use Rattle.session_model.specs.Owed.{Received, claimed, received_by_ring, received, source_plan, plan_of, closing_by}
+use Rattle.session_model.specs.Owed.{holding, came_by, first_answer, came_to, source_plan, plan_of, closing_by}
+use Rattle.session_model.proofs.CameLemmas.{holding_parts}
 use Rattle.session_model.specs.Run.{Histories}
 use Rattle.session_model.specs.Called.{Called}
 use Rattle.session_model.specs.Setting.{shapes}
@@ -133,17 +134,12 @@ Published halted mount claim due owed =
     (frames : List (List ℕ)) × AreDue halted frames due
     × (calls_at mount owed ≡ calls.Claim ∷ map (calls.Publish claim) frames)
 
-given_is : (answer : RingAnswer) (claim : ℕ) → received_by_ring answer ≡ claimed claim → answer ≡ rings.Given claim
-given_is (rings.Given k) claim is = cc
-given_is (rings.Taken caller k) claim is = absurd cc
-given_is rings.Released claim is = absurd cc
-given_is (rings.At place) claim is = absurd cc
-given_is (rings.Joined cursor) claim is = absurd cc
-given_is (rings.Looked live) claim is = absurd cc
-given_is (rings.Read report) claim is = absurd cc
+given_is : (answer : RingAnswer) (claim : ℕ) → Some (of_ring answer) ≡ Some (of_ring (rings.Given claim))
+    → answer ≡ rings.Given claim
+given_is answer claim is = cc
 
 source_made : (halted : Bool) (terms : SourceTerms) (body : List ℕ) (owed : List Step) (claim : ℕ)
-    → received owed ≡ claimed claim → IsMadeBy halted (source_plan terms body) owed
+    → first_answer owed ≡ Some (of_ring (rings.Given claim)) → IsMadeBy halted (source_plan terms body) owed
     → Published halted terms.mount claim (frames_of terms.chunked body) owed
 source_made halted terms body [] claim is made = absurd cc
 source_made false terms body (at_ring asked call answer ∷ owed) claim is made =
@@ -194,7 +190,8 @@ head_answer {C} {A} answer me before (e ∷ more) call reply pairs is =
     by_first answer me before e (told answer me (before ++ e ∷ []) more) call reply pairs later (eqb e.0 me) is
 
 pub claim_owed : (c : Config) (old now : Histories) (me claim : ℕ) (steps : List Step)
-    → Called c false old now me steps → received steps ≡ claimed claim → received (owed_among steps) ≡ claimed claim
+    → Called c false old now me steps → first_answer steps ≡ Some (of_ring (rings.Given claim))
+    → first_answer (owed_among steps) ≡ Some (of_ring (rings.Given claim))
 claim_owed c old now me claim [] called is = is
 claim_owed c old now me claim (at_ring asked calls.Claim answer ∷ steps) called is = is
 claim_owed c old now me claim (at_ring asked (calls.Release k) answer ∷ steps) called is = is
@@ -209,7 +206,7 @@ claim_owed c old now me claim (at_ring asked (calls.Read cursor budget) answer �
     (eq-eqb asked asked refl) in
     let at = head_answer (answer_at (shapes c) asked) me (history_at old.rings asked) heard.more
     (calls.Read cursor budget) answer (on_ring asked steps) first in
-    let clash = sym (ap received_by_ring at.1) ∙ is in absurd cc
+    let clash = sym (ap (λ (a : RingAnswer). Some (of_ring a)) at.1) ∙ is in absurd cc
 claim_owed c old now me claim (at_book call answer ∷ steps) called is = is
 
 -- ---- the closing
@@ -224,13 +221,13 @@ released terms claim (at_ring asked call answer ∷ more) made =
 released terms claim (at_book call answer ∷ more) made = let clash = made.0 in absurd cc
 
 closes_claim : (settled : Bool) (terms : SourceTerms) (body : List ℕ) (claim : ℕ) (more : List Step)
-    (by : Received) (segments : List Segment) → by ≡ claimed claim
-    → IsSettled settled (closing_by (source terms body) by segments) more
+    (by : Option Answer) (segments : List Segment) → by ≡ Some (of_ring (rings.Given claim))
+    → IsSettled settled (closing_by (came_by (source terms body) by) segments) more
     → (calls_at terms.mount more ≡ []) ⊎ (calls_at terms.mount more ≡ calls.Release claim ∷ [])
 closes_claim false terms body claim more by segments is none = inl (ap (calls_at terms.mount) none)
 closes_claim true terms body claim more by segments is made =
     inr (released terms claim more
-    (subst (λ (r : Received). IsMade (closing_by (source terms body) r segments) more) is made))
+    (subst (λ (r : Option Answer). IsMade (closing_by (came_by (source terms body) r) segments) more) is made))
 
 -- none of these is a read
 all_owed : (list : List RingCall) (claim : ℕ) → (list ≡ []) ⊎ (list ≡ calls.Release claim ∷ [])
@@ -251,10 +248,13 @@ ring_calls c old now me steps mount called =
 pub source_published : (c : Config) (opening : Opening) (me : ℕ) (start now : Histories) (took : List LinkTook)
     (written : List ℕ) (last : Last) (receipt : Receipt)
     (goes : LinkGoes c opening me start now took written last receipt) (terms : SourceTerms) (body : List ℕ)
-    (claim : ℕ) → goes.j ≡ source terms body → received (steps_of goes.events) ≡ claimed claim
+    (claim : ℕ) → came_to goes.j (steps_of goes.events) ≡ holding terms body claim
     → (frames : List (List ℕ)) × AreDue (is_halted goes.ended) frames (frames_of terms.chunked body)
     × HasPublished me claim (history_at start.rings terms.mount) (history_at now.rings terms.mount) frames
-source_published c opening me start now took written last receipt goes terms body claim j is =
+source_published c opening me start now took written last receipt goes terms body claim holds =
+    let parts = holding_parts goes.j (first_answer (steps_of goes.events)) terms body claim holds in
+    let j : goes.j ≡ source terms body = parts.0 in
+    let is : first_answer (steps_of goes.events) ≡ Some (of_ring (rings.Given claim)) = parts.1 in
     let mount : ℕ = terms.mount in
     let steps : List Step = steps_of goes.events in
     let first = goes.called.rings.rings mount in
@@ -262,9 +262,9 @@ source_published c opening me start now took written last receipt goes terms bod
     let made = source_made (is_halted goes.ended) terms body (owed_among steps) claim
     (claim_owed c start goes.between me claim steps goes.called is)
     (subst (λ (x : Judged). IsMadeBy (is_halted goes.ended) (plan_of c x) (owed_among steps)) j goes.owes) in
-    let closes = closes_claim receipt.settled terms body claim goes.closed_by (received steps)
+    let closes = closes_claim receipt.settled terms body claim goes.closed_by (first_answer steps)
     (segments_after [] steps) is
-    (subst (λ (x : Judged). IsSettled receipt.settled (closing_by x (received steps) (segments_after [] steps))
+    (subst (λ (x : Judged). IsSettled receipt.settled (closing_by (came_to x steps) (segments_after [] steps))
     goes.closed_by) j goes.settled) in (
       made.0,
       made.1,

@@ -1,6 +1,6 @@
 -- The segments of a connection are sound, however its mountpoints go on.
 use Rattle.std.proofs.Common.{◌≡◌, ◌∙◌, ◌++◌, ℕ, false, List, [], ◌∷◌, refl, sym, ap, subst, inl, inr, All}
-use Rattle.std.specs.Prelude.{reverse, unwrap_or}
+use Rattle.std.specs.Prelude.{reverse}
 use Rattle.std.proofs.lemmas.List.{reverse-append}
 use Rattle.std.proofs.lemmas.List.Elements.{All-nil, All-cons, All-head, All-tail, All-append}
 use Rattle.turn_log.specs.History.{History}
@@ -12,7 +12,6 @@ use Rattle.rover_cursor.specs.declared.segment.Segment.{Segment}
 use Rattle.rover_cursor.specs.Sound.{kept}
 use Rattle.rover_cursor.specs.Told.{published_in}
 use Rattle.rover_cursor.proofs.SoundLemmas.{kept-append}
-use Rattle.ntrip_head.specs.declared.request.Version.TheVariants.{One}
 use Rattle.session_calls.specs.Steps.{Step}
 use Rattle.session_calls.specs.Rings.{Went, history_at, shape_at}
 use Rattle.rover_session.specs.Made.{segments_after}
@@ -23,7 +22,7 @@ use Rattle.session_core.specs.declared.session.Session.{Session}
 use Rattle.session_core.specs.declared.stage.Stage.{Stage}
 use Rattle.session_core.specs.declared.stage.Stage.TheVariants as stages
 use Rattle.session_model.specs.Judged.{Opening, Judged}
-use Rattle.session_model.specs.Owed.{received}
+use Rattle.session_model.specs.Owed.{came_to}
 use Rattle.session_model.specs.Replies.{opening_text, reply_of, version_of, kept_of, kept_frames, sent_by}
 use Rattle.session_model.specs.Setting.{shapes}
 use Rattle.session_model.specs.Run.{Histories}
@@ -124,11 +123,11 @@ frames_later c old now (segment ∷ more) later all =
 -- so what is sent of a connection is the same by the histories that its closing left
 pub sent_later : (c : Config) (between now : Histories) (me : ℕ) (opening : Opening) (j : Judged)
     (steps more : List Step) → AllSound c between.rings (segments_after [] steps) → Called c false between now me more
-    → sent_by c between.rings opening j (received steps) (reverse (segments_after [] steps))
-    ≡ sent_by c now.rings opening j (received steps) (reverse (segments_after [] steps))
+    → sent_by c between.rings opening (came_to j steps) (reverse (segments_after [] steps))
+    ≡ sent_by c now.rings opening (came_to j steps) (reverse (segments_after [] steps))
 sent_later c between now me opening j steps more all called =
-    ap (λ (frames : List (List ℕ)). opening_text c opening ++ reply_of c j (received steps)
-    ++ body_of (unwrap_or (version_of j) One) frames)
+    ap (λ (frames : List (List ℕ)). opening_text c opening ++ reply_of c (came_to j steps)
+    ++ body_of (version_of (came_to j steps)) frames)
     (sym (frames_later c between.rings now.rings (reverse (segments_after [] steps))
     (went_later (shapes c) between.rings now.rings me more called.rings)
     (sound_back c between.rings (segments_after [] steps) all)))

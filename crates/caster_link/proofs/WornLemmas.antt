@@ -8,6 +8,7 @@ use Rattle.std.proofs.lemmas.List.Elements.{Contains-append_cases}
 use Rattle.mount_ring.specs.declared.shape.RingShape.{RingShape}
 use Rattle.cast_io.specs.Told.{LinkTold}
 use Rattle.cast_config.specs.declared.config.Config.{Config}
+use Rattle.session_calls.specs.Steps.{Step}
 use Rattle.session_calls.specs.Rings.{AllLater}
 use Rattle.turn_log.specs.declared.place.TurnFault.{TurnFault}
 use Rattle.turn_log.specs.declared.place.TurnFault.TheVariants as turns
@@ -18,16 +19,18 @@ use Rattle.session_model.specs.declared.ending.Last.TheVariants as lasts
 use Rattle.session_model.specs.declared.report.Receipt.{Receipt}
 use Rattle.session_core.specs.declared.session.Session.{Session}
 use Rattle.session_model.specs.Called.{IsCause}
-use Rattle.session_model.specs.Endings.{at_end, ended_last}
-use Rattle.session_model.specs.Judged.{Opening}
-use Rattle.session_core.specs.Published.{IsTurnRefused}
-use Rattle.session_model.specs.Owed.{Received, unasked, claimed, taken, entered, full, received}
+use Rattle.session_model.specs.Endings.{ended_by, at_end, ended_last}
+use Rattle.session_model.specs.Judged.{Opening, Judged, judged}
+use Rattle.session_core.specs.Refusals.{IsTurnRefused}
+use Rattle.session_model.specs.Owed as owed
+use Rattle.session_model.specs.Owed.{came_to}
 use Rattle.session_model.specs.Run.{Histories}
-use Rattle.session_core.specs.Standing.{StandsFor}
+use Rattle.session_core.specs.Standing.{StandsFor, EndsAs, is_halted}
 use Rattle.session_core.specs.Closed.{ending_by}
 use Rattle.session_model.specs.Courses.{steps_of, text_of}
 use Rattle.caster_link.specs.Served.{Came}
 use Rattle.caster_link.specs.Wear.{Wear, IsWorn, IsWornBy, MayRefuse, IsRefusedBy}
+use Rattle.session_core.proofs.ReceiptLemmas.{unended_by}
 use Rattle.caster_link.proofs.ClosedLemmas.{Closes}
 use Rattle.caster_link.proofs.CalledLemmas.{others_none}
 
@@ -83,41 +86,53 @@ refused_on old now receipt on by = record {
 
 -- ---- how it ended
 
+-- it was told to end as its session ended, or as its link did
+pub record EndsSo (ended : Option Ending) (last : Last) (steps : List Step) (told : Ending) : Type 0 where
+  pub j : Judged
+  pub ends : EndsAs ended (ended_by (came_to j steps))
+  pub is : told ≡ ending_by ended last (came_to j steps)
+
 ending_stands : (c : Config) (opening : Opening) (me : ℕ) (alone : Bool) (start between now : Histories)
     (session : Session) (before after : LinkTold) (last : Last) (receipt : Receipt)
     (came : Came c opening me start between session before after last)
     → Closes c opening alone between now session last receipt
     → StandsFor c session opening (text_of came.whats) (steps_of came.reached.events) between came.sent
-    → receipt.ending ≡ ending_by session.ended last (steps_of came.reached.events)
-ending_stands c opening me alone start between now session before after last receipt came closes (inl stands) =
-    (closes stands.heading (text_of came.whats) (steps_of came.reached.events) between came.sent stands.is_heading
-    (inl stands) (others_none between session.me)).receipt_is.ending
-ending_stands c opening me alone start between now session before after last receipt came closes (inr lost) =
-    (closes came.reached.first [] (steps_of came.reached.events) between came.sent came.reached.is_first
-    (inr lost) (others_none between session.me)).receipt_is.ending
+    → EndsSo session.ended last (steps_of came.reached.events) receipt.ending
+ending_stands c opening me alone start between now session before after last receipt came closes (inl stands) = record {
+  j = judged c opening stands.heading (text_of came.whats);
+  ends = stands.ends;
+  is = (closes stands.heading (text_of came.whats) (steps_of came.reached.events) between came.sent stands.is_heading
+      (inl stands) (others_none between session.me)).receipt_is.ending;
+}
+ending_stands c opening me alone start between now session before after last receipt came closes (inr lost) = record {
+  j = judged c opening came.reached.first [];
+  ends = inl (ap is_halted lost.ended);
+  is = (closes came.reached.first [] (steps_of came.reached.events) between came.sent came.reached.is_first
+      (inr lost) (others_none between session.me)).receipt_is.ending;
+}
 
 pub ending_is : (c : Config) (opening : Opening) (me : ℕ) (alone : Bool) (start between now : Histories)
     (session : Session) (before after : LinkTold) (last : Last) (receipt : Receipt)
     (came : Came c opening me start between session before after last)
     → Closes c opening alone between now session last receipt
-    → receipt.ending ≡ ending_by session.ended last (steps_of came.reached.events)
+    → EndsSo session.ended last (steps_of came.reached.events) receipt.ending
 ending_is c opening me alone start between now session before after last receipt came closes =
     ending_stands c opening me alone start between now session before after last receipt came closes came.reached.stands
 
 -- ---- which place it was
 
 -- an end of its link is no worn place
-unworn_end : (worn : List ℕ) (by : Received) → IsWornBy worn (at_end by)
-unworn_end worn unasked = tt
-unworn_end worn (claimed claim) = tt
-unworn_end worn (taken caller claim) = tt
-unworn_end worn entered = tt
-unworn_end worn (full busy cap) = tt
+unworn_end : (worn : List ℕ) (it : owed.Came) → ended_by it ≡ None → IsWornBy worn (at_end it)
+unworn_end worn owed.nothing unended = tt
+unworn_end worn (owed.over reply end) unended = absurd cc
+unworn_end worn (owed.holding terms body claim) unended = tt
+unworn_end worn (owed.inside terms) unended = tt
 
-unworn : (worn : List ℕ) (last : Last) (by : Received) → IsWornBy worn (ended_last last by)
-unworn worn lasts.End by = unworn_end worn by
-unworn worn lasts.ReadFault by = tt
-unworn worn lasts.WriteFault by = tt
+unworn : (worn : List ℕ) (last : Last) (it : owed.Came) → ended_by it ≡ None
+    → IsWornBy worn (ended_last last (at_end it))
+unworn worn lasts.End it unended = unworn_end worn it unended
+unworn worn lasts.ReadFault it unended = tt
+unworn worn lasts.WriteFault it unended = tt
 
 -- it stands at its place of a list that only rose
 ring_still : (rings later : List ℕ) (book turns : ℕ) → length later ≡ length rings → AllLater rings later
@@ -162,21 +177,21 @@ caused_still rings later book now (endings.Worn turns) long rise book_rise cause
     let at = still rings later book now turns long rise book_rise cause.0 in (cause.1, at.0, at.1)
 caused_still rings later book now _ long rise book_rise cause = tt
 
-by_cause : (rings later : List ℕ) (book now : ℕ) (ended : Option Ending) (last : Last) (steps : List _)
-    → length later ≡ length rings → AllLater rings later → book ≤ now
-    → IfSome ended (IsCause (rings ++ book ∷ [])) → IsWornBy (later ++ now ∷ []) (ending_by ended last steps)
-by_cause rings later book now None last steps long rise book_rise cause =
-    unworn (later ++ now ∷ []) last (received steps)
-by_cause rings later book now (Some told) last steps long rise book_rise cause =
+by_cause : (rings later : List ℕ) (book now : ℕ) (ended : Option Ending) (last : Last) (it : owed.Came)
+    → EndsAs ended (ended_by it) → length later ≡ length rings → AllLater rings later → book ≤ now
+    → IfSome ended (IsCause (rings ++ book ∷ [])) → IsWornBy (later ++ now ∷ []) (ending_by ended last it)
+by_cause rings later book now None last it ends long rise book_rise cause =
+    unworn (later ++ now ∷ []) last it (unended_by None (ended_by it) ends refl)
+by_cause rings later book now (Some told) last it ends long rise book_rise cause =
     caused_still rings later book now told long rise book_rise cause
 
-pub worn_still : (rings later : List ℕ) (book now : ℕ) (ended : Option Ending) (last : Last) (steps : List _)
+pub worn_still : (rings later : List ℕ) (book now : ℕ) (ended : Option Ending) (last : Last) (steps : List Step)
     (told : Ending) → length later ≡ length rings → AllLater rings later → book ≤ now
-    → IfSome ended (IsCause (rings ++ book ∷ [])) → told ≡ ending_by ended last steps
+    → IfSome ended (IsCause (rings ++ book ∷ [])) → EndsSo ended last steps told
     → IsWornBy (later ++ now ∷ []) told
-worn_still rings later book now ended last steps told long rise book_rise cause is =
-    subst (IsWornBy (later ++ now ∷ [])) (sym is)
-    (by_cause rings later book now ended last steps long rise book_rise cause)
+worn_still rings later book now ended last steps told long rise book_rise cause so =
+    subst (IsWornBy (later ++ now ∷ [])) (sym so.is)
+    (by_cause rings later book now ended last (came_to so.j steps) so.ends long rise book_rise cause)
 
 -- what was not halted has no cause to tell
 pub not_ended : (worn : List ℕ) (ended : Option Ending) → ended ≡ None → IfSome ended (IsCause worn)

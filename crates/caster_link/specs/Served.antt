@@ -13,7 +13,7 @@ use Rattle.session_model.specs.declared.report.Receipt.{Receipt}
 use Rattle.session_core.specs.declared.session.Session.{Session}
 use Rattle.session_model.specs.Headings.{Heading}
 use Rattle.session_model.specs.Judged.{Opening, Judged, waiting, judged}
-use Rattle.session_model.specs.Owed.{Happening, received, plan_of, closing}
+use Rattle.session_model.specs.Owed.{Happening, came_to, plan_of, closing}
 use Rattle.session_model.specs.Endings.{ended_by}
 use Rattle.session_model.specs.Promises.{IsSoundIn}
 use Rattle.session_model.specs.Replies.{sent_by}
@@ -86,8 +86,8 @@ pub record Came (c : Config) (opening : Opening) (me : ℕ) (start now : Histori
   pub bytes : IsSentBy (is_torn last) written sent
   pub caused : IsCausedBy last before.faults after.faults
 
--- From whatever beginning a link was served so far, with nothing left to be written, it is served on
--- from here, and these bytes are to be written.
+-- From whatever beginning a link was served so far, with nothing left to be written, it is served
+-- on from here, and these bytes are to be written.
 abbrev pub IsServedOn : Config → Histories → Histories → Session → Session → LinkTold → LinkTold
     → ℕ → ℕ → List ℕ → Type 0
 IsServedOn c now later session next after last given more out =
@@ -133,13 +133,13 @@ pub record LinkGoes (c : Config) (opening : Opening) (me : ℕ) (start now : His
   -- what its bytes say it is
   pub j : Judged
   pub judged_is : IsJudged c opening (text_of (happened events)) (steps_of events) ended j
-  pub ends : EndsAs ended (ended_by j (received (steps_of events)))
+  pub ends : EndsAs ended (ended_by (came_to j (steps_of events)))
   -- all its calls but reads are what its bytes owe, or the first of that where it was halted
   pub owes : IsMadeBy (is_halted ended) (plan_of c j) (owed_among (steps_of events))
   -- what is sent for that was written, or the first of it where the session was halted before its
   -- first call or a write failed
   pub bytes : IsSentBy (is_halted_uncalled ended (steps_of events) || is_torn last) written
-      (sent_by c now.rings opening j (received (steps_of events))
+      (sent_by c now.rings opening (came_to j (steps_of events))
       (reverse (segments_after [] (steps_of events))))
   -- what was held is given back, unless that turn was refused
   pub closed_by : List Step

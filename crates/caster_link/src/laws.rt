@@ -7,8 +7,8 @@ ghost use Rattle.session_calls.specs.Rings.{history_at};
 ghost use Rattle.cast_config.specs.declared.config.Config.{Config};
 ghost use Rattle.session_model.specs.declared.ending.Last.{Last};
 ghost use Rattle.session_model.specs.declared.report.Receipt.{Receipt};
-ghost use Rattle.session_model.specs.Judged.{Opening, SourceTerms, source};
-ghost use Rattle.session_model.specs.Owed.{claimed, received};
+ghost use Rattle.session_model.specs.Judged.{Opening, SourceTerms};
+ghost use Rattle.session_model.specs.Owed.{holding, came_to};
 ghost use Rattle.session_model.specs.Run.{Histories};
 ghost use Rattle.session_core.specs.Standing.{is_halted};
 ghost use Rattle.session_model.specs.Courses.{steps_of};
@@ -23,7 +23,7 @@ pub fn sources_publish_their_frames()
         (written : List ℕ) (last : Last) (receipt : Receipt)
         (goes : LinkGoes c opening me start now took written last receipt)
         (terms : SourceTerms) (body : List ℕ) (claim : ℕ)
-        → goes.j ≡ source terms body → received (steps_of goes.events) ≡ claimed claim
+        → came_to goes.j (steps_of goes.events) ≡ holding terms body claim
         → (frames : List (List ℕ))
         × AreDue (is_halted goes.ended) frames (frames_of terms.chunked body)
         × HasPublished me claim (history_at start.rings terms.mount)

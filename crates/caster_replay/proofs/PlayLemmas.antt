@@ -17,8 +17,8 @@ use Rattle.session_model.specs.declared.ending.Last.TheVariants as lasts
 use Rattle.session_model.specs.declared.report.Receipt.{Receipt}
 use Rattle.session_core.specs.declared.session.Session.{Session}
 use Rattle.session_model.specs.Headings.{incomplete}
-use Rattle.session_model.specs.Judged.{Opening, bare_source}
-use Rattle.session_model.specs.Owed.{Happening, arrives, takes_turn, ends}
+use Rattle.session_model.specs.Judged.{Opening, bare_source, judged}
+use Rattle.session_model.specs.Owed.{Came, came_to, Happening, arrives, takes_turn, ends}
 use Rattle.session_model.specs.Replies.{opening_text}
 use Rattle.session_model.specs.Run.{Histories}
 use Rattle.session_model.specs.Called.{is_halt}
@@ -75,15 +75,15 @@ flow_over (Some end) over = (end, refl)
 ending_so : (c : Config) (mid now : Histories) (next : Session) (last : Last) (receipt : Receipt) (o : Opening)
     (text : List ℕ) (steps : List Step) (sent : List ℕ) → StandsFor c next o text steps mid sent
     → Closes c mid now next last receipt
-    → (steps : List Step) × (receipt.ending ≡ ending_by next.ended last steps)
+    → (came : Came) × (receipt.ending ≡ ending_by next.ended last came)
 ending_so c mid now next last receipt o text steps sent (inl s) closes =
     let closed = closes o s.heading text steps mid sent s.is_heading (inl s) (others_none mid next.me) in
-    (steps, closed.receipt_is.ending)
+    (came_to (judged c o s.heading text) steps, closed.receipt_is.ending)
 ending_so c mid now next last receipt o text steps sent (inr lost) closes =
     let closed = closes (bare_source []) incomplete [] [] mid (opening_text c (bare_source [])) refl
     (inr (record { ended = lost.ended; stage = lost.stage; uncalled = refl; unsent = refl }))
     (others_none mid next.me) in
-    ([], closed.receipt_is.ending)
+    (came_to (judged c (bare_source []) incomplete []) [], closed.receipt_is.ending)
 
 not_halted : (c : Config) (mid now : Histories) (next : Session) (last : Last) (receipt : Receipt) (end : Ending)
     (o : Opening) (text : List ℕ) (steps : List Step) (sent : List ℕ) → StandsFor c next o text steps mid sent

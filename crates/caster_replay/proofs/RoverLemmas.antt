@@ -15,11 +15,13 @@ use Rattle.session_core.specs.declared.stage.Stage.{Stage}
 use Rattle.session_core.specs.declared.stage.Stage.TheVariants as stages
 use Rattle.session_model.specs.Headings.{Heading}
 use Rattle.session_model.specs.Judged.{Opening, Judged}
+use Rattle.session_model.specs.Owed.{Came, came_to}
 use Rattle.session_model.specs.Replies.{version_of}
 use Rattle.session_model.specs.Reports.{IsHeadingOf, AreHeadings}
 use Rattle.session_model.specs.Run.{Histories, Connected, World, is_concerned, is_opened, after_events}
 use Rattle.session_core.specs.Standing.{IsAtStage, is_halted}
 use Rattle.session_core.specs.States.{state_in, state_at}
+use Rattle.session_core.proofs.ReceiptLemmas.{rover_inside}
 use Rattle.caster_replay.specs.declared.entry.State.{State}
 use Rattle.caster_replay.specs.declared.entry.State.TheVariants.{Open, Closed}
 use Rattle.caster_replay.specs.Entries.{is_open_at, rover_at}
@@ -71,20 +73,21 @@ no_rover version segments none = sym (ap (state_in version) none)
 
 stage_rover : (c : Config) (me : ℕ) (h : Histories) (o : Opening) (j : Judged) (text : List ℕ) (steps : List Step)
     (stage : Stage) → IsAtStage c me h o j text steps stage
-    → state_at None stage ≡ state_in (unwrap_or (version_of j) One) (segments_after [] steps)
+    → state_at None stage ≡ state_in (version_of (came_to j steps)) (segments_after [] steps)
 stage_rover c me h o j text steps (stages.Head head) s =
-    no_rover (unwrap_or (version_of j) One) (segments_after [] steps) (ap (segments_after []) s.2)
+    no_rover (version_of (came_to j steps)) (segments_after [] steps) (ap (segments_after []) s.2)
 stage_rover c me h o j text steps stages.Over s =
-    no_rover (unwrap_or (version_of j) One) (segments_after [] steps) s.segments
+    no_rover (version_of (came_to j steps)) (segments_after [] steps) s.segments
 stage_rover c me h o j text steps (stages.Source mount session) s =
-    no_rover (unwrap_or (version_of j) One) (segments_after [] steps) s.segments
+    no_rover (version_of (came_to j steps)) (segments_after [] steps) s.segments
 stage_rover c me h o j text steps (stages.Relay mount session) s =
-    no_rover (unwrap_or (version_of j) One) (segments_after [] steps) s.segments
+    no_rover (version_of (came_to j steps)) (segments_after [] steps) s.segments
 stage_rover c me h o j text steps (stages.Rover account session) s =
     ap (λ (v : Version). state_in v (session_rover session).segments) s.version
     ∙ ap (state_in (unwrap_or s.terms.version One)) s.stands.segments
     ∙ ap (λ (l : List Step). state_in (unwrap_or s.terms.version One) (segments_after [] l)) (sym s.steps_are)
-    ∙ ap (λ (x : Judged). state_in (unwrap_or (version_of x) One) (segments_after [] steps)) (sym s.judged_is)
+    ∙ ap (λ (x : Came). state_in (version_of x) (segments_after [] steps))
+    (sym (rover_inside c me h j steps account session s))
 
 kept_rover : (c : Config) (heading : Heading) (now : Histories) (d : Connected) (state : State) (bytes rest : List ℕ)
     → IsKept c heading now d state bytes → IsHeadingOf (Some d.opening) (d.text ++ rest) heading
@@ -92,7 +95,7 @@ kept_rover : (c : Config) (heading : Heading) (now : Histories) (d : Connected) 
 kept_rover c heading now d (Open session) bytes rest kept said =
     let so = judged_so c heading kept.histories d session bytes rest kept.stands
     (ap is_halted kept.goes) said in
-    ap (λ (j : Judged). state_in (unwrap_or (version_of j) One) (segments_after [] d.steps)) so
+    ap (λ (j : Judged). state_in (version_of (came_to j d.steps)) (segments_after [] d.steps)) so
     ∙ sym (stage_rover c session.me kept.histories d.opening _ d.text d.steps session.stage kept.stands.stage)
     ∙ ap (λ (e : Option Ending). state_at e session.stage) (sym kept.goes)
 kept_rover c heading now d (Closed receipt) bytes rest kept said = refl

@@ -1,7 +1,6 @@
 -- One connection's calls leave what stands of the others: its histories go on, and what a rover was
 -- sent stays what it was.
 use Rattle.std.proofs.Common.{◌≡◌, ◌≢◌, ◌∙◌, ◌++◌, ℕ, true, List, [], ◌∷◌, reverse, All, refl, sym, ap, subst}
-use Rattle.std.specs.Prelude.{unwrap_or}
 use Rattle.std.proofs.lemmas.List.Elements.{All-head, All-tail, All-cons, All-nil, All-append}
 use Rattle.std.proofs.lemmas.List.Concat.{flat_map-append}
 use mathlib.Core.List.{reverse-cons}
@@ -17,15 +16,14 @@ use Rattle.rover_cursor.specs.declared.segment.Segment.{Segment}
 use Rattle.rover_cursor.specs.Sound.{kept}
 use Rattle.rover_cursor.specs.Told.{published_in}
 use Rattle.rover_cursor.proofs.SoundLemmas.{kept-append}
-use Rattle.ntrip_head.specs.declared.request.Version.TheVariants.{One}
 use Rattle.rover_session.specs.Body.{body_of}
 use Rattle.session_calls.specs.Steps.{Step, on_ring, book_part, on_book}
 use Rattle.session_calls.specs.Rings.{history_at, shape_at, answer_at}
 use Rattle.session_calls.proofs.WentLemmas.{went_both}
 use Rattle.cast_config.specs.declared.config.Config.{Config}
 use Rattle.session_model.specs.Setting.{shapes}
-use Rattle.session_model.specs.Judged.{Opening, Judged}
-use Rattle.session_model.specs.Owed.{Received}
+use Rattle.session_model.specs.Judged.{Opening}
+use Rattle.session_model.specs.Owed.{Came}
 use Rattle.session_model.specs.Replies.{opening_text, reply_of, version_of, kept_of, kept_frames, sent_by}
 use Rattle.session_model.specs.Run.{Histories}
 use Rattle.session_model.specs.Called.{Called, OthersCalled, book_answer}
@@ -101,10 +99,9 @@ all_reversed P (segment ∷ more) all =
     (All-append P (reverse more) (segment ∷ []) (all_reversed P more (All-tail P segment more all))
     (All-cons P segment [] (All-head P segment more all) (All-nil P)))
 
-pub sent_later : (c : Config) (old now : List (History RingCall)) (o : Opening) (j : Judged) (by : Received)
+pub sent_later : (c : Config) (old now : List (History RingCall)) (o : Opening) (came : Came)
     (segments : List Segment) → Later old now → AllSound c old segments
-    → sent_by c now o j by (reverse segments) ≡ sent_by c old o j by (reverse segments)
-sent_later c old now o j by segments later all =
-    ap (λ (frames : List (List ℕ)). opening_text c o ++ reply_of c j by
-    ++ body_of (unwrap_or (version_of j) One) frames)
+    → sent_by c now o came (reverse segments) ≡ sent_by c old o came (reverse segments)
+sent_later c old now o came segments later all =
+    ap (λ (frames : List (List ℕ)). opening_text c o ++ reply_of c came ++ body_of (version_of came) frames)
     (kept_later c old now (reverse segments) later (all_reversed (IsSoundIn c old) segments all))

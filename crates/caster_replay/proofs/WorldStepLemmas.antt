@@ -3,7 +3,7 @@
 use Rattle.std.proofs.Common.{◌≡◌, ◌∙◌, ◌++◌, ◌&&◌, ℕ, Bool, true, false, List, [], sym, ap, subst, inl, inr, Option, None, Some}
 use Rattle.std.specs.Prelude.{reverse, unwrap_or, is_none}
 use Rattle.rover_cursor.specs.declared.segment.Segment.{Segment}
-use Rattle.session_calls.specs.Steps.{Step}
+use Rattle.session_calls.specs.Steps.{Answer, Step}
 use Rattle.session_calls.specs.Plans.{Plan, left, IsMade}
 use Rattle.rover_session.specs.Made.{segments_after, owed_among}
 use Rattle.cast_config.specs.declared.config.Config.{Config}
@@ -14,7 +14,7 @@ use Rattle.session_model.specs.declared.report.Receipt.{Receipt}
 use Rattle.session_core.specs.declared.session.Session.{Session}
 use Rattle.session_model.specs.Headings.{Heading}
 use Rattle.session_model.specs.Judged.{Judged, judged}
-use Rattle.session_model.specs.Owed.{Received, received, plan_of, arrives, closing}
+use Rattle.session_model.specs.Owed.{came_by, first_answer, came_to, plan_of, arrives, closing}
 use Rattle.session_model.specs.Endings.{ended_by, goes_on}
 use Rattle.session_model.specs.Replies.{sent_by}
 use Rattle.session_model.specs.Reports.{IsHeadingOf, receipt_of, told_of}
@@ -85,13 +85,13 @@ module _ (c : Config) (heading : Heading) (now : Histories) (d : Connected) (ses
       (owes_so (is_halted session.ended) (plan_of c (judged c d.opening s.heading d.text)) (owed_among d.steps) goes
       s.owes)
 
-  pub ended_so : session.ended ≡ ended_by (judged_of c heading d) (received d.steps)
-  ended_so = ends_so session.ended (ended_by (judged c d.opening s.heading d.text) (received d.steps)) goes s.ends
-      ∙ ap (λ (j : Judged). ended_by j (received d.steps)) (sym judged_so)
+  pub ended_so : session.ended ≡ ended_by (came_to (judged_of c heading d) d.steps)
+  ended_so = ends_so session.ended (ended_by (came_to (judged c d.opening s.heading d.text) d.steps)) goes s.ends
+      ∙ ap (λ (j : Judged). ended_by (came_to j d.steps)) (sym judged_so)
 
   pub sent_all : sent ≡ sent_to c heading now d
   sent_all = sent_so session.ended d.steps sent _ goes s.sent_is
-      ∙ ap (λ (j : Judged). sent_by c now.rings d.opening j (received d.steps) (reverse (segments_after [] d.steps)))
+      ∙ ap (λ (j : Judged). sent_by c now.rings d.opening (came_to j d.steps) (reverse (segments_after [] d.steps)))
       (sym judged_so)
 
 -- a session that stands goes on
@@ -114,10 +114,10 @@ pub going_concerned : (c : Config) (heading : Heading) (now : Histories) (d : Co
     (bytes rest : List ℕ) → IsGoing c heading now d session bytes
     → IsHeadingOf (Some d.opening) (d.text ++ rest) heading → goes_on (judged_of c heading d) d.steps d.closed ≡ true
 going_concerned c heading now d session bytes rest g said =
-    let by : ended_by (judged_of c heading d) (received d.steps) ≡ None =
+    let by : ended_by (came_to (judged_of c heading d) d.steps) ≡ None =
     sym (ended_so c heading g.histories d session bytes rest g.stands (none_halted session.ended g.goes) said)
     ∙ g.goes in
-    ap (λ (l : Option Last). is_none l && is_none (ended_by (judged_of c heading d) (received d.steps))) g.uncut
+    ap (λ (l : Option Last). is_none l && is_none (ended_by (came_to (judged_of c heading d) d.steps))) g.uncut
     ∙ ap (λ (e : Option Ending). is_none e) by
 
 -- ---- bytes that come in
@@ -135,9 +135,9 @@ came_moved c heading old now d text more session sent rest s goes said no_read c
     let j : Judged = judged c d.opening heading (d.text ++ text) in
     let owes : IsMade (plan_of c j) (owed_among (d.steps ++ more)) =
     owes_all c heading now after session sent rest s goes said in
-    let ended : session.ended ≡ ended_by j (received (d.steps ++ more)) =
+    let ended : session.ended ≡ ended_by (came_to j (d.steps ++ more)) =
     ended_so c heading now after session sent rest s goes said in
-    ap (λ (m : Moved). closed_if (ended_by j (received m.connection.steps)) c j m)
+    ap (λ (m : Moved). closed_if (ended_by (came_to j m.connection.steps)) c j m)
     (makes_so c old now (with_text d (d.text ++ text)) (left (plan_of c j) (owed_among d.steps)) more called
     (owed_made (plan_of c j) d.steps more no_read owes))
     ∙ ap (λ (e : Option Ending). closed_if e c j (stepped (with_text d (d.text ++ text)) more now)) (sym ended)
@@ -158,28 +158,28 @@ pub over_now : (c : Config) (heading : Heading) (old now : Histories) (d : Conne
     (more : List Step) (last : Last) (closed : Option Last) (receipt : Receipt) (sent : List ℕ)
     → Called c true old now d.number more → IsMade (closing (judged_of c heading d) d.steps) more
     → IsReceipt ended (judged_of c heading d) d.steps last receipt → is_halted ended ≡ false
-    → ended ≡ ended_by (judged_of c heading d) (received d.steps) → receipt.settled ≡ true
+    → ended ≡ ended_by (came_to (judged_of c heading d) d.steps) → receipt.settled ≡ true
     → unwrap_or closed lasts.End ≡ last → (is_none closed && is_none ended) ≡ false
     → sent ≡ sent_to c heading old d → AllSound c old.rings (segments_after [] d.steps)
     → IsOver c heading now (closed_as d more closed) receipt sent
 over_now c heading old now d ended more last closed receipt sent called is told goes by settled last_is over due sound =
     let j : Judged = judged_of c heading d in
-    let same : received (d.steps ++ more) ≡ received d.steps = received_closed j d.steps more is in
+    let same : first_answer (d.steps ++ more) ≡ first_answer d.steps = received_closed j d.steps more is in
     let segments : segments_after [] (d.steps ++ more) ≡ segments_after [] d.steps =
     segments_closed c old now d.number j d.steps more called is in
     record {
       stops =
-          ap (λ (r : Received). is_none closed && is_none (ended_by j r)) same
+          ap (λ (r : Option Answer). is_none closed && is_none (ended_by (came_by j r))) same
           ∙ ap (λ (e : Option Ending). is_none closed && is_none e) (sym by) ∙ over;
       receipt_is =
           receipt_told c old now d.number ended j d.steps more last receipt called is told goes by settled
           ∙ ap (receipt_of j (d.steps ++ more)) (sym last_is);
       bytes_are =
           due
-          ∙ sym (sent_later c old.rings now.rings d.opening j (received d.steps) (segments_after [] d.steps)
+          ∙ sym (sent_later c old.rings now.rings d.opening (came_to j d.steps) (segments_after [] d.steps)
           (called_later c old now d.number more called) sound)
-          ∙ ap (λ (r : Received). sent_by c now.rings d.opening j r (reverse (segments_after [] d.steps))) (sym same)
-          ∙ ap (λ (l : List Segment). sent_by c now.rings d.opening j (received (d.steps ++ more)) (reverse l))
+          ∙ ap (λ (r : Option Answer). sent_by c now.rings d.opening (came_by j r) (reverse (segments_after [] d.steps))) (sym same)
+          ∙ ap (λ (l : List Segment). sent_by c now.rings d.opening (came_to j (d.steps ++ more)) (reverse l))
           (sym segments);
     }
 
@@ -205,7 +205,7 @@ going_on c heading old now d session bytes others later sound g = record {
   stands = g.stands;
   others = others_both g.histories old now d.number g.others others;
   bytes_are = g.bytes_are
-      ∙ sym (sent_later c old.rings now.rings d.opening (judged_of c heading d) (received d.steps)
+      ∙ sym (sent_later c old.rings now.rings d.opening (came_to (judged_of c heading d) d.steps)
       (segments_after [] d.steps) later sound);
 }
 
@@ -216,6 +216,6 @@ over_on c heading old now d receipt bytes later sound over = record {
   stops = over.stops;
   receipt_is = over.receipt_is;
   bytes_are = over.bytes_are
-      ∙ sym (sent_later c old.rings now.rings d.opening (judged_of c heading d) (received d.steps)
+      ∙ sym (sent_later c old.rings now.rings d.opening (came_to (judged_of c heading d) d.steps)
       (segments_after [] d.steps) later sound);
 }

@@ -1,10 +1,9 @@
 -- Which connections of a run go on, and which of them have frames to read: facts of its events.
-use Rattle.std.specs.Prelude.{◌≡◌, ℕ, nat_lt, ◌&&◌, if◌then◌else◌, Bool, true, false, List, [], ◌∷◌, ◌++◌, length, Option, None, unwrap_or}
+use Rattle.std.specs.Prelude.{◌≡◌, ℕ, nat_lt, ◌&&◌, if◌then◌else◌, Bool, true, false, List, [], ◌∷◌, ◌++◌, length, Option, None}
 use Rattle.std.specs.List.{list_any}
 use Rattle.mount_ring.specs.declared.call.RingCall.{RingCall}
 use Rattle.mount_ring.specs.History.{state_of}
 use Rattle.turn_log.specs.History.{History}
-use Rattle.ntrip_head.specs.declared.request.Version.TheVariants.{One}
 use Rattle.rover_cursor.specs.declared.segment.Segment.{Segment}
 use Rattle.rover_session.specs.Made.{segments_after}
 use Rattle.session_calls.specs.Rings.{history_at}
@@ -14,6 +13,7 @@ use Rattle.session_script.specs.Script as scripts
 use Rattle.cast_config.specs.declared.config.Config.{Config}
 use Rattle.session_model.specs.Headings.{Heading}
 use Rattle.session_core.specs.declared.rover_state.RoverState.{RoverState}
+use Rattle.session_model.specs.Owed.{came_to}
 use Rattle.session_model.specs.Replies.{version_of}
 use Rattle.session_model.specs.Reports.{AreHeadings}
 use Rattle.session_model.specs.Run.{Connected, World, judged_of, is_concerned, after_events}
@@ -41,7 +41,7 @@ is_behind c headings w n =
 -- where a connection stands, if it is a rover and has a segment
 abbrev pub rover_of : Config → Heading → Connected → Option RoverState
 rover_of c heading d =
-    state_in (unwrap_or (version_of (judged_of c heading d)) One) (segments_after [] d.steps)
+    state_in (version_of (came_to (judged_of c heading d) d.steps)) (segments_after [] d.steps)
 
 -- where the rover of this number stands among these connections, if it goes on and has a segment
 abbrev pub rover_among : Config → (ℕ → Heading) → ℕ → List Connected → Option RoverState

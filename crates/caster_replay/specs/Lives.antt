@@ -11,7 +11,7 @@ use Rattle.session_model.specs.declared.report.Connection.{Connection}
 use Rattle.session_model.specs.declared.report.Receipt.{Receipt}
 use Rattle.session_core.specs.declared.session.Session.{Session}
 use Rattle.session_model.specs.Headings.{Heading}
-use Rattle.session_model.specs.Owed.{received}
+use Rattle.session_model.specs.Owed.{came_to}
 use Rattle.session_model.specs.Endings.{goes_on}
 use Rattle.session_model.specs.Replies.{sent_by}
 use Rattle.session_model.specs.Reports.{receipt_of}
@@ -27,7 +27,7 @@ use Rattle.caster_replay.specs.declared.entry.State.TheVariants.{Open, Closed}
 -- what it was sent, as far as these histories tell
 abbrev pub sent_to : Config → Heading → Histories → Connected → List ℕ
 sent_to c heading now d =
-    sent_by c now.rings d.opening (judged_of c heading d) (received d.steps)
+    sent_by c now.rings d.opening (came_to (judged_of c heading d) d.steps)
     (reverse (segments_after [] d.steps))
 
 -- it goes on: the session stands for it, and the bytes are those that it was sent

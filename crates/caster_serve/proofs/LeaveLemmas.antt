@@ -1,5 +1,5 @@
 -- Connections leave their accounts when they are closed, and never before.
-use Rattle.std.proofs.Common.{◌≡◌, ◌≢◌, ◌∙◌, ◌++◌, ℕ, Bool, true, false, List, [], ◌∷◌, refl, sym, ap, subst, Option, None, Some, option_to_list, append_assoc}
+use Rattle.std.proofs.Common.{◌≡◌, ◌∙◌, ◌++◌, ℕ, Bool, true, false, List, [], ◌∷◌, refl, sym, ap, subst, Option, None, Some, option_to_list, append_assoc}
 use Rattle.std.specs.Prelude.{⊤, ◌&&◌, if◌then◌else◌}
 use Rattle.std.proofs.lemmas.List.{append-nil}
 use Rattle.std.proofs.lemmas.Grind.{fold-append}
@@ -11,7 +11,6 @@ use Rattle.gga_read.specs.declared.Position.{Position}
 use Rattle.gga_read.specs.Report.{reports}
 use Rattle.base_select.specs.declared.Base.{Base}
 use Rattle.mount_ring.specs.declared.call.RingCall.TheVariants as calls
-use Rattle.mount_ring.specs.declared.call.RingAnswer.{RingAnswer}
 use Rattle.mount_ring.specs.declared.call.RingAnswer.TheVariants as rings
 use Rattle.caster_accounts.specs.declared.account.Sum.{Sum}
 use Rattle.caster_accounts.specs.declared.call.BookCall.{BookCall}
@@ -28,8 +27,8 @@ use Rattle.rover_session.specs.Made.{segments_after, owed_among, sent_in, overru
 use Rattle.cast_config.specs.declared.config.Config.{Config}
 use Rattle.session_model.specs.declared.ending.Last.{Last}
 use Rattle.session_model.specs.declared.report.Receipt.{Receipt}
-use Rattle.session_model.specs.Judged.{Opening, Judged, waiting, refused, unanswered, table, source, rover}
-use Rattle.session_model.specs.Owed.{Received, unasked, claimed, taken, entered, full, received_by_ring, received_by, received, if_entered, terms_of, plan_of, closing_by, closing}
+use Rattle.session_model.specs.Judged.{Opening, Judged, waiting, finished, source, rover}
+use Rattle.session_model.specs.Owed.{Came, nothing, over, holding, inside, came_to, is_let_in, if_entered, terms_of, plan_of, closing_by, closing}
 use Rattle.session_model.specs.Reports.{is_entered}
 use Rattle.session_model.specs.Run.{Histories}
 use Rattle.session_model.specs.Called.{Called, book_answer}
@@ -90,23 +89,18 @@ stays_by : (near : Bool) (terms : Terms) (told : List Position) → Stays (plan_
 stays_by false terms told = stays_each terms.filter terms.bases
 stays_by true terms told = stays_follows terms None told
 
-stays_entered : (by : Received) (plan : Plan) → Stays plan → Stays (if_entered by plan)
-stays_entered unasked plan stays = tt
-stays_entered (claimed claim) plan stays = tt
-stays_entered (taken caller claim) plan stays = tt
-stays_entered entered plan stays = stays
-stays_entered (full busy cap) plan stays = tt
+stays_entered : (let_in : Bool) (plan : Plan) → Stays plan → Stays (if_entered let_in plan)
+stays_entered true plan stays = stays
+stays_entered false plan stays = tt
 
 -- what bytes owe leaves no account
 stays_plan : (c : Config) (j : Judged) → Stays (plan_of c j)
 stays_plan c waiting = tt
-stays_plan c (refused version reply end) = tt
-stays_plan c (unanswered end) = tt
-stays_plan c (table version) = tt
+stays_plan c (finished reply end) = tt
 stays_plan c (source terms body) = (tt, stays_claim terms.mount (frames_of terms.chunked body))
 stays_plan c (rover terms tail) = (
   tt,
-  λ answer. stays_entered (received_by answer) _
+  λ answer. stays_entered (is_let_in answer) _
       (stays_by terms.admission.near (terms_of c terms.admission) (option_to_list terms.first ++ reports tail)),
 )
 
@@ -149,48 +143,13 @@ begun_by : (halted : Bool) (plan : Plan) (steps : List Step) → IsMadeBy halted
 begun_by false plan steps made = made_begun plan steps made
 begun_by true plan steps begun = begun
 
--- ---- who entered an account is a rover
-
-abbrev IsRover : Judged → Type 0
-IsRover waiting = ⊥
-IsRover (refused version reply end) = ⊥
-IsRover (unanswered end) = ⊥
-IsRover (table version) = ⊥
-IsRover (source terms body) = ⊥
-IsRover (rover terms tail) = ⊤
-
-not_by_ring : (answer : RingAnswer) → received_by_ring answer ≢ entered
-not_by_ring (rings.Given claim) = λ is. absurd cc
-not_by_ring (rings.Taken caller claim) = λ is. absurd cc
-not_by_ring rings.Released = λ is. absurd cc
-not_by_ring (rings.At place) = λ is. absurd cc
-not_by_ring (rings.Joined cursor) = λ is. absurd cc
-not_by_ring (rings.Looked live) = λ is. absurd cc
-not_by_ring (rings.Read report) = λ is. absurd cc
-
-first_asked : (c : Config) (j : Judged) (call : BookCall) (rest : List Step) (step : Step)
-    → ask_of step ≡ to_book call → IsBegun (plan_of c j) (step ∷ rest) → IsRover j
-first_asked c waiting call rest step is begun = absurd begun
-first_asked c (refused version reply end) call rest step is begun = absurd begun
-first_asked c (unanswered end) call rest step is begun = absurd begun
-first_asked c (table version) call rest step is begun = absurd begun
-first_asked c (source terms body) call rest step is begun = let clash = sym is ∙ begun.0 in absurd cc
-first_asked c (rover terms tail) call rest step is begun = tt
-
-entered_is_rover : (c : Config) (j : Judged) (steps : List Step) → received steps ≡ entered
-    → IsBegun (plan_of c j) (owed_among steps) → IsRover j
-entered_is_rover c j [] is begun = absurd cc
-entered_is_rover c j (at_ring mount call answer ∷ steps) is begun = absurd (not_by_ring answer is)
-entered_is_rover c j (at_book call answer ∷ steps) is begun =
-    first_asked c j call (owed_among steps) (at_book call answer) refl begun
-
 -- ---- the closing
 
 -- a tally is counted by the receipt's own marks
 abbrev counted : Bool → Bool → Sum → ℕ → ℕ → Sum
-counted inside settled sum sent overrun = if inside && settled then added sum sent overrun else sum
+counted entered settled sum sent overrun = if entered && settled then added sum sent overrun else sum
 
-uncounted : (inside : Bool) (sum : Sum) (sent overrun : ℕ) → counted inside false sum sent overrun ≡ sum
+uncounted : (entered : Bool) (sum : Sum) (sent overrun : ℕ) → counted entered false sum sent overrun ≡ sum
 uncounted false sum sent overrun = refl
 uncounted true sum sent overrun = refl
 
@@ -217,56 +176,27 @@ left_one account sent overrun sum (at_book call answer ∷ more) made =
       same_call : (a b : BookCall) → to_book a ≡ to_book b → a ≡ b
       same_call a b e = cc
 
-outside : (by : Received) → (by ≡ entered → ⊥) → is_entered by ≡ false
-outside unasked apart = refl
-outside (claimed claim) apart = refl
-outside (taken caller claim) apart = refl
-outside entered apart = absurd (apart refl)
-outside (full busy most) apart = refl
-
--- of what is no rover nothing is counted
-not_counted : (by : Received) (sum : Sum) (sent overrun : ℕ) (more : List Step) → (by ≡ entered → ⊥) → more ≡ []
-    → left_in sum (calls_in (on_book more)) ≡ counted (is_entered by) true sum sent overrun
-not_counted by sum sent overrun more apart none =
-    nothing_made sum more none
-    ∙ ap (λ (b : Bool). counted b true sum sent overrun) (sym (outside by apart))
-
-closing_counts : (j : Judged) (by : Received) (segments : List Segment) (sum : Sum) (more : List Step)
-    → (by ≡ entered → IsRover j) → IsMade (closing_by j by segments) more
+closing_counts : (came : Came) (segments : List Segment) (sum : Sum) (more : List Step)
+    → IsMade (closing_by came segments) more
     → left_in sum (calls_in (on_book more))
-    ≡ counted (is_entered by) true sum (sent_in segments) (overrun_in segments)
-closing_counts waiting by segments sum more only made =
-    not_counted by sum (sent_in segments) (overrun_in segments) more only made
-closing_counts (refused version reply end) by segments sum more only made =
-    not_counted by sum (sent_in segments) (overrun_in segments) more only made
-closing_counts (unanswered end) by segments sum more only made =
-    not_counted by sum (sent_in segments) (overrun_in segments) more only made
-closing_counts (table version) by segments sum more only made =
-    not_counted by sum (sent_in segments) (overrun_in segments) more only made
-closing_counts (source terms body) unasked segments sum more only made = nothing_made sum more made
-closing_counts (source terms body) (claimed claim) segments sum more only made =
-    released terms.mount claim sum more made
-closing_counts (source terms body) (taken caller claim) segments sum more only made = nothing_made sum more made
-closing_counts (source terms body) entered segments sum more only made = absurd (only refl)
-closing_counts (source terms body) (full busy cap) segments sum more only made = nothing_made sum more made
-closing_counts (rover terms tail) unasked segments sum more only made = nothing_made sum more made
-closing_counts (rover terms tail) (claimed claim) segments sum more only made = nothing_made sum more made
-closing_counts (rover terms tail) (taken caller claim) segments sum more only made = nothing_made sum more made
-closing_counts (rover terms tail) entered segments sum more only made =
+    ≡ counted (is_entered came) true sum (sent_in segments) (overrun_in segments)
+closing_counts nothing segments sum more made = nothing_made sum more made
+closing_counts (over reply end) segments sum more made = nothing_made sum more made
+closing_counts (holding terms body claim) segments sum more made = released terms.mount claim sum more made
+closing_counts (inside terms) segments sum more made =
     left_one terms.admission.account (sent_in segments) (overrun_in segments) sum more made
-closing_counts (rover terms tail) (full busy cap) segments sum more only made = nothing_made sum more made
 
 settled_counts : (settled : Bool) (j : Judged) (steps : List Step) (sum : Sum) (more : List Step)
-    → (received steps ≡ entered → IsRover j) → IsSettled settled (closing j steps) more
+    → IsSettled settled (closing j steps) more
     → left_in sum (calls_in (on_book more))
-    ≡ counted (is_entered (received steps)) settled sum (sent_in (segments_after [] steps))
+    ≡ counted (is_entered (came_to j steps)) settled sum (sent_in (segments_after [] steps))
     (overrun_in (segments_after [] steps))
-settled_counts false j steps sum more only none =
+settled_counts false j steps sum more none =
     nothing_made sum more none
-    ∙ sym (uncounted (is_entered (received steps)) sum (sent_in (segments_after [] steps))
+    ∙ sym (uncounted (is_entered (came_to j steps)) sum (sent_in (segments_after [] steps))
     (overrun_in (segments_after [] steps)))
-settled_counts true j steps sum more only made =
-    closing_counts j (received steps) (segments_after [] steps) sum more only made
+settled_counts true j steps sum more made =
+    closing_counts (came_to j steps) (segments_after [] steps) sum more made
 
 -- ---- a connection
 
@@ -297,8 +227,7 @@ leaves_of c opening me start now took written last receipt sum goes =
           (ap (left_in sum) (heard_calls c start goes.between me steps goes.called)
           ∙ stays_on (plan_of c goes.j) steps sum (stays_plan c goes.j) begun)
           ∙ ap (left_in sum) (heard_calls c goes.between now me goes.closed_by goes.closed)
-          ∙ settled_counts receipt.settled goes.j steps sum goes.closed_by
-          (λ is. entered_is_rover c goes.j steps is begun) goes.settled
+          ∙ settled_counts receipt.settled goes.j steps sum goes.closed_by goes.settled
           ∙ sym (ap (λ (b : Bool). counted b receipt.settled sum (sent_in (segments_after [] steps))
           (overrun_in (segments_after [] steps))) told.entered)
           ∙ ap (λ (n : ℕ). counted receipt.entered receipt.settled sum n (overrun_in (segments_after [] steps)))

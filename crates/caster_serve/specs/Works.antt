@@ -9,8 +9,8 @@ use Rattle.caster_accounts.specs.declared.account.Sum.{Sum}
 use Rattle.cast_config.specs.declared.config.Config.{Config}
 use Rattle.session_model.specs.declared.ending.Last.{Last}
 use Rattle.session_model.specs.declared.report.Receipt.{Receipt}
-use Rattle.session_model.specs.Judged.{Opening, SourceTerms, source, sends_head, relays}
-use Rattle.session_model.specs.Owed.{claimed, received}
+use Rattle.session_model.specs.Judged.{Opening, SourceTerms, sends_head, relays}
+use Rattle.session_model.specs.Owed.{holding, came_to}
 use Rattle.session_model.specs.Run.{Histories}
 use Rattle.session_core.specs.Standing.{is_halted}
 use Rattle.session_model.specs.Courses.{steps_of}
@@ -44,7 +44,7 @@ pub record RecordGoes (c : Config) (opening : Opening) (me : ℕ) (wear : Wear) 
   pub refused : IsRefusedBy wear entry.receipt
   -- a source, or a relay, that was given its claim published the frames of its body
   pub published : (terms : SourceTerms) (body : List ℕ) (claim : ℕ)
-      → goes.j ≡ source terms body → received (steps_of goes.events) ≡ claimed claim
+      → came_to goes.j (steps_of goes.events) ≡ holding terms body claim
       → PublishesBody (is_halted goes.ended) terms body me claim start now
 
 -- so did each of these, one after the other, from the histories that the one before it left
@@ -95,8 +95,8 @@ abbrev pub receipts_of : List Record → List Receipt
 receipts_of entries = map (λ (entry : Record). entry.receipt) entries
 
 -- So many links were given, each was served to its receipt and came back, and the tally counts
--- their receipts. Where the door tells the arrivals to come, the links that came back are those that
--- it gave, in the order of arrival.
+-- their receipts. Where the door tells the arrivals to come, the links that came back are those
+-- that it gave, in the order of arrival.
 pub record Works (c : Config) (me : ℕ) (wear : Wear) (start now : Histories)
     (before after : DoorTold) (old new : Sum) (count : ℕ) : Type 0 where
   pub entries : List Record

@@ -1,5 +1,5 @@
 -- What a connection was, from its steps: by its judgement.
-use Rattle.std.proofs.Common.{◌≡◌, ◌∙◌, ◌⊎◌, ◌++◌, ℕ, ◌-◌, ◌^◌, Bool, true, false, cond, IsTrue, List, [], ◌∷◌, reverse, All, inl, inr, refl, sym, ap, subst, option_to_list, eqb}
+use Rattle.std.proofs.Common.{◌≡◌, ◌∙◌, ◌⊎◌, ◌++◌, ℕ, ◌-◌, ◌^◌, Bool, true, false, cond, IsTrue, List, [], ◌∷◌, reverse, All, Option, Some, inl, inr, refl, sym, ap, subst, option_to_list, eqb}
 use Rattle.std.specs.Prelude.{is_none, min, unwrap_or}
 use Rattle.std.specs.List.{concat}
 use Rattle.std.proofs.lemmas.Bool.{false≢true}
@@ -17,15 +17,15 @@ use Rattle.chunk_body.proofs.ReadingLemmas.{known, ended_reading, bad_reading, p
 use Rattle.gga_read.specs.Report.{reports}
 use Rattle.mount_ring.specs.declared.call.RingCall.{RingCall}
 use Rattle.mount_ring.specs.declared.call.RingCall.TheVariants.{Claim}
-use Rattle.mount_ring.specs.declared.call.RingAnswer.TheVariants.{Taken}
+use Rattle.mount_ring.specs.declared.call.RingAnswer.TheVariants.{Given, Taken}
 use Rattle.caster_accounts.specs.declared.call.BookCall.{BookCall}
 use Rattle.caster_accounts.specs.declared.call.BookCall.TheVariants.{Enter}
 use Rattle.caster_accounts.specs.declared.call.BookAnswer.{BookAnswer}
 use Rattle.caster_accounts.specs.declared.call.BookAnswer.TheVariants.{Entered, Full}
-use Rattle.caster_accounts.specs.History.{entry_answer, inside, cap_at}
+use Rattle.caster_accounts.specs.History.{inside, cap_at}
 use Rattle.caster_accounts.specs.History as books
 use Rattle.rover_cursor.specs.declared.segment.Segment.{Segment}
-use Rattle.session_calls.specs.Steps.{to_book, of_book, Step, at_ring, at_book}
+use Rattle.session_calls.specs.Steps.{to_book, Answer, of_ring, of_book, Step, at_ring, at_book}
 use Rattle.session_calls.specs.Plans.{IsMade}
 use Rattle.source_session.specs.Body.{payload, frames_of}
 use Rattle.rover_session.specs.Body.{body_of}
@@ -40,11 +40,13 @@ use Rattle.cast_config.specs.declared.config.Config.{Config}
 use Rattle.session_model.specs.declared.ending.Last.TheVariants as lasts
 use Rattle.session_model.specs.declared.report.Connection.{Connection}
 use Rattle.session_model.specs.Setting.{caps, bases_at}
+use Rattle.session_model.specs.Setting as setting
+use Rattle.session_core.proofs.BeginLemmas.{taken_untabled, full_untabled}
 use Rattle.run_promise.specs.Selected.{Selects}
-use Rattle.session_model.specs.Judged.{SourceTerms, RoverTerms, Judged, waiting, refused, unanswered, table, source, rover}
-use Rattle.session_model.specs.Owed.{Received, claimed, taken, entered, full, received, received_by, if_entered, terms_of, plan_of, closing, closing_by}
+use Rattle.session_model.specs.Judged.{SourceTerms, RoverTerms, Judged, waiting, finished, source, rover}
+use Rattle.session_model.specs.Owed.{came_by, first_answer, came_to, is_let_in, if_entered, terms_of, plan_of, closing, closing_by}
 use Rattle.session_model.specs.Endings.{ended_by, claimed_ending, body_ending}
-use Rattle.session_model.specs.Replies.{text_if, opening_text, reply_of, kept_frames, sent_by}
+use Rattle.session_model.specs.Replies.{text_if, opening_text, reply_of, version_of, kept_frames, sent_by}
 use Rattle.session_model.specs.Promises.{IsSoundIn, CountsAll, Keeps}
 use Rattle.session_model.specs.Reports.{receipt_of, is_entered}
 use Rattle.session_model.specs.Run.{Histories, Connected}
@@ -66,7 +68,7 @@ told_with c h d j =
     record {
       number = d.number;
       receipt = receipt;
-      bytes = sent_by c h.rings d.opening j (received d.steps) receipt.segments;
+      bytes = sent_by c h.rings d.opening (came_to j d.steps) receipt.segments;
     }
 
 -- what stands of it, and of its bytes that came when it was over
@@ -78,7 +80,7 @@ pub record Facts (c : Config) (h : Histories) (d : Connected) (j : Judged) (rest
   pub split : d.steps ≡ first ++ last
   pub made : IsMade (plan_of c j) (owed_among first)
   pub closed : IsMade (closing j first) last
-  pub whole : (rest ≡ []) ⊎ (is_none (ended_by j (received d.steps)) ≡ false)
+  pub whole : (rest ≡ []) ⊎ (is_none (ended_by (came_to j d.steps)) ≡ false)
   pub keeps : Keeps c h.rings d
 
 module _ (c : Config) (h : Histories) (d : Connected) (j : Judged) (rest : List ℕ) (f : Facts c h d j rest) where
@@ -94,12 +96,12 @@ module _ (c : Config) (h : Histories) (d : Connected) (j : Judged) (rest : List 
       (subst (AreAnswered c) f.split f.answered))
 
   -- how it was received
-  pub first_received : received (owed_among f.first) ≡ received f.first
+  pub first_received : first_answer (owed_among f.first) ≡ first_answer f.first
   first_received = received_owed f.first (on_front [] f.first f.last
       (subst (λ (l : List Step). StepsOn [] l) f.split f.on))
 
-  pub received_is : received d.steps ≡ received (owed_among f.first ++ owed_among f.last)
-  received_is = sym (received_owed d.steps f.on) ∙ ap received owed_is
+  pub received_is : first_answer d.steps ≡ first_answer (owed_among f.first ++ owed_among f.last)
+  received_is = sym (received_owed d.steps f.on) ∙ ap first_answer owed_is
 
   -- the filters of its segments
   pub has_such : (IsSuch : ℕ → Type 0) → AreJoins IsSuch (owed_among f.first)
@@ -109,7 +111,7 @@ module _ (c : Config) (h : Histories) (d : Connected) (j : Judged) (rest : List 
       (subst (AreJoins IsSuch) (sym owed_is)
       (joins-append IsSuch (owed_among f.first) (owed_among f.last) such
       (last_such IsSuch (closing j f.first) f.last
-      (closing_such IsSuch j (received f.first) (segments_after [] f.first)) f.closed)))
+      (closing_such IsSuch (came_to j f.first) (segments_after [] f.first)) f.closed)))
       (All-nil (HasSuch IsSuch))
 
   pub no_segments : AreJoins IsNever (owed_among f.first) → segments_after [] d.steps ≡ []
@@ -117,16 +119,16 @@ module _ (c : Config) (h : Histories) (d : Connected) (j : Judged) (rest : List 
 
   -- where it has none, it was sent no more than a reply
   pub sent_reply : AreJoins IsNever (owed_among f.first)
-      → (told_with c h d j).bytes ≡ opening_text c d.opening ++ reply_of c j (received d.steps)
+      → (told_with c h d j).bytes ≡ opening_text c d.opening ++ reply_of c (came_to j d.steps)
   sent_reply none =
-      ap (λ (l : List Segment). sent_by c h.rings d.opening j (received d.steps) (reverse l)) (no_segments none)
-      ∙ append-nil (opening_text c d.opening ++ reply_of c j (received d.steps))
+      ap (λ (l : List Segment). sent_by c h.rings d.opening (came_to j d.steps) (reverse l)) (no_segments none)
+      ∙ append-nil (opening_text c d.opening ++ reply_of c (came_to j d.steps))
 
   -- the closing owes so, by how it was received
-  pub closes_so : (by : Received) → received (owed_among f.first) ≡ by
-      → IsMade (closing_by j by (segments_after [] f.first)) f.last
+  pub closes_so : (by : Option Answer) → first_answer (owed_among f.first) ≡ by
+      → IsMade (closing_by (came_by j by) (segments_after [] f.first)) f.last
   closes_so by is =
-      subst (λ (r : Received). IsMade (closing_by j r (segments_after [] f.first)) f.last) (sym first_received ∙ is)
+      subst (λ (r : Option Answer). IsMade (closing_by (came_by j r) (segments_after [] f.first)) f.last) (sym first_received ∙ is)
       f.closed
 
 -- ---- who calls nothing
@@ -134,7 +136,7 @@ module _ (c : Config) (h : Histories) (d : Connected) (j : Judged) (rest : List 
 quiet_so : (c : Config) (h : Histories) (d : Connected) (j : Judged) (rest : List ℕ) (f : Facts c h d j rest)
     → owed_among f.first ≡ [] → owed_among f.last ≡ []
     → IsReplied (told_with c h d j) (opening_text c d.opening) (without_reads (calls_of d.steps))
-    (reply_of c j (received d.steps))
+    (reply_of c (came_to j d.steps))
 quiet_so c h d j rest f first last = (
   calls_are c h d j rest f ∙ ap (λ (l : List Step). calls_of l ++ calls_of (owed_among f.last)) first
       ∙ ap calls_of last,
@@ -184,16 +186,16 @@ given_so : (c : Config) (h : Histories) (d : Connected) (terms : SourceTerms) (b
     (without_reads (calls_of d.steps))
 given_so c h d terms body rest f g =
     let j : Judged = source terms body in
-    let by : received (owed_among f.first) ≡ claimed g.claim = ap received g.steps_are in
-    let all : received d.steps ≡ claimed g.claim =
-    received_is c h d j rest f ∙ ap (λ (l : List Step). received (l ++ owed_among f.last)) g.steps_are in
+    let by : first_answer (owed_among f.first) ≡ Some (of_ring (Given g.claim)) = ap first_answer g.steps_are in
+    let all : first_answer d.steps ≡ Some (of_ring (Given g.claim)) =
+    received_is c h d j rest f ∙ ap (λ (l : List Step). first_answer (l ++ owed_among f.last)) g.steps_are in
     let back = source_last terms body g.claim (segments_after [] f.first) f.last
-    (closes_so c h d j rest f (claimed g.claim) by) in
+    (closes_so c h d j rest f (Some (of_ring (Given g.claim))) by) in
     record {
       all_bytes = elim f.whole [
         | inl none ↦ inl none
         | inr over ↦ inr (over_if terms.chunked g.claim body
-            (ap (λ (r : Received). is_none (ended_by j r)) (sym all) ∙ over))
+            (ap (λ (r : Option Answer). is_none (ended_by (came_by j r))) (sym all) ∙ over))
       ];
       claim = g.claim;
       later = calls_of g.rest ++ calls_of (owed_among f.last);
@@ -207,7 +209,7 @@ given_so c h d terms body rest f g =
           ∙ ap (λ (l : List (ℕ × RingCall)).
           publishes terms.mount g.claim (frames_of terms.chunked body) ++ l) back;
       bytes = sent_reply c h d j rest f (source_joins c terms body (owed_among f.first) f.made)
-          ∙ ap (λ (r : Received). opening_text c d.opening ++ reply_of c j r) all;
+          ∙ ap (λ (r : Option Answer). opening_text c d.opening ++ reply_of c (came_by j r)) all;
     }
 
 taken_so : (c : Config) (h : Histories) (d : Connected) (terms : SourceTerms) (body rest : List ℕ)
@@ -215,17 +217,19 @@ taken_so : (c : Config) (h : Histories) (d : Connected) (terms : SourceTerms) (b
     → WasTaken (told_with c h d (source terms body)) terms (opening_text c d.opening) (without_reads (calls_of d.steps))
 taken_so c h d terms body rest f t =
     let j : Judged = source terms body in
-    let by : received (owed_among f.first) ≡ taken t.caller t.claim = ap received t.steps_are in
-    let all : received d.steps ≡ taken t.caller t.claim =
-    received_is c h d j rest f ∙ ap (λ (l : List Step). received (l ++ owed_among f.last)) t.steps_are in
-    let last : owed_among f.last ≡ [] = ap owed_among (closes_so c h d j rest f (taken t.caller t.claim) by) in (
+    let by : first_answer (owed_among f.first) ≡ Some (of_ring (Taken t.caller t.claim)) = ap first_answer t.steps_are in
+    let all : first_answer d.steps ≡ Some (of_ring (Taken t.caller t.claim)) =
+    received_is c h d j rest f ∙ ap (λ (l : List Step). first_answer (l ++ owed_among f.last)) t.steps_are in
+    let last : owed_among f.last ≡ [] = ap owed_among (closes_so c h d j rest f (Some (of_ring (Taken t.caller t.claim))) by) in (
       t.caller,
       t.claim,
       calls_are c h d j rest f
           ∙ ap (λ (l : List Step). calls_of l ++ calls_of (owed_among f.last)) t.steps_are
           ∙ ap (λ (l : List Step). call_in (at_ring terms.mount Claim (Taken t.caller t.claim)) ++ calls_of l) last,
       sent_reply c h d j rest f (source_joins c terms body (owed_among f.first) f.made)
-          ∙ ap (λ (r : Received). opening_text c d.opening ++ reply_of c j r) all,
+          ∙ ap (λ (r : Option Answer). opening_text c d.opening ++ reply_of c (came_by j r)) all
+          ∙ ap (λ (l : List ℕ). opening_text c d.opening ++ l)
+          (sym (taken_untabled terms.version (setting.table c))),
     )
 
 -- ---- a rover
@@ -250,7 +254,7 @@ asks_book x y e = cc
 
 entry_by : (c : Config) (terms : RoverTerms) (tail : List ℕ) (call : BookCall) (busy cap : ℕ) (full_now : Bool)
     (rest : List Step) → AreAnswered c rest
-    → IsMade (if_entered (received_by (of_book (cond full_now (Full busy cap) Entered)))
+    → IsMade (if_entered (is_let_in (of_book (cond full_now (Full busy cap) Entered)))
     (rover_plan (terms_of c terms.admission) terms.first tail)) rest
     → HasEntry c terms tail (at_book call (cond full_now (Full busy cap) Entered) ∷ rest)
     ⊎ IsFull (at_book call (cond full_now (Full busy cap) Entered) ∷ rest)
@@ -280,7 +284,7 @@ entry_made c terms tail (at_book call answer ∷ rest) answered made =
     answered.0.1 ∙ ap (λ (x : BookCall). books.answer (caps c) answered.0.0 x) (asks_book call (Enter account) made.0) in
     subst (λ (a : BookAnswer). HasEntry c terms tail (at_book call a ∷ rest) ⊎ IsFull (at_book call a ∷ rest)) (sym told)
     (entry_by c terms tail call busy cap (eqb busy cap) rest answered.1
-    (subst (λ (a : BookAnswer). IsMade (if_entered (received_by (of_book a))
+    (subst (λ (a : BookAnswer). IsMade (if_entered (is_let_in (of_book a))
     (rover_plan (terms_of c terms.admission) terms.first tail)) rest) told made.1))
 
 -- the frames of its segments are what its body holds
@@ -300,11 +304,11 @@ entered_so : (c : Config) (h : Histories) (d : Connected) (terms : RoverTerms) (
     (without_reads (calls_of d.steps))
 entered_so c h d terms tail rest f e =
     let j : Judged = rover terms tail in
-    let by : received (owed_among f.first) ≡ entered = ap received e.steps_are in
-    let all : received d.steps ≡ entered =
-    received_is c h d j rest f ∙ ap (λ (l : List Step). received (l ++ owed_among f.last)) e.steps_are in
-    let last : calls_of (owed_among f.last) ≡ [] = rover_last terms tail (segments_after [] f.first) f.last
-    (closes_so c h d j rest f entered by) in
+    let by : first_answer (owed_among f.first) ≡ Some (of_book Entered) = ap first_answer e.steps_are in
+    let all : first_answer d.steps ≡ Some (of_book Entered) =
+    received_is c h d j rest f ∙ ap (λ (l : List Step). first_answer (l ++ owed_among f.last)) e.steps_are in
+    let last : calls_of (owed_among f.last) ≡ [] = rover_last terms (segments_after [] f.first) f.last
+    (closes_so c h d j rest f (Some (of_book Entered)) by) in
     let calls : without_reads (calls_of d.steps) ≡ calls_of e.rest =
     calls_are c h d j rest f
     ∙ ap (λ (l : List Step). calls_of l ++ calls_of (owed_among f.last)) e.steps_are
@@ -313,10 +317,10 @@ entered_so c h d terms tail rest f e =
     let frames = kept_frames c h.rings (reverse (segments_after [] d.steps)) in
     let version = unwrap_or terms.version One in
     record {
-      entered = ap is_entered all;
+      entered = ap (λ (r : Option Answer). is_entered (came_by j r)) all;
       all_bytes = elim f.whole [
         | inl none ↦ none
-        | inr over ↦ absurd (false≢true (sym over ∙ ap (λ (r : Received). is_none (ended_by j r)) all))
+        | inr over ↦ absurd (false≢true (sym over ∙ ap (λ (r : Option Answer). is_none (ended_by (came_by j r))) all))
       ];
       selects = subst (Selects terms.admission.near c.hysteresis terms.admission.group
           (bases_at c terms.admission.bases) told) (sym calls)
@@ -332,7 +336,8 @@ entered_so c h d terms tail rest f e =
       sound = all_reversed (IsSoundIn c h.rings) (segments_after [] d.steps) f.keeps.sound;
       counts = all_reversed (CountsAll c h.rings) (segments_after [] d.steps) f.keeps.counts;
       body = body_of version frames;
-      bytes = ap (λ (r : Received). opening_text c d.opening ++ reply_of c j r ++ body_of version frames) all;
+      bytes = ap (λ (r : Option Answer). opening_text c d.opening ++ reply_of c (came_by j r)
+          ++ body_of (version_of (came_by j r)) frames) all;
       holds = holds_so version frames f.keeps.plain f.keeps.chunked f.keeps.data_is;
     }
 
@@ -343,17 +348,19 @@ full_so : (c : Config) (h : Histories) (d : Connected) (terms : RoverTerms) (tai
     (text_if terms.version replies.Full [])
 full_so c h d terms tail rest f e =
     let j : Judged = rover terms tail in
-    let by : received (owed_among f.first) ≡ full e.busy e.cap = ap received e.steps_are in
-    let all : received d.steps ≡ full e.busy e.cap =
-    received_is c h d j rest f ∙ ap (λ (l : List Step). received (l ++ owed_among f.last)) e.steps_are in
-    let last : owed_among f.last ≡ [] = ap owed_among (closes_so c h d j rest f (full e.busy e.cap) by) in (
-      ap is_entered all,
+    let by : first_answer (owed_among f.first) ≡ Some (of_book (Full e.busy e.cap)) = ap first_answer e.steps_are in
+    let all : first_answer d.steps ≡ Some (of_book (Full e.busy e.cap)) =
+    received_is c h d j rest f ∙ ap (λ (l : List Step). first_answer (l ++ owed_among f.last)) e.steps_are in
+    let last : owed_among f.last ≡ [] = ap owed_among (closes_so c h d j rest f (Some (of_book (Full e.busy e.cap))) by) in (
+      ap (λ (r : Option Answer). is_entered (came_by j r)) all,
       (
         calls_are c h d j rest f
             ∙ ap (λ (l : List Step). calls_of l ++ calls_of (owed_among f.last)) e.steps_are
             ∙ ap calls_of last,
         sent_reply c h d j rest f (subst (AreJoins IsNever) (sym e.steps_are) (tt, tt))
-            ∙ ap (λ (r : Received). opening_text c d.opening ++ reply_of c j r) all,
+            ∙ ap (λ (r : Option Answer). opening_text c d.opening ++ reply_of c (came_by j r)) all
+            ∙ ap (λ (l : List ℕ). opening_text c d.opening ++ l)
+            (sym (full_untabled terms.version (setting.table c))),
       ),
     )
 
@@ -367,12 +374,8 @@ was_so c h d waiting rest f =
     whole_waiting : (rest ≡ []) ⊎ (true ≡ false) → rest ≡ []
     whole_waiting (inl none) = none
     whole_waiting (inr over) = absurd cc
-was_so c h d (refused version reply end) rest f =
-    quiet_so c h d (refused version reply end) rest f f.made (ap owed_among f.closed)
-was_so c h d (unanswered end) rest f =
-    quiet_so c h d (unanswered end) rest f f.made (ap owed_among f.closed)
-was_so c h d (table version) rest f =
-    quiet_so c h d (table version) rest f f.made (ap owed_among f.closed)
+was_so c h d (finished reply end) rest f =
+    quiet_so c h d (finished reply end) rest f f.made (ap owed_among f.closed)
 was_so c h d (source terms body) rest f =
     elim (source_made c terms.mount (frames_of terms.chunked body) (owed_among f.first)
     (first_answered c h d (source terms body) rest f) f.made) [

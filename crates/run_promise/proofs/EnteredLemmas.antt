@@ -6,8 +6,10 @@ use Rattle.std.proofs.lemmas.List.Sums.{fold-append}
 use Rattle.std.proofs.lemmas.List.Elements.{All-head, All-tail, All-cons, All-nil}
 use Rattle.session_script.specs.declared.Event.{Event}
 use Rattle.session_script.specs.declared.Event.TheVariants as events
-use Rattle.session_calls.specs.Steps.{Step, answer_of}
-use Rattle.session_calls.specs.Plans.{Plan, done}
+use Rattle.session_calls.specs.Steps.{Answer, Step, answer_of}
+use Rattle.session_model.proofs.CameLemmas.{entered_let}
+use Rattle.session_core.proofs.ClosingLemmas.{free_closed, free_out, uncalled_free}
+use Rattle.session_calls.specs.Plans.{Plan}
 use Rattle.source_session.specs.Body.{frames_of}
 use Rattle.rover_session.specs.Made.{owed_among}
 use Rattle.rover_session.proofs.MadeLemmas.{owed-append}
@@ -16,8 +18,8 @@ use Rattle.session_model.specs.declared.ending.Ending.{Ending}
 use Rattle.session_model.specs.declared.ending.Last.{Last}
 use Rattle.session_model.specs.declared.ending.Last.TheVariants as lasts
 use Rattle.session_model.specs.Headings.{Heading}
-use Rattle.session_model.specs.Judged.{Opening, sends_head, relays, bare_source, bare_rover, Judged, waiting, refused, unanswered, table, source, rover}
-use Rattle.session_model.specs.Owed.{Received, unasked, received, received_by, closing, Happening, arrives, takes_turn, ends}
+use Rattle.session_model.specs.Judged.{Opening, sends_head, relays, bare_source, bare_rover, RoverTerms, Judged, waiting, finished, source, rover}
+use Rattle.session_model.specs.Owed.{came_by, first_answer, came_to, is_let_in, closing, Happening, arrives, takes_turn, ends}
 use Rattle.session_model.specs.Reports.{is_entered}
 use Rattle.session_model.specs.Run.{Histories, Connected, World, Moved, nothing_called, made, judged_of, makes, closed_if, with_text, moved, moved_if, is_concerned, happens_in, happens, placed_if, placed, is_opened, opened_if, fresh, opens, after_event, after_events, closes, world}
 use Rattle.caster_replay.specs.Runs.{AreAbove, IsIncreasing}
@@ -66,17 +68,10 @@ moved_if_stays true c heading h d what = moved_stays c heading h d what
 moved_if_stays false c heading h d what = (refl, λ step is. is)
 
 -- one that called nothing calls nothing when it is closed
-silent_closing : (j : Judged) → closing j [] ≡ done
-silent_closing waiting = refl
-silent_closing (refused version reply end) = refl
-silent_closing (unanswered end) = refl
-silent_closing (table version) = refl
-silent_closing (source terms body) = refl
-silent_closing (rover terms tail) = refl
-
 none_closing : (c : Config) (me : ℕ) (h : Histories) (j : Judged) (steps : List Step) → first_of steps ≡ None
     → first_of (steps ++ made c me h (closing j steps)) ≡ None
-none_closing c me h j [] none = ap (λ (plan : Plan). first_of (made c me h plan)) (silent_closing j)
+none_closing c me h j [] none =
+    ap (λ (plan : Plan). first_of (made c me h plan)) (free_closed _ [] (uncalled_free [] refl j))
 none_closing c me h j (step ∷ steps) none = absurd cc
 
 none_ends : (concerned : Bool) (c : Config) (heading : Heading) (h : Histories) (d : Connected) (last : Last)
@@ -264,21 +259,22 @@ all_found (d ∷ ds) order =
 
 -- ---- who is let in
 
-abbrev received_first : Option Step → Received
-received_first None = unasked
-received_first (Some step) = received_by (answer_of step)
+-- whether the first step let its connection into an account
+abbrev enters_by : Option Step → Bool
+enters_by None = false
+enters_by (Some step) = is_let_in (answer_of step)
 
 -- whether the connection of this number entered an account
 abbrev pub lets_in : World → ℕ → Bool
-lets_in w n = is_entered (received_first (first_in n w.connections))
+lets_in w n = enters_by (first_in n w.connections)
 
 -- those that called something are let in so
 abbrev pub AreLet : World → (ℕ → Bool) → Type 0
 AreLet w lets =
-    (n : ℕ) (step : Step) → first_in n w.connections ≡ Some step → is_entered (received_by (answer_of step)) ≡ lets n
+    (n : ℕ) (step : Step) → first_in n w.connections ≡ Some step → is_let_in (answer_of step) ≡ lets n
 
 pub own_lets : (w : World) → AreLet w (lets_in w)
-own_lets w = λ n step is. ap (λ (o : Option Step). is_entered (received_first o)) (sym is)
+own_lets w = λ n step is. ap enters_by (sym is)
 
 pub early_lets : (c : Config) (headings : ℕ → Heading) (first later : List Event)
     → AreLet (world c headings first) (lets_in (world c headings (first ++ later)))
@@ -286,48 +282,48 @@ early_lets c headings first later = λ n step is.
     own_lets (world c headings (first ++ later)) n step (same_first c headings first later n step is)
 
 by_first : (steps : List Step) (step : Step) → first_of steps ≡ Some step
-    → received steps ≡ received_by (answer_of step)
+    → first_answer steps ≡ Some (answer_of step)
 by_first [] step is = absurd cc
 by_first (first ∷ steps) step is =
-    let same : first ≡ step = cc in ap (λ (s : Step). received_by (answer_of s)) same
+    let same : first ≡ step = cc in ap (λ (s : Step). Some (answer_of s)) same
 
 -- ---- by its judgement
 
 module _ (c : Config) (h : Histories) (d : Connected) (j : Judged) (rest : List ℕ) (f : Facts c h d j rest) where
   never_entered : (steps : List Step) → owed_among f.first ≡ steps
-      → is_entered (received (steps ++ owed_among f.last)) ≡ false → is_entered (received d.steps) ≡ false
+      → is_entered (came_to j (steps ++ owed_among f.last)) ≡ false → is_entered (came_to j d.steps) ≡ false
   never_entered steps are not =
-      ap is_entered (received_is c h d j rest f ∙ ap (λ (l : List Step). received (l ++ owed_among f.last)) are) ∙ not
+      ap (λ (r : Option Answer). is_entered (came_by j r))
+      (received_is c h d j rest f ∙ ap (λ (l : List Step). first_answer (l ++ owed_among f.last)) are) ∙ not
 
-  quiet_entered : owed_among f.first ≡ [] → owed_among f.last ≡ [] → is_entered (received d.steps) ≡ false
-  quiet_entered first last = never_entered [] first (ap (λ (l : List Step). is_entered (received l)) last)
+  quiet_entered : owed_among f.first ≡ [] → owed_among f.last ≡ [] → is_entered (came_to j d.steps) ≡ false
+  quiet_entered first last =
+      never_entered [] first (free_out (came_to j (owed_among f.last)) (uncalled_free (owed_among f.last) last j))
 
 has_first : (steps : List Step) (one : Step) (more : List Step) → owed_among steps ≡ one ∷ more
     → (step : Step) × (first_of steps ≡ Some step)
 has_first [] one more is = absurd cc
 has_first (step ∷ steps) one more is = (step, refl)
 
-rover_entered : (c : Config) (h : Histories) (d : Connected) (j : Judged) (rest : List ℕ) (f : Facts c h d j rest)
+rover_entered : (c : Config) (h : Histories) (d : Connected) (terms : RoverTerms) (tail rest : List ℕ)
+    (f : Facts c h d (rover terms tail) rest)
     (lets : Bool) (one : Step) (more : List Step) → owed_among f.first ≡ one ∷ more
-    → ((step : Step) → first_of d.steps ≡ Some step → is_entered (received_by (answer_of step)) ≡ lets)
-    → is_entered (received d.steps) ≡ lets
-rover_entered c h d j rest f lets one more are so =
+    → ((step : Step) → first_of d.steps ≡ Some step → is_let_in (answer_of step) ≡ lets)
+    → is_entered (came_to (rover terms tail) d.steps) ≡ lets
+rover_entered c h d terms tail rest f lets one more are so =
     let first = has_first d.steps one (more ++ owed_among f.last)
     (ap owed_among f.split ∙ owed-append f.first f.last ∙ ap (λ (l : List Step). l ++ owed_among f.last) are) in
-    ap is_entered (by_first d.steps first.0 first.1) ∙ so first.0 first.1
+    ap (λ (r : Option Answer). is_entered (came_by (rover terms tail) r)) (by_first d.steps first.0 first.1)
+    ∙ entered_let terms (answer_of first.0) ∙ so first.0 first.1
 
 -- nobody entered but rovers, and each of these as it is let in
 pub entered_as : (c : Config) (h : Histories) (d : Connected) (j : Judged) (rest : List ℕ) → Facts c h d j rest
     → (lets : Bool)
-    → ((step : Step) → first_of d.steps ≡ Some step → is_entered (received_by (answer_of step)) ≡ lets)
-    → is_entered (received d.steps) ≡ (is_rover j && lets)
+    → ((step : Step) → first_of d.steps ≡ Some step → is_let_in (answer_of step) ≡ lets)
+    → is_entered (came_to j d.steps) ≡ (is_rover j && lets)
 entered_as c h d waiting rest f lets so = quiet_entered c h d waiting rest f f.made (ap owed_among f.closed)
-entered_as c h d (refused version reply end) rest f lets so =
-    quiet_entered c h d (refused version reply end) rest f f.made (ap owed_among f.closed)
-entered_as c h d (unanswered end) rest f lets so =
-    quiet_entered c h d (unanswered end) rest f f.made (ap owed_among f.closed)
-entered_as c h d (table version) rest f lets so =
-    quiet_entered c h d (table version) rest f f.made (ap owed_among f.closed)
+entered_as c h d (finished reply end) rest f lets so =
+    quiet_entered c h d (finished reply end) rest f f.made (ap owed_among f.closed)
 entered_as c h d (source terms body) rest f lets so =
     let j : Judged = source terms body in
     elim (source_made c terms.mount (frames_of terms.chunked body) (owed_among f.first)
@@ -338,6 +334,6 @@ entered_as c h d (source terms body) rest f lets so =
 entered_as c h d (rover terms tail) rest f lets so =
     let j : Judged = rover terms tail in
     elim (entry_made c terms tail (owed_among f.first) (first_answered c h d j rest f) f.made) [
-      | inl entry ↦ rover_entered c h d j rest f lets _ _ entry.steps_are so
-      | inr other ↦ rover_entered c h d j rest f lets _ _ other.steps_are so
+      | inl entry ↦ rover_entered c h d terms tail rest f lets _ _ entry.steps_are so
+      | inr other ↦ rover_entered c h d terms tail rest f lets _ _ other.steps_are so
     ]

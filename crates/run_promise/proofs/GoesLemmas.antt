@@ -39,7 +39,7 @@ use Rattle.access_groups.specs.Admission.{admission, source_admission}
 use Rattle.session_model.specs.Setting.{shapes}
 use Rattle.session_model.specs.Headings.{Heading, incomplete, too_long, whole, answered}
 use Rattle.session_model.specs.Judged.{Opening, sends_head, relays, bare_source, bare_rover, SourceTerms, Judged, waiting, source, once, source_judged, rover_judged, request_judged, said_judged, mount_fed, bare_admission, judged}
-use Rattle.session_model.specs.Owed.{Received, received, claimed, taken, plan_of, closing, closing_by}
+use Rattle.session_model.specs.Owed.{came_by, first_answer, came_to, plan_of, closing, closing_by}
 use Rattle.session_model.specs.Endings.{ended_by, body_ending, claimed_ending, goes_on}
 use Rattle.session_model.specs.Reports.{opened_as, bytes_to}
 use Rattle.session_model.specs.Run.{Histories, Connected, World, nothing_called, judged_of, is_opened}
@@ -257,7 +257,7 @@ module _ (answer : History RingCall → ℕ → RingCall → RingAnswer) (me : �
 -- ---- of a connection of a run
 
 received_front : (first last : List Step) (one : Step) (more : List Step) → owed_among first ≡ one ∷ more
-    → received (first ++ last) ≡ received first
+    → first_answer (first ++ last) ≡ first_answer first
 received_front [] last one more are = absurd cc
 received_front (step ∷ first) last one more are = refl
 
@@ -294,13 +294,13 @@ module _ (c : Config) (headings : ℕ → Heading) (list : List Event) (h : Hist
   uncut_is true is = refl
   uncut_is false is = absurd (false≢true (sym g.uncut ∙ k.closed is))
 
-  first_is : received (owed_among s.first) ≡ received s.first
+  first_is : first_answer (owed_among s.first) ≡ first_answer s.first
   first_is = received_owed s.first (on_front [] s.first s.last
       (subst (λ (l : List Step). StepsOn [] l) s.split s.walked.on))
 
   received_all : (one : Step) (more : List Step) → owed_among s.first ≡ one ∷ more
-      → received d.steps ≡ received s.first
-  received_all one more are = ap received s.split ∙ received_front s.first s.last one more are
+      → first_answer d.steps ≡ first_answer s.first
+  received_all one more are = ap first_answer s.split ∙ received_front s.first s.last one more are
 
   -- a source that has not ended by itself either
   source_last : (body : List ℕ) → j ≡ source g.terms body → g.body ≡ body ++ k.rest
@@ -315,18 +315,18 @@ module _ (c : Config) (headings : ℕ → Heading) (list : List Event) (h : Hist
       subst (λ (x : Judged). IsMade (closing x s.first) s.last) is closed in
       elim (source_made c g.terms.mount frames (owed_among s.first) answered made) [
         | inl given ↦
-            let by : received d.steps ≡ claimed given.claim =
-            received_all _ _ given.steps_are ∙ sym first_is ∙ ap received given.steps_are in
+            let by : first_answer d.steps ≡ Some (of_ring (rings.Given given.claim)) =
+            received_all _ _ given.steps_are ∙ sym first_is ∙ ap first_answer given.steps_are in
             let ended : is_none (claimed_ending g.terms.chunked given.claim body) ≡ false =
-            ap (λ (r : Received). is_none (ended_by (source g.terms body) r)) (sym by)
-            ∙ ap (λ (x : Judged). is_none (ended_by x (received d.steps))) (sym is)
+            ap (λ (r : Option Answer). is_none (ended_by (came_by (source g.terms body) r))) (sym by)
+            ∙ ap (λ (x : Judged). is_none (ended_by (came_to x d.steps))) (sym is)
             ∙ second_false (is_none d.closed) _ (uncut_is (is_none d.closed) refl) over in
             let broken = over_if g.terms.chunked given.claim body ended in
             absurd (broken.1 (front_open body k.rest (subst IsOpen all (g.still broken.0))))
         | inr other ↦
-            let by : received s.first ≡ taken other.caller other.claim =
-            sym first_is ∙ ap received other.steps_are in
-            subst (λ (r : Received). IsMade (closing_by (source g.terms body) r (segments_after [] s.first)) s.last)
+            let by : first_answer s.first ≡ Some (of_ring (rings.Taken other.caller other.claim)) =
+            sym first_is ∙ ap first_answer other.steps_are in
+            subst (λ (r : Option Answer). IsMade (closing_by (came_by (source g.terms body) r) (segments_after [] s.first)) s.last)
             by shut
       ]
 
@@ -437,7 +437,7 @@ still_chunked false body claim none is = absurd cc
 -- a source that was given its claim and goes on
 pub goes_so : (c : Config) (headings : ℕ → Heading) (list : List Event) (d : Connected) → IsSaid list d
     → goes_on (judged_of c (headings d.number) d) d.steps d.closed ≡ true → (terms : SourceTerms) (body : List ℕ)
-    (claim : ℕ) → judged_of c (headings d.number) d ≡ source terms body → received d.steps ≡ claimed claim
+    (claim : ℕ) → judged_of c (headings d.number) d ≡ source terms body → first_answer d.steps ≡ Some (of_ring (rings.Given claim))
     → GoesOn c headings list d.number
 goes_so c headings list d said goes terms body claim is by = record {
   uncut = said.uncut;
@@ -447,7 +447,7 @@ goes_so c headings list d said goes terms body claim is by = record {
   body = body;
   is_source = ap (λ (t : List ℕ). judged c d.opening (headings d.number) t) said.bytes ∙ is;
   still = still_chunked terms.chunked body claim
-      (ap (λ (x : Judged). is_none (ended_by x (claimed claim))) (sym is)
-      ∙ ap (λ (r : Received). is_none (ended_by (judged_of c (headings d.number) d) r)) (sym by)
+      (ap (λ (x : Judged). is_none (ended_by (came_by x (Some (of_ring (rings.Given claim)))))) (sym is)
+      ∙ ap (λ (r : Option Answer). is_none (ended_by (came_by (judged_of c (headings d.number) d) r))) (sym by)
       ∙ (and_parts (is_none d.closed) _ goes).1);
 }

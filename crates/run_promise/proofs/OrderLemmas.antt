@@ -1,5 +1,5 @@
 -- The histories of a run come about in the order of its events.
-use Rattle.std.proofs.Common.{◌≡◌, ◌∙◌, ◌++◌, ℕ, Bool, true, false, cond, IsTrue, List, [], ◌∷◌, map, fold, All, inl, inr, refl, sym, ap, subst, append_assoc}
+use Rattle.std.proofs.Common.{◌≡◌, ◌∙◌, ◌++◌, ℕ, Bool, true, false, cond, IsTrue, List, [], ◌∷◌, map, fold, All, Option, Some, inl, inr, refl, sym, ap, subst, append_assoc}
 use Rattle.std.specs.Prelude.{◌==◌}
 use Rattle.std.proofs.lemmas.Bool.{cases_eq, and_parts, false≢true}
 use Rattle.std.proofs.lemmas.List.{append-nil}
@@ -10,13 +10,15 @@ use Rattle.turn_log.specs.Heard.{calls_in}
 use Rattle.mount_ring.specs.declared.call.RingCall.{RingCall}
 use Rattle.mount_ring.specs.declared.call.RingCall.TheVariants.{Release}
 use Rattle.mount_ring.specs.declared.call.RingAnswer.{RingAnswer}
+use Rattle.mount_ring.specs.declared.call.RingAnswer.TheVariants.{Given}
 use Rattle.rover_cursor.specs.declared.segment.Segment.{Segment}
 use Rattle.session_script.specs.declared.Event.{Event}
 use Rattle.session_script.specs.declared.Event.TheVariants as events
 use Rattle.session_script.specs.declared.ScriptKind.{ScriptKind}
 use Rattle.session_script.specs.Numbers.{no_numbers}
 use Rattle.session_script.specs.Script.{IsSession}
-use Rattle.session_calls.specs.Steps.{on_ring}
+use Rattle.session_calls.specs.Steps.{Answer, of_ring, on_ring}
+use Rattle.session_model.proofs.CameLemmas.{came_parts}
 use Rattle.session_calls.specs.Rings.{history_at}
 use Rattle.session_calls.proofs.WentLemmas.{alone_entries}
 use Rattle.rover_session.proofs.SegmentLemmas.{Extends}
@@ -26,9 +28,9 @@ use Rattle.session_model.specs.declared.ending.Last.{Last}
 use Rattle.session_model.specs.declared.ending.Last.TheVariants as lasts
 use Rattle.session_model.specs.Setting.{shapes}
 use Rattle.session_model.specs.Headings.{Heading}
-use Rattle.session_model.specs.Judged.{sends_head, relays, bare_source, bare_rover, SourceTerms, Judged, waiting, refused, unanswered, table, source, rover}
+use Rattle.session_model.specs.Judged.{sends_head, relays, bare_source, bare_rover, SourceTerms, Judged, source}
 use Rattle.session_model.specs.Endings.{goes_on}
-use Rattle.session_model.specs.Owed.{Received, unasked, claimed, taken, entered, full, received, closing, closing_by, arrives, takes_turn, ends}
+use Rattle.session_model.specs.Owed.{came_by, first_answer, closing, closing_by, arrives, takes_turn, ends}
 use Rattle.rover_session.specs.Made.{segments_after}
 use Rattle.session_model.specs.Run.{Histories, Connected, World, Moved, nothing_called, made, judged_of, moved, moved_if, is_concerned, happens_in, happens, is_opened, after_event, after_events, closes, world}
 use Rattle.caster_replay.specs.Runs.{IsIncreasing, IsKnown}
@@ -117,28 +119,19 @@ module _ (c : Config) (headings : ℕ → Heading) (list : List Event) where
   release_if So false claim answer so = All-nil (λ call. IsTrue (is_release call) × So)
 
   -- who gives a claim back is a source that was given it
-  abbrev FromClaim : Judged → Received → Type 0 → Type 0
+  abbrev FromClaim : Judged → Option Answer → Type 0 → Type 0
   FromClaim j by So =
-      (terms : SourceTerms) (body : List ℕ) (claim : ℕ) → j ≡ source terms body → by ≡ claimed claim → So
+      (terms : SourceTerms) (body : List ℕ) (claim : ℕ) → j ≡ source terms body → by ≡ Some (of_ring (Given claim))
+      → So
 
-  closing_back : (So : Type 0) (me : ℕ) (h : Histories) (j : Judged) (by : Received) (segments : List Segment)
+  closing_back : (So : Type 0) (me : ℕ) (h : Histories) (j : Judged) (by : Option Answer) (segments : List Segment)
       (mount : ℕ) → FromClaim j by So
-      → AreBack So (calls_in (on_ring mount (made c me h (closing_by j by segments))))
-  closing_back So me h waiting by segments mount so = All-nil _
-  closing_back So me h (refused version reply end) by segments mount so = All-nil _
-  closing_back So me h (unanswered end) by segments mount so = All-nil _
-  closing_back So me h (table version) by segments mount so = All-nil _
-  closing_back So me h (source terms body) unasked segments mount so = All-nil _
-  closing_back So me h (source terms body) (claimed claim) segments mount so =
-      release_if So (terms.mount == mount) claim _ (so terms body claim refl refl)
-  closing_back So me h (source terms body) (taken caller claim) segments mount so = All-nil _
-  closing_back So me h (source terms body) entered segments mount so = All-nil _
-  closing_back So me h (source terms body) (full busy cap) segments mount so = All-nil _
-  closing_back So me h (rover terms tail) unasked segments mount so = All-nil _
-  closing_back So me h (rover terms tail) (claimed claim) segments mount so = All-nil _
-  closing_back So me h (rover terms tail) (taken caller claim) segments mount so = All-nil _
-  closing_back So me h (rover terms tail) entered segments mount so = All-nil _
-  closing_back So me h (rover terms tail) (full busy cap) segments mount so = All-nil _
+      → AreBack So (calls_in (on_ring mount (made c me h (closing_by (came_by j by) segments))))
+  closing_back So me h j by segments mount so =
+      came_parts (λ came. AreBack So (calls_in (on_ring mount (made c me h (closing_by came segments))))) j by
+      (All-nil _) (λ reply end. All-nil _)
+      (λ terms body claim is given. release_if So (terms.mount == mount) claim _ (so terms body claim is given))
+      (λ terms tail is entered. All-nil _)
 
   -- what the events say of one that goes on
   abbrev SaysGoing : Connected → Type 0
@@ -154,14 +147,14 @@ module _ (c : Config) (headings : ℕ → Heading) (list : List Event) where
       let plan = closing j d.steps in
       let steps = made c d.number h plan in
       let adds = plan_adds c h d.number plan s.walked.size
-      (closing_within c j (received d.steps) (segments_after [] d.steps)
+      (closing_within c j (first_answer d.steps) (segments_after [] d.steps)
       (judged_fed c cap d.opening (headings d.number) d.text kept)) in
       let now = (moved c (headings d.number) h d (ends last)).histories in
       let calls = calls_in (on_ring mount steps) in (
         entries_of d.number calls,
         alone_entries (shapes c) h.rings now.rings d.number steps mount adds.went,
         entries_back d.number calls
-            (closing_back (GoesOn c headings list d.number) d.number h j (received d.steps)
+            (closing_back (GoesOn c headings list d.number) d.number h j (first_answer d.steps)
             (segments_after [] d.steps) mount
             (goes_so c headings list d (said (goes refl)) (goes refl))),
       )

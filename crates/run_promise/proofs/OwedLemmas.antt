@@ -8,8 +8,8 @@ use Rattle.session_calls.specs.Steps.{to_ring, to_book, Step, at_ring, at_book, 
 use Rattle.session_calls.specs.Plans.{Plan, done, asks, IsMade}
 use Rattle.rover_session.specs.Made.{after_step, is_owed, owed_among}
 use Rattle.cast_config.specs.declared.config.Config.{Config}
-use Rattle.session_model.specs.Judged.{SourceTerms, RoverTerms, Judged, waiting, refused, unanswered, table, source, rover}
-use Rattle.session_model.specs.Owed.{Received, unasked, claimed, taken, entered, full, received, closing_by}
+use Rattle.session_model.specs.Judged.{SourceTerms, RoverTerms}
+use Rattle.session_model.specs.Owed.{Came, nothing, over, holding, inside, first_answer, closing_by}
 use Rattle.run_promise.specs.Promised.{asked}
 use Rattle.run_promise.proofs.MadeLemmas.{asks_mount, asks_call, AreAnswered, StepsOn}
 use Rattle.run_promise.proofs.CallLemmas.{calls_of}
@@ -48,7 +48,7 @@ joins_owed IsSuch (step ∷ steps) all =
     joins_if IsSuch (is_owed step) step (owed_among steps) all.0 (joins_owed IsSuch steps all.1)
 
 -- the first step is no read, since there is no segment yet
-pub received_owed : (steps : List Step) → StepsOn [] steps → received (owed_among steps) ≡ received steps
+pub received_owed : (steps : List Step) → StepsOn [] steps → first_answer (owed_among steps) ≡ first_answer steps
 received_owed [] on = refl
 received_owed (at_ring mount Claim answer ∷ steps) on = refl
 received_owed (at_ring mount (Release claim) answer ∷ steps) on = refl
@@ -84,28 +84,18 @@ release_last mount claim (at_ring at call answer ∷ rest) made =
 release_last mount claim (at_book call answer ∷ rest) made = absurd cc
 
 pub source_last : (terms : SourceTerms) (body : List ℕ) (claim : ℕ) (segments : List Segment) (last : List Step)
-    → IsMade (closing_by (source terms body) (claimed claim) segments) last
+    → IsMade (closing_by (holding terms body claim) segments) last
     → asked (calls_of (owed_among last)) ≡ (terms.mount, Release claim) ∷ []
 source_last terms body claim segments last made = release_last terms.mount claim last made
 
-pub rover_last : (terms : RoverTerms) (tail : List ℕ) (segments : List Segment) (last : List Step)
-    → IsMade (closing_by (rover terms tail) entered segments) last → calls_of (owed_among last) ≡ []
-rover_last terms tail segments last made = book_last _ last made
+pub rover_last : (terms : RoverTerms) (segments : List Segment) (last : List Step)
+    → IsMade (closing_by (inside terms) segments) last → calls_of (owed_among last) ≡ []
+rover_last terms segments last made = book_last _ last made
 
 -- no Join closes a connection
-pub closing_such : (IsSuch : ℕ → Type 0) (j : Judged) (by : Received) (segments : List Segment)
-    → JoinsSuch IsSuch (closing_by j by segments)
-closing_such IsSuch waiting by segments = tt
-closing_such IsSuch (refused version reply end) by segments = tt
-closing_such IsSuch (unanswered end) by segments = tt
-closing_such IsSuch (table version) by segments = tt
-closing_such IsSuch (source terms body) unasked segments = tt
-closing_such IsSuch (source terms body) (claimed claim) segments = (tt, λ answer. tt)
-closing_such IsSuch (source terms body) (taken caller claim) segments = tt
-closing_such IsSuch (source terms body) entered segments = tt
-closing_such IsSuch (source terms body) (full busy cap) segments = tt
-closing_such IsSuch (rover terms tail) unasked segments = tt
-closing_such IsSuch (rover terms tail) (claimed claim) segments = tt
-closing_such IsSuch (rover terms tail) (taken caller claim) segments = tt
-closing_such IsSuch (rover terms tail) entered segments = (tt, λ answer. tt)
-closing_such IsSuch (rover terms tail) (full busy cap) segments = tt
+pub closing_such : (IsSuch : ℕ → Type 0) (came : Came) (segments : List Segment)
+    → JoinsSuch IsSuch (closing_by came segments)
+closing_such IsSuch nothing segments = tt
+closing_such IsSuch (over reply end) segments = tt
+closing_such IsSuch (holding terms body claim) segments = (tt, λ answer. tt)
+closing_such IsSuch (inside terms) segments = (tt, λ answer. tt)

@@ -17,9 +17,9 @@ use Rattle.cast_config.specs.declared.config.Config.{Config}
 use Rattle.cast_config.specs.Kept.{KeepsRules}
 use Rattle.session_model.specs.declared.report.Report.{Report}
 use Rattle.session_model.specs.Headings.{Heading}
-use Rattle.session_model.specs.Owed.{received_by, closing}
+use Rattle.session_model.specs.Owed.{is_let_in, closing}
 use Rattle.session_model.specs.Promises as core
-use Rattle.session_model.specs.Reports.{told_of, is_entered, opened_as, AreHeadings, report, IsReport}
+use Rattle.session_model.specs.Reports.{told_of, opened_as, AreHeadings, report, IsReport}
 use Rattle.session_model.specs.Run.{Histories, Connected, World, nothing_called, judged_of, is_opened, world}
 use Rattle.session_model.proofs.PromiseLemmas.{keeps_all}
 use Rattle.caster_replay.specs.Runs.{IsIncreasing}
@@ -39,7 +39,7 @@ use Rattle.run_promise.proofs.ReadLemmas.{IsRead, AreAllRead, world_read}
 -- it entered an account as it is let in, if it called something
 abbrev IsLet : (ℕ → Bool) → Connected → Type 0
 IsLet lets d =
-    (step : Step) → first_of d.steps ≡ Some step → is_entered (received_by (answer_of step)) ≡ lets d.number
+    (step : Step) → first_of d.steps ≡ Some step → is_let_in (answer_of step) ≡ lets d.number
 
 all_let : (lets : ℕ → Bool) (w : World) (ds : List Connected) → AreLet w lets → All (IsFound w.connections) ds
     → All (IsLet lets) ds

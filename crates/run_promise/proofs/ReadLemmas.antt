@@ -15,7 +15,7 @@ use Rattle.session_model.specs.declared.ending.Last.{Last}
 use Rattle.session_model.specs.declared.ending.Last.TheVariants as lasts
 use Rattle.session_model.specs.Headings.{Heading}
 use Rattle.session_model.specs.Judged.{Opening, sends_head, relays, bare_source, bare_rover, Judged}
-use Rattle.session_model.specs.Owed.{received, closing, Happening, arrives, takes_turn, ends, owed}
+use Rattle.session_model.specs.Owed.{came_by, came_to, closing, Happening, arrives, takes_turn, ends, owed}
 use Rattle.session_model.specs.Endings.{ended_by, goes_on}
 use Rattle.session_model.specs.Reports.{opened_as, bytes_to}
 use Rattle.session_model.specs.Run.{Histories, Connected, World, Moved, made, judged_of, makes, closed_if, with_text, moved, moved_if, is_concerned, happens_in, happens, is_opened, opened_if, fresh, opens, after_event, after_events, closes, world}
@@ -34,7 +34,7 @@ use Rattle.run_promise.proofs.RunLemmas.{all_placed}
 module _ (c : Config) (headings : ℕ → Heading) where
   -- it ended by itself
   abbrev pub HasEnded : Connected → Type 0
-  HasEnded d = is_none (ended_by (judged_of c (headings d.number) d) (received d.steps)) ≡ false
+  HasEnded d = is_none (ended_by (came_to (judged_of c (headings d.number) d) d.steps)) ≡ false
 
   -- its text is all that these events bring on it, or it ended by itself
   abbrev pub IsWhole : List Event → Connected → Type 0
@@ -57,7 +57,7 @@ module _ (c : Config) (headings : ℕ → Heading) where
       → IsWhole list d → IsWhole (list ++ event ∷ []) d
   whole_over list event d over known (inr ended) = inr ended
   whole_over list event d over known (inl all) =
-      elim (over_if d.closed (is_none (ended_by (judged_of c (headings d.number) d) (received d.steps))) over) [
+      elim (over_if d.closed (is_none (ended_by (came_to (judged_of c (headings d.number) d) d.steps))) over) [
         | inl closed ↦ inl (bytes_stay d.number list (event ∷ []) (known.closed closed) ∙ all)
         | inr ended ↦ inr ended
       ]
@@ -241,7 +241,7 @@ module _ (c : Config) (headings : ℕ → Heading) where
   ended_still h d last ended =
       let j = judged_of c (headings d.number) d in
       let plan = closing j d.steps in
-      ap (λ (r : _). is_none (ended_by j r))
+      ap (λ (r : _). is_none (ended_by (came_by j r)))
       (received_closed j d.steps (made c d.number h plan) (made_is c d.number h plan))
       ∙ ended
 

@@ -11,7 +11,7 @@ use Rattle.mount_ring.specs.declared.call.RingCall.{RingCall}
 use Rattle.mount_ring.specs.declared.call.RingAnswer.{RingAnswer}
 use Rattle.mount_ring.specs.declared.call.RingAnswer.TheVariants.{Given, Taken, Released, At, Joined, Looked, Read}
 use Rattle.rover_cursor.specs.declared.segment.Segment.{Segment}
-use Rattle.session_calls.specs.Steps.{Ask, to_ring, to_book, Step, at_ring, at_book, answer_of, on_ring}
+use Rattle.session_calls.specs.Steps.{Ask, to_ring, to_book, Answer, Step, at_ring, at_book, answer_of, on_ring}
 use Rattle.session_calls.specs.Plans.{Plan, done, asks, left, IsMade}
 use Rattle.session_calls.specs.Rings.{history_at, answer_at, Went, WentOn}
 use Rattle.session_calls.proofs.PlanLemmas.{made_both}
@@ -27,7 +27,7 @@ use Rattle.session_model.specs.declared.ending.Last.{Last}
 use Rattle.session_model.specs.Setting.{shapes}
 use Rattle.session_model.specs.Headings.{Heading}
 use Rattle.session_model.specs.Judged.{Opening, Judged, judged}
-use Rattle.session_model.specs.Owed.{Received, received, plan_of, closing, Happening, arrives, takes_turn, ends}
+use Rattle.session_model.specs.Owed.{came_by, first_answer, came_to, plan_of, closing, Happening, arrives, takes_turn, ends}
 use Rattle.session_model.specs.Endings.{ended_by, goes_on}
 use Rattle.session_model.specs.Run.{Histories, Connected, Moved, nothing_called, step_at, with_call, with_calls, made, judged_of, makes, closed_if, goes_to, with_text, with_last, moved, moved_if, fresh}
 use Rattle.session_model.proofs.GoodLemmas.{IsGood, good_left, good_plan}
@@ -232,7 +232,7 @@ and_false false = refl
 -- a connection that made all that its bytes owe, closed at once where it ended by itself
 pub closed_moves : (end : Option Ending) (c : Config) (heading : Heading) (old : Histories) (d : Connected) (m : Moved)
     (more : List Step) → IsFed c (judged_of c heading m.connection)
-    → ended_by (judged_of c heading m.connection) (received m.connection.steps) ≡ end
+    → ended_by (came_to (judged_of c heading m.connection) m.connection.steps) ≡ end
     → is_none m.connection.closed ≡ true → m.connection.number ≡ d.number → Adds c old m.histories d.number more
     → Walked c m.histories d.number m.connection.steps
     → IsMade (plan_of c (judged_of c heading m.connection)) (owed_among m.connection.steps)
@@ -251,7 +251,7 @@ closed_moves None c heading old d m more fed is uncut number adds walked owes = 
     made_is = owes;
     ends = inl (
       refl,
-      ap (λ (b : Bool). b && is_none (ended_by (judged_of c heading m.connection) (received m.connection.steps))) uncut
+      ap (λ (b : Bool). b && is_none (ended_by (came_to (judged_of c heading m.connection) m.connection.steps))) uncut
           ∙ ap is_none is,
     );
   };
@@ -263,7 +263,7 @@ closed_moves (Some end) c heading old d m more fed is uncut number adds walked o
     let plan = closing j steps in
     let last = made c me m.histories plan in
     let now = with_calls me m.histories last in
-    let within = closing_within c j (received steps) (segments_after [] steps) fed in
+    let within = closing_within c j (first_answer steps) (segments_after [] steps) fed in
     let mine = subst (λ (n : ℕ). Walked c m.histories n steps) (sym number) walked in
     let second = plan_adds c m.histories me plan mine.size within in
     let second_too : Adds c m.histories now d.number last =
@@ -288,7 +288,7 @@ closed_moves (Some end) c heading old d m more fed is uncut number adds walked o
         split = refl;
         made_is = owes;
         ends = inr (
-          ap (λ (r : _). is_none m.connection.closed && is_none (ended_by j r)) (received_closed j steps last closed)
+          ap (λ (r : _). is_none m.connection.closed && is_none (ended_by (came_by j r))) (received_closed j steps last closed)
               ∙ ap (λ (e : Option Ending). is_none m.connection.closed && is_none e) is
               ∙ and_false (is_none m.connection.closed),
           closed,
@@ -308,7 +308,7 @@ comes c cap heading h d now plan kept uncut number walked good within owes =
     let steps = made c now.number h plan in
     let m = makes c h now plan in
     let adds = plan_adds c h now.number plan mine.size within in
-    closed_moves (ended_by (judged_of c heading now) (received m.connection.steps)) c heading h d m steps
+    closed_moves (ended_by (came_to (judged_of c heading now) m.connection.steps)) c heading h d m steps
     (judged_fed c cap now.opening heading now.text kept) refl uncut number
     (subst (λ (n : ℕ). Adds c h m.histories n steps) number adds)
     (subst (λ (n : ℕ). Walked c m.histories n (now.steps ++ steps)) number
@@ -322,7 +322,7 @@ comes c cap heading h d now plan kept uncut number walked good within owes =
 uncut_going : (c : Config) (heading : Heading) (d : Connected)
     → goes_on (judged_of c heading d) d.steps d.closed ≡ true → is_none d.closed ≡ true
 uncut_going c heading d goes =
-    (and_parts (is_none d.closed) (is_none (ended_by (judged_of c heading d) (received d.steps))) goes).0
+    (and_parts (is_none d.closed) (is_none (ended_by (came_to (judged_of c heading d) d.steps))) goes).0
 
 pub moved_moves : (c : Config) (cap : ℕ) (heading : Heading) (h : Histories) (d : Connected) (what : Happening)
     → KeepsRules cap c → Stood c heading h d → goes_on (judged_of c heading d) d.steps d.closed ≡ true
@@ -368,19 +368,19 @@ moved_moves c cap heading h d (takes_turn budget) kept s goes =
             (still_made c heading h d s goes);
         ends = inl (
           refl,
-          going_turned (judged_of c heading d) d.closed (received d.steps)
-              (received (d.steps ++ steps)) (received_turned c d.number h d.steps budget) goes,
+          going_turned (judged_of c heading d) d.closed (first_answer d.steps)
+              (first_answer (d.steps ++ steps)) (received_turned c d.number h d.steps budget) goes,
         );
       };
     }
   where
-    going_turned : (j : Judged) (closed : Option Last) (before after : Received) → after ≡ before
-        → (is_none closed && is_none (ended_by j before)) ≡ true → (is_none closed && is_none (ended_by j after)) ≡ true
+    going_turned : (j : Judged) (closed : Option Last) (before after : Option Answer) → after ≡ before
+        → (is_none closed && is_none (ended_by (came_by j before))) ≡ true → (is_none closed && is_none (ended_by (came_by j after))) ≡ true
     going_turned j closed before after same goes =
-        ap (λ (r : Received). is_none closed && is_none (ended_by j r)) same ∙ goes
+        ap (λ (r : Option Answer). is_none closed && is_none (ended_by (came_by j r))) same ∙ goes
 
     received_turned : (c : Config) (me : ℕ) (h : Histories) (steps : List Step) (budget : ℕ)
-        → received (steps ++ made c me h (reads budget (segments_after [] steps))) ≡ received steps
+        → first_answer (steps ++ made c me h (reads budget (segments_after [] steps))) ≡ first_answer steps
     received_turned c me h [] budget = refl
     received_turned c me h (step ∷ steps) budget = refl
 
@@ -392,7 +392,7 @@ moved_moves c cap heading h d (ends last) kept s goes =
     let j = judged_of c heading d in
     let plan = closing j d.steps in
     let steps = made c d.number h plan in
-    let within = closing_within c j (received d.steps) (segments_after [] d.steps)
+    let within = closing_within c j (first_answer d.steps) (segments_after [] d.steps)
     (judged_fed c cap d.opening heading d.text kept) in
     let m = makes c h (with_last d last) plan in
     let adds = plan_adds c h d.number plan s.walked.size within in

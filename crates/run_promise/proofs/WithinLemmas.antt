@@ -40,8 +40,9 @@ use Rattle.access_groups.specs.declared.admission.SourceDenial.TheVariants as so
 use Rattle.access_groups.specs.Admission.{admission, source_admission}
 use Rattle.session_model.specs.Setting.{base_at, bases_at}
 use Rattle.session_model.specs.Headings.{Heading, incomplete, too_long, whole, answered}
-use Rattle.session_model.specs.Judged.{Opening, sends_head, relays, bare_source, bare_rover, Judged, waiting, refused, unanswered, table, source, rover, source_judged, rover_judged, request_judged, once, heading_judged, said_judged, relay_judged, mount_fed, named, bare_admission, judged}
-use Rattle.session_model.specs.Owed.{Received, unasked, claimed, taken, entered, full, received_by, if_entered, terms_of, plan_of, closing_by}
+use Rattle.session_model.specs.Judged.{Opening, sends_head, relays, bare_source, bare_rover, Judged, waiting, finished, source, rover, source_judged, rover_judged, request_judged, once, heading_judged, said_judged, relay_judged, mount_fed, named, bare_admission, judged}
+use Rattle.session_model.specs.Owed.{came_by, is_let_in, if_entered, terms_of, plan_of, closing_by}
+use Rattle.session_model.proofs.CameLemmas.{came_parts}
 use Rattle.session_core.proofs.AdmittedLemmas.{source_is}
 use Rattle.run_promise.proofs.MadeLemmas.{IsWithin}
 
@@ -135,12 +136,10 @@ by_within : (count : ℕ) (near : Bool) (terms : Terms) (told : List Position) �
 by_within count false terms told below = each_within count terms.filter terms.bases below
 by_within count true terms told below = follows_within count terms None told below
 
-entered_within : (count : ℕ) (by : Received) (plan : Plan) → IsWithin count plan → IsWithin count (if_entered by plan)
-entered_within count unasked plan within = tt
-entered_within count (claimed claim) plan within = tt
-entered_within count (taken caller claim) plan within = tt
-entered_within count entered plan within = within
-entered_within count (full busy cap) plan within = tt
+entered_within : (count : ℕ) (let_in : Bool) (plan : Plan) → IsWithin count plan
+    → IsWithin count (if_entered let_in plan)
+entered_within count true plan within = within
+entered_within count false plan within = tt
 
 -- each base is a mountpoint
 base_below : (c : Config) (n : ℕ) (mount : Option Mount) → slice_get c.mount n ≡ mount
@@ -160,42 +159,28 @@ bases_below c (n ∷ more) =
 
 abbrev pub IsFed : Config → Judged → Type 0
 IsFed c waiting = ⊤
-IsFed c (refused version reply end) = ⊤
-IsFed c (unanswered end) = ⊤
-IsFed c (table version) = ⊤
+IsFed c (finished reply end) = ⊤
 IsFed c (source terms body) = terms.mount < length c.mount
 IsFed c (rover terms tail) = ⊤
 
 pub plan_within : (c : Config) (j : Judged) → IsFed c j → IsWithin (length c.mount) (plan_of c j)
 plan_within c waiting fed = tt
-plan_within c (refused version reply end) fed = tt
-plan_within c (unanswered end) fed = tt
-plan_within c (table version) fed = tt
+plan_within c (finished reply end) fed = tt
 plan_within c (source terms body) fed =
     (fed, claim_within (length c.mount) terms.mount (frames_of terms.chunked body) fed)
 plan_within c (rover terms tail) fed = (
   tt,
-  λ answer. entered_within (length c.mount) (received_by answer) _
+  λ answer. entered_within (length c.mount) (is_let_in answer) _
       (by_within (length c.mount) terms.admission.near (terms_of c terms.admission)
       (option_to_list terms.first ++ reports tail) (bases_below c terms.admission.bases)),
 )
 
-pub closing_within : (c : Config) (j : Judged) (by : Received) (segments : List Segment) → IsFed c j
-    → IsWithin (length c.mount) (closing_by j by segments)
-closing_within c waiting by segments fed = tt
-closing_within c (refused version reply end) by segments fed = tt
-closing_within c (unanswered end) by segments fed = tt
-closing_within c (table version) by segments fed = tt
-closing_within c (source terms body) unasked segments fed = tt
-closing_within c (source terms body) (claimed claim) segments fed = (fed, λ answer. tt)
-closing_within c (source terms body) (taken caller claim) segments fed = tt
-closing_within c (source terms body) entered segments fed = tt
-closing_within c (source terms body) (full busy cap) segments fed = tt
-closing_within c (rover terms tail) unasked segments fed = tt
-closing_within c (rover terms tail) (claimed claim) segments fed = tt
-closing_within c (rover terms tail) (taken caller claim) segments fed = tt
-closing_within c (rover terms tail) entered segments fed = (tt, λ answer. tt)
-closing_within c (rover terms tail) (full busy cap) segments fed = tt
+pub closing_within : (c : Config) (j : Judged) (by : Option Answer) (segments : List Segment) → IsFed c j
+    → IsWithin (length c.mount) (closing_by (came_by j by) segments)
+closing_within c j by segments fed =
+    came_parts (λ came. IsWithin (length c.mount) (closing_by came segments)) j by tt (λ reply end. tt)
+    (λ terms body claim is given. (subst (IsFed c) is fed, λ answer. tt))
+    (λ terms tail is entered. (tt, λ answer. tt))
 
 pub left_within : (count : ℕ) (plan : Plan) (steps : List Step) → IsWithin count plan
     → IsWithin count (left plan steps)

@@ -15,7 +15,6 @@ use Rattle.rover_session.specs.Made.{sent_in, overrun_in}
 use Rattle.ntrip_head.specs.declared.request.Version.{Version}
 use Rattle.ntrip_head.specs.declared.request.Version.TheVariants.{One, Two}
 use Rattle.ntrip_reply.specs.declared.kind.Reply.TheVariants as replies
-use Rattle.ntrip_reply.specs.Text.{reply_text}
 use Rattle.session_script.specs.declared.Event.{Event}
 use Rattle.cast_config.specs.declared.config.Config.{Config}
 use Rattle.session_model.specs.declared.report.Connection.{Connection}
@@ -23,8 +22,8 @@ use Rattle.session_model.specs.declared.report.Report.{Report}
 use Rattle.session_model.specs.Setting.{bases_at}
 use Rattle.session_model.specs.Setting as setting
 use Rattle.session_model.specs.Headings.{Heading}
-use Rattle.session_model.specs.Judged.{Opening, SourceTerms, RoverTerms, Judged, waiting, refused, unanswered, table, source, rover, judged}
-use Rattle.session_model.specs.Replies.{text_if, opening_text, kept_frames}
+use Rattle.session_model.specs.Judged.{Opening, SourceTerms, RoverTerms, Judged, waiting, finished, source, rover, judged}
+use Rattle.session_model.specs.Replies.{replied_text, text_if, opening_text, kept_frames}
 use Rattle.session_model.specs.Promises.{IsSoundIn, CountsAll}
 use Rattle.session_model.specs.Reports.{opened_as, bytes_to, AreHeadings, mount_total}
 use Rattle.caster_replay.specs.Runs.{is_cut}
@@ -110,11 +109,8 @@ WasTaken told terms before calls =
 abbrev pub Was : Config → List (History RingCall) → Connection → List ℕ → List ℕ → List Call
     → Judged → Type 0
 Was c histories told before rest calls waiting = (rest ≡ []) × IsReplied told before calls []
-Was c histories told before rest calls (refused version reply end) =
-    IsReplied told before calls (text_if version reply (setting.table c))
-Was c histories told before rest calls (unanswered end) = IsReplied told before calls []
-Was c histories told before rest calls (table version) =
-    IsReplied told before calls (reply_text version replies.Table (setting.table c))
+Was c histories told before rest calls (finished reply end) =
+    IsReplied told before calls (replied_text reply (setting.table c))
 Was c histories told before rest calls (source terms body) =
     HasClaimed told terms before body rest calls ⊎ WasTaken told terms before calls
 Was c histories told before rest calls (rover terms tail) =
@@ -127,9 +123,7 @@ Was c histories told before rest calls (rover terms tail) =
 -- whether this is the judgement of a rover
 abbrev pub is_rover : Judged → Bool
 is_rover waiting = false
-is_rover (refused version reply end) = false
-is_rover (unanswered end) = false
-is_rover (table version) = false
+is_rover (finished reply end) = false
 is_rover (source terms body) = false
 is_rover (rover terms tail) = true
 

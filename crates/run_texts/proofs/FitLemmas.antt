@@ -14,7 +14,7 @@ use Rattle.session_model.specs.declared.ending.Last.TheVariants as lasts
 use Rattle.session_model.specs.declared.report.Report.{Report}
 use Rattle.session_model.specs.Headings.{Heading}
 use Rattle.session_model.specs.Judged.{Opening, sends_head, relays, bare_source, bare_rover, Judged}
-use Rattle.session_model.specs.Owed.{received, closing, Happening, arrives, takes_turn, ends, owed}
+use Rattle.session_model.specs.Owed.{came_to, closing, Happening, arrives, takes_turn, ends, owed}
 use Rattle.session_model.specs.Endings.{ended_by}
 use Rattle.session_model.proofs.ReportSums.{sums_long}
 use Rattle.session_model.specs.Reports.{IsReport, report, mount_total}
@@ -51,7 +51,7 @@ moved_long c heading h d (arrives more) =
     let now = with_text d (d.text ++ more) in
     let plan = owed c d.opening heading d.text d.steps (arrives more) in
     let judged = judged_of c heading now in
-    closed_long (ended_by judged (received (makes c h now plan).connection.steps)) c judged h (makes c h now plan)
+    closed_long (ended_by (came_to judged (makes c h now plan).connection.steps)) c judged h (makes c h now plan)
     (makes_long c h now plan)
 moved_long c heading h d (takes_turn budget) =
     makes_long c h d (owed c d.opening heading d.text d.steps (takes_turn budget))

@@ -27,7 +27,7 @@ use Rattle.session_model.specs.declared.report.Closed.{Closed}
 use Rattle.session_model.specs.Setting.{shapes}
 use Rattle.session_model.specs.Called.{Called}
 use Rattle.session_model.specs.Judged.{Opening, sends_head, relays}
-use Rattle.session_model.specs.Owed.{received, plan_of, closing}
+use Rattle.session_model.specs.Owed.{came_to, plan_of, closing}
 use Rattle.session_model.specs.Run.{Histories, nothing_called}
 use Rattle.session_core.specs.Standing.{IsMadeBy, is_halted}
 use Rattle.session_core.specs.Closed.{IsSettled}
@@ -181,7 +181,7 @@ record_fits c opening me wear entry start now is =
     (made_fit (is_halted goes.ended) (plan_of c goes.j) steps (good_plan c goes.j) goes.owes))
     (called_fits c goes.between now me goes.closed_by goes.closed
     (settled_fit entry.receipt.settled (closing goes.j steps) goes.closed_by
-    (good_closing goes.j (received steps) (segments_after [] steps)) goes.settled))
+    (good_closing (came_to goes.j steps) (segments_after [] steps)) goes.settled))
 
 entry_kept : (c : Config) (opening : Opening) (me : ℕ) (entry : Record) (start now : Histories)
     (histories : Histories) → RecordGoes c opening me (only_worn (call_counts histories)) entry start now

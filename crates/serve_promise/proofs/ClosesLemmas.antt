@@ -1,6 +1,6 @@
 -- What closes a link: nothing, a claim that is given back, or an account that is left. Where that
 -- turn was refused, it is what would have been called.
-use Rattle.std.proofs.Common.{◌≡◌, ◌∙◌, ◌++◌, ℕ, Bool, true, false, IsTrue, List, [], ◌∷◌, All, refl, sym, ap, subst}
+use Rattle.std.proofs.Common.{◌≡◌, ◌∙◌, ◌++◌, ℕ, Bool, true, false, IsTrue, List, [], ◌∷◌, All, None, refl, sym, ap, subst}
 use Rattle.std.specs.Prelude.{⊤}
 use Rattle.std.proofs.lemmas.List.{append-nil}
 use Rattle.std.proofs.lemmas.List.Elements.{All-nil, All-cons}
@@ -12,8 +12,9 @@ use Rattle.session_calls.specs.Steps.{Ask, to_ring, to_book, Step, at_ring, at_b
 use Rattle.session_calls.specs.Plans.{Plan, done, asks, IsMade}
 use Rattle.rover_session.specs.Made.{after_step, segments_after}
 use Rattle.cast_config.specs.declared.config.Config.{Config}
-use Rattle.session_model.specs.Judged.{Judged, waiting, refused, unanswered, table, source, rover}
-use Rattle.session_model.specs.Owed.{Received, unasked, claimed, taken, entered, full, received, closing, closing_by}
+use Rattle.session_model.specs.Judged.{Judged}
+use Rattle.session_model.specs.Owed.{Came, nothing, over, holding, inside, came_by, came_to, closing, closing_by}
+use Rattle.session_core.proofs.ClosingLemmas.{free_closed, uncalled_free}
 use Rattle.session_model.specs.Run.{Histories, made}
 use Rattle.session_core.specs.Closed.{IsSettled}
 use Rattle.run_promise.specs.Calls.{Call, without_reads}
@@ -52,25 +53,15 @@ made_closers (asks ask next) (step ∷ steps) closes is = (
   made_closers (next (answer_of step)) steps (closes.1 (answer_of step)) is.1,
 )
 
-closing_closes : (j : Judged) (by : Received) (segments : List Segment) → ClosesAll (closing_by j by segments)
-closing_closes waiting by segments = tt
-closing_closes (refused version reply end) by segments = tt
-closing_closes (unanswered end) by segments = tt
-closing_closes (table version) by segments = tt
-closing_closes (source terms body) unasked segments = tt
-closing_closes (source terms body) (claimed claim) segments = (tt, λ answer. tt)
-closing_closes (source terms body) (taken caller claim) segments = tt
-closing_closes (source terms body) entered segments = tt
-closing_closes (source terms body) (full busy cap) segments = tt
-closing_closes (rover terms tail) unasked segments = tt
-closing_closes (rover terms tail) (claimed claim) segments = tt
-closing_closes (rover terms tail) (taken caller claim) segments = tt
-closing_closes (rover terms tail) entered segments = (tt, λ answer. tt)
-closing_closes (rover terms tail) (full busy cap) segments = tt
+closing_closes : (came : Came) (segments : List Segment) → ClosesAll (closing_by came segments)
+closing_closes nothing segments = tt
+closing_closes (over reply end) segments = tt
+closing_closes (holding terms body claim) segments = (tt, λ answer. tt)
+closing_closes (inside terms) segments = (tt, λ answer. tt)
 
 pub closing_closers : (j : Judged) (steps last : List Step) → IsMade (closing j steps) last → AreClosers last
 closing_closers j steps last is =
-    made_closers (closing j steps) last (closing_closes j (received steps) (segments_after [] steps)) is
+    made_closers (closing j steps) last (closing_closes (came_to j steps) (segments_after [] steps)) is
 
 pub closers_front : (first second : List Step) → AreClosers (first ++ second) → AreClosers first
 closers_front [] second all = tt
@@ -136,17 +127,14 @@ closes_so c me h j steps closed_by false answered none =
       releases = closers_release extra (closing_closers j steps extra all);
     }
 
--- who called nothing has nothing to close
-unasked_made : (j : Judged) (segments : List Segment) (steps : List Step)
-    → IsMade (closing_by j unasked segments) steps → steps ≡ []
-unasked_made waiting segments steps is = is
-unasked_made (refused version reply end) segments steps is = is
-unasked_made (unanswered end) segments steps is = is
-unasked_made (table version) segments steps is = is
-unasked_made (source terms body) segments steps is = is
-unasked_made (rover terms tail) segments steps is = is
+-- nothing was to be closed
+pub done_settled : (settled : Bool) (steps : List Step) → IsSettled settled done steps → steps ≡ []
+done_settled true steps is = is
+done_settled false steps is = is
 
+-- who called nothing has nothing to close
 pub unasked_none : (settled : Bool) (j : Judged) (segments : List Segment) (steps : List Step)
-    → IsSettled settled (closing_by j unasked segments) steps → steps ≡ []
-unasked_none true j segments steps is = unasked_made j segments steps is
-unasked_none false j segments steps is = is
+    → IsSettled settled (closing_by (came_by j None) segments) steps → steps ≡ []
+unasked_none settled j segments steps is =
+    done_settled settled steps
+    (subst (λ (p : Plan). IsSettled settled p steps) (free_closed _ segments (uncalled_free [] refl j)) is)

@@ -1,5 +1,5 @@
 -- What stands of a link that was halted: its calls are the first of what its bytes owe.
-use Rattle.std.proofs.Common.{◌≡◌, ◌∙◌, ◌++◌, ℕ, Bool, true, false, List, [], ◌∷◌, reverse, All, inl, inr, refl, sym, ap, subst, option_to_list}
+use Rattle.std.proofs.Common.{◌≡◌, ◌∙◌, ◌++◌, ℕ, Bool, true, false, List, [], ◌∷◌, reverse, All, Option, None, Some, inl, inr, refl, sym, ap, subst, option_to_list}
 use Rattle.std.specs.Prelude.{unwrap_or, None}
 use Rattle.std.proofs.lemmas.List.{append-nil, map-append}
 use Rattle.std.proofs.lemmas.List.Concat.{flat_map-append}
@@ -11,7 +11,7 @@ use Rattle.mount_ring.specs.declared.call.RingCall.TheVariants.{Claim, Publish}
 use Rattle.mount_ring.specs.declared.call.RingAnswer.TheVariants.{Given, Taken}
 use Rattle.caster_accounts.specs.declared.call.BookAnswer.TheVariants.{Entered, Full}
 use Rattle.rover_cursor.specs.declared.segment.Segment.{Segment}
-use Rattle.session_calls.specs.Steps.{Step, at_ring, at_book, answer_of}
+use Rattle.session_calls.specs.Steps.{Answer, of_ring, of_book, Step, at_ring, at_book, answer_of}
 use Rattle.session_calls.specs.Plans.{Plan, done, asks, left, IsMade, IsBegun}
 use Rattle.source_session.specs.Body.{payload, frames_of}
 use Rattle.rover_session.specs.Body.{body_of}
@@ -24,8 +24,10 @@ use Rattle.ntrip_reply.specs.declared.kind.Reply.TheVariants as replies
 use Rattle.cast_config.specs.declared.config.Config.{Config}
 use Rattle.session_model.specs.declared.report.Receipt.{Receipt}
 use Rattle.session_model.specs.Setting.{bases_at}
-use Rattle.session_model.specs.Judged.{Opening, SourceTerms, RoverTerms, Judged, waiting, refused, unanswered, table, source, rover}
-use Rattle.session_model.specs.Owed.{Received, unasked, claimed, taken, entered, full, received, terms_of, plan_of, closing, closing_by}
+use Rattle.session_model.specs.Setting as setting
+use Rattle.session_model.specs.Judged.{Opening, SourceTerms, RoverTerms, Judged, waiting, finished, source, rover}
+use Rattle.session_model.specs.Owed.{holding, inside, came_by, first_answer, came_to, terms_of, plan_of, closing, closing_by}
+use Rattle.session_core.proofs.BeginLemmas.{taken_untabled, full_untabled}
 use Rattle.session_model.specs.Promises.{Keeps}
 use Rattle.session_model.specs.Replies.{text_if, opening_text, reply_of, kept_frames, sent_by}
 use Rattle.session_model.specs.Reports.{is_entered}
@@ -42,7 +44,7 @@ use Rattle.run_promise.proofs.SourceLemmas.{Given_, Taken_, source_made}
 use Rattle.run_promise.proofs.OwedLemmas.{answered_owed, received_owed, source_last, rover_last}
 use Rattle.run_promise.proofs.AccountLemmas.{carries_so, source_joins, HasEntry, IsFull, entry_made, holds_so, all_reversed}
 use Rattle.serve_promise.specs.Links.{HasEnteredFirst, HasClaimedFirst, WasFirst, given_back, told_as}
-use Rattle.serve_promise.proofs.ClosesLemmas.{unasked_none}
+use Rattle.serve_promise.proofs.ClosesLemmas.{done_settled, unasked_none}
 
 -- ---- the rest of a plan
 
@@ -117,11 +119,6 @@ asked_split first second all is =
     ∙ ap asked (flat_map-append call_in first second)
     ∙ asked_both (calls_of first) (calls_of second) (asked (calls_of first)) (asked (calls_of second)) refl refl
 
--- nothing was to be closed
-done_settled : (settled : Bool) (steps : List Step) → IsSettled settled done steps → steps ≡ []
-done_settled true steps is = is
-done_settled false steps is = is
-
 -- ---- what stands of it
 
 pub record Part (c : Config) (histories : List (History RingCall)) (opening : Opening) (me : ℕ) (j : Judged)
@@ -131,8 +128,8 @@ pub record Part (c : Config) (histories : List (History RingCall)) (opening : Op
   pub begun : IsBegun (plan_of c j) (owed_among steps)
   pub settled : IsSettled receipt.settled (closing j steps) closed_by
   pub segments : receipt.segments ≡ reverse (segments_after [] steps)
-  pub entered : receipt.entered ≡ is_entered (received steps)
-  pub due_is : due ≡ sent_by c histories opening j (received steps) (reverse (segments_after [] steps))
+  pub entered : receipt.entered ≡ is_entered (came_to j steps)
+  pub due_is : due ≡ sent_by c histories opening (came_to j steps) (reverse (segments_after [] steps))
   pub keeps : Keeps c histories (record {
     number = me;
     opening = opening;
@@ -151,20 +148,20 @@ module _ (c : Config) (histories : List (History RingCall)) (opening : Opening) 
   calls_are = same_owed (steps ++ closed_by) ∙ ap calls_of (owed-append steps closed_by)
       ∙ flat_map-append call_in (owed_among steps) (owed_among closed_by)
 
-  received_is : (owed : List Step) → owed_among steps ≡ owed → received steps ≡ received owed
-  received_is owed is = sym (received_owed steps p.on) ∙ ap received is
+  received_is : (owed : List Step) → owed_among steps ≡ owed → first_answer steps ≡ first_answer owed
+  received_is owed is = sym (received_owed steps p.on) ∙ ap first_answer is
 
-  closes_by : (by : Received) → received steps ≡ by
-      → IsSettled receipt.settled (closing_by j by (segments_after [] steps)) closed_by
+  closes_by : (by : Option Answer) → first_answer steps ≡ by
+      → IsSettled receipt.settled (closing_by (came_by j by) (segments_after [] steps)) closed_by
   closes_by by is =
-      subst (λ (r : Received). IsSettled receipt.settled (closing_by j r (segments_after [] steps)) closed_by) is
+      subst (λ (r : Option Answer). IsSettled receipt.settled (closing_by (came_by j r) (segments_after [] steps)) closed_by) is
       p.settled
 
   -- it was halted before it called anything
   none_called : owed_among steps ≡ [] → all_calls ≡ []
   none_called none =
       let closed : closed_by ≡ [] = unasked_none receipt.settled j (segments_after [] steps) closed_by
-      (closes_by unasked (received_is [] none)) in
+      (closes_by None (received_is [] none)) in
       calls_are
       ∙ ap (λ (l : List Step). calls_of l ++ calls_of (owed_among closed_by)) none
       ∙ ap (λ (l : List Step). calls_of (owed_among l)) closed
@@ -174,20 +171,20 @@ module _ (c : Config) (histories : List (History RingCall)) (opening : Opening) 
   such IsSuch joins = walk_keeps IsSuch c [] steps p.answered p.on joins (All-nil (HasSuch IsSuch))
 
   -- where it joined nothing, no more than a reply is due
-  reply_due : (by : Received) → received steps ≡ by → AreJoins IsNever (owed_among steps)
-      → due ≡ opening_text c opening ++ reply_of c j by
+  reply_due : (by : Option Answer) → first_answer steps ≡ by → AreJoins IsNever (owed_among steps)
+      → due ≡ opening_text c opening ++ reply_of c (came_by j by)
   reply_due by is joins =
       p.due_is
-      ∙ ap (λ (r : Received). sent_by c histories opening j r (reverse (segments_after [] steps))) is
-      ∙ ap (λ (l : List Segment). sent_by c histories opening j by (reverse l))
+      ∙ ap (λ (r : Option Answer). sent_by c histories opening (came_by j r) (reverse (segments_after [] steps))) is
+      ∙ ap (λ (l : List Segment). sent_by c histories opening (came_by j by) (reverse l))
       (none_such (segments_after [] steps) (such IsNever joins))
-      ∙ append-nil (opening_text c opening ++ reply_of c j by)
+      ∙ append-nil (opening_text c opening ++ reply_of c (came_by j by))
 
   none_first : owed_among steps ≡ []
-      → IsReplied (told_as me receipt due) (opening_text c opening) all_calls (reply_of c j unasked)
+      → IsReplied (told_as me receipt due) (opening_text c opening) all_calls (reply_of c (came_by j None))
   none_first none = (
     none_called none,
-    reply_due unasked (received_is [] none) (subst (AreJoins IsNever) (sym none) tt),
+    reply_due None (received_is [] none) (subst (AreJoins IsNever) (sym none) tt),
   )
 
 -- ---- a source
@@ -209,7 +206,7 @@ module _ (c : Config) (histories : List (History RingCall)) (opening : Opening) 
       (source_joins c terms body ((step ∷ more) ++ all.more) all.is_made))
 
   released_by : (settled : Bool) (claim : ℕ)
-      → IsSettled settled (closing_by sourced (claimed claim) (segments_after [] steps)) closed_by
+      → IsSettled settled (closing_by (holding terms body claim) (segments_after [] steps)) closed_by
       → asked (calls_of (owed_among closed_by)) ≡ given_back settled terms.mount claim
   released_by true claim is = source_last terms body claim (segments_after [] steps) closed_by is
   released_by false claim is = ap (λ (l : List Step). asked (calls_of (owed_among l))) is
@@ -222,7 +219,7 @@ module _ (c : Config) (histories : List (History RingCall)) (opening : Opening) 
       let rest : g.rest ≡ more ++ all.more = let e = g.steps_are in cc in
       let owed_is : owed_among steps ≡ at_ring terms.mount Claim (Given g.claim) ∷ more =
       owed ∙ ap (λ (s : Step). s ∷ more) first in
-      let by : received steps ≡ claimed g.claim =
+      let by : first_answer steps ≡ Some (of_ring (Given g.claim)) =
       received_is c histories opening me sourced steps closed_by receipt due p _ owed_is in
       let both : asked (calls_of more) ++ asked (calls_of all.more) ≡ publishes terms.mount g.claim frames =
       sym (asked_split more all.more g.rest rest) ∙ g.published in
@@ -241,8 +238,8 @@ module _ (c : Config) (histories : List (History RingCall)) (opening : Opening) 
         published = asked_both (calls_of more) (calls_of (owed_among closed_by))
             (publishes terms.mount g.claim split.0) (given_back receipt.settled terms.mount g.claim) split.3
             (released_by receipt.settled g.claim
-            (closes_by c histories opening me sourced steps closed_by receipt due p (claimed g.claim) by));
-        bytes = reply_due c histories opening me sourced steps closed_by receipt due p (claimed g.claim) by joins;
+            (closes_by c histories opening me sourced steps closed_by receipt due p (Some (of_ring (Given g.claim))) by));
+        bytes = reply_due c histories opening me sourced steps closed_by receipt due p (Some (of_ring (Given g.claim))) by joins;
       }
 
   taken_first : Taken_ terms.mount ((step ∷ more) ++ all.more)
@@ -255,16 +252,19 @@ module _ (c : Config) (histories : List (History RingCall)) (opening : Opening) 
       owed ∙ ap (λ (s : Step). s ∷ more) first
       ∙ ap (λ (l : List Step). at_ring terms.mount Claim (Taken t.caller t.claim) ∷ l)
       (none_left more all.more rest) in
-      let by : received steps ≡ taken t.caller t.claim =
+      let by : first_answer steps ≡ Some (of_ring (Taken t.caller t.claim)) =
       received_is c histories opening me sourced steps closed_by receipt due p _ owed_is in
       let closed : closed_by ≡ [] = done_settled receipt.settled closed_by
-      (closes_by c histories opening me sourced steps closed_by receipt due p (taken t.caller t.claim) by) in (
+      (closes_by c histories opening me sourced steps closed_by receipt due p (Some (of_ring (Taken t.caller t.claim))) by) in (
         t.caller,
         t.claim,
         calls_are c histories opening me sourced steps closed_by receipt due p
             ∙ ap (λ (l : List Step). calls_of l ++ calls_of (owed_among closed_by)) owed_is
             ∙ ap (λ (l : List Step). call terms.mount Claim (Taken t.caller t.claim) ∷ calls_of (owed_among l)) closed,
-        reply_due c histories opening me sourced steps closed_by receipt due p (taken t.caller t.claim) by joins,
+        reply_due c histories opening me sourced steps closed_by receipt due p
+            (Some (of_ring (Taken t.caller t.claim))) by joins
+            ∙ ap (λ (l : List ℕ). opening_text c opening ++ l)
+            (sym (taken_untabled terms.version (setting.table c))),
       )
 
 -- ---- a rover
@@ -278,9 +278,9 @@ module _ (c : Config) (histories : List (History RingCall)) (opening : Opening) 
   roved = rover terms tail
 
   left_last : (settled : Bool)
-      → IsSettled settled (closing_by roved entered (segments_after [] steps)) closed_by
+      → IsSettled settled (closing_by (inside terms) (segments_after [] steps)) closed_by
       → calls_of (owed_among closed_by) ≡ []
-  left_last true is = rover_last terms tail (segments_after [] steps) closed_by is
+  left_last true is = rover_last terms (segments_after [] steps) closed_by is
   left_last false is = ap (λ (l : List Step). calls_of (owed_among l)) is
 
   abbrev group : ℕ
@@ -298,14 +298,14 @@ module _ (c : Config) (histories : List (History RingCall)) (opening : Opening) 
       let rest : e.rest ≡ more ++ all.more = let f = e.steps_are in cc in
       let owed_is : owed_among steps ≡ at_book e.call Entered ∷ more =
       owed ∙ ap (λ (s : Step). s ∷ more) first in
-      let by : received steps ≡ entered =
+      let by : first_answer steps ≡ Some (of_book Entered) =
       received_is c histories opening me roved steps closed_by receipt due p _ owed_is in
       let calls : without_reads (calls_of (steps ++ closed_by)) ≡ calls_of more =
       calls_are c histories opening me roved steps closed_by receipt due p
       ∙ ap (λ (l : List Step). calls_of l ++ calls_of (owed_among closed_by)) owed_is
       ∙ ap (λ (l : List Call). calls_of more ++ l)
       (left_last receipt.settled
-      (closes_by c histories opening me roved steps closed_by receipt due p entered by))
+      (closes_by c histories opening me roved steps closed_by receipt due p (Some (of_book Entered)) by))
       ∙ append-nil (calls_of more) in
       let selected : calls_of e.rest ≡ without_reads (calls_of (steps ++ closed_by)) ++ calls_of all.more =
       ap calls_of rest ∙ flat_map-append call_in more all.more
@@ -319,7 +319,7 @@ module _ (c : Config) (histories : List (History RingCall)) (opening : Opening) 
             (plan_such terms.admission.near (terms_of c terms.admission) told) e.made)),
       ) in
       record {
-        entered = p.entered ∙ ap is_entered by;
+        entered = p.entered ∙ ap (λ (r : Option Answer). is_entered (came_by roved r)) by;
         missing = calls_of all.more;
         selects = subst (Selects terms.admission.near c.hysteresis group (bases_at c terms.admission.bases) told)
             selected (plan_made c terms.admission.near (terms_of c terms.admission) told e.rest e.answered e.made);
@@ -328,8 +328,8 @@ module _ (c : Config) (histories : List (History RingCall)) (opening : Opening) 
             (such c histories opening me roved steps closed_by receipt due p (IsFilter group) joins));
         body = body_of version (kept_frames c histories receipt.segments);
         bytes = p.due_is
-            ∙ ap (λ (r : Received). sent_by c histories opening roved r (reverse segments)) by
-            ∙ ap (λ (l : List Segment). sent_by c histories opening roved entered l) (sym p.segments);
+            ∙ ap (λ (r : Option Answer). sent_by c histories opening (came_by roved r) (reverse segments)) by
+            ∙ ap (λ (l : List Segment). sent_by c histories opening (inside terms) l) (sym p.segments);
         holds = subst (λ (l : List Segment).
             Holds version (body_of version (kept_frames c histories l)) (kept_frames c histories l))
             (sym p.segments)
@@ -347,17 +347,19 @@ module _ (c : Config) (histories : List (History RingCall)) (opening : Opening) 
       let owed_is : owed_among steps ≡ at_book e.call (Full e.busy e.cap) ∷ [] =
       owed ∙ ap (λ (s : Step). s ∷ more) first
       ∙ ap (λ (l : List Step). at_book e.call (Full e.busy e.cap) ∷ l) (none_left more all.more rest) in
-      let by : received steps ≡ full e.busy e.cap =
+      let by : first_answer steps ≡ Some (of_book (Full e.busy e.cap)) =
       received_is c histories opening me roved steps closed_by receipt due p _ owed_is in
       let closed : closed_by ≡ [] = done_settled receipt.settled closed_by
-      (closes_by c histories opening me roved steps closed_by receipt due p (full e.busy e.cap) by) in (
-        p.entered ∙ ap is_entered by,
+      (closes_by c histories opening me roved steps closed_by receipt due p (Some (of_book (Full e.busy e.cap))) by) in (
+        p.entered ∙ ap (λ (r : Option Answer). is_entered (came_by roved r)) by,
         (
           calls_are c histories opening me roved steps closed_by receipt due p
               ∙ ap (λ (l : List Step). calls_of l ++ calls_of (owed_among closed_by)) owed_is
               ∙ ap (λ (l : List Step). calls_of (owed_among l)) closed,
-          reply_due c histories opening me roved steps closed_by receipt due p (full e.busy e.cap) by
-              (subst (AreJoins IsNever) (sym owed_is) (tt, tt)),
+          reply_due c histories opening me roved steps closed_by receipt due p
+              (Some (of_book (Full e.busy e.cap))) by (subst (AreJoins IsNever) (sym owed_is) (tt, tt))
+              ∙ ap (λ (l : List ℕ). opening_text c opening ++ l)
+              (sym (full_untabled terms.version (setting.table c))),
         ),
       )
 
@@ -391,7 +393,7 @@ rover_first : (c : Config) (histories : List (History RingCall)) (opening : Open
     → WasFirst c histories (told_as me receipt due) (opening_text c opening)
     (without_reads (calls_of (steps ++ closed_by))) (rover terms tail)
 rover_first c histories opening me terms tail steps closed_by receipt due p [] is = inr (
-  p.entered ∙ ap is_entered
+  p.entered ∙ ap (λ (r : Option Answer). is_entered (came_by (rover terms tail) r))
       (received_is c histories opening me (rover terms tail) steps closed_by receipt due p [] is),
   inl (none_first c histories opening me (rover terms tail) steps closed_by receipt due p is),
 )
@@ -417,14 +419,8 @@ first_so c histories opening me waiting steps closed_by receipt due p = (
   refl,
   none_first c histories opening me waiting steps closed_by receipt due p (begun_done (owed_among steps) p.begun),
 )
-first_so c histories opening me (refused version reply end) steps closed_by receipt due p =
-    none_first c histories opening me (refused version reply end) steps closed_by receipt due p
-    (begun_done (owed_among steps) p.begun)
-first_so c histories opening me (unanswered end) steps closed_by receipt due p =
-    none_first c histories opening me (unanswered end) steps closed_by receipt due p
-    (begun_done (owed_among steps) p.begun)
-first_so c histories opening me (table version) steps closed_by receipt due p =
-    none_first c histories opening me (table version) steps closed_by receipt due p
+first_so c histories opening me (finished reply end) steps closed_by receipt due p =
+    none_first c histories opening me (finished reply end) steps closed_by receipt due p
     (begun_done (owed_among steps) p.begun)
 first_so c histories opening me (source terms body) steps closed_by receipt due p =
     source_first c histories opening me terms body steps closed_by receipt due p (owed_among steps) refl

@@ -1,6 +1,6 @@
 -- A link that was served is promised.
 use Rattle.std.proofs.Common.{◌≡◌, ◌∙◌, ◌⊎◌, ◌++◌, ℕ, Bool, true, false, List, [], ◌∷◌, reverse, All, Option, None, Some, inl, inr, refl, sym, ap, subst, append_assoc}
-use Rattle.std.specs.Prelude.{◌||◌, unwrap_or, is_some}
+use Rattle.std.specs.Prelude.{◌||◌, is_some}
 use Rattle.std.proofs.lemmas.Bool.{and_parts}
 use Rattle.std.proofs.lemmas.List.{reverse-reverse}
 use Rattle.std.proofs.lemmas.Grind.{fold-append}
@@ -11,27 +11,26 @@ use Rattle.cast_io.specs.Links.{bytes_in}
 use Rattle.turn_log.specs.History.{History}
 use Rattle.mount_ring.specs.declared.call.RingCall.{RingCall}
 use Rattle.rover_cursor.specs.declared.segment.Segment.{Segment}
-use Rattle.session_calls.specs.Steps.{Step}
+use Rattle.session_calls.specs.Steps.{Answer, Step}
 use Rattle.session_calls.specs.Plans.{IsMade}
 use Rattle.session_calls.specs.Rings.{history_at}
 use Rattle.session_calls.proofs.PlanLemmas.{made_begun}
 use Rattle.rover_session.specs.Body.{body_of}
 use Rattle.rover_session.specs.Made.{after_step, segments_after, owed_among, sent_in, overrun_in}
-use Rattle.ntrip_head.specs.declared.request.Version.TheVariants.{One}
 use Rattle.cast_config.specs.declared.config.Config.{Config}
 use Rattle.session_model.specs.declared.ending.Ending.{Ending}
 use Rattle.session_model.specs.declared.ending.Last.{Last}
 use Rattle.session_model.specs.declared.ending.Last.TheVariants as lasts
 use Rattle.session_model.specs.declared.report.Receipt.{Receipt}
 use Rattle.session_model.specs.Called.{Called, is_halt}
-use Rattle.session_model.specs.Endings.{ended_last}
+use Rattle.session_model.specs.Endings.{ended_by, at_end, ended_last}
 use Rattle.session_model.specs.Judged.{Opening, Judged, judged}
-use Rattle.session_model.specs.Owed.{Received, unasked, claimed, taken, entered, full, received, plan_of, closing}
+use Rattle.session_model.specs.Owed.{Came, nothing, over, holding, inside, came_by, first_answer, came_to, plan_of, closing}
 use Rattle.session_model.specs.Promises.{IsSoundIn}
 use Rattle.session_model.specs.Replies.{opening_text, reply_of, version_of, sent_by}
 use Rattle.session_model.specs.Reports.{IsHeadingOf, is_entered}
 use Rattle.session_model.specs.Run.{Histories, Connected}
-use Rattle.session_core.specs.Standing.{IsMadeBy, IsSentBy, is_halted, is_uncalled, is_halted_uncalled}
+use Rattle.session_core.specs.Standing.{IsMadeBy, IsSentBy, EndsAs, is_halted, is_uncalled, is_halted_uncalled}
 use Rattle.session_core.specs.Closed.{IsSettled, ending_by}
 use Rattle.session_model.proofs.GoodLemmas.{good_closing}
 use Rattle.session_model.proofs.KeepLemmas.{AllSound, all_later}
@@ -39,6 +38,8 @@ use Rattle.caster_replay.proofs.WorldClosedLemmas.{received_closed}
 use Rattle.session_model.specs.Courses.{happened, steps_of, text_of}
 use Rattle.caster_link.specs.Links.{is_torn}
 use Rattle.caster_link.specs.Served.{LinkGoes}
+use Rattle.session_core.proofs.ClosingLemmas.{free_out, uncalled_free}
+use Rattle.session_core.proofs.ReceiptLemmas.{unended_by}
 use Rattle.caster_link.proofs.CalledLemmas.{called_both}
 use Rattle.run_promise.specs.Begun.{IsBegun as IsSegmentBegun}
 use Rattle.run_promise.specs.Calls.{Call, is_no_read, without_reads, segments_of, ReadOn}
@@ -57,19 +58,21 @@ use Rattle.serve_promise.proofs.FirstLemmas.{first_so}
 
 -- ---- whether it was halted
 
-last_goes : (last : Last) (by : Received) → false ≡ is_halt (ended_last last by)
-last_goes lasts.End unasked = refl
-last_goes lasts.End (claimed claim) = refl
-last_goes lasts.End (taken caller claim) = refl
-last_goes lasts.End entered = refl
-last_goes lasts.End (full busy cap) = refl
-last_goes lasts.ReadFault by = refl
-last_goes lasts.WriteFault by = refl
+unhalted : (it : Came) → ended_by it ≡ None → false ≡ is_halt (at_end it)
+unhalted nothing unended = refl
+unhalted (over reply end) unended = absurd cc
+unhalted (holding terms body claim) unended = refl
+unhalted (inside terms) unended = refl
 
-halt_same : (ended : Option Ending) (last : Last) (steps : List Step)
-    → is_halted ended ≡ is_halt (ending_by ended last steps)
-halt_same None last steps = last_goes last (received steps)
-halt_same (Some end) last steps = refl
+last_goes : (last : Last) (it : Came) → ended_by it ≡ None → false ≡ is_halt (ended_last last (at_end it))
+last_goes lasts.End it unended = unhalted it unended
+last_goes lasts.ReadFault it unended = refl
+last_goes lasts.WriteFault it unended = refl
+
+halt_same : (ended : Option Ending) (last : Last) (it : Came) → EndsAs ended (ended_by it)
+    → is_halted ended ≡ is_halt (ending_by ended last it)
+halt_same None last it ends = last_goes last it (unended_by None (ended_by it) ends refl)
+halt_same (Some end) last it ends = refl
 
 or_cases : (a b : Bool) → (a || b) ≡ true → (a ≡ true) ⊎ (b ≡ true)
 or_cases true b is = inl refl
@@ -90,7 +93,7 @@ module _ (c : Config) (j : Judged) (steps closed_by : List Step) (settled : Bool
   all_on on =
       on-append [] steps last_all on
       (owed_on (segments_after [] steps) last_all
-      (good_owed (closing j steps) last_all (good_closing j (received steps) (segments_after [] steps))
+      (good_owed (closing j steps) last_all (good_closing (came_to j steps) (segments_after [] steps))
       (made_begun (closing j steps) last_all is.is_made)))
 
   called_on : StepsOn [] steps → StepsOn [] (steps ++ closed_by)
@@ -123,15 +126,15 @@ whole_so : (c : Config) (histories : List (History RingCall)) (opening : Opening
     (is : Closes c j steps closed_by receipt.settled) → AreAnswered c steps → StepsOn [] steps
     → IsMade (plan_of c j) (owed_among steps) → AllFrames histories
     → AllSound c histories (segments_after [] steps) → receipt.segments ≡ reverse (segments_after [] steps)
-    → receipt.entered ≡ is_entered (received steps)
-    → due ≡ sent_by c histories opening j (received steps) (reverse (segments_after [] steps))
+    → receipt.entered ≡ is_entered (came_to j steps)
+    → due ≡ sent_by c histories opening (came_to j steps) (reverse (segments_after [] steps))
     → Was c histories (told_as me receipt due) (opening_text c opening) []
     (without_reads (calls_of (steps ++ closed_by)) ++ without_reads (calls_of is.extra)) j
 whole_so c histories opening me j steps closed_by last receipt due is answered on plan frames sound segments
     entered_is due_is =
     let closers : List Step = closed_by ++ is.extra in
     let still = all_still c j steps closed_by receipt.settled is in
-    let by : received (steps ++ closers) ≡ received steps = received_closed j steps closers is.is_made in
+    let by : first_answer (steps ++ closers) ≡ first_answer steps = received_closed j steps closers is.is_made in
     let h : Histories = record { rings = histories; book = [] } in
     let d : Connected = record {
       number = me;
@@ -152,11 +155,11 @@ whole_so c histories opening me j steps closed_by last receipt due is answered o
       keeps = keeps_so c histories d frames (subst (AllSound c histories) (sym still) sound);
     } in
     let same : Same (told_with c h d j) (told_as me receipt due) = record {
-      bytes = ap (λ (r : Received). sent_by c histories opening j r (reverse (segments_after [] (steps ++ closers))))
-          by
-          ∙ ap (λ (l : List Segment). sent_by c histories opening j (received steps) (reverse l)) still
+      bytes = ap (λ (r : Option Answer). sent_by c histories opening (came_by j r)
+          (reverse (segments_after [] (steps ++ closers)))) by
+          ∙ ap (λ (l : List Segment). sent_by c histories opening (came_to j steps) (reverse l)) still
           ∙ sym due_is;
-      entered = ap is_entered by ∙ sym entered_is;
+      entered = ap (λ (r : Option Answer). is_entered (came_by j r)) by ∙ sym entered_is;
       segments = ap reverse still ∙ sym segments;
     } in
     subst (λ (l : List Call). Was c histories (told_as me receipt due) (opening_text c opening) [] l j)
@@ -200,15 +203,15 @@ module _ (c : Config) (opening : Opening) (me : ℕ) (start now : Histories) (to
       (all_reversed (IsSoundIn c now.rings) (reverse segments) sound_back))
 
   abbrev due : List ℕ
-  due = sent_by c histories opening goes.j (received steps) (reverse segments)
+  due = sent_by c histories opening (came_to goes.j steps) (reverse segments)
 
-  due_now : sent_by c now.rings opening goes.j (received steps) (reverse segments) ≡ due
-  due_now = ap (λ (f : List (List ℕ)). opening_text c opening ++ reply_of c goes.j (received steps)
-      ++ body_of (unwrap_or (version_of goes.j) One) f)
+  due_now : sent_by c now.rings opening (came_to goes.j steps) (reverse segments) ≡ due
+  due_now = ap (λ (f : List (List ℕ)). opening_text c opening ++ reply_of c (came_to goes.j steps)
+      ++ body_of (version_of (came_to goes.j steps)) f)
       (sym (frames_later c now.rings histories (reverse segments) (later_so now.rings histories on_to) sound_back))
 
   halt_is : is_halted goes.ended ≡ is_halt receipt.ending
-  halt_is = halt_same goes.ended last steps ∙ ap is_halt (sym goes.receipt_is.ending)
+  halt_is = halt_same goes.ended last (came_to goes.j steps) goes.ends ∙ ap is_halt (sym goes.receipt_is.ending)
 
   all_calls : AreCallsBetween c start.rings now.rings me (calls_of (steps ++ goes.closed_by))
   all_calls mount =
@@ -250,7 +253,7 @@ module _ (c : Config) (opening : Opening) (me : ℕ) (start now : Histories) (to
       (subst (λ (l : List Step). IsSettled receipt.settled (closing goes.j l) goes.closed_by) none goes.settled))
 
   none_entered : steps ≡ [] → receipt.entered ≡ false
-  none_entered none = goes.receipt_is.entered ∙ ap (λ (l : List Step). is_entered (received l)) none
+  none_entered none = goes.receipt_is.entered ∙ free_out _ (uncalled_free steps none goes.j)
 
   why_cut : (is_halted_uncalled goes.ended steps || is_torn last) ≡ true
       → (is_torn last ≡ true)
@@ -272,7 +275,7 @@ module _ (c : Config) (opening : Opening) (me : ℕ) (start now : Histories) (to
       same ∙ ap (judged c opening heading) text_is,
     )
     | inr (ended, none, same) ↦ inr (
-      goes.receipt_is.ending ∙ ap (λ (e : Option Ending). ending_by e last steps) ended,
+      goes.receipt_is.ending ∙ ap (λ (e : Option Ending). ending_by e last (came_to goes.j steps)) ended,
       none_entered none,
       ap without_reads (none_called none),
       same,

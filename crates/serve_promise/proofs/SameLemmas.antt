@@ -7,7 +7,7 @@ use Rattle.rover_cursor.specs.declared.segment.Segment.{Segment}
 use Rattle.ntrip_head.specs.declared.request.Version.TheVariants.{One}
 use Rattle.cast_config.specs.declared.config.Config.{Config}
 use Rattle.session_model.specs.declared.report.Connection.{Connection}
-use Rattle.session_model.specs.Judged.{SourceTerms, RoverTerms, Judged, waiting, refused, unanswered, table, source, rover}
+use Rattle.session_model.specs.Judged.{SourceTerms, RoverTerms, Judged, waiting, finished, source, rover}
 use Rattle.session_model.specs.Promises.{IsSoundIn, CountsAll}
 use Rattle.session_model.specs.Replies.{kept_frames}
 use Rattle.run_promise.specs.Calls.{Call}
@@ -56,9 +56,7 @@ module _ (c : Config) (histories : List (History RingCall)) (x y : Connection) (
 
   pub was_same : (j : Judged) → Was c histories x before rest calls j → Was c histories y before rest calls j
   was_same waiting is = (is.0, replied_same [] is.1)
-  was_same (refused version reply end) is = replied_same _ is
-  was_same (unanswered end) is = replied_same [] is
-  was_same (table version) is = replied_same _ is
+  was_same (finished reply end) is = replied_same _ is
   was_same (source terms body) (inl is) = inl (claimed_same terms body is)
   was_same (source terms body) (inr is) = inr (taken_same terms is)
   was_same (rover terms tail) (inl is) = inl (entered_same terms tail is)

@@ -23,7 +23,7 @@ use Rattle.session_model.specs.Setting.{shapes}
 use Rattle.session_model.specs.Called.{Called, book_answer}
 use Rattle.session_model.specs.Headings.{Heading}
 use Rattle.session_model.specs.Judged.{Opening, judged}
-use Rattle.session_model.specs.Owed.{Happening, arrives, takes_turn, ends, received, plan_of, owed}
+use Rattle.session_model.specs.Owed.{Happening, arrives, takes_turn, ends, came_to, plan_of, owed}
 use Rattle.session_model.specs.Run.{Histories}
 use Rattle.session_model.proofs.GoodLemmas.{IsGoodAsk, IsGood, good_left, good_plan, good_closing}
 use Rattle.session_model.specs.Courses.{Event, happened, steps_on, steps_of, with_bytes, text_of, IsCourse, IsBroken, Ran}
@@ -152,7 +152,7 @@ event_on c opening heading text steps (takes_turn budget) made begun =
 event_on c opening heading text steps (ends last) made begun =
     owed_on (segments_after [] steps) made
     (good_owed (owed c opening heading text steps (ends last)) made
-    (good_closing (judged c opening heading text) (received steps) (segments_after [] steps)) begun)
+    (good_closing (came_to (judged c opening heading text) steps) (segments_after [] steps)) begun)
 
 course_on : (c : Config) (opening : Opening) (text : List ℕ) (steps : List Step) (events : List Event)
     → StepsOn [] steps → IsCourse c opening text steps events → StepsOn [] (steps_on steps events)

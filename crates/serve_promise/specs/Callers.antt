@@ -53,15 +53,15 @@ abbrev pub opening_at : EndTold → Opening
 opening_at (at_door door) = sends_head
 opening_at (over_link number link) = relays number
 
--- so many links of a worker, which came back to its door in this order, where it tells them; and the
--- one link of a relay
+-- so many links of a worker, which came back to its door in this order, where it tells them; and
+-- the one link of a relay
 abbrev pub AreLinksAt : EndTold → ℕ → List Record → Type 0
 AreLinksAt (at_door door) count entries =
     IsTold door.back (links_of entries) × (length entries ≡ count)
 AreLinksAt (over_link number link) count entries = links_of entries ≡ link ∷ []
 
--- The caller of this number served these links, from the first call on, and called nothing else; its
--- tally counts the receipts of the rovers among them.
+-- The caller of this number served these links, from the first call on, and called nothing else;
+-- its tally counts the receipts of the rovers among them.
 pub record IsCallerKept (c : Config) (histories : Histories) (me : ℕ) (caller : Caller) : Type 0
   where
     pub entries : List Record

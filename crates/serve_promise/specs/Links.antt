@@ -143,7 +143,8 @@ pub record IsLinkKept (c : Config) (opening : Opening) (me : ℕ)
   pub j : Judged
   pub judged_is : IsJudgedBy c opening given receipt (without_reads calls) j
   pub due : List ℕ
-  -- that was written, or the first of it where a write failed or it was halted before its first call
+  -- that was written, or the first of it where a write failed or it was halted before its first
+  -- call
   pub cut_off : Bool
   pub why : cut_off ≡ true → (is_torn last ≡ true)
       ⊎ ((is_halt receipt.ending ≡ true) × (receipt.entered ≡ false) × (calls ≡ []))

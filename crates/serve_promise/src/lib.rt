@@ -1,8 +1,8 @@
 //! What is promised of each link that a caster served, and the laws that every such link keeps it.
 //!
-//! What `serve` did is said by plans and events (`caster_serve`). The promise is said in the words of
-//! a recorded run's (`run_promise`): it speaks of the bytes that came in on each link, of one history
-//! for each mountpoint, and of the link's receipt. It is read in this order:
+//! What `serve` did is said by plans and events (`caster_serve`). The promise is said in the words
+//! of a recorded run's (`run_promise`): it speaks of the bytes that came in on each link, of one
+//! history for each mountpoint, and of the link's receipt. It is read in this order:
 //!
 //! - `specs/Links.antt`: what one link called, what it was by its bytes, what its segments, its sums
 //!   and its bytes are then, and what stands where it was halted;

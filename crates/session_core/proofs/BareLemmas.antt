@@ -1,29 +1,18 @@
 -- A connection without head and reply.
-use Rattle.std.proofs.Common.{◌≡◌, ◌∙◌, ℕ, Bool, List, [], ◌++◌, refl, sym, subst, inl, inr, Option, None, Some}
-use Rattle.std.specs.Prelude.{IfNone}
-use Rattle.std.proofs.lemmas.List.{append-nil}
-use Rattle.ntrip_head.specs.declared.request.Version.{Version}
-use Rattle.ntrip_reply.specs.declared.kind.Reply.{Reply}
+use Rattle.std.proofs.Common.{◌≡◌, ◌∙◌, ℕ, Bool, List, [], ◌++◌, refl, sym, subst, inl, inr}
 use Rattle.cast_config.specs.declared.config.Config.{Config}
 use Rattle.session_core.specs.declared.ending.Bare.{Bare}
 use Rattle.session_core.specs.declared.ending.Bare.TheVariants as bare
 use Rattle.session_core.specs.declared.session.Session.{Session}
 use Rattle.session_model.specs.Headings.{incomplete}
 use Rattle.session_model.specs.Judged.{judged}
-use Rattle.session_model.specs.Replies.{opening_text, text_if}
+use Rattle.session_model.specs.Replies.{opening_text}
 use Rattle.session_model.specs.Run.{Histories}
 use Rattle.session_model.specs.Called.{Called}
 use Rattle.session_core.specs.Beginnings.{bare_opening}
 use Rattle.session_core.specs.Standing.{Fed, IsSentBy, Stands, is_halted_uncalled}
 use Rattle.session_core.specs.Begun.{Begins, BeginsFor, due_by}
 use Rattle.session_core.proofs.CloseLemmas.{called_none}
-
--- what is sent to nobody
-pub untold : (version : Option Version) (with : Reply) (before after : List ℕ)
-    → after ≡ before ++ text_if version with []
-    → IfNone version (after ≡ before)
-untold None with before after is = is ∙ append-nil before
-untold (Some version) with before after is = tt
 
 nothing_added : (added after : List ℕ) → after ≡ [] ++ added → after ≡ [] → added ≡ []
 nothing_added added after out none = sym out ∙ none

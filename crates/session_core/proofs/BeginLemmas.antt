@@ -17,10 +17,9 @@ use Rattle.session_model.specs.declared.ending.Ending.{Ending}
 use Rattle.session_model.specs.declared.ending.Ending.TheVariants as endings
 use Rattle.session_core.specs.declared.stage.Stage.{Stage}
 use Rattle.session_core.specs.declared.stage.Stage.TheVariants.{Over}
-use Rattle.session_model.specs.Setting.{shapes}
 use Rattle.session_model.specs.Setting as setting
-use Rattle.session_model.specs.Judged.{refused, table}
-use Rattle.session_model.specs.Replies.{text_if}
+use Rattle.session_model.specs.Judged.{finished, replied}
+use Rattle.session_model.specs.Replies.{replied_text, text_if}
 use Rattle.session_model.specs.Run.{Histories}
 use Rattle.session_core.specs.Standing.{IsMadeBy, IsSentBy, EndsAt, is_refused_at, is_halted, is_halted_uncalled}
 use Rattle.session_core.specs.Begun.{BeginsFor, IsRepliedLast}
@@ -106,77 +105,59 @@ over_ends stage ended end over is = record {
   not_true : false ≡ true → ⊥
   not_true e = cc
 
--- ---- what is refused
+-- ---- what is finished by what its head says
 
-pub begins_refused : (c : Config) (alone : Bool) (h : Histories) (me : ℕ) (version : Option Version) (reply : Reply)
+pub begins_finished : (c : Config) (alone : Bool) (h : Histories) (me : ℕ) (reply : Option (Version × Reply))
     (end : Ending) (stage : Stage) (ended : Option Ending) (before after : List ℕ) → stage ≡ Over
-    → IsRepliedLast end (text_if version reply (setting.table c)) ended before after
-    → BeginsFor c alone h h me (refused version reply end) stage ended before after
-begins_refused c alone h me version reply end stage ended before after over (inl replied) = inl (record {
+    → IsRepliedLast end (replied_text reply (setting.table c)) ended before after
+    → BeginsFor c alone h h me (finished reply end) stage ended before after
+begins_finished c alone h me reply end stage ended before after over (inl told) = inl (record {
   more = [];
-  added = text_if version reply (setting.table c);
-  out = replied.1;
+  added = replied_text reply (setting.table c);
+  out = told.1;
   called = called_none c alone h me;
   no_read = refl;
   owes = made_by (is_halted ended) _ [] refl;
-  ends = inr replied.0;
-  stage_is = λ opening text. rw over (record {
-    known = λ e. cc;
-    closed = refl;
-    segments = refl;
-    junk = refl;
-    outside = refl;
-    no_read = refl;
-  });
-  halts = over_ends stage ended end over replied.0;
-  sent_is = sent_all (is_halted_uncalled ended []) _ _ (sym (append-nil (text_if version reply (setting.table c))));
+  ends = inr told.0;
+  stage_is = λ opening text. rw over (record { known = λ e. cc; free = tt; segments = refl; no_read = refl });
+  halts = over_ends stage ended end over told.0;
+  sent_is = sent_all (is_halted_uncalled ended []) _ _ (sym (append-nil (replied_text reply (setting.table c))));
 })
-begins_refused c alone h me version reply end stage ended before after over (inr lost) =
-    inr (record { uncalled = refl; unsent = lost.1; stage_is = over; ended_is = lost.0 })
-
-pub begins_table : (c : Config) (alone : Bool) (h : Histories) (me : ℕ) (version : Version)
-    (stage : Stage) (ended : Option Ending) (before after : List ℕ) → stage ≡ Over
-    → IsRepliedLast endings.TableSent (reply_text version Table (setting.table c)) ended before after
-    → BeginsFor c alone h h me (table version) stage ended before after
-begins_table c alone h me version stage ended before after over (inl replied) = inl (record {
-  more = [];
-  added = reply_text version Table (setting.table c);
-  out = replied.1;
-  called = called_none c alone h me;
-  no_read = refl;
-  owes = made_by (is_halted ended) _ [] refl;
-  ends = inr replied.0;
-  stage_is = λ opening text. rw over (record {
-    known = λ e. cc;
-    closed = refl;
-    segments = refl;
-    junk = refl;
-    outside = refl;
-    no_read = refl;
-  });
-  halts = over_ends stage ended endings.TableSent over replied.0;
-  sent_is = sent_all (is_halted_uncalled ended []) _ _ (sym (append-nil (reply_text version Table (setting.table c))));
-})
-begins_table c alone h me version stage ended before after over (inr lost) =
+begins_finished c alone h me reply end stage ended before after over (inr lost) =
     inr (record { uncalled = refl; unsent = lost.1; stage_is = over; ended_is = lost.0 })
 
 -- by whether it is replied to
 pub refused_untold : (c : Config) (alone : Bool) (h : Histories) (me : ℕ) (version : Option Version) (reply : Reply)
     (end : Ending) (stage : Stage) (ended : Option Ending) (before : List ℕ) → version ≡ None → stage ≡ Over
-    → ended ≡ Some end → BeginsFor c alone h h me (refused version reply end) stage ended before before
+    → ended ≡ Some end → BeginsFor c alone h h me (finished (replied version reply) end) stage ended before before
 refused_untold c alone h me version reply end stage ended before none over is =
-    subst (λ (v : Option Version). BeginsFor c alone h h me (refused v reply end) stage ended before before) (sym none)
-    (begins_refused c alone h me None reply end stage ended before before over (inl (is, sym (append-nil before))))
+    subst (λ (v : Option Version). BeginsFor c alone h h me (finished (replied v reply) end) stage ended before before)
+    (sym none)
+    (begins_finished c alone h me None end stage ended before before over (inl (is, sym (append-nil before))))
 
 pub refused_told : (c : Config) (alone : Bool) (h : Histories) (me : ℕ) (version : Option Version) (v : Version)
     (reply : Reply) (end : Ending) (sent : List ℕ) (stage : Stage) (ended : Option Ending) (before after : List ℕ)
     → version ≡ Some v → stage ≡ Over → IsRepliedLast end (reply_text v reply sent) ended before after
     → sent ≡ setting.table c
-    → BeginsFor c alone h h me (refused version reply end) stage ended before after
-refused_told c alone h me version v reply end sent stage ended before after some over replied same =
-    subst (λ (o : Option Version). BeginsFor c alone h h me (refused o reply end) stage ended before after) (sym some)
-    (begins_refused c alone h me (Some v) reply end stage ended before after over
-    (subst (λ (t : List ℕ). IsRepliedLast end (reply_text v reply t) ended before after) same replied))
+    → BeginsFor c alone h h me (finished (replied version reply) end) stage ended before after
+refused_told c alone h me version v reply end sent stage ended before after some over told same =
+    subst (λ (o : Option Version). BeginsFor c alone h h me (finished (replied o reply) end) stage ended before after)
+    (sym some)
+    (begins_finished c alone h me (Some (v, reply)) end stage ended before after over
+    (subst (λ (t : List ℕ). IsRepliedLast end (reply_text v reply t) ended before after) same told))
+
+-- no sourcetable stands in these replies
+pub taken_untabled : (version : Option Version) (sourcetable : List ℕ)
+    → text_if version Taken [] ≡ text_if version Taken sourcetable
+taken_untabled None sourcetable = refl
+taken_untabled (Some One) sourcetable = refl
+taken_untabled (Some Two) sourcetable = refl
+
+pub full_untabled : (version : Option Version) (sourcetable : List ℕ)
+    → text_if version Full [] ≡ text_if version Full sourcetable
+full_untabled None sourcetable = refl
+full_untabled (Some One) sourcetable = refl
+full_untabled (Some Two) sourcetable = refl
 
 pub replied_cause : (end : Ending) (text : List ℕ) (ended : Option Ending) (before after : List ℕ)
     → IsRepliedLast end text ended before after → (ended ≡ Some end) ⊎ (ended ≡ Some endings.Memory)

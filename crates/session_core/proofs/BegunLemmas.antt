@@ -23,18 +23,19 @@ use Rattle.source_session.specs.Body.{frames_of}
 use Rattle.source_session.specs.Standing as source_standing
 use Rattle.upstream_relay.specs.Owed.{publishing}
 use Rattle.cast_config.specs.declared.config.Config.{Config}
-use Rattle.session_core.proofs.BeginLemmas.{over_ends}
+use Rattle.session_core.proofs.BeginLemmas.{over_ends, taken_untabled}
 use Rattle.session_model.specs.declared.ending.Ending.{Ending}
 use Rattle.session_core.specs.declared.stage.Stage.{Stage}
 use Rattle.session_core.specs.declared.stage.Stage.TheVariants.{Over, Source}
 use Rattle.session_model.specs.Setting.{shapes}
+use Rattle.session_model.specs.Setting as setting
 use Rattle.rtcm_frame.specs.Cut as frames
 use Rattle.chunk_body.specs.Answer as bodies
 use Rattle.chunk_body.specs.Machine as machine
 use Rattle.session_model.specs.Endings.{claimed_ending}
 use Rattle.session_model.specs.Judged.{SourceTerms, source}
 use Rattle.session_model.specs.Replies.{text_if}
-use Rattle.session_core.specs.Published.{steps_unclaimed}
+use Rattle.session_core.proofs.Published.{steps_unclaimed}
 use Rattle.session_model.specs.Called.{book_answer}
 use Rattle.session_core.specs.Beginnings.{histories_of, end_unclaimed, text_unclaimed}
 use Rattle.session_core.specs.Begun.{BeginsFor}
@@ -129,17 +130,9 @@ begins_unclaimed c alone old now book me mount version chunked (claims.Taken cal
       owes = (refl, refl);
       ends = inr refl;
       stage_is = λ opening text.
-          rw over (record {
-            known = λ e. cc;
-            closed = refl;
-            segments = refl;
-            junk = refl;
-            outside = refl;
-            no_read =
-                refl;
-          });
+          rw over (record { known = λ e. cc; free = tt; segments = refl; no_read = refl });
       halts = over_ends stage _ _ over refl;
-      sent_is = sym (append-nil (text_if version replies.Taken []));
+      sent_is = taken_untabled version (setting.table c) ∙ sym (append-nil (text_if version replies.Taken (setting.table c)));
     }))
 begins_unclaimed c alone old now book me mount version chunked (claims.Worn given) stage ended before after went over
     end out =
@@ -152,15 +145,7 @@ begins_unclaimed c alone old now book me mount version chunked (claims.Worn give
       owes = tt;
       ends = inl refl;
       stage_is = λ opening text.
-          rw over (record {
-            known = λ e. cc;
-            closed = refl;
-            segments = refl;
-            junk = refl;
-            outside = refl;
-            no_read =
-                refl;
-          });
+          rw over (record { known = λ e. cc; free = tt; segments = refl; no_read = refl });
       halts = over_ends stage _ _ over refl;
       sent_is = ([], refl);
     }))
@@ -175,15 +160,7 @@ begins_unclaimed c alone old now book me mount version chunked claims.Memory sta
       owes = tt;
       ends = inl refl;
       stage_is = λ opening text.
-          rw over (record {
-            known = λ e. cc;
-            closed = refl;
-            segments = refl;
-            junk = refl;
-            outside = refl;
-            no_read =
-                refl;
-          });
+          rw over (record { known = λ e. cc; free = tt; segments = refl; no_read = refl });
       halts = over_ends stage _ _ over refl;
       sent_is = ([], refl);
     }))

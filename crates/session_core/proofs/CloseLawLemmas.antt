@@ -17,20 +17,21 @@ use Rattle.session_core.specs.declared.stage.Stage.{Stage}
 use Rattle.session_model.specs.Setting.{caps, shapes}
 use Rattle.session_model.specs.Headings.{Heading}
 use Rattle.session_model.specs.Judged.{Opening, Judged, judged}
-use Rattle.session_model.specs.Owed.{received, closing}
-use Rattle.session_model.specs.Endings.{ended_last}
-use Rattle.session_model.specs.Reports.{IsHeadingOf, junk_of, is_entered}
+use Rattle.session_model.specs.Owed.{came_to, closing}
+use Rattle.session_model.specs.Endings.{ended_by, ended_last}
+use Rattle.session_model.specs.Reports.{IsHeadingOf, junk_of}
 use Rattle.session_model.specs.Run.{Histories}
 use Rattle.session_model.specs.Called.{Called, OthersCalled}
-use Rattle.session_core.specs.Published.{IsTurnRefused, MayRefuse}
-use Rattle.session_core.specs.Standing.{IsLost, StandsFor, Follows, IsAtStage}
+use Rattle.session_core.specs.Refusals.{IsTurnRefused, MayRefuse}
+use Rattle.session_core.specs.Standing.{IsFree, IsLost, StandsFor, Follows, IsAtStage, EndsAs}
 use Rattle.session_core.specs.Closed.{IsSettled, IsReceipt, IsClosed}
-use Rattle.session_core.specs.Closing.{closing_at, received_at, segments_at, IsJunkAt, IsHeldBy, Makes}
+use Rattle.session_core.specs.Closing.{closing_at, end_at, segments_at, IsJunkAt, IsHeldBy, Makes}
+use Rattle.session_core.specs.Turned.{is_rover}
 use Rattle.session_model.proofs.LawLemmas.{one_of}
 use Rattle.session_core.proofs.HeldLemmas.{held_at, length_shapes}
 use Rattle.session_core.proofs.CloseLemmas.{called_none}
 use Rattle.session_core.proofs.EnteredLemmas.{contains_left, contains_last}
-use Rattle.session_core.proofs.ClosingLemmas.{closing_unasked, junk_unasked}
+use Rattle.session_core.proofs.ClosingLemmas.{free_closed, free_junk, free_out, uncalled_free}
 use Rattle.session_core.proofs.ReceiptLemmas.{closing_is, ending_is, receipt_is, IsTold, no_junk}
 
 -- ---- what it holds
@@ -109,28 +110,27 @@ unsettled_by (Err fault) told lacks worn is refused unsettled = (fault, refused)
 lost_told : (c : Config) (session : Session) (o : Opening) (j : Judged) (steps : List Step) (sent : List ℕ)
     (last : Last) (receipt : Receipt)
     → IsLost c session o steps sent
-    → receipt.ending ≡ unwrap_or session.ended (ended_last last (received_at session.stage))
+    → receipt.ending ≡ unwrap_or session.ended (ended_last last (end_at session.stage))
     → receipt.segments ≡ reverse (segments_at session.stage)
     → receipt.sent ≡ sent_in (segments_at session.stage) → receipt.overrun ≡ overrun_in (segments_at session.stage)
-    → IsJunkAt session.stage receipt.junk → receipt.entered ≡ is_entered (received_at session.stage)
+    → IsJunkAt session.stage receipt.junk → receipt.entered ≡ is_rover session.stage
     → IsReceipt session.ended j steps last receipt
 lost_told c session o j steps sent last receipt lost ending segments sent_is overrun junk inside =
     let none : segments_at session.stage ≡ segments_after [] steps =
     ap segments_at lost.stage ∙ ap (segments_after []) (sym lost.uncalled) in
-    let told : IsTold session.ended receipt.junk (junk_of j (received steps)) =
-    no_junk session.ended receipt.junk (junk_of j (received steps))
-    (subst (λ (stage : Stage). IsJunkAt stage receipt.junk) lost.stage junk)
-    (ap (λ (s : List Step). junk_of j (received s)) lost.uncalled ∙ junk_unasked j) in
+    let free : IsFree (came_to j steps) = uncalled_free steps lost.uncalled j in
+    let told : IsTold session.ended receipt.junk (junk_of (came_to j steps)) =
+    no_junk session.ended receipt.junk (junk_of (came_to j steps))
+    (subst (λ (stage : Stage). IsJunkAt stage receipt.junk) lost.stage junk) (free_junk (came_to j steps) free) in
     record {
-      ending = ending_is session.ended last steps session.stage receipt.ending
+      ending = ending_is session.ended last (came_to j steps) (end_at session.stage) receipt.ending
           (λ unended. absurd (not_both (sym lost.ended ∙ unended))) ending;
       segments = segments ∙ ap reverse none;
       sent = sent_is ∙ ap sent_in none;
       overrun = overrun ∙ ap overrun_in none;
       junk = told.0;
       at_most = told.1;
-      entered = inside ∙ ap (λ (stage : Stage). is_entered (received_at stage)) lost.stage
-          ∙ ap (λ (s : List Step). is_entered (received s)) (sym lost.uncalled);
+      entered = inside ∙ ap is_rover lost.stage ∙ sym (free_out (came_to j steps) free);
     } where
       not_both : {end : Ending} → Some end ≡ None → ⊥
       not_both e = cc
@@ -144,27 +144,29 @@ pub closed_by : (c : Config) (alone : Bool) (now after : Histories) (session : S
     → IsHeadingOf (Some o) text heading → StandsFor c session o text steps h sent
     → OnOk settled (Makes c alone now after session.me (closing_at session.stage)) → OnErr settled (after ≡ now)
     → receipt.settled ≡ is_ok settled
-    → receipt.ending ≡ unwrap_or session.ended (ended_last last (received_at session.stage))
+    → receipt.ending ≡ unwrap_or session.ended (ended_last last (end_at session.stage))
     → receipt.segments ≡ reverse (segments_at session.stage)
     → receipt.sent ≡ sent_in (segments_at session.stage) → receipt.overrun ≡ overrun_in (segments_at session.stage)
-    → IsJunkAt session.stage receipt.junk → receipt.entered ≡ is_entered (received_at session.stage)
+    → IsJunkAt session.stage receipt.junk → receipt.entered ≡ is_rover session.stage
     → IsClosed c alone now after session.me session.ended (judged c o heading text) steps last receipt
 closed_by c alone now after session o heading text steps h sent last receipt settled is
     (inl stands) makes same settled_is ending segments sent_is overrun junk inside =
+    let same_heading : stands.heading ≡ heading = one_of (Some o) text stands.heading heading stands.is_heading is in
     let at : IsAtStage c session.me h o (judged c o heading text) text steps session.stage =
     subst (λ (other : Heading). IsAtStage c session.me h o (judged c o other text) text steps session.stage)
-    (one_of (Some o) text stands.heading heading stands.is_heading is) stands.stage in
+    same_heading stands.stage in
     is_closed c alone now after session.me session.ended (judged c o heading text) steps
     (closing_at session.stage) last receipt settled
     (closing_is c session.me h o heading text steps session.stage is at) settled_is makes same
     (receipt_is c session.me h session.ended o heading text steps session.stage last receipt is at stands.halts
-    ending segments sent_is overrun junk inside)
+    (subst (λ (other : Heading). EndsAs session.ended (ended_by (came_to (judged c o other text) steps))) same_heading
+    stands.ends) ending segments sent_is overrun junk inside)
 closed_by c alone now after session o heading text steps h sent last receipt settled is
     (inr lost) makes same settled_is ending segments sent_is overrun junk inside =
     is_closed c alone now after session.me session.ended (judged c o heading text) steps
     (closing_at session.stage) last receipt settled
-    (ap (λ (s : List Step). closing (judged c o heading text) s) lost.uncalled
-    ∙ closing_unasked (judged c o heading text) [] ∙ sym (ap closing_at lost.stage)) settled_is makes same
+    (free_closed _ (segments_after [] steps) (uncalled_free steps lost.uncalled (judged c o heading text))
+    ∙ sym (ap closing_at lost.stage)) settled_is makes same
     (lost_told c session o (judged c o heading text) steps sent last receipt lost ending segments sent_is overrun junk
     inside)
 
@@ -176,18 +178,18 @@ pub closed_at : (c : Config) (alone : Bool) (now after : Histories) (session : S
     → stage ≡ session.stage → IsHeadingOf (Some o) text heading → StandsFor c session o text steps h sent
     → OnOk settled (Makes c alone now after session.me (closing_at session.stage)) → OnErr settled (after ≡ now)
     → receipt.settled ≡ is_ok settled
-    → receipt.ending ≡ unwrap_or session.ended (ended_last last (received_at stage))
+    → receipt.ending ≡ unwrap_or session.ended (ended_last last (end_at stage))
     → receipt.segments ≡ reverse (segments_at stage)
     → receipt.sent ≡ sent_in (segments_at stage) → receipt.overrun ≡ overrun_in (segments_at stage)
-    → IsJunkAt stage receipt.junk → receipt.entered ≡ is_entered (received_at stage)
+    → IsJunkAt stage receipt.junk → receipt.entered ≡ is_rover stage
     → IsClosed c alone now after session.me session.ended (judged c o heading text) steps last receipt
 closed_at c alone now after session stage o heading text steps h sent last receipt settled still is stands makes same
     settled_is
     ending segments sent_is overrun junk inside =
     closed_by c alone now after session o heading text steps h sent last receipt settled is stands makes same settled_is
-    (subst (λ (s : Stage). receipt.ending ≡ unwrap_or session.ended (ended_last last (received_at s))) still ending)
+    (subst (λ (s : Stage). receipt.ending ≡ unwrap_or session.ended (ended_last last (end_at s))) still ending)
     (subst (λ (s : Stage). receipt.segments ≡ reverse (segments_at s)) still segments)
     (subst (λ (s : Stage). receipt.sent ≡ sent_in (segments_at s)) still sent_is)
     (subst (λ (s : Stage). receipt.overrun ≡ overrun_in (segments_at s)) still overrun)
     (subst (λ (s : Stage). IsJunkAt s receipt.junk) still junk)
-    (subst (λ (s : Stage). receipt.entered ≡ is_entered (received_at s)) still inside)
+    (subst (λ (s : Stage). receipt.entered ≡ is_rover s) still inside)

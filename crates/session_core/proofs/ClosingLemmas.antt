@@ -1,9 +1,10 @@
 -- What a connection owes when it is closed, and what is told of it, by its stage.
-use Rattle.std.proofs.Common.{◌≡◌, ◌∙◌, ◌⊎◌, ℕ, Bool, false, List, [], ◌∷◌, length, refl, ap, subst, inl, inr, None, Some, Ok}
-use Rattle.std.specs.Prelude.{drop, is_none}
+use Rattle.std.proofs.Common.{◌≡◌, ◌∙◌, ℕ, Bool, false, List, [], ◌∷◌, length, refl, sym, ap, subst, Option, None, Some, Ok}
+use Rattle.std.specs.Prelude.{drop}
+use Rattle.mount_ring.specs.declared.call.RingAnswer.TheVariants as rings
 use Rattle.std.proofs.lemmas.Bool.{le-leb}
 use Rattle.rover_cursor.specs.declared.segment.Segment.{Segment}
-use Rattle.session_calls.specs.Steps.{Step}
+use Rattle.session_calls.specs.Steps.{of_ring, Step}
 use Rattle.session_calls.specs.Plans.{Plan, done}
 use Rattle.source_session.specs.Standing.{is_chunked}
 use Rattle.ntrip_client.specs.declared.answer.Answer.{Answer as HeadAnswer}
@@ -14,124 +15,120 @@ use Rattle.upstream_relay.specs.declared.body.Stage.TheVariants as relays
 use Rattle.upstream_relay.specs.declared.fault.RelayHalt.{RelayHalt}
 use Rattle.upstream_relay.specs.declared.fault.RelayHalt.TheVariants as halts
 use Rattle.upstream_relay.specs.Owed.{owed, IsDone}
-use Rattle.upstream_relay.specs.Standing.{StandsAt, IsClaimed, IsHaltedBy, claim_at, halt_at, is_short_at}
+use Rattle.upstream_relay.specs.Standing.{StandsAt, IsClaimed, IsHaltedBy, claim_at, is_short_at}
 use Rattle.session_model.specs.Headings.{Heading, answered, IsAnswering}
-use Rattle.session_model.specs.Judged.{Judged, waiting, refused, unanswered, table, source, rover, relay_judged, once, said_judged}
-use Rattle.session_model.specs.Owed.{unasked, claimed, taken, received, closing_by}
-use Rattle.session_model.specs.Reports.{junk_of}
-use Rattle.session_core.specs.Closing.{received_claim}
+use Rattle.session_model.specs.Judged.{Judged, waiting, finished, source, rover, relay_judged, once, said_judged}
+use Rattle.session_model.specs.declared.ending.Ending.TheVariants.{NoHead}
+use Rattle.session_model.specs.Owed.{Came, nothing, over, holding, inside, came_by, first_answer, came_to, closing_by}
+use Rattle.session_model.specs.Endings.{ended_by, at_end}
+use Rattle.session_model.specs.Reports.{junk_of, is_entered}
+use Rattle.session_core.specs.Standing.{IsFree}
 use Rattle.session_model.proofs.AnsweringLemmas.{one_answering}
 use Rattle.session_core.proofs.RelayLemmas.{done_is_none}
 
--- ---- what called nothing, or was told that its mountpoint is taken
+-- ---- a connection that holds nothing
 
-pub closing_unasked : (j : Judged) (segments : List Segment) → closing_by j unasked segments ≡ done
-closing_unasked waiting segments = refl
-closing_unasked (refused version reply end) segments = refl
-closing_unasked (unanswered end) segments = refl
-closing_unasked (table version) segments = refl
-closing_unasked (source terms body) segments = refl
-closing_unasked (rover terms tail) segments = refl
+pub free_closed : (came : Came) (segments : List Segment) → IsFree came → closing_by came segments ≡ done
+free_closed nothing segments free = refl
+free_closed (over reply end) segments free = refl
+free_closed (holding terms body claim) segments free = absurd free
+free_closed (inside terms) segments free = absurd free
 
-pub closing_taken : (j : Judged) (caller claim : ℕ) (segments : List Segment)
-    → closing_by j (taken caller claim) segments ≡ done
-closing_taken waiting caller claim segments = refl
-closing_taken (refused version reply end) caller claim segments = refl
-closing_taken (unanswered end) caller claim segments = refl
-closing_taken (table version) caller claim segments = refl
-closing_taken (source terms body) caller claim segments = refl
-closing_taken (rover terms tail) caller claim segments = refl
+pub free_junk : (came : Came) → IsFree came → junk_of came ≡ 0
+free_junk nothing free = refl
+free_junk (over reply end) free = refl
+free_junk (holding terms body claim) free = absurd free
+free_junk (inside terms) free = refl
 
-pub junk_unasked : (j : Judged) → junk_of j unasked ≡ 0
-junk_unasked waiting = refl
-junk_unasked (refused version reply end) = refl
-junk_unasked (unanswered end) = refl
-junk_unasked (table version) = refl
-junk_unasked (source terms body) = refl
-junk_unasked (rover terms tail) = refl
+pub free_out : (came : Came) → IsFree came → is_entered came ≡ false
+free_out nothing free = refl
+free_out (over reply end) free = refl
+free_out (holding terms body claim) free = refl
+free_out (inside terms) free = absurd free
 
-pub junk_taken : (j : Judged) (caller claim : ℕ) → junk_of j (taken caller claim) ≡ 0
-junk_taken waiting caller claim = refl
-junk_taken (refused version reply end) caller claim = refl
-junk_taken (unanswered end) caller claim = refl
-junk_taken (table version) caller claim = refl
-junk_taken (source terms body) caller claim = refl
-junk_taken (rover terms tail) caller claim = refl
+-- of one that has not ended
+pub free_unended : (came : Came) → IsFree came → ended_by came ≡ None → at_end came ≡ NoHead
+free_unended nothing free none = refl
+free_unended (over reply end) free none = absurd cc
+free_unended (holding terms body claim) free none = absurd free
+free_unended (inside terms) free none = absurd free
+
+-- what called nothing, or was told that its mountpoint is taken
+free_none : (j : Judged) → IsFree (came_by j None)
+free_none waiting = tt
+free_none (finished reply end) = tt
+free_none (source terms body) = tt
+free_none (rover terms tail) = tt
+
+free_taken : (j : Judged) (caller claim : ℕ) → IsFree (came_by j (Some (of_ring (rings.Taken caller claim))))
+free_taken waiting caller claim = tt
+free_taken (finished reply end) caller claim = tt
+free_taken (source terms body) caller claim = tt
+free_taken (rover terms tail) caller claim = tt
 
 -- ---- a relay
 
--- how it was received: by the claim that it was given, or it was told that its mountpoint is taken
-abbrev pub IsReceived : RelayStage → List Step → Type 0
-IsReceived stage steps =
-    (received steps ≡ received_claim (claim_at stage))
-    ⊎ ((claim_at stage ≡ None) × (is_none (halt_at stage) ≡ false)
-    × (caller : ℕ) × (claim : ℕ) × (received steps ≡ taken caller claim))
+-- whatever it is judged to be
+abbrev pub IsFreeWith : List Step → Type 0
+IsFreeWith steps = (j : Judged) → IsFree (came_to j steps)
+
+pub uncalled_free : (steps : List Step) → steps ≡ [] → IsFreeWith steps
+uncalled_free steps none = λ j. subst (λ (l : List Step). IsFree (came_to j l)) (sym none) (free_none j)
 
 none_made : (mount : ℕ) (short : Bool) (answer other : HeadAnswer) (text : List ℕ) (steps : List Step)
     → owed mount other text ≡ done → answer ≡ other → IsDone short (owed mount answer text) steps
-    → received steps ≡ unasked
-none_made mount short answer other text steps nothing is made =
-    ap received (done_is_none short steps
-    (subst (λ (p : Plan). IsDone short p steps) (ap (λ (a : HeadAnswer). owed mount a text) is ∙ nothing) made))
+    → IsFreeWith steps
+none_made mount short answer other text steps unowed is made =
+    uncalled_free steps (done_is_none short steps
+    (subst (λ (p : Plan). IsDone short p steps) (ap (λ (a : HeadAnswer). owed mount a text) is ∙ unowed) made))
 
-halted_received : (mount : ℕ) (answer : HeadAnswer) (text : List ℕ) (steps : List Step) (halt : RelayHalt)
+halted_free : (mount : ℕ) (answer : HeadAnswer) (text : List ℕ) (steps : List Step) (halt : RelayHalt)
     (short : Bool)
-    → IsDone short (owed mount answer text) steps → IsHaltedBy mount answer steps halt
-    → IsReceived (relays.Halted halt) steps
-halted_received mount answer text steps halts.BadHead short made is = inl
-    (none_made mount short answer _ text steps refl is made)
-halted_received mount answer text steps halts.LongHead short made is = inl
-    (none_made mount short answer _ text steps refl is made)
-halted_received mount answer text steps halts.Coding short made is = inl
-    (none_made mount short answer _ text steps refl is made)
-halted_received mount answer text steps halts.Table short made is = inl
-    (none_made mount short answer _ text steps refl is made)
-halted_received mount answer text steps (halts.Status status) short made is =
-    inl (none_made mount short answer _ text steps refl is made)
-halted_received mount answer text steps (halts.Taken caller claim) short made is =
-    inr (refl, refl, caller, claim, ap received is.1)
-halted_received mount answer text steps halts.Done short made is = absurd is
-halted_received mount answer text steps (halts.BadChunk place) short made is = absurd is
-halted_received mount answer text steps (halts.Worn turns) short made is = inl (ap received is.1)
-halted_received mount answer text steps halts.Memory short made is = inl (ap received is.1)
+    → IsDone short (owed mount answer text) steps → IsHaltedBy mount answer steps halt → IsFreeWith steps
+halted_free mount answer text steps halts.BadHead short made is = none_made mount short answer _ text steps refl is made
+halted_free mount answer text steps halts.LongHead short made is = none_made mount short answer _ text steps refl is made
+halted_free mount answer text steps halts.Coding short made is = none_made mount short answer _ text steps refl is made
+halted_free mount answer text steps halts.Table short made is = none_made mount short answer _ text steps refl is made
+halted_free mount answer text steps (halts.Status status) short made is =
+    none_made mount short answer _ text steps refl is made
+halted_free mount answer text steps (halts.Taken caller claim) short made is =
+    λ j. subst (λ (l : List Step). IsFree (came_to j l)) (sym is.1) (free_taken j caller claim)
+halted_free mount answer text steps halts.Done short made is = absurd is
+halted_free mount answer text steps (halts.BadChunk place) short made is = absurd is
+halted_free mount answer text steps (halts.Worn turns) short made is = uncalled_free steps is.1
+halted_free mount answer text steps halts.Memory short made is = uncalled_free steps is.1
 
 -- a relay that was given its claim
 pub claimed_received : (mount claim : ℕ) (steps : List Step) → IsClaimed mount claim steps
-    → received steps ≡ claimed claim
+    → first_answer steps ≡ Some (of_ring (rings.Given claim))
 claimed_received mount claim [] is = absurd is
-claimed_received mount claim (step ∷ steps) is = ap (λ (s : Step). received (s ∷ steps)) is
+claimed_received mount claim (step ∷ steps) is = ap (λ (s : Step). first_answer (s ∷ steps)) is
 
-pub relay_received : (mount me : ℕ) (stage : RelayStage) (text : List ℕ) (steps : List Step)
-    → StandsAt mount me stage text steps → IsReceived stage steps
-relay_received mount me (relays.Head head cutter) text steps x =
-    inl (none_made mount false x.answer heads.Open text steps refl x.at_stage.1 x.made)
-relay_received mount me (relays.Body session) text steps x =
-    inl (claimed_received mount session.claim steps x.at_stage.claimed)
-relay_received mount me (relays.Halted halt) text steps x =
-    halted_received mount x.answer text steps halt (is_short_at (relays.Halted halt)) x.made x.at_stage
+-- what it came to: without a claim it holds nothing, and with one it is a source whose body is behind
+-- the answer's head
+abbrev pub IsCameBy : ℕ → List ℕ → Option ℕ → Came → Type 0
+IsCameBy mount text None came = IsFree came
+IsCameBy mount text (Some claim) came =
+    (place : ℕ) × (chunked : Bool) × HasHead text place (Ok chunked)
+    × (came ≡ holding (record { version = None; mount = mount; chunked = chunked }) (drop place text) claim)
 
--- and what it is, once it was given its claim: a source with the body behind the answer's head
-pub record IsGiven (m : ℕ) (heading : Heading) (text : List ℕ) : Type 0 where
-  pub place : ℕ
-  pub chunked : Bool
-  pub accepted : HasHead text place (Ok chunked)
-  pub judged_is : relay_judged m heading text ≡ source (record { version = None; mount = m; chunked = chunked })
-      (drop place text)
-
-pub relay_given : (m mount me claim : ℕ) (heading : Heading) (stage : RelayStage) (text : List ℕ) (steps : List Step)
-    → IsAnswering text heading → StandsAt mount me stage text steps → claim_at stage ≡ Some claim
-    → IsGiven m heading text
-relay_given m mount me claim heading (relays.Head head cutter) text steps says x given = absurd cc
-relay_given m mount me claim heading (relays.Halted halt) text steps says x given = absurd cc
-relay_given m mount me claim heading (relays.Body session) text steps says x given =
+pub relay_came : (mount me : ℕ) (heading : Heading) (stage : RelayStage) (text : List ℕ) (steps : List Step)
+    → IsAnswering text heading → StandsAt mount me stage text steps
+    → IsCameBy mount text (claim_at stage) (came_to (relay_judged mount heading text) steps)
+relay_came mount me heading (relays.Head head cutter) text steps says x =
+    none_made mount false x.answer heads.Open text steps refl x.at_stage.1 x.made (relay_judged mount heading text)
+relay_came mount me heading (relays.Halted halt) text steps says x =
+    halted_free mount x.answer text steps halt (is_short_at (relays.Halted halt)) x.made x.at_stage
+    (relay_judged mount heading text)
+relay_came mount me heading (relays.Body session) text steps says x =
     let body = x.at_stage in
     let has : HasHead text body.at (Ok (is_chunked session)) = subst (IsAnswer text) body.accepted x.says in
     let same = one_answering text heading (answered body.at (Ok (is_chunked session))) says has in
-    record {
-      place = body.at;
-      chunked = is_chunked session;
-      accepted = has;
-      judged_is = ap (λ (h : Heading). relay_judged m h text) same
-          ∙ ap (λ (b : Bool). once b (said_judged m (drop body.at text) (Ok (is_chunked session)))) (le-leb body.at
-          (length text) has.0);
-    }
+    let said : Judged = said_judged mount (drop body.at text) (Ok (is_chunked session)) in (
+      body.at,
+      is_chunked session,
+      has,
+      ap (λ (h : Heading). came_to (relay_judged mount h text) steps) same
+          ∙ ap (λ (b : Bool). came_to (once b said) steps) (le-leb body.at (length text) has.0)
+          ∙ ap (came_by said) (claimed_received mount session.claim steps body.claimed),
+    )

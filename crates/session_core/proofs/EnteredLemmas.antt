@@ -42,6 +42,7 @@ use Rattle.session_model.specs.declared.ending.Ending.TheVariants as endings
 use Rattle.session_core.specs.declared.stage.Stage.{Stage}
 use Rattle.session_core.specs.declared.stage.Stage.TheVariants as stages
 use Rattle.session_model.specs.Setting.{shapes, caps}
+use Rattle.session_model.specs.Setting as setting
 use Rattle.session_model.specs.Judged.{RoverTerms, rover}
 use Rattle.session_model.specs.Owed.{terms_of, entering_plan}
 use Rattle.session_model.specs.Replies.{text_if, kept_of, kept_frames}
@@ -50,7 +51,7 @@ use Rattle.session_model.specs.Called.{Called, book_answer, IsCause, seen_at}
 use Rattle.session_core.specs.Beginnings.{histories_of, worn_at, end_unentered, ended_joining}
 use Rattle.session_core.specs.Standing.{IsMadeBy, is_halted, is_halted_uncalled, EndsAs}
 use Rattle.session_core.specs.Begun.{BeginsFor}
-use Rattle.session_core.proofs.BeginLemmas.{over_ends, sent_all}
+use Rattle.session_core.proofs.BeginLemmas.{over_ends, sent_all, full_untabled}
 use Rattle.session_core.proofs.BegunLemmas.{went_as}
 
 -- ---- a rover's plan has no call at the book
@@ -234,17 +235,10 @@ begins_full c alone old now me terms busy cap stage ended before after heard sam
       owes = (refl, refl);
       ends = inr refl;
       stage_is = λ opening text.
-          rw over (record {
-            known = λ e. cc;
-            closed = refl;
-            segments = refl;
-            junk = refl;
-            outside = refl;
-            no_read =
-                refl;
-          });
+          rw over (record { known = λ e. cc; free = tt; segments = refl; no_read = refl });
       halts = over_ends stage _ _ over refl;
-      sent_is = sym (append-nil (text_if terms.version replies.Full []));
+      sent_is = full_untabled terms.version (setting.table c)
+          ∙ sym (append-nil (text_if terms.version replies.Full (setting.table c)));
     }))
 
 -- ---- and one whose entry was refused
@@ -264,15 +258,7 @@ begins_unentered c alone old now me terms (turn_faults.Worn given) stage ended b
       owes = tt;
       ends = inl refl;
       stage_is = λ opening text.
-          rw over (record {
-            known = λ e. cc;
-            closed = refl;
-            segments = refl;
-            junk = refl;
-            outside = refl;
-            no_read =
-                refl;
-          });
+          rw over (record { known = λ e. cc; free = tt; segments = refl; no_read = refl });
       halts = over_ends stage _ _ over refl;
       sent_is = ([], refl);
     }))
@@ -286,15 +272,7 @@ begins_unentered c alone old now me terms turn_faults.Memory stage ended before 
       owes = tt;
       ends = inl refl;
       stage_is = λ opening text.
-          rw over (record {
-            known = λ e. cc;
-            closed = refl;
-            segments = refl;
-            junk = refl;
-            outside = refl;
-            no_read =
-                refl;
-          });
+          rw over (record { known = λ e. cc; free = tt; segments = refl; no_read = refl });
       halts = over_ends stage _ _ over refl;
       sent_is = ([], refl);
     }))

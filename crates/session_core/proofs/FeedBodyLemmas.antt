@@ -18,7 +18,7 @@ use Rattle.rover_session.specs.Standing.{Rover, IsResumable, Told, frames_sent}
 use Rattle.cast_config.specs.declared.config.Config.{Config}
 use Rattle.session_model.specs.declared.ending.Ending.{Ending}
 use Rattle.session_model.specs.Setting.{shapes}
-use Rattle.session_core.specs.Published.{Published, RelayFed}
+use Rattle.session_core.proofs.Published.{Published, RelayFed}
 use Rattle.session_core.specs.Feeding.{end_of_relay, end_of_source}
 use Rattle.session_core.proofs.BegunLemmas.{went_as}
 use Rattle.session_core.proofs.HeldLemmas.{length_shapes}

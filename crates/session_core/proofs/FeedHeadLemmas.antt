@@ -28,8 +28,8 @@ use Rattle.session_core.specs.declared.stage.Stage.{Stage}
 use Rattle.session_core.specs.declared.stage.Stage.TheVariants.{Head, Over, Source, Relay, Rover}
 use Rattle.session_model.specs.Setting.{shapes}
 use Rattle.session_model.specs.Headings.{Heading, incomplete, too_long, whole, IsHeading}
-use Rattle.session_model.specs.Judged.{Opening, sends_head, relays, Judged, refused, once, request_judged, heading_judged, judged}
-use Rattle.session_model.specs.Owed.{received}
+use Rattle.session_model.specs.Judged.{Opening, sends_head, relays, Judged, finished, once, request_judged, heading_judged, judged}
+use Rattle.session_model.specs.Owed.{came_to}
 use Rattle.session_model.specs.Replies.{sent_by}
 use Rattle.session_model.specs.Reports.{IsHeadingOf}
 use Rattle.session_model.specs.Run.{Histories}
@@ -73,7 +73,7 @@ whole_begun c alone old now me front told stage ended before after head same (in
 
 pub long_begun : (c : Config) (alone : Bool) (h : Histories) (me : ℕ) (front : List ℕ) (stage : Stage)
     (ended : Option Ending) (before after : List ℕ) → IsLong front
-    → BeginsFor c alone h h me (refused (Some One) BadHead LongHead) stage ended before after
+    → BeginsFor c alone h h me (finished (Some (One, BadHead)) LongHead) stage ended before after
     → HasBegunFor c alone h h me front stage ended before after
 long_begun c alone h me front stage ended before after long (inr lost) = inr lost
 long_begun c alone h me front stage ended before after long (inl begins) =
@@ -84,7 +84,7 @@ long_begun c alone h me front stage ended before after long (inl begins) =
         subst IsLong (sym (take_all 8192 front (omega (arith, long.full)))) long,
       );
       begins = subst (λ (j : Judged). Begins c alone h h me j stage ended before after)
-          (sym (ap (λ (b : Bool). once b (refused (Some One) BadHead LongHead))
+          (sym (ap (λ (b : Bool). once b (finished (Some (One, BadHead)) LongHead))
           (le-leb 8192 (length front) (omega (arith, long.full))))) begins;
     })
 
@@ -100,16 +100,16 @@ pub record IsAwaited (opening : Opening) (text : List ℕ) (steps : List Step) (
 
 sent_waiting : (c : Config) (h : List (History RingCall)) (text sent : List ℕ) (heading : Heading) → IsOpen text
     → IsHeading text heading
-    → sent ≡ sent_by c h sends_head (judged c sends_head heading text) (received []) (reverse (segments_after [] []))
+    → sent ≡ sent_by c h sends_head (came_to (judged c sends_head heading text) []) (reverse (segments_after [] []))
     → sent ≡ []
 sent_waiting c h text sent heading goes is due =
-    due ∙ ap (λ (x : Heading). sent_by c h sends_head (judged c sends_head x text) (received [])
+    due ∙ ap (λ (x : Heading). sent_by c h sends_head (came_to (judged c sends_head x text) [])
     (reverse (segments_after [] []))) (one_heading text heading incomplete is goes)
 
 awaited_at : (c : Config) (session : Session) (opening : Opening) (text : List ℕ) (steps : List Step) (h : Histories)
     (sent head : List ℕ) (heading : Heading) → opening ≡ sends_head → head ≡ text → steps ≡ [] → IsOpen head
     → IsHeadingOf (Some opening) text heading
-    → sent ≡ sent_by c h.rings opening (judged c opening heading text) (received steps)
+    → sent ≡ sent_by c h.rings opening (came_to (judged c opening heading text) steps)
     (reverse (segments_after [] steps))
     → IsAwaited opening text steps sent head
 awaited_at c session opening text steps h sent head heading opens is uncalled goes is_heading due = record {
@@ -118,9 +118,9 @@ awaited_at c session opening text steps h sent head heading opens is uncalled go
   uncalled = uncalled;
   unsent = sent_waiting c h.rings text sent heading (subst IsOpen is goes)
       (subst (λ (o : Opening). IsHeadingOf (Some o) text heading) opens is_heading)
-      (subst (λ (o : Opening). sent ≡ sent_by c h.rings o (judged c o heading text) (received [])
+      (subst (λ (o : Opening). sent ≡ sent_by c h.rings o (came_to (judged c o heading text) [])
       (reverse (segments_after [] []))) opens
-      (subst (λ (l : List Step). sent ≡ sent_by c h.rings opening (judged c opening heading text) (received l)
+      (subst (λ (l : List Step). sent ≡ sent_by c h.rings opening (came_to (judged c opening heading text) l)
       (reverse (segments_after [] l))) uncalled due));
   goes = goes;
 }
@@ -134,7 +134,7 @@ is_awaited c session opening text steps h sent head is unended (inl s) =
     let at = subst (IsAtStage c session.me h opening (judged c opening s.heading text) text steps) is s.stage in
     awaited_at c session opening text steps h sent head s.heading at.0 at.1 at.2 at.3 s.is_heading
     (subst (λ (e : Option Ending). IsSentBy (is_halted_uncalled e steps) sent (sent_by c h.rings opening
-    (judged c opening s.heading text) (received steps) (reverse (segments_after [] steps)))) unended s.sent_is)
+    (came_to (judged c opening s.heading text) steps) (reverse (segments_after [] steps)))) unended s.sent_is)
 
 -- ---- a head that ended
 

@@ -40,7 +40,7 @@ use Rattle.upstream_relay.specs.declared.session.RelaySession.{RelaySession}
 use Rattle.upstream_relay.specs.Called.{IsHoldingBy}
 use Rattle.upstream_relay.specs.Halts.{halt_of_source, is_refused_turn}
 use Rattle.upstream_relay.specs.Owed.{publishing, after_claim, owed, IsDone}
-use Rattle.upstream_relay.specs.Standing.{IsAccepted, IsClaimed, IsHaltedBy, HasBody, claim_at, halt_at, is_short_at}
+use Rattle.upstream_relay.specs.Standing.{IsAccepted, IsHaltedBy, HasBody, claim_at, halt_at, is_short_at}
 use Rattle.upstream_relay.specs.Standing as relay_standing
 use Rattle.rover_session.specs.Made.{segments_after, owed_among}
 use Rattle.rover_session.proofs.MadeLemmas.{segments-append}
@@ -52,14 +52,14 @@ use Rattle.session_core.specs.declared.stage.Stage.{Stage}
 use Rattle.session_core.specs.declared.stage.Stage.TheVariants.{Relay}
 use Rattle.session_model.specs.Setting.{shapes}
 use Rattle.session_model.specs.Headings.{Heading, incomplete, too_long, whole, answered, IsAnswering}
-use Rattle.session_model.specs.Judged.{Opening, relays, Judged, waiting, unanswered, source, once, ending_by_answer, said_judged, relay_judged, mount_fed, judged}
-use Rattle.session_model.specs.Owed.{Received, unasked, claimed, taken, entered, full, received, plan_of}
-use Rattle.session_model.specs.Endings.{body_ending, claimed_ending, source_ending, ended_by}
-use Rattle.session_model.specs.Replies.{opening_text, source_reply, reply_of, sent_by}
+use Rattle.session_model.specs.Judged.{Opening, relays, Judged, waiting, finished, source, once, ending_by_answer, said_judged, relay_judged, mount_fed, judged}
+use Rattle.session_model.specs.Owed.{came_by, first_answer, came_to, plan_of}
+use Rattle.session_model.specs.Endings.{body_ending, claimed_ending, ended_by}
+use Rattle.session_model.specs.Replies.{opening_text, reply_of, sent_by}
 use Rattle.session_model.specs.Reports.{IsHeadingOf}
 use Rattle.session_model.specs.Run.{Histories}
 use Rattle.session_model.specs.Called.{book_answer, is_halt}
-use Rattle.session_core.specs.Published.{RelayFed}
+use Rattle.session_core.proofs.Published.{RelayFed}
 use Rattle.session_core.specs.Feeding.{FedOn, end_of_source, end_of_relay}
 use Rattle.session_core.specs.Standing.{EndsAs, EndsAt, IsMadeBy, IsSentBy, IsAtStage, IsRelay, Stands, is_halted, is_halted_uncalled}
 use Rattle.session_core.proofs.BeginLemmas.{sent_all}
@@ -185,7 +185,7 @@ abbrev pub answer_judged : ℕ → List ℕ → HeadAnswer → Judged
 answer_judged mount text heads.Open = waiting
 answer_judged mount text (heads.Accepted at chunked) =
     source (record { version = None; mount = mount; chunked = chunked }) (drop at text)
-answer_judged mount text (heads.Refused why) = unanswered (ending_by_answer why)
+answer_judged mount text (heads.Refused why) = finished None (ending_by_answer why)
 
 -- a heading that says it
 pub record IsSaid (mount : ℕ) (text : List ℕ) (answer : HeadAnswer) : Type 0 where
@@ -210,7 +210,7 @@ answer_said mount text (heads.Accepted at chunked) says =
 answer_said mount text (heads.Refused refusals.LongHead) says = record {
   heading = too_long;
   is = says;
-  judged_is = ap (λ (b : Bool). once b (unanswered endings.LongHead)) (le-leb 8192 (length text) says.0);
+  judged_is = ap (λ (b : Bool). once b (finished None endings.LongHead)) (le-leb 8192 (length text) says.0);
 }
 answer_said mount text (heads.Refused refusals.BadHead) says = why_said mount text refusals.BadHead says
 answer_said mount text (heads.Refused refusals.Coding) says = why_said mount text refusals.Coding says
@@ -273,21 +273,21 @@ source_end claim (Some sources.Memory) = refl
 
 refused_ends : (mount : ℕ) (answer : HeadAnswer) (why : Refusal) (text : List ℕ) (steps : List Step)
     → answer ≡ heads.Refused why
-    → EndsAs (Some (ending_by_answer why)) (ended_by (answer_judged mount text answer) (received steps))
+    → EndsAs (Some (ending_by_answer why)) (ended_by (came_to (answer_judged mount text answer) steps))
 refused_ends mount answer why text steps is =
-    inr (sym (ap (λ (a : HeadAnswer). ended_by (answer_judged mount text a) (received steps)) is))
+    inr (sym (ap (λ (a : HeadAnswer). ended_by (came_to (answer_judged mount text a) steps)) is))
 
 taken_ends : (mount caller held : ℕ) (answer : HeadAnswer) (text : List ℕ) (steps : List Step)
     → IsAccepted answer → steps ≡ at_ring mount calls.Claim (rings.Taken caller held) ∷ []
-    → EndsAs (Some (endings.Taken caller held)) (ended_by (answer_judged mount text answer) (received steps))
+    → EndsAs (Some (endings.Taken caller held)) (ended_by (came_to (answer_judged mount text answer) steps))
 taken_ends mount caller held heads.Open text steps accepted is = absurd accepted
 taken_ends mount caller held (heads.Accepted at chunked) text steps accepted is =
-    inr (sym (ap (λ (l : List Step). ended_by (answer_judged mount text (heads.Accepted at chunked)) (received l)) is))
+    inr (sym (ap (λ (l : List Step). ended_by (came_to (answer_judged mount text (heads.Accepted at chunked)) l)) is))
 taken_ends mount caller held (heads.Refused why) text steps accepted is = absurd accepted
 
 halted_ends : (mount : ℕ) (answer : HeadAnswer) (text : List ℕ) (steps : List Step) (halt : RelayHalt)
     → IsHaltedBy mount answer steps halt
-    → EndsAs (Some (end_of_relay None halt)) (ended_by (answer_judged mount text answer) (received steps))
+    → EndsAs (Some (end_of_relay None halt)) (ended_by (came_to (answer_judged mount text answer) steps))
 halted_ends mount answer text steps halts.BadHead is = refused_ends mount answer refusals.BadHead text steps is
 halted_ends mount answer text steps halts.LongHead is = refused_ends mount answer refusals.LongHead text steps is
 halted_ends mount answer text steps halts.Coding is = refused_ends mount answer refusals.Coding text steps is
@@ -304,14 +304,15 @@ halted_ends mount answer text steps halts.Memory is = inl refl
 body_ends : (mount me : ℕ) (session : SourceSession) (answer : HeadAnswer) (text : List ℕ) (steps : List Step)
     → HasBody mount me session answer text steps
     → EndsAs (option_map (end_of_relay (Some session.claim)) (option_map halt_of_source session.halt))
-    (ended_by (answer_judged mount text answer) (received steps))
+    (ended_by (came_to (answer_judged mount text answer) steps))
 body_ends mount me session answer text steps body =
-    let whole : ended_by (answer_judged mount text answer) (received steps)
+    let whole : ended_by (came_to (answer_judged mount text answer) steps)
     ≡ claimed_ending (source_standing.is_chunked session) session.claim (drop body.at text) =
-    ap (λ (a : HeadAnswer). ended_by (answer_judged mount text a) (received steps)) body.accepted
-    ∙ ap (source_ending (source_standing.is_chunked session) (drop body.at text))
+    ap (λ (a : HeadAnswer). ended_by (came_to (answer_judged mount text a) steps)) body.accepted
+    ∙ ap (λ (a : Option Answer). ended_by (came_by (answer_judged mount text
+    (heads.Accepted body.at (source_standing.is_chunked session))) a))
     (claimed_received mount session.claim steps body.claimed) in
-    subst (λ (ended : Option Ending). EndsAs ended (ended_by (answer_judged mount text answer) (received steps)))
+    subst (λ (ended : Option Ending). EndsAs ended (ended_by (came_to (answer_judged mount text answer) steps)))
     (sym (source_end session.claim session.halt))
     (subst (EndsAs (option_map (end_of_source session.claim) session.halt)) (sym whole)
     (source_ends session.claim session (drop body.at text) body.stands))
@@ -319,33 +320,38 @@ body_ends mount me session answer text steps body =
 pub relay_ends : (mount me : ℕ) (stage : RelayStage) (answer : HeadAnswer) (text : List ℕ) (steps : List Step)
     → relay_standing.IsAtStage mount me stage answer text steps
     → EndsAs (option_map (end_of_relay (claim_at stage)) (halt_at stage))
-    (ended_by (answer_judged mount text answer) (received steps))
+    (ended_by (came_to (answer_judged mount text answer) steps))
 relay_ends mount me (stages.Head head cutter) answer text steps at =
-    inr (sym (ap (λ (a : HeadAnswer). ended_by (answer_judged mount text a) (received steps)) at.1))
+    inr (sym (ap (λ (a : HeadAnswer). ended_by (came_to (answer_judged mount text a) steps)) at.1))
 relay_ends mount me (stages.Body session) answer text steps at = body_ends mount me session answer text steps at
 relay_ends mount me (stages.Halted halt) answer text steps at = halted_ends mount answer text steps halt at
 
 -- ---- nothing is sent to a caster behind the request
 
-source_unreplied : (by : Received) → source_reply None by ≡ []
-source_unreplied unasked = refl
-source_unreplied (claimed claim) = refl
-source_unreplied (taken caller claim) = refl
-source_unreplied entered = refl
-source_unreplied (full busy cap) = refl
+source_unreplied : (c : Config) (mount : ℕ) (chunked : Bool) (body : List ℕ) (by : Option Answer)
+    → reply_of c (came_by (source (record { version = None; mount = mount; chunked = chunked }) body) by) ≡ []
+source_unreplied c mount chunked body None = refl
+source_unreplied c mount chunked body (Some (of_ring (rings.Given claim))) = refl
+source_unreplied c mount chunked body (Some (of_ring (rings.Taken caller claim))) = refl
+source_unreplied c mount chunked body (Some (of_ring rings.Released)) = refl
+source_unreplied c mount chunked body (Some (of_ring (rings.At place))) = refl
+source_unreplied c mount chunked body (Some (of_ring (rings.Joined cursor))) = refl
+source_unreplied c mount chunked body (Some (of_ring (rings.Looked live))) = refl
+source_unreplied c mount chunked body (Some (of_ring (rings.Read report))) = refl
+source_unreplied c mount chunked body (Some (of_book answer)) = refl
 
-once_unreplied : (c : Config) (b : Bool) (j : Judged) (by : Received) → reply_of c j by ≡ []
-    → reply_of c (once b j) by ≡ []
+once_unreplied : (c : Config) (b : Bool) (j : Judged) (by : Option Answer) → reply_of c (came_by j by) ≡ []
+    → reply_of c (came_by (once b j) by) ≡ []
 once_unreplied c true j by none = none
 once_unreplied c false j by none = refl
 
-said_unreplied : (c : Config) (mount : ℕ) (body : List ℕ) (said : Said) (by : Received)
-    → reply_of c (said_judged mount body said) by ≡ []
-said_unreplied c mount body (Ok chunked) by = source_unreplied by
+said_unreplied : (c : Config) (mount : ℕ) (body : List ℕ) (said : Said) (by : Option Answer)
+    → reply_of c (came_by (said_judged mount body said) by) ≡ []
+said_unreplied c mount body (Ok chunked) by = source_unreplied c mount chunked body by
 said_unreplied c mount body (Err why) by = refl
 
-relay_unreplied : (c : Config) (mount : ℕ) (heading : Heading) (text : List ℕ) (by : Received)
-    → reply_of c (relay_judged mount heading text) by ≡ []
+relay_unreplied : (c : Config) (mount : ℕ) (heading : Heading) (text : List ℕ) (by : Option Answer)
+    → reply_of c (came_by (relay_judged mount heading text) by) ≡ []
 relay_unreplied c mount incomplete text by = refl
 relay_unreplied c mount too_long text by = once_unreplied c (nat_le 8192 (length text)) _ by refl
 relay_unreplied c mount (whole at answer) text by = refl
@@ -353,13 +359,13 @@ relay_unreplied c mount (answered at said) text by =
     once_unreplied c (nat_le at (length text)) _ by (said_unreplied c mount (drop at text) said by)
 
 pub relay_unsent : (c : Config) (histories : List (History RingCall)) (opening : Opening) (n : ℕ) (heading : Heading)
-    (text : List ℕ) (by : Received) (segments : List Segment) → opening ≡ relays n → segments ≡ []
-    → sent_by c histories opening (judged c opening heading text) by (reverse segments) ≡ opening_text c opening
+    (text : List ℕ) (by : Option Answer) (segments : List Segment) → opening ≡ relays n → segments ≡ []
+    → sent_by c histories opening (came_by (judged c opening heading text) by) (reverse segments) ≡ opening_text c opening
 relay_unsent c histories opening n heading text by segments opens none =
-    ap (λ (s : List Segment). sent_by c histories opening (judged c opening heading text) by (reverse s)) none
-    ∙ append-nil (opening_text c opening ++ reply_of c (judged c opening heading text) by)
+    ap (λ (s : List Segment). sent_by c histories opening (came_by (judged c opening heading text) by) (reverse s)) none
+    ∙ append-nil (opening_text c opening ++ reply_of c (came_by (judged c opening heading text) by))
     ∙ ap (λ (l : List ℕ). opening_text c opening ++ l)
-    (ap (λ (o : Opening). reply_of c (judged c o heading text) by) opens
+    (ap (λ (o : Opening). reply_of c (came_by (judged c o heading text) by)) opens
     ∙ relay_unreplied c (mount_fed (slice_get c.relay n)) heading text by)
     ∙ append-nil (opening_text c opening)
 
@@ -393,10 +399,10 @@ stands_fed c now new opening text steps sent n mount fed opens feeds within call
           (sym (ap (plan_of c) judged_is ∙ answer_plan c mount text stands.answer))
           (subst (IsMadeBy (is_short_at fed.stage) (owed mount stands.answer text)) (sym quiet)
           stands.made));
-      ends = subst (λ (e : Option Ending). EndsAs e (ended_by (judged c opening said.heading text) (received steps)))
+      ends = subst (λ (e : Option Ending). EndsAs e (ended_by (came_to (judged c opening said.heading text) steps)))
           (sym is_ended)
           (subst (λ (j : Judged). EndsAs (option_map (end_of_relay (claim_at fed.stage)) (halt_at fed.stage))
-          (ended_by j (received steps))) (sym judged_is)
+          (ended_by (came_to j steps))) (sym judged_is)
           (relay_ends mount fed.me fed.stage stands.answer text steps stands.at_stage));
       stage = subst (λ (s : Stage). IsAtStage c new.me now opening (judged c opening said.heading text) text steps s)
           (sym is_stage) (record {
@@ -414,7 +420,7 @@ stands_fed c now new opening text steps sent n mount fed opens feeds within call
         refused = λ refused. subst IsTrue (sym short) refused;
       });
       sent_is = sent_all (is_halted_uncalled new.ended steps) sent _
-          (unsent ∙ sym (relay_unsent c now.rings opening n said.heading text (received steps)
+          (unsent ∙ sym (relay_unsent c now.rings opening n said.heading text (first_answer steps)
           (segments_after [] steps) opens none));
     }
 
@@ -449,8 +455,8 @@ relay_fed_on c alone old now histories session new opening text bytes steps sent
     ∙ quiet_on (shapes c) alone old.rings now.rings new.me given.more [] went are in
     let unsent : sent ≡ opening_text c opening =
     subst (λ (e : Option Ending). IsSentBy (is_halted_uncalled e steps) sent (sent_by c histories.rings opening
-    (judged c opening stands.heading text) (received steps) (reverse (segments_after [] steps)))) unended stands.sent_is
-    ∙ relay_unsent c histories.rings opening at.number stands.heading text (received steps)
+    (came_to (judged c opening stands.heading text) steps) (reverse (segments_after [] steps)))) unended stands.sent_is
+    ∙ relay_unsent c histories.rings opening at.number stands.heading text (first_answer steps)
     (segments_after [] steps) at.opens at.segments in
     record {
       more = given.more;

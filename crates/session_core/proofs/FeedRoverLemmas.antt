@@ -33,7 +33,7 @@ use Rattle.session_core.specs.declared.stage.Stage.TheVariants as stages
 use Rattle.session_model.specs.Setting.{shapes, caps}
 use Rattle.session_model.specs.Headings.{Heading}
 use Rattle.session_model.specs.Judged.{Opening, RoverTerms, Judged, waiting, rover, judged}
-use Rattle.session_model.specs.Owed.{received, terms_of, entering_plan, plan_of}
+use Rattle.session_model.specs.Owed.{came_to, terms_of, entering_plan, plan_of}
 use Rattle.session_model.specs.Endings.{ended_by}
 use Rattle.session_model.specs.Replies.{opening_text, reply_of, kept_frames, sent_by}
 use Rattle.session_model.specs.Run.{Histories}
@@ -147,28 +147,28 @@ owes_still c j terms tail account steps behind halt ended is same are by made =
 
 ends_still : (j : Judged) (terms : RoverTerms) (tail : List ℕ) (account : ℕ) (steps behind : List Step)
     (halt : Option SegFault) (ended : Option Ending) → j ≡ rover terms tail → steps ≡ entering account behind
-    → ended ≡ ended_joining halt → EndsAs ended (ended_by j (received steps))
+    → ended ≡ ended_joining halt → EndsAs ended (ended_by (came_to j steps))
 ends_still j terms tail account steps behind halt ended is are by =
-    subst (λ (e : Option Ending). EndsAs e (ended_by j (received steps))) (sym by)
+    subst (λ (e : Option Ending). EndsAs e (ended_by (came_to j steps))) (sym by)
     (subst (λ (e : Option Ending). EndsAs (ended_joining halt) e)
-    (sym (ap (λ (x : Judged). ended_by x (received steps)) is
-    ∙ ap (λ (l : List Step). ended_by (rover terms tail) (received l)) are))
+    (sym (ap (λ (x : Judged). ended_by (came_to x steps)) is
+    ∙ ap (λ (l : List Step). ended_by (came_to (rover terms tail) l)) are))
     (ends_joining halt))
 
 -- what is sent of it, where these are its frames
 abbrev rover_text : Config → Opening → RoverTerms → List (List ℕ) → List ℕ
 rover_text c opening terms frames =
-    opening_text c opening ++ reply_of c (rover terms []) (received (entering 0 []))
+    opening_text c opening ++ reply_of c (came_to (rover terms []) (entering 0 []))
     ++ body_of (unwrap_or terms.version One) frames
 
 text_of : (c : Config) (h : List (History RingCall)) (opening : Opening) (j : Judged) (terms : RoverTerms)
     (tail : List ℕ) (account : ℕ) (steps behind : List Step) → j ≡ rover terms tail
     → steps ≡ entering account behind
-    → sent_by c h opening j (received steps) (reverse (segments_after [] steps))
+    → sent_by c h opening (came_to j steps) (reverse (segments_after [] steps))
     ≡ rover_text c opening terms (kept_frames c h (reverse (segments_after [] behind)))
 text_of c h opening j terms tail account steps behind is are =
-    ap (λ (x : Judged). sent_by c h opening x (received steps) (reverse (segments_after [] steps))) is
-    ∙ ap (λ (l : List Step). sent_by c h opening (rover terms tail) (received l) (reverse (segments_after [] l))) are
+    ap (λ (x : Judged). sent_by c h opening (came_to x steps) (reverse (segments_after [] steps))) is
+    ∙ ap (λ (l : List Step). sent_by c h opening (came_to (rover terms tail) l) (reverse (segments_after [] l))) are
 
 halts_still : (stage : Stage) (account : ℕ) (fed : RoverSession) (ended : Option Ending)
     → stage ≡ stages.Rover account fed → ended ≡ ended_joining (rover_of fed).halt → EndsAt stage ended
@@ -230,9 +230,9 @@ rover_fed_on c alone old now histories session new opening text bytes steps sent
     ≡ kept_frames c histories.rings (reverse (segments_after [] at.behind)) =
     sent_still c session.me histories.rings old.rings now.rings (rover_of inner).segments (rover_of fed).segments
     at.behind (at.behind ++ more) others.rings at.resumes at.stands.segments told.stands.segments unsent in
-    let before : sent ≡ sent_by c histories.rings opening j (received steps) (reverse (segments_after [] steps)) =
+    let before : sent ≡ sent_by c histories.rings opening (came_to j steps) (reverse (segments_after [] steps)) =
     subst (λ (e : Option Ending). IsSentBy (is_halted_uncalled e steps) sent
-    (sent_by c histories.rings opening j (received steps) (reverse (segments_after [] steps)))) going stood.sent_is in
+    (sent_by c histories.rings opening (came_to j steps) (reverse (segments_after [] steps)))) going stood.sent_is in
     record {
       more = more;
       called = subst (λ (m : ℕ). Called c alone old now m more) (sym me_is) called;

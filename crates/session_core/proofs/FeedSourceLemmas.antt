@@ -7,12 +7,11 @@ use Rattle.turn_log.specs.Heard.{Heard}
 use Rattle.turn_log.proofs.HeardLaws.{heard_none}
 use Rattle.mount_ring.specs.declared.call.RingCall.{RingCall}
 use Rattle.mount_ring.specs.declared.call.RingCall.TheVariants.{Claim}
-use Rattle.mount_ring.specs.declared.call.RingAnswer.{RingAnswer}
 use Rattle.mount_ring.specs.declared.call.RingAnswer.TheVariants as answers
 use Rattle.caster_accounts.specs.declared.call.BookCall.{BookCall}
 use Rattle.caster_accounts.specs.declared.call.BookAnswer.{BookAnswer}
 use Rattle.rover_cursor.specs.declared.segment.Segment.{Segment}
-use Rattle.session_calls.specs.Steps.{to_ring, of_ring, Step, at_ring, at_book, ask_of, answer_of}
+use Rattle.session_calls.specs.Steps.{to_ring, Answer, of_ring, Step, at_ring, at_book, ask_of, answer_of}
 use Rattle.session_calls.specs.Plans.{IsMade}
 use Rattle.session_calls.specs.Rings.{Went, history_at}
 use Rattle.source_session.specs.declared.fault.SourceHalt.{SourceHalt}
@@ -35,12 +34,12 @@ use Rattle.session_core.specs.declared.stage.Stage.TheVariants.{Source}
 use Rattle.session_model.specs.Setting.{shapes}
 use Rattle.session_model.specs.Headings.{Heading}
 use Rattle.session_model.specs.Judged.{Opening, SourceTerms, Judged, waiting, source, judged}
-use Rattle.session_model.specs.Owed.{Received, claimed, received, received_by, source_plan, plan_of}
+use Rattle.session_model.specs.Owed.{came_by, came_to, first_answer, source_plan, plan_of}
 use Rattle.session_model.specs.Endings.{ended_by, claimed_ending}
 use Rattle.session_model.specs.Replies.{sent_by}
 use Rattle.session_model.specs.Run.{Histories}
 use Rattle.session_model.specs.Called.{Called, book_answer}
-use Rattle.session_core.specs.Published.{Published}
+use Rattle.session_core.proofs.Published.{Published}
 use Rattle.session_core.specs.Feeding.{end_of_source, FedOn}
 use Rattle.session_core.specs.Standing.{IsMadeBy, IsSentBy, EndsAs, EndsAt, IsSource, IsAtStage, Stands, is_halted, is_halted_uncalled}
 use Rattle.session_core.proofs.BeginLemmas.{sent_all}
@@ -64,32 +63,22 @@ published_source true mount claim (frame ∷ frames) (step ∷ steps) begun =
 
 -- ---- the first of its steps
 
-claimed_by_ring : (answer : RingAnswer) (claim : ℕ) → received_by (of_ring answer) ≡ claimed claim
-    → answer ≡ answers.Given claim
-claimed_by_ring (answers.Given given) claim is = cc
-claimed_by_ring (answers.Taken caller held) claim is = absurd cc
-claimed_by_ring answers.Released claim is = absurd cc
-claimed_by_ring (answers.At place) claim is = absurd cc
-claimed_by_ring (answers.Joined cursor) claim is = absurd cc
-claimed_by_ring (answers.Looked live) claim is = absurd cc
-claimed_by_ring (answers.Read report) claim is = absurd cc
-
 claimed_step : (mount claim : ℕ) (step : Step) → ask_of step ≡ to_ring mount Claim
-    → received_by (answer_of step) ≡ claimed claim → step ≡ at_ring mount Claim (answers.Given claim)
-claimed_step mount claim (at_ring at call answer) asked is =
-    let given : answer ≡ answers.Given claim = claimed_by_ring answer claim is in cc
+    → Some (answer_of step) ≡ Some (of_ring (answers.Given claim)) → step ≡ at_ring mount Claim (answers.Given claim)
+claimed_step mount claim (at_ring at call answer) asked is = cc
 claimed_step mount claim (at_book call answer) asked is = absurd cc
 
 made_claimed : (terms : SourceTerms) (body : List ℕ) (mount claim : ℕ) (steps : List Step) → terms.mount ≡ mount
-    → IsMade (source_plan terms body) steps → received steps ≡ claimed claim → IsClaimed mount claim steps
+    → IsMade (source_plan terms body) steps → first_answer steps ≡ Some (of_ring (answers.Given claim))
+    → IsClaimed mount claim steps
 made_claimed terms body mount claim [] same made is = absurd cc
 made_claimed terms body mount claim (step ∷ steps) same made is =
     claimed_step mount claim step (made.0 ∙ ap (λ (m : ℕ). to_ring m Claim) same) is
 
-pub received_more : (steps more : List Step) (claim : ℕ) → received steps ≡ claimed claim
-    → received (steps ++ more) ≡ claimed claim
-received_more [] more claim is = absurd cc
-received_more (step ∷ steps) more claim is = is
+pub received_more : (steps more : List Step) (answer : Answer) → first_answer steps ≡ Some answer
+    → first_answer (steps ++ more) ≡ Some answer
+received_more [] more answer is = absurd cc
+received_more (step ∷ steps) more answer is = is
 
 -- ---- halts
 
@@ -111,7 +100,7 @@ goes_halted claim (Some halt) none = absurd cc
 -- the body goes on in a plan that was made
 plan_on : (c : Config) (short : Bool) (terms : SourceTerms) (body bytes : List ℕ) (mount claim : ℕ)
     (steps more : List Step) → terms.mount ≡ mount → IsMade (source_plan terms body) steps
-    → received steps ≡ claimed claim
+    → first_answer steps ≡ Some (of_ring (answers.Given claim))
     → IsDone short (publishing mount claim (completed terms.chunked body bytes)) more
     → IsMadeBy short (plan_of c (source terms (body ++ bytes))) (steps ++ more)
 plan_on c short terms body bytes mount claim steps more same made is published =
@@ -144,12 +133,12 @@ called_publishing c alone old now me more went are same = record {
 }
 
 source_sent : (c : Config) (then now : List (History RingCall)) (opening : Opening) (terms : SourceTerms)
-    (body after : List ℕ) (by later : Received) (segments newer : List Segment) → segments ≡ [] → newer ≡ []
-    → later ≡ by
-    → sent_by c then opening (source terms body) by (reverse segments)
-    ≡ sent_by c now opening (source terms after) later (reverse newer)
-source_sent c then now opening terms body after by later segments newer none still same =
-    rw none (rw still (rw same refl))
+    (body after : List ℕ) (claim : ℕ) (by later : Option Answer) (segments newer : List Segment)
+    → segments ≡ [] → newer ≡ [] → by ≡ Some (of_ring (answers.Given claim)) → later ≡ by
+    → sent_by c then opening (came_by (source terms body) by) (reverse segments)
+    ≡ sent_by c now opening (came_by (source terms after) later) (reverse newer)
+source_sent c then now opening terms body after claim by later segments newer none still given same =
+    rw none (rw still (rw same (rw given refl)))
 
 pub source_fed_on : (c : Config) (alone : Bool) (old now histories : Histories) (session new : Session)
     (opening : Opening) (text bytes : List ℕ) (steps : List Step) (sent : List ℕ) (mount : ℕ)
@@ -179,7 +168,8 @@ source_fed_on c alone old now histories session new opening text bytes steps sen
     owed_both steps more at.no_read (source_owed more are) in
     let halted : is_halted new.ended ≡ source_standing.is_cut_short fed.halt =
     ap is_halted ended ∙ short_halted fed.claim fed.halt in
-    let received_is : received (steps ++ more) ≡ claimed inner.claim = received_more steps more inner.claim at.claim in
+    let given : Answer = of_ring (answers.Given inner.claim) in
+    let received_is : first_answer (steps ++ more) ≡ Some given = received_more steps more given at.claim in
     let quiet : segments_after [] (steps ++ more) ≡ [] =
     segments-append [] steps more ∙ ap (λ (s : List Segment). segments_after s more) at.segments
     ∙ quiet_on (shapes c) alone old.rings now.rings inner.me more [] p.went are in
@@ -203,8 +193,8 @@ source_fed_on c alone old now histories session new opening text bytes steps sen
             at.mount_is made at.claim
             (subst (λ (b : Bool). IsDone (source_standing.is_cut_short fed.halt) (publishing mount inner.claim
             (completed b at.body bytes)) more) at.chunked p.made))));
-        ends = subst (λ (x : Judged). EndsAs new.ended (ended_by x (received (steps ++ more)))) (sym is_later)
-            (subst (λ (by : Received). EndsAs new.ended (ended_by (source at.terms (at.body ++ bytes)) by))
+        ends = subst (λ (x : Judged). EndsAs new.ended (ended_by (came_to x (steps ++ more)))) (sym is_later)
+            (subst (λ (by : Option Answer). EndsAs new.ended (ended_by (came_by (source at.terms (at.body ++ bytes)) by)))
             (sym received_is)
             (subst (λ (e : Option Ending). EndsAs e (claimed_ending at.terms.chunked inner.claim (at.body ++ bytes)))
             (sym ended)
@@ -223,7 +213,7 @@ source_fed_on c alone old now histories session new opening text bytes steps sen
               caller = fed_me ∙ at.caller ∙ sym me;
               stands = goes at.body at.stands;
               chunked = chunked ∙ at.chunked;
-              claim = received_is ∙ ap claimed (sym claim);
+              claim = received_is ∙ ap (λ (n : ℕ). Some (of_ring (answers.Given n))) (sym claim);
               holds = subst (λ (k : ℕ). IsHolding new.me k (history_at now.rings mount)) (sym claim)
                   (subst (λ (m : ℕ). IsHolding m inner.claim (history_at now.rings mount)) (at.caller ∙ sym me) holds);
               no_read = no_read;
@@ -235,14 +225,14 @@ source_fed_on c alone old now histories session new opening text bytes steps sen
         });
         sent_is = sent_all (is_halted_uncalled new.ended (steps ++ more)) sent _
             (subst (λ (e : Option Ending). IsSentBy (is_halted_uncalled e steps) sent
-            (sent_by c histories.rings opening j
-            (received steps) (reverse (segments_after [] steps)))) unended stands.sent_is
-            ∙ ap (λ (x : Judged). sent_by c histories.rings opening x (received steps)
+            (sent_by c histories.rings opening (came_to j steps) (reverse (segments_after [] steps)))) unended stands.sent_is
+            ∙ ap (λ (x : Judged). sent_by c histories.rings opening (came_to x steps)
             (reverse (segments_after [] steps))) at.judged_is
-            ∙ source_sent c histories.rings now.rings opening at.terms at.body (at.body ++ bytes) (received steps)
-            (received (steps ++ more)) (segments_after [] steps) (segments_after [] (steps ++ more)) at.segments quiet
+            ∙ source_sent c histories.rings now.rings opening at.terms at.body (at.body ++ bytes) inner.claim
+            (first_answer steps) (first_answer (steps ++ more)) (segments_after [] steps)
+            (segments_after [] (steps ++ more)) at.segments quiet at.claim
             (received_is ∙ sym at.claim)
-            ∙ ap (λ (x : Judged). sent_by c now.rings opening x (received (steps ++ more))
+            ∙ ap (λ (x : Judged). sent_by c now.rings opening (came_to x (steps ++ more))
             (reverse (segments_after [] (steps ++ more)))) (sym is_later));
       };
     }

@@ -1,6 +1,6 @@
 -- What a session that goes on may call, as it stands.
-use Rattle.std.proofs.Common.{◌≡◌, ◌∙◌, ◌+◌, ◌<◌, ◌≤◌, ℕ, Bool, true, false, List, [], length, drop, refl, sym, subst, inl, inr, arith, Option, None, Some, Result, Ok, Err}
-use Rattle.std.specs.Prelude.{◌^◌, IfNone, nat_le, slice_get}
+use Rattle.std.proofs.Common.{◌≡◌, ◌∙◌, ◌+◌, ◌<◌, ◌≤◌, ℕ, Bool, true, false, List, [], length, drop, refl, sym, ap, subst, inl, inr, arith, Option, None, Some, Result, Ok, Err}
+use Rattle.std.specs.Prelude.{◌^◌, IfNone, is_none, nat_le, slice_get}
 use Rattle.std.proofs.lemmas.List.{length-drop}
 use Rattle.gga_read.specs.declared.Position.{Position}
 use Rattle.turn_log.specs.History.{History, GoesOn}
@@ -39,14 +39,14 @@ use Rattle.session_core.specs.declared.session.Session.{Session}
 use Rattle.session_core.specs.declared.stage.Stage.TheVariants.{Source, Relay, Rover}
 use Rattle.session_model.specs.Setting.{shapes, bases_at}
 use Rattle.session_model.specs.Headings.{Heading, incomplete, too_long, whole, answered}
-use Rattle.session_model.specs.Judged.{Opening, sends_head, relays, bare_source, bare_rover, Judged, waiting, refused, unanswered, table, source, rover, once, source_judged, rover_judged, request_judged, heading_judged, said_judged, relay_judged, mount_fed, judged, bare_admission}
+use Rattle.session_model.specs.Judged.{Opening, sends_head, relays, bare_source, bare_rover, Judged, waiting, finished, source, rover, once, source_judged, rover_judged, request_judged, heading_judged, said_judged, relay_judged, mount_fed, judged, bare_admission}
 use Rattle.session_model.specs.Run.{Histories}
 use Rattle.session_model.specs.Called.{OthersCalled}
-use Rattle.session_core.specs.Standing.{Follows, IsAtStage, IsRelay, IsRover, IsSource, Stands}
+use Rattle.session_core.specs.Standing.{Follows, IsAtStage, IsRelay, IsRover, IsSource, Stands, is_going}
 use Rattle.session_core.proofs.AdmittedLemmas.{IsReady, is_ready}
 
 -- a session that goes on was not lost
-pub record GoesOnFrom (c : Config) (session : Session) (now : Histories) (more : ℕ) : Type 0 where
+record GoesOnFrom (c : Config) (session : Session) (now : Histories) (more : ℕ) : Type 0 where
   pub opening : Opening
   pub text : List ℕ
   pub steps : List Step
@@ -56,7 +56,7 @@ pub record GoesOnFrom (c : Config) (session : Session) (now : Histories) (more :
   pub others : OthersCalled histories now session.me
   pub few : length text + more < 2 ^ 63
 
-pub goes_from : (c : Config) (session : Session) (now : Histories) (more : ℕ) → session.ended ≡ None
+goes_from : (c : Config) (session : Session) (now : Histories) (more : ℕ) → session.ended ≡ None
     → Follows c session now more → GoesOnFrom c session now more
 goes_from c session now more unended (opening, text, steps, histories, sent, inr lost, others, few) =
     let clash : Some _ ≡ None = sym lost.ended ∙ unended in absurd cc
@@ -75,9 +75,7 @@ goes_from c session now more unended (opening, text, steps, histories, sent, inl
 
 abbrev body_in : Judged → List ℕ
 body_in waiting = []
-body_in (refused version reply end) = []
-body_in (unanswered end) = []
-body_in (table version) = []
+body_in (finished reply end) = []
 body_in (source terms body) = body
 body_in (rover terms tail) = []
 
@@ -149,9 +147,7 @@ judged_short c (bare_rover mount) h text = rover_short None None text (admission
 
 abbrev IsLetIn : Config → Judged → Type 0
 IsLetIn c waiting = Unit {0}
-IsLetIn c (refused version reply end) = Unit {0}
-IsLetIn c (unanswered end) = Unit {0}
-IsLetIn c (table version) = Unit {0}
+IsLetIn c (finished reply end) = Unit {0}
 IsLetIn c (source terms body) = Unit {0}
 IsLetIn c (rover terms tail) =
     (auth : Auth) × (name : List ℕ) × (admission c auth name ≡ Ok terms.admission)
@@ -213,15 +209,23 @@ judged_in c (bare_rover mount) h text =
 
 -- ---- by stage
 
-pub record IsSourceReady (c : Config) (now : Histories) (mount more : ℕ) (inner : SourceSession) : Type 0 where
+-- what is none holds nothing
+none_there : {X : Type 0} (held : Option X) → is_none held ≡ true → held ≡ None
+none_there None is = refl
+none_there (Some x) is = absurd cc
+
+pub record IsSourceReady (c : Config) (now : Histories) (me mount more : ℕ) (inner : SourceSession) : Type 0 where
+  pub caller : inner.me ≡ me
   pub within : mount < length c.mount
   pub held : HeldSince inner.me inner.claim (history_at now.rings mount)
   pub few : (body : List ℕ) × source_standing.StandsFor inner body × (length body + more < 2 ^ 63)
+  pub goes : inner.halt ≡ None
 
 pub source_ready : (c : Config) (session : Session) (now : Histories) (more mount : ℕ) (inner : SourceSession)
-    → session.stage ≡ Source mount inner → GoesOnFrom c session now more
-    → IsSourceReady c now mount more inner
-source_ready c session now more mount inner is from =
+    → session.stage ≡ Source mount inner → session.ended ≡ None → Follows c session now more
+    → IsSourceReady c now session.me mount more inner
+source_ready c session now more mount inner is unended follows =
+    let from = goes_from c session now more unended follows in
     let j : Judged = judged c from.opening from.stands.heading from.text in
     let at : IsSource c session.me from.histories j from.steps mount inner =
     subst (IsAtStage c session.me from.histories from.opening j from.text from.steps) is from.stands.stage in
@@ -229,10 +233,12 @@ source_ready c session now more mount inner is from =
     subst (λ (x : Judged). IsShort (body_in x) from.text) at.judged_is
     (judged_short c from.opening from.stands.heading from.text) in
     record {
+      caller = at.caller;
       within = at.within;
       held = subst (λ (m : ℕ). HeldSince m inner.claim (history_at now.rings mount)) (sym at.caller)
           (history_at from.histories.rings mount, at.holds, from.others.rings.rings mount);
       few = (at.body, at.stands, omega (arith, short, from.few));
+      goes = none_there inner.halt (sym (ap is_going is) ∙ from.stands.halts.goes unended);
     }
 
 held_stage : (me : ℕ) (stage : RelayStage) (h now : History RingCall)
@@ -244,36 +250,43 @@ held_stage me (stages.Body inner) h now holds goes = held_by inner.halt where
   held_by None = (h, holds, goes)
   held_by (Some halt) = tt
 
-pub record IsRelayReady (c : Config) (now : Histories) (mount more : ℕ) (inner : RelaySession) : Type 0 where
+pub record IsRelayReady (c : Config) (now : Histories) (me mount more : ℕ) (inner : RelaySession) : Type 0 where
+  pub caller : inner.me ≡ me
   pub within : mount < length c.mount
   pub held : IsHeldAt inner.me inner.stage (history_at now.rings mount)
   pub few : (text : List ℕ) × (steps : List Step) × relay_standing.StandsFor mount inner text steps
       × (length text + more < 2 ^ 63)
+  pub goes : relay_standing.halt_at inner.stage ≡ None
 
 pub relay_ready : (c : Config) (session : Session) (now : Histories) (more mount : ℕ) (inner : RelaySession)
-    → session.stage ≡ Relay mount inner → GoesOnFrom c session now more
-    → IsRelayReady c now mount more inner
-relay_ready c session now more mount inner is from =
+    → session.stage ≡ Relay mount inner → session.ended ≡ None → Follows c session now more
+    → IsRelayReady c now session.me mount more inner
+relay_ready c session now more mount inner is unended follows =
+    let from = goes_from c session now more unended follows in
     let j : Judged = judged c from.opening from.stands.heading from.text in
     let at : IsRelay c session.me from.histories from.opening from.text from.steps mount inner =
     subst (IsAtStage c session.me from.histories from.opening j from.text from.steps) is from.stands.stage in
     record {
+      caller = at.caller;
       within = at.within;
       held = subst (λ (m : ℕ). IsHeldAt m inner.stage (history_at now.rings mount)) (sym at.caller)
           (held_stage session.me inner.stage (history_at from.histories.rings mount) (history_at now.rings mount)
           at.holds (from.others.rings.rings mount));
       few = (from.text, from.steps, at.stands, from.few);
+      goes = none_there (relay_standing.halt_at inner.stage) (sym (ap is_going is) ∙ from.stands.halts.goes unended);
     }
 
 pub record IsRoverReady (c : Config) (now : Histories) (inner : RoverSession) : Type 0 where
   pub within : AreWithin (length c.mount) (rover_of inner).terms.bases
   pub filter : KnowsFilter (shapes c) (rover_of inner).terms.filter
   pub resumes : WasResumable (shapes c) (rover_of inner).me now.rings (rover_of inner).segments
+  pub goes : (rover_of inner).halt ≡ None
 
 pub rover_ready : (c : Config) (session : Session) (now : Histories) (more account : ℕ) (inner : RoverSession)
-    → ((cap : ℕ) × KeepsRules cap c) → session.stage ≡ Rover account inner → GoesOnFrom c session now more
-    → IsRoverReady c now inner
-rover_ready c session now more account inner kept is from =
+    → ((cap : ℕ) × KeepsRules cap c) → session.stage ≡ Rover account inner → session.ended ≡ None
+    → Follows c session now more → IsRoverReady c now inner
+rover_ready c session now more account inner kept is unended follows =
+    let from = goes_from c session now more unended follows in
     let j : Judged = judged c from.opening from.stands.heading from.text in
     let at : IsRover c session.me from.histories j from.steps account inner =
     subst (IsAtStage c session.me from.histories from.opening j from.text from.steps) is from.stands.stage in
@@ -289,4 +302,5 @@ rover_ready c session now more account inner kept is from =
         at.resumes,
         from.others.rings,
       );
+      goes = none_there (rover_of inner).halt (sym (ap is_going is) ∙ from.stands.halts.goes unended);
     }

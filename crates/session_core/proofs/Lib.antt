@@ -1,6 +1,8 @@
+pub mod Published
 pub mod PlacedLemmas
 pub mod SourceLemmas
 pub mod RelayLemmas
+pub mod PickLemmas
 pub mod CloseLemmas
 pub mod HeldLemmas
 pub mod ClosingLemmas

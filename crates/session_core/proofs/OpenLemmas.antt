@@ -20,11 +20,11 @@ use Rattle.session_core.specs.declared.session.Session.{Session}
 use Rattle.session_core.specs.declared.stage.Stage.{Stage}
 use Rattle.session_core.specs.declared.stage.Stage.TheVariants.{Head, Over, Source, Relay, Rover}
 use Rattle.session_model.specs.Headings.{incomplete}
-use Rattle.session_model.specs.Judged.{relays, mount_fed, judged, waiting}
+use Rattle.session_model.specs.Judged.{relays, mount_fed, judged}
 use Rattle.session_model.specs.Replies.{opening_text, sent_by}
 use Rattle.session_model.specs.Run.{Histories}
 use Rattle.session_core.specs.Standing.{StandsFor, IsNewRelay, IsMadeBy, IsSentBy, IsAtStage, EndsAt, is_halted, is_halted_uncalled}
-use Rattle.session_model.specs.Owed.{unasked}
+use Rattle.session_model.specs.Owed.{nothing}
 
 -- a relay that nothing halts was refused no turn
 short_halts : (stage : RelayStage) → relay_standing.halt_at stage ≡ None → IsTrue (relay_standing.is_short_at stage) → ⊥
@@ -71,6 +71,6 @@ relay_opens c session n relay h here kept unended new = by_stage session.stage r
       refused = λ short. absurd (not_short inner new.3 short);
     });
     sent_is = subst (λ ended. IsSentBy (is_halted_uncalled ended []) (opening_text c (relays n)) (sent_by c h.rings
-        (relays n) waiting unasked [])) (sym unended)
+        (relays n) nothing [])) (sym unended)
         (sym (append-nil (opening_text c (relays n) ++ []) ∙ append-nil (opening_text c (relays n))));
   })

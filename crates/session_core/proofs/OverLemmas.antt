@@ -1,14 +1,12 @@
 -- More bytes change nothing of a connection that is over, or of a rover that was halted.
 use Rattle.std.proofs.Common.{◌≡◌, ◌≢◌, ◌∙◌, ℕ, Bool, true, false, List, [], ◌∷◌, ◌++◌, reverse, refl, sym, ap, subst, inl, Option, None, Some}
-use Rattle.turn_log.specs.History.{History}
-use Rattle.mount_ring.specs.declared.call.RingCall.{RingCall}
 use Rattle.mount_ring.specs.declared.call.RingAnswer.TheVariants as answers
-use Rattle.rover_cursor.specs.declared.segment.Segment.{Segment}
+use Rattle.caster_accounts.specs.declared.call.BookAnswer.TheVariants as books
 use Rattle.rover_cursor.specs.declared.fault.SegFault.{SegFault}
 use Rattle.rover_cursor.specs.declared.fault.SegFault.TheVariants as seg_faults
 use Rattle.gga_read.specs.declared.Position.{Position}
 use Rattle.session_calls.specs.Steps.{Answer, of_ring, of_book, Step, answer_of}
-use Rattle.session_calls.specs.Plans.{Plan, done, IsMade, Begins}
+use Rattle.session_calls.specs.Plans.{Plan, IsMade, Begins}
 use Rattle.session_calls.proofs.PlanLemmas.{begun_longer}
 use Rattle.source_session.specs.Body.{frames_of}
 use Rattle.upstream_relay.specs.Owed.{after_claim}
@@ -23,156 +21,89 @@ use Rattle.session_model.specs.declared.ending.Ending.{Ending}
 use Rattle.session_core.specs.declared.session.Session.{Session}
 use Rattle.session_core.specs.declared.stage.Stage.{Stage}
 use Rattle.session_core.specs.declared.stage.Stage.TheVariants.{Head, Over, Source, Relay, Rover}
-use Rattle.session_model.specs.Judged.{Opening, SourceTerms, RoverTerms, Judged, waiting, refused, unanswered, table, source, rover, judged}
-use Rattle.session_model.specs.Owed.{Received, unasked, claimed, taken, entered, full, received, received_by, if_entered, terms_of, plan_of, closing_by}
+use Rattle.session_model.specs.Judged.{Opening, SourceTerms, RoverTerms, Judged, waiting, finished, source, rover, judged}
+use Rattle.session_model.specs.Owed.{Came, source_came, rover_came, came_by, first_answer, came_to, is_let_in, if_entered, terms_of, plan_of}
 use Rattle.session_model.specs.Endings.{ended_by}
 use Rattle.session_model.specs.Replies.{sent_by}
-use Rattle.session_model.specs.Reports.{junk_of, is_entered}
 use Rattle.session_model.specs.Run.{Histories}
 use Rattle.session_core.specs.Beginnings.{ended_joining}
-use Rattle.session_core.specs.Standing.{IsMadeBy, IsSentBy, EndsAs, IsOver, IsRover, IsAtStage, Stands, is_halted, is_halted_uncalled}
+use Rattle.session_core.specs.Standing.{IsMadeBy, IsSentBy, EndsAs, IsFree, IsOver, IsRover, IsAtStage, Stands, is_halted, is_halted_uncalled}
 use Rattle.session_core.specs.Begun.{StartsAs}
 use Rattle.session_model.proofs.GrowLemmas.{plan_grows}
+use Rattle.session_model.proofs.CameLemmas.{rover_same}
 use Rattle.session_model.proofs.MoreLemmas.{with_more, judged_more, heading_goes}
 
 -- ---- what does not hang on the bytes behind a head
 
--- with no claim
-abbrev IsUnclaimed : Received → Type 0
-IsUnclaimed unasked = Unit {0}
-IsUnclaimed (claimed claim) = ⊥
-IsUnclaimed (taken caller claim) = Unit {0}
-IsUnclaimed entered = Unit {0}
-IsUnclaimed (full busy cap) = Unit {0}
+source_free : (terms : SourceTerms) (body other : List ℕ) (answer : Answer) → IsFree (source_came terms body answer)
+    → source_came terms other answer ≡ source_came terms body answer
+source_free terms body other (of_ring (answers.Given claim)) free = absurd free
+source_free terms body other (of_ring (answers.Taken caller claim)) free = refl
+source_free terms body other (of_ring answers.Released) free = refl
+source_free terms body other (of_ring (answers.At place)) free = refl
+source_free terms body other (of_ring (answers.Joined cursor)) free = refl
+source_free terms body other (of_ring (answers.Looked live)) free = refl
+source_free terms body other (of_ring (answers.Read report)) free = refl
+source_free terms body other (of_book answer) free = refl
 
-closed_unclaimed : (terms : SourceTerms) (body : List ℕ) (by : Received) (segments : List Segment)
-    → closing_by (source terms body) by segments ≡ done → IsUnclaimed by
-closed_unclaimed terms body unasked segments closed = tt
-closed_unclaimed terms body (claimed claim) segments closed = absurd cc
-closed_unclaimed terms body (taken caller claim) segments closed = tt
-closed_unclaimed terms body entered segments closed = tt
-closed_unclaimed terms body (full busy cap) segments closed = tt
-
-closing_more : (j : Judged) (rest : List ℕ) (by : Received) (segments : List Segment)
-    → closing_by (with_more j rest) by segments ≡ closing_by j by segments
-closing_more waiting rest by segments = refl
-closing_more (refused version reply end) rest by segments = refl
-closing_more (unanswered end) rest by segments = refl
-closing_more (table version) rest by segments = refl
-closing_more (source terms body) rest unasked segments = refl
-closing_more (source terms body) rest (claimed claim) segments = refl
-closing_more (source terms body) rest (taken caller claim) segments = refl
-closing_more (source terms body) rest entered segments = refl
-closing_more (source terms body) rest (full busy cap) segments = refl
-closing_more (rover terms tail) rest unasked segments = refl
-closing_more (rover terms tail) rest (claimed claim) segments = refl
-closing_more (rover terms tail) rest (taken caller claim) segments = refl
-closing_more (rover terms tail) rest entered segments = refl
-closing_more (rover terms tail) rest (full busy cap) segments = refl
-
-sent_more : (c : Config) (h : List (History RingCall)) (opening : Opening) (j : Judged) (rest : List ℕ) (by : Received)
-    (segments : List Segment)
-    → sent_by c h opening (with_more j rest) by segments ≡ sent_by c h opening j by segments
-sent_more c h opening waiting rest by segments = refl
-sent_more c h opening (refused version reply end) rest by segments = refl
-sent_more c h opening (unanswered end) rest by segments = refl
-sent_more c h opening (table version) rest by segments = refl
-sent_more c h opening (source terms body) rest by segments = refl
-sent_more c h opening (rover terms tail) rest by segments = refl
+free_more : (j : Judged) (rest : List ℕ) (first : Option Answer) → IsFree (came_by j first)
+    → came_by (with_more j rest) first ≡ came_by j first
+free_more waiting rest first free = refl
+free_more (finished reply end) rest first free = refl
+free_more (source terms body) rest None free = refl
+free_more (source terms body) rest (Some answer) free = source_free terms body (body ++ rest) answer free
+free_more (rover terms tail) rest first free = rover_same terms tail (tail ++ rest) first
 
 known_more : (j : Judged) (rest : List ℕ) → j ≢ waiting → with_more j rest ≢ waiting
 known_more waiting rest known is = known refl
-known_more (refused version reply end) rest known is = cc
-known_more (unanswered end) rest known is = cc
-known_more (table version) rest known is = cc
+known_more (finished reply end) rest known is = cc
 known_more (source terms body) rest known is = cc
 known_more (rover terms tail) rest known is = cc
 
-junk_unclaimed : (terms : SourceTerms) (body : List ℕ) (by : Received) → IsUnclaimed by
-    → junk_of (source terms body) by ≡ 0
-junk_unclaimed terms body unasked is = refl
-junk_unclaimed terms body (claimed claim) is = absurd is
-junk_unclaimed terms body (taken caller claim) is = refl
-junk_unclaimed terms body entered is = refl
-junk_unclaimed terms body (full busy cap) is = refl
-
-junk_over : (j : Judged) (rest : List ℕ) (by : Received) (segments : List Segment)
-    → closing_by j by segments ≡ done → junk_of (with_more j rest) by ≡ 0
-junk_over waiting rest by segments closed = refl
-junk_over (refused version reply end) rest by segments closed = refl
-junk_over (unanswered end) rest by segments closed = refl
-junk_over (table version) rest by segments closed = refl
-junk_over (source terms body) rest by segments closed =
-    junk_unclaimed terms (body ++ rest) by (closed_unclaimed terms body by segments closed)
-junk_over (rover terms tail) rest by segments closed = refl
-
-ended_unclaimed : (terms : SourceTerms) (body other : List ℕ) (by : Received) → IsUnclaimed by
-    → ended_by (source terms other) by ≡ ended_by (source terms body) by
-ended_unclaimed terms body other unasked is = refl
-ended_unclaimed terms body other (claimed claim) is = absurd is
-ended_unclaimed terms body other (taken caller claim) is = refl
-ended_unclaimed terms body other entered is = refl
-ended_unclaimed terms body other (full busy cap) is = refl
-
-ended_over : (j : Judged) (rest : List ℕ) (by : Received) (segments : List Segment)
-    → closing_by j by segments ≡ done → ended_by (with_more j rest) by ≡ ended_by j by
-ended_over waiting rest by segments closed = refl
-ended_over (refused version reply end) rest by segments closed = refl
-ended_over (unanswered end) rest by segments closed = refl
-ended_over (table version) rest by segments closed = refl
-ended_over (source terms body) rest by segments closed =
-    ended_unclaimed terms body (body ++ rest) by (closed_unclaimed terms body by segments closed)
-ended_over (rover terms tail) rest by segments closed = refl
-
 -- ---- what is owed
 
-unclaimed_after : (mount : ℕ) (frames more : List (List ℕ)) (answer : Answer) (steps : List Step)
-    → IsUnclaimed (received_by answer) → IsMade (after_claim mount frames answer) steps
-    → IsMade (after_claim mount more answer) steps
-unclaimed_after mount frames more (of_ring (answers.Given claim)) steps not made = absurd not
-unclaimed_after mount frames more (of_ring (answers.Taken caller claim)) steps not made = made
-unclaimed_after mount frames more (of_ring answers.Released) steps not made = made
-unclaimed_after mount frames more (of_ring (answers.At place)) steps not made = made
-unclaimed_after mount frames more (of_ring (answers.Joined cursor)) steps not made = made
-unclaimed_after mount frames more (of_ring (answers.Looked live)) steps not made = made
-unclaimed_after mount frames more (of_ring (answers.Read report)) steps not made = made
-unclaimed_after mount frames more (of_book answer) steps not made = made
+unclaimed_after : (terms : SourceTerms) (body : List ℕ) (frames more : List (List ℕ)) (answer : Answer)
+    (steps : List Step) → IsFree (source_came terms body answer)
+    → IsMade (after_claim terms.mount frames answer) steps → IsMade (after_claim terms.mount more answer) steps
+unclaimed_after terms body frames more (of_ring (answers.Given claim)) steps free made = absurd free
+unclaimed_after terms body frames more (of_ring (answers.Taken caller claim)) steps free made = made
+unclaimed_after terms body frames more (of_ring answers.Released) steps free made = made
+unclaimed_after terms body frames more (of_ring (answers.At place)) steps free made = made
+unclaimed_after terms body frames more (of_ring (answers.Joined cursor)) steps free made = made
+unclaimed_after terms body frames more (of_ring (answers.Looked live)) steps free made = made
+unclaimed_after terms body frames more (of_ring (answers.Read report)) steps free made = made
+unclaimed_after terms body frames more (of_book answer) steps free made = made
 
-unentered_after : (by : Received) (plan later : Plan) (steps : List Step) → is_entered by ≡ false
-    → IsMade (if_entered by plan) steps → IsMade (if_entered by later) steps
-unentered_after unasked plan later steps out made = made
-unentered_after (claimed claim) plan later steps out made = made
-unentered_after (taken caller claim) plan later steps out made = made
-unentered_after entered plan later steps out made = absurd cc
-unentered_after (full busy cap) plan later steps out made = made
+unentered_after : (terms : RoverTerms) (answer : Answer) (plan later : Plan) (steps : List Step)
+    → IsFree (rover_came terms answer)
+    → IsMade (if_entered (is_let_in answer) plan) steps → IsMade (if_entered (is_let_in answer) later) steps
+unentered_after terms (of_ring answer) plan later steps free made = made
+unentered_after terms (of_book books.Entered) plan later steps free made = absurd free
+unentered_after terms (of_book (books.Full busy cap)) plan later steps free made = made
+unentered_after terms (of_book books.Left) plan later steps free made = made
 
-made_over : (c : Config) (j : Judged) (rest : List ℕ) (steps : List Step) (segments : List Segment)
-    → closing_by j (received steps) segments ≡ done → is_entered (received steps) ≡ false
+made_over : (c : Config) (j : Judged) (rest : List ℕ) (steps : List Step) → IsFree (came_to j steps)
     → IsMade (plan_of c j) steps → IsMade (plan_of c (with_more j rest)) steps
-made_over c waiting rest steps segments closed out made = made
-made_over c (refused version reply end) rest steps segments closed out made = made
-made_over c (unanswered end) rest steps segments closed out made = made
-made_over c (table version) rest steps segments closed out made = made
-made_over c (source terms body) rest [] segments closed out made = absurd made
-made_over c (source terms body) rest (step ∷ steps) segments closed out made = (
+made_over c waiting rest steps free made = made
+made_over c (finished reply end) rest steps free made = made
+made_over c (source terms body) rest [] free made = absurd made
+made_over c (source terms body) rest (step ∷ steps) free made = (
   made.0,
-  unclaimed_after terms.mount (frames_of terms.chunked body) (frames_of terms.chunked (body ++ rest)) (answer_of step)
-      steps (closed_unclaimed terms body (received_by (answer_of step)) segments closed) made.1,
+  unclaimed_after terms body (frames_of terms.chunked body) (frames_of terms.chunked (body ++ rest)) (answer_of step)
+      steps free made.1,
 )
-made_over c (rover terms tail) rest [] segments closed out made = absurd made
-made_over c (rover terms tail) rest (step ∷ steps) segments closed out made = (
+made_over c (rover terms tail) rest [] free made = absurd made
+made_over c (rover terms tail) rest (step ∷ steps) free made = (
   made.0,
-  unentered_after (received_by (answer_of step))
-      (rover_plan (terms_of c terms.admission) terms.first tail)
-      (rover_plan (terms_of c terms.admission) terms.first (tail ++ rest)) steps out made.1,
+  unentered_after terms (answer_of step) (rover_plan (terms_of c terms.admission) terms.first tail)
+      (rover_plan (terms_of c terms.admission) terms.first (tail ++ rest)) steps free made.1,
 )
 
-owes_over : (c : Config) (halted : Bool) (j : Judged) (rest : List ℕ) (steps : List Step) (segments : List Segment)
-    → closing_by j (received steps) segments ≡ done → is_entered (received steps) ≡ false
+owes_over : (c : Config) (halted : Bool) (j : Judged) (rest : List ℕ) (steps : List Step) → IsFree (came_to j steps)
     → Begins (plan_of c j) (plan_of c (with_more j rest)) → IsMadeBy halted (plan_of c j) steps
     → IsMadeBy halted (plan_of c (with_more j rest)) steps
-owes_over c false j rest steps segments closed out grows made = made_over c j rest steps segments closed out made
-owes_over c true j rest steps segments closed out grows begun =
+owes_over c false j rest steps free grows made = made_over c j rest steps free made
+owes_over c true j rest steps free grows begun =
     begun_longer (plan_of c j) (plan_of c (with_more j rest)) steps grows begun
 
 -- ---- a connection of which nothing is left to be closed
@@ -186,6 +117,9 @@ over_more c session opening text rest steps h sent is s =
     let at : IsOver j steps = subst (IsAtStage c session.me h opening j text steps) is s.stage in
     let more : judged c opening s.heading (text ++ rest) ≡ with_more j rest =
     judged_more c opening s.heading text rest at.known in
+    let same : came_to (with_more j rest) steps ≡ came_to j steps = free_more j rest (first_answer steps) at.free in
+    let still : came_to j steps ≡ came_to (judged c opening s.heading (text ++ rest)) steps =
+    sym (ap (λ (x : Judged). came_to x steps) more ∙ same) in
     let halted : Bool = is_halted session.ended in
     let cut : Bool = is_halted_uncalled session.ended steps in
     let grows : Begins (plan_of c j) (plan_of c (with_more j rest)) =
@@ -196,25 +130,19 @@ over_more c session opening text rest steps h sent is s =
       owes = subst (λ (l : List Step). IsMadeBy halted (plan_of c (judged c opening s.heading (text ++ rest))) l)
           (sym at.no_read)
           (subst (λ (x : Judged). IsMadeBy halted (plan_of c x) steps) (sym more)
-          (owes_over c halted j rest steps (segments_after [] steps) at.closed at.outside grows
+          (owes_over c halted j rest steps at.free grows
           (subst (λ (l : List Step). IsMadeBy halted (plan_of c j) l) at.no_read s.owes)));
-      ends = subst (λ (x : Judged). EndsAs session.ended (ended_by x (received steps))) (sym more)
-          (subst (EndsAs session.ended) (sym (ended_over j rest (received steps) (segments_after [] steps) at.closed))
-          s.ends);
+      ends = subst (λ (x : Came). EndsAs session.ended (ended_by x)) still s.ends;
       stage = subst (λ (x : Judged). IsAtStage c session.me h opening x (text ++ rest) steps session.stage) (sym more)
           (subst (IsAtStage c session.me h opening (with_more j rest) (text ++ rest) steps) (sym is) (record {
             known = known_more j rest at.known;
-            closed = closing_more j rest (received steps) (segments_after [] steps) ∙ at.closed;
+            free = subst IsFree (sym same) at.free;
             segments = at.segments;
-            junk = junk_over j rest (received steps) (segments_after [] steps) at.closed;
-            outside = at.outside;
             no_read = at.no_read;
           }));
       halts = s.halts;
-      sent_is = subst (λ (x : Judged). IsSentBy cut sent (sent_by c h.rings opening x (received steps)
-          (reverse (segments_after [] steps)))) (sym more)
-          (subst (IsSentBy cut sent) (sym (sent_more c h.rings opening j rest (received steps)
-          (reverse (segments_after [] steps)))) s.sent_is);
+      sent_is = subst (λ (x : Came). IsSentBy cut sent (sent_by c h.rings opening x
+          (reverse (segments_after [] steps)))) still s.sent_is;
     }
 
 -- ---- a rover that was halted as it joined
@@ -257,6 +185,12 @@ rover_more c session opening text rest steps h sent end account inner is ended j
     let known : j ≢ waiting = rover_known j at.terms at.tail at.judged_is in
     let later : Judged = judged c opening s.heading (text ++ rest) in
     let more : later ≡ with_more j rest = judged_more c opening s.heading text rest known in
+    let is_later : later ≡ rover at.terms (at.tail ++ rest) =
+    more ∙ ap (λ (x : Judged). with_more x rest) at.judged_is in
+    let still : came_to j steps ≡ came_to later steps =
+    sym (ap (λ (x : Judged). came_to x steps) is_later
+    ∙ rover_same at.terms at.tail (at.tail ++ rest) (first_answer steps)
+    ∙ ap (λ (x : Judged). came_to x steps) (sym at.judged_is)) in
     let fault = joined_halted (rover_of inner).halt session.ended end joined ended in
     record {
       heading = s.heading;
@@ -269,7 +203,7 @@ rover_more c session opening text rest steps h sent end account inner is ended j
         terms = at.terms;
         tail = at.tail ++ rest;
         behind = at.behind;
-        judged_is = more ∙ ap (λ (x : Judged). with_more x rest) at.judged_is;
+        judged_is = is_later;
         account_is = at.account_is;
         steps_are = at.steps_are;
         caller = at.caller;
@@ -280,10 +214,8 @@ rover_more c session opening text rest steps h sent end account inner is ended j
         inside = at.inside;
       });
       halts = s.halts;
-      sent_is = subst (λ (x : Judged). IsSentBy cut sent (sent_by c h.rings opening x
-          (received steps) (reverse (segments_after [] steps)))) (sym more)
-          (subst (IsSentBy cut sent) (sym (sent_more c h.rings opening j rest (received steps)
-          (reverse (segments_after [] steps)))) s.sent_is);
+      sent_is = subst (λ (x : Came). IsSentBy cut sent (sent_by c h.rings opening x
+          (reverse (segments_after [] steps)))) still s.sent_is;
     }
 
 -- ---- one that ended as it began

@@ -1,6 +1,6 @@
 -- The turn that closes a connection, and its receipt, by its stage.
-use Rattle.std.proofs.Common.{◌≡◌, ◌∙◌, ◌≤◌, ◌⊎◌, ℕ, Bool, true, false, IsTrue, List, [], refl, sym, ap, subst, inl, inr, arith, Option, None, Some}
-use Rattle.std.specs.Prelude.{reverse, IfSome, IfNone, unwrap_or, slice_get, is_none}
+use Rattle.std.proofs.Common.{◌≡◌, ◌∙◌, ◌≤◌, ◌⊎◌, ℕ, Bool, false, IsTrue, List, [], refl, sym, ap, subst, inl, inr, arith, Option, None, Some}
+use Rattle.std.specs.Prelude.{reverse, IfSome, IfNone, unwrap_or}
 use Rattle.caster_accounts.specs.declared.call.BookCall.TheVariants.{Leave}
 use Rattle.rover_cursor.specs.declared.segment.Segment.{Segment}
 use Rattle.session_calls.specs.Steps.{Step, to_book}
@@ -11,8 +11,9 @@ use Rattle.source_session.specs.Body.{payload}
 use Rattle.source_session.specs.Standing as source_standing
 use Rattle.upstream_relay.specs.declared.session.RelaySession.{RelaySession}
 use Rattle.upstream_relay.specs.Junk.{IsJunk, IsAtMostJunk}
-use Rattle.upstream_relay.specs.Standing.{claim_at, halt_at}
+use Rattle.upstream_relay.specs.Standing.{claim_at}
 use Rattle.upstream_relay.specs.Standing as relay_standing
+use Rattle.rover_session.specs.declared.session.RoverSession.{RoverSession}
 use Rattle.rover_session.specs.Made.{segments_after, sent_in, overrun_in}
 use Rattle.cast_config.specs.declared.config.Config.{Config}
 use Rattle.session_model.specs.declared.ending.Ending.{Ending}
@@ -21,76 +22,69 @@ use Rattle.session_model.specs.declared.report.Receipt.{Receipt}
 use Rattle.session_core.specs.declared.stage.Stage.{Stage}
 use Rattle.session_core.specs.declared.stage.Stage.TheVariants.{Head, Over, Source, Relay, Rover}
 use Rattle.session_model.specs.Headings.{Heading}
-use Rattle.session_model.specs.Judged.{Opening, relays, Judged, judged, rover, source, relay_judged, mount_fed, SourceTerms}
-use Rattle.session_model.specs.Owed.{Received, claimed, taken, received, closing, closing_by}
-use Rattle.session_model.specs.Endings.{ended_last}
+use Rattle.session_model.specs.Judged.{Opening, Judged, judged, rover, source, relay_judged, SourceTerms}
+use Rattle.session_model.specs.Owed.{Came, holding, inside, came_by, came_to, closing, closing_by}
+use Rattle.session_model.specs.Endings.{ended_by, at_end, ended_last}
 use Rattle.session_model.specs.Reports.{IsHeadingOf, junk_of, is_entered}
 use Rattle.session_model.specs.Run.{Histories}
-use Rattle.session_core.specs.Standing.{IsAtStage, EndsAt, is_halted, is_going}
+use Rattle.session_core.specs.Standing.{IsSource, IsRelay, IsRover, IsAtStage, EndsAs, EndsAt, is_halted}
 use Rattle.session_core.specs.Closed.{IsReceipt, ending_by}
-use Rattle.session_core.specs.Closing.{closing_at, releasing, received_claim, received_at, segments_at, IsJunkAt, IsSourceJunk}
-use Rattle.session_core.proofs.ClosingLemmas.{closing_unasked, closing_taken, junk_unasked, junk_taken, IsReceived, relay_received, IsGiven, relay_given}
+use Rattle.session_core.specs.Closing.{closing_at, releasing, end_claimed, end_at, segments_at, IsJunkAt, IsSourceJunk}
+use Rattle.session_core.specs.Turned.{is_rover}
+use Rattle.session_core.proofs.ClosingLemmas.{free_closed, free_junk, free_out, free_unended, uncalled_free, IsCameBy, relay_came}
+
+-- ---- what it came to
+
+pub source_holds : (c : Config) (me : ℕ) (h : Histories) (j : Judged) (steps : List Step) (mount : ℕ)
+    (session : SourceSession) (at : IsSource c me h j steps mount session)
+    → came_to j steps ≡ holding at.terms at.body session.claim
+source_holds c me h j steps mount session at =
+    ap (λ (x : Judged). came_to x steps) at.judged_is ∙ ap (came_by (source at.terms at.body)) at.claim
+
+pub rover_inside : (c : Config) (me : ℕ) (h : Histories) (j : Judged) (steps : List Step) (account : ℕ)
+    (session : RoverSession) (at : IsRover c me h j steps account session) → came_to j steps ≡ inside at.terms
+rover_inside c me h j steps account session at =
+    ap (λ (x : Judged). came_to x steps) at.judged_is ∙ ap (came_to (rover at.terms at.tail)) at.steps_are
+
+relay_at : (c : Config) (me : ℕ) (h : Histories) (o : Opening) (heading : Heading) (text : List ℕ)
+    (steps : List Step) (mount : ℕ) (session : RelaySession) → IsHeadingOf (Some o) text heading
+    → IsRelay c me h o text steps mount session
+    → IsCameBy mount text (claim_at session.stage) (came_to (judged c o heading text) steps)
+relay_at c me h o heading text steps mount session is at =
+    subst (λ (j : Judged). IsCameBy mount text (claim_at session.stage) (came_to j steps))
+    (sym (ap (λ (opening : Opening). judged c opening heading text) at.opens
+    ∙ ap (λ (m : ℕ). relay_judged m heading text) at.mount_is))
+    (relay_came mount session.me heading session.stage text steps
+    (subst (λ (opening : Opening). IsHeadingOf (Some opening) text heading) at.opens is) at.stands)
 
 -- ---- the turn that closes it
 
--- of a relay, by the claim that it was given
-relay_closes : (c : Config) (o : Opening) (n mount me : ℕ) (heading : Heading) (text : List ℕ) (steps : List Step)
-    (session : RelaySession) (claim : Option ℕ) → claim_at session.stage ≡ claim → o ≡ relays n
-    → (received steps ≡ received_claim claim) ⊎ ((claim ≡ None) × (caller : ℕ) × (other : ℕ) ×
-    (received steps ≡ taken caller other))
-    → ((n' : ℕ) → claim ≡ Some n' → IsGiven mount heading text)
-    → mount_fed (slice_get c.relay n) ≡ mount
-    → closing (judged c o heading text) steps ≡ releasing mount claim
-relay_closes c o n mount me heading text steps session None is opens (inl by) given fed =
-    ap (λ (r : Received). closing_by (judged c o heading text) r (segments_after [] steps)) by
-    ∙ closing_unasked (judged c o heading text) (segments_after [] steps)
-relay_closes c o n mount me heading text steps session None is opens (inr (none, caller, other, by)) given fed =
-    ap (λ (r : Received). closing_by (judged c o heading text) r (segments_after [] steps)) by
-    ∙ closing_taken (judged c o heading text) caller other (segments_after [] steps)
-relay_closes c o n mount me heading text steps session (Some claim) is opens (inr
-    (none, caller, other, by)) given fed = absurd cc
-relay_closes c o n mount me heading text steps session (Some claim) is opens (inl by) given fed =
-    let whole = given claim refl in
-    ap (λ (r : Received). closing_by (judged c o heading text) r (segments_after [] steps)) by
-    ∙ ap (λ (j : Judged). closing_by j (claimed claim) (segments_after [] steps))
-    (ap (λ (opening : Opening). judged c opening heading text) opens
-    ∙ ap (λ (m : ℕ). relay_judged m heading text) fed ∙ whole.judged_is)
-
--- what was said of a relay's first call, without its halt
-received_so : (session : RelaySession) (steps : List Step) → IsReceived session.stage steps
-    → (received steps ≡ received_claim (claim_at session.stage))
-    ⊎ ((claim_at session.stage ≡ None) × (caller : ℕ) × (other : ℕ) × (received steps ≡ taken caller other))
-received_so session steps (inl by) = inl by
-received_so session steps (inr (none, halted, caller, other, by)) = inr (none, caller, other, by)
-
-relay_heading : (o : Opening) (n : ℕ) (text : List ℕ) (heading : Heading) → o ≡ relays n
-    → IsHeadingOf (Some o) text heading → IsHeadingOf (Some (relays n)) text heading
-relay_heading o n text heading opens is = subst (λ (opening : Opening). IsHeadingOf
-    (Some opening) text heading) opens is
+relay_closes : (mount : ℕ) (text : List ℕ) (claim : Option ℕ) (came : Came) (segments : List Segment)
+    → IsCameBy mount text claim came → closing_by came segments ≡ releasing mount claim
+relay_closes mount text None came segments is = free_closed came segments is
+relay_closes mount text (Some claim) came segments is = ap (λ (x : Came). closing_by x segments) is.3
 
 pub closing_is : (c : Config) (me : ℕ) (h : Histories) (o : Opening) (heading : Heading) (text : List ℕ)
     (steps : List Step) (stage : Stage) → IsHeadingOf (Some o) text heading
     → IsAtStage c me h o (judged c o heading text) text steps stage
     → closing (judged c o heading text) steps ≡ closing_at stage
 closing_is c me h o heading text steps (Head head) is at =
-    ap (λ (s : List Step). closing (judged c o heading text) s) at.2 ∙ closing_unasked (judged c o heading text) []
-closing_is c me h o heading text steps Over is at = at.closed
+    free_closed _ (segments_after [] steps) (uncalled_free steps at.2 (judged c o heading text))
+closing_is c me h o heading text steps Over is at = free_closed _ (segments_after [] steps) at.free
 closing_is c me h o heading text steps (Source mount session) is at =
-    ap (λ (j : Judged). closing j steps) at.judged_is
-    ∙ ap (λ (r : Received). closing_by (source at.terms at.body) r (segments_after [] steps)) at.claim
+    ap (λ (x : Came). closing_by x (segments_after [] steps))
+    (source_holds c me h (judged c o heading text) steps mount session at)
     ∙ ap (λ (m : ℕ). releasing m (Some session.claim)) at.mount_is
 closing_is c me h o heading text steps (Relay mount session) is at =
-    relay_closes c o at.number mount me heading text steps session (claim_at session.stage) refl at.opens
-    (received_so session steps (relay_received mount session.me session.stage text steps at.stands))
-    (λ claim given. relay_given mount mount session.me claim heading session.stage text steps
-    (relay_heading o at.number text heading at.opens is) at.stands given) at.mount_is
+    relay_closes mount text (claim_at session.stage) _ (segments_after [] steps)
+    (relay_at c me h o heading text steps mount session is at)
 closing_is c me h o heading text steps (Rover account session) is at =
-    ap (λ (j : Judged). closing j steps) at.judged_is
-    ∙ ap (λ (s : List Step). closing (rover at.terms at.tail) s) at.steps_are
-    ∙ ap (λ (a : ℕ). asks (to_book (Leave a (sent_in (segments_after [] at.behind)) (overrun_in
-    (segments_after [] at.behind)))) (λ answer. done)) at.account_is
+    ap (λ (x : Came). closing_by x (segments_after [] steps))
+    (rover_inside c me h (judged c o heading text) steps account session at)
+    ∙ ap (λ (a : ℕ). asks (to_book (Leave a (sent_in (segments_after [] steps)) (overrun_in
+    (segments_after [] steps)))) (λ answer. done)) at.account_is
     ∙ ap (λ (l : List Segment). asks (to_book (Leave account (sent_in l) (overrun_in l))) (λ answer. done))
-    (sym at.stands.segments)
+    (ap (segments_after []) at.steps_are ∙ sym at.stands.segments)
 
 -- ---- what is told
 
@@ -104,44 +98,45 @@ segments_is c me h o j text steps (Relay mount session) at = sym at.segments
 segments_is c me h o j text steps (Rover account session) at =
     at.stands.segments ∙ ap (segments_after []) (sym at.steps_are)
 
-outside_claim : (claim : Option ℕ) → is_entered (received_claim claim) ≡ false
-outside_claim None = refl
-outside_claim (Some claim) = refl
+relay_out : (mount : ℕ) (text : List ℕ) (claim : Option ℕ) (came : Came) → IsCameBy mount text claim came
+    → false ≡ is_entered came
+relay_out mount text None came is = sym (free_out came is)
+relay_out mount text (Some claim) came is = sym (ap is_entered is.3)
 
-entered_relay : (session : RelaySession) (steps : List Step) → IsReceived session.stage steps
-    → is_entered (received_claim (claim_at session.stage)) ≡ is_entered (received steps)
-entered_relay session steps (inl by) = ap is_entered (sym by)
-entered_relay session steps (inr (none, halted, caller, other, by)) =
-    outside_claim (claim_at session.stage) ∙ sym (ap is_entered by)
-
-pub entered_is : (c : Config) (me : ℕ) (h : Histories) (o : Opening) (j : Judged) (text : List ℕ)
-    (steps : List Step) (stage : Stage) → IsAtStage c me h o j text steps stage
-    → is_entered (received_at stage) ≡ is_entered (received steps)
-entered_is c me h o j text steps (Head head) at = ap (λ (s : List Step). is_entered (received s)) (sym at.2)
-entered_is c me h o j text steps Over at = sym at.outside
-entered_is c me h o j text steps (Source mount session) at = ap is_entered (sym at.claim)
-entered_is c me h o j text steps (Relay mount session) at =
-    entered_relay session steps (relay_received mount session.me session.stage text steps at.stands)
-entered_is c me h o j text steps (Rover account session) at = ap (λ (s : List Step). is_entered (received s))
-    (sym at.steps_are)
+pub entered_is : (c : Config) (me : ℕ) (h : Histories) (o : Opening) (heading : Heading) (text : List ℕ)
+    (steps : List Step) (stage : Stage) → IsHeadingOf (Some o) text heading
+    → IsAtStage c me h o (judged c o heading text) text steps stage
+    → is_rover stage ≡ is_entered (came_to (judged c o heading text) steps)
+entered_is c me h o heading text steps (Head head) is at =
+    sym (free_out _ (uncalled_free steps at.2 (judged c o heading text)))
+entered_is c me h o heading text steps Over is at = sym (free_out _ at.free)
+entered_is c me h o heading text steps (Source mount session) is at =
+    sym (ap is_entered (source_holds c me h (judged c o heading text) steps mount session at))
+entered_is c me h o heading text steps (Relay mount session) is at =
+    relay_out mount text (claim_at session.stage) _ (relay_at c me h o heading text steps mount session is at)
+entered_is c me h o heading text steps (Rover account session) is at =
+    sym (ap is_entered (rover_inside c me h (judged c o heading text) steps account session at))
 
 -- of one that has not ended
-going_relay : (session : RelaySession) (steps : List Step) → is_none (halt_at session.stage) ≡ true
-    → IsReceived session.stage steps → received_claim (claim_at session.stage) ≡ received steps
-going_relay session steps goes (inl by) = sym by
-going_relay session steps goes (inr (none, halted, caller, other, by)) = absurd (no_both (sym goes ∙ halted)) where
-  no_both : true ≡ false → ⊥
-  no_both e = cc
+relay_end : (mount : ℕ) (text : List ℕ) (claim : Option ℕ) (came : Came) → ended_by came ≡ None
+    → IsCameBy mount text claim came → end_claimed claim ≡ at_end came
+relay_end mount text None came unended is = sym (free_unended came is unended)
+relay_end mount text (Some claim) came unended is = sym (ap at_end is.3)
 
-pub received_is : (c : Config) (me : ℕ) (h : Histories) (o : Opening) (j : Judged) (text : List ℕ)
-    (steps : List Step) (stage : Stage) → IsAtStage c me h o j text steps stage → IsTrue (is_going stage)
-    → received_at stage ≡ received steps
-received_is c me h o j text steps (Head head) at goes = ap received (sym at.2)
-received_is c me h o j text steps Over at goes = absurd cc
-received_is c me h o j text steps (Source mount session) at goes = sym at.claim
-received_is c me h o j text steps (Relay mount session) at goes =
-    going_relay session steps goes (relay_received mount session.me session.stage text steps at.stands)
-received_is c me h o j text steps (Rover account session) at goes = ap received (sym at.steps_are)
+end_is : (c : Config) (me : ℕ) (h : Histories) (o : Opening) (heading : Heading) (text : List ℕ)
+    (steps : List Step) (stage : Stage) → IsHeadingOf (Some o) text heading
+    → IsAtStage c me h o (judged c o heading text) text steps stage
+    → ended_by (came_to (judged c o heading text) steps) ≡ None
+    → end_at stage ≡ at_end (came_to (judged c o heading text) steps)
+end_is c me h o heading text steps (Head head) is at unended =
+    sym (free_unended _ (uncalled_free steps at.2 (judged c o heading text)) unended)
+end_is c me h o heading text steps Over is at unended = sym (free_unended _ at.free unended)
+end_is c me h o heading text steps (Source mount session) is at unended =
+    sym (ap at_end (source_holds c me h (judged c o heading text) steps mount session at))
+end_is c me h o heading text steps (Relay mount session) is at unended =
+    relay_end mount text (claim_at session.stage) _ unended (relay_at c me h o heading text steps mount session is at)
+end_is c me h o heading text steps (Rover account session) is at unended =
+    sym (ap at_end (rover_inside c me h (judged c o heading text) steps account session at))
 
 -- ---- junk
 
@@ -151,107 +146,89 @@ IsTold ended junk due = (IsTrue (is_halted ended) ⊎ (junk ≡ due)) × (junk �
 pub no_junk : (ended : Option Ending) (junk due : ℕ) → junk ≡ 0 → due ≡ 0 → IsTold ended junk due
 no_junk ended junk due none nothing = (inr (none ∙ sym nothing), omega (arith, none, nothing))
 
-source_junk : (ended : Option Ending) (j : Judged) (terms : SourceTerms) (body : List ℕ) (steps : List Step)
-    (session : SourceSession) (junk : ℕ) → j ≡ source terms body → received steps ≡ claimed session.claim
+source_junk : (ended : Option Ending) (came : Came) (terms : SourceTerms) (body : List ℕ)
+    (session : SourceSession) (junk : ℕ) → came ≡ holding terms body session.claim
     → source_standing.StandsFor session body → source_standing.is_chunked session ≡ terms.chunked
     → (IsTrue (source_standing.is_cut_short session.halt) → IsTrue (is_halted ended))
-    → IsSourceJunk session junk → IsTold ended junk (junk_of j (received steps))
-source_junk ended j terms body steps session junk is by stands chunked short told =
-    subst (IsTold ended junk) (sym (ap (λ (r : Received). junk_of j r) by ∙ ap (λ (x : Judged). junk_of x
-    (claimed session.claim)) is))
+    → IsSourceJunk session junk → IsTold ended junk (junk_of came)
+source_junk ended came terms body session junk is stands chunked short told =
+    subst (IsTold ended junk) (sym (ap junk_of is))
     (subst (λ (b : Bool). IsTold ended junk (cut (payload b body)).junk) chunked (
       elim (told.exact body stands) [ inl cut_short ↦ inl (short cut_short) | inr exact ↦ inr exact ],
       told.at_most
           body stands,
     ))
 
-relay_junk : (c : Config) (ended : Option Ending) (o : Opening) (n mount : ℕ) (heading : Heading) (text : List ℕ)
-    (steps : List Step)
-    (session : RelaySession) (junk : ℕ) (claim : Option ℕ) → claim_at session.stage ≡ claim
-    → judged c o heading text ≡ relay_judged mount heading text
-    → relay_standing.StandsFor mount session text steps
-    → (received steps ≡ received_claim claim) ⊎ ((claim ≡ None) × (caller : ℕ) × (other : ℕ) ×
-    (received steps ≡ taken caller other))
-    → ((n' : ℕ) → claim ≡ Some n' → IsGiven mount heading text)
+relay_junk : (ended : Option Ending) (mount : ℕ) (text : List ℕ) (steps : List Step) (session : RelaySession)
+    (junk : ℕ) (claim : Option ℕ) (came : Came) → relay_standing.StandsFor mount session text steps
     → (IsTrue (relay_standing.is_short_at session.stage) → IsTrue (is_halted ended))
     → IfNone claim (junk ≡ 0) → IfSome claim (λ n. IsJunk session junk) → IfSome claim (λ n. IsAtMostJunk session junk)
-    → IsTold ended junk (junk_of (judged c o heading text) (received steps))
-relay_junk c ended o n mount heading text steps session junk None is judged_is stands
-    (inl by) given short none exact at_most =
-    no_junk ended junk (junk_of (judged c o heading text) (received steps)) none
-    (ap (λ (r : Received). junk_of (judged c o heading text) r) by ∙ junk_unasked (judged c o heading text))
-relay_junk c ended o n mount heading text steps session junk None is judged_is stands (inr
-    (never, caller, other, by)) given short none exact at_most =
-    no_junk ended junk (junk_of (judged c o heading text) (received steps)) none
-    (ap (λ (r : Received). junk_of (judged c o heading text) r) by ∙ junk_taken (judged c o heading text) caller other)
-relay_junk c ended o n mount heading text steps session junk (Some claim) is judged_is stands (inr
-    (never, caller, other, by)) given short none exact at_most = absurd cc
-relay_junk c ended o n mount heading text steps session junk (Some claim) is judged_is stands
-    (inl by) given short none exact at_most =
-    let whole = given claim refl in
-    subst (IsTold ended junk) (sym (ap (λ (r : Received). junk_of (judged c o heading text) r) by
-    ∙ ap (λ (x : Judged). junk_of x (claimed claim)) (judged_is ∙ whole.judged_is))) (
-      elim (exact mount text steps whole.place whole.chunked stands whole.accepted) [
+    → IsCameBy mount text claim came → IsTold ended junk (junk_of came)
+relay_junk ended mount text steps session junk None came stands short none exact at_most is =
+    no_junk ended junk (junk_of came) none (free_junk came is)
+relay_junk ended mount text steps session junk (Some claim) came stands short none exact at_most is =
+    subst (IsTold ended junk) (sym (ap junk_of is.3)) (
+      elim (exact mount text steps is.0 is.1 stands is.2) [
         | inl cut_short ↦ inl
             (short cut_short)
         | inr same ↦ inr same
       ],
-      at_most mount text steps whole.place whole.chunked stands whole.accepted,
+      at_most mount text steps is.0 is.1 stands is.2,
     )
 
 pub junk_is : (c : Config) (me : ℕ) (h : Histories) (ended : Option Ending) (o : Opening) (heading : Heading)
     (text : List ℕ)
     (steps : List Step) (stage : Stage) (junk : ℕ) → IsHeadingOf (Some o) text heading
     → IsAtStage c me h o (judged c o heading text) text steps stage → EndsAt stage ended → IsJunkAt stage junk
-    → IsTold ended junk (junk_of (judged c o heading text) (received steps))
+    → IsTold ended junk (junk_of (came_to (judged c o heading text) steps))
 junk_is c me h ended o heading text steps (Head head) junk is at ends told =
-    no_junk ended junk (junk_of (judged c o heading text) (received steps)) told
-    (ap (λ (s : List Step). junk_of (judged c o heading text) (received s)) at.2 ∙ junk_unasked
-    (judged c o heading text))
-junk_is c me h ended o heading text steps Over junk is at ends told = no_junk ended junk _ told at.junk
+    no_junk ended junk _ told (free_junk _ (uncalled_free steps at.2 (judged c o heading text)))
+junk_is c me h ended o heading text steps Over junk is at ends told =
+    no_junk ended junk _ told (free_junk _ at.free)
 junk_is c me h ended o heading text steps (Source mount session) junk is at ends told =
-    source_junk ended (judged c o heading text) at.terms at.body steps session junk at.judged_is at.claim at.stands
-    at.chunked ends.refused told
+    source_junk ended _ at.terms at.body session junk
+    (source_holds c me h (judged c o heading text) steps mount session at) at.stands at.chunked ends.refused told
 junk_is c me h ended o heading text steps (Relay mount session) junk is at ends told =
-    relay_junk c ended o at.number mount heading text steps session junk (claim_at session.stage) refl
-    (ap (λ (opening : Opening). judged c opening heading text) at.opens ∙ ap (λ
-    (m : ℕ). relay_judged m heading text) at.mount_is)
-    at.stands (received_so session steps (relay_received mount session.me session.stage text steps at.stands))
-    (λ claim given. relay_given mount mount session.me claim heading session.stage text steps
-    (relay_heading o at.number text heading at.opens is) at.stands given)
-    ends.refused told.unclaimed told.exact told.at_most
+    relay_junk ended mount text steps session junk (claim_at session.stage) _ at.stands ends.refused told.unclaimed
+    told.exact told.at_most (relay_at c me h o heading text steps mount session is at)
 junk_is c me h ended o heading text steps (Rover account session) junk is at ends told =
-    no_junk ended junk (junk_of (judged c o heading text) (received steps)) told
-    (ap (λ (j : Judged). junk_of j (received steps)) at.judged_is)
+    no_junk ended junk _ told (ap junk_of (rover_inside c me h (judged c o heading text) steps account session at))
 
 -- ---- the whole receipt
 
-pub ending_is : (ended : Option Ending) (last : Last) (steps : List Step) (stage : Stage) (given : Ending)
-    → (ended ≡ None → received_at stage ≡ received steps)
-    → given ≡ unwrap_or ended (ended_last last (received_at stage)) → given ≡ ending_by ended last steps
-ending_is None last steps stage given same is = is ∙ ap (ended_last last) (same refl)
-ending_is (Some end) last steps stage given same is = is
+pub ending_is : (ended : Option Ending) (last : Last) (came : Came) (end given : Ending)
+    → (ended ≡ None → end ≡ at_end came)
+    → given ≡ unwrap_or ended (ended_last last end) → given ≡ ending_by ended last came
+ending_is None last came end given same is = is ∙ ap (ended_last last) (same refl)
+ending_is (Some other) last came end given same is = is
+
+pub unended_by : (ended by : Option Ending) → EndsAs ended by → ended ≡ None → by ≡ None
+unended_by ended by (inl halted) none = let clash : IsTrue (is_halted None) = subst (λ (e : Option Ending). IsTrue
+    (is_halted e)) none halted in absurd cc
+unended_by ended by (inr same) none = sym same ∙ none
 
 pub receipt_is : (c : Config) (me : ℕ) (h : Histories) (ended : Option Ending) (o : Opening) (heading : Heading)
     (text : List ℕ)
     (steps : List Step) (stage : Stage) (last : Last) (receipt : Receipt) → IsHeadingOf (Some o) text heading
     → IsAtStage c me h o (judged c o heading text) text steps stage → EndsAt stage ended
-    → receipt.ending ≡ unwrap_or ended (ended_last last (received_at stage))
+    → EndsAs ended (ended_by (came_to (judged c o heading text) steps))
+    → receipt.ending ≡ unwrap_or ended (ended_last last (end_at stage))
     → receipt.segments ≡ reverse (segments_at stage)
     → receipt.sent ≡ sent_in (segments_at stage) → receipt.overrun ≡ overrun_in (segments_at stage)
-    → IsJunkAt stage receipt.junk → receipt.entered ≡ is_entered (received_at stage)
+    → IsJunkAt stage receipt.junk → receipt.entered ≡ is_rover stage
     → IsReceipt ended (judged c o heading text) steps last receipt
-receipt_is c me h ended o heading text steps stage last receipt is at ends ending segments sent overrun junk inside =
+receipt_is c me h ended o heading text steps stage last receipt is at halts ends ending segments sent overrun junk
+    entered =
     let j = judged c o heading text in
     let all = segments_is c me h o j text steps stage at in
-    let told = junk_is c me h ended o heading text steps stage receipt.junk is at ends junk in
+    let told = junk_is c me h ended o heading text steps stage receipt.junk is at halts junk in
     record {
-      ending = ending_is ended last steps stage receipt.ending
-          (λ unended. received_is c me h o j text steps stage at (ends.goes unended)) ending;
+      ending = ending_is ended last (came_to j steps) (end_at stage) receipt.ending
+          (λ none. end_is c me h o heading text steps stage is at (unended_by ended _ ends none)) ending;
       segments = segments ∙ ap reverse all;
       sent = sent ∙ ap sent_in all;
       overrun = overrun ∙ ap overrun_in all;
       junk = told.0;
       at_most = told.1;
-      entered = inside ∙ entered_is c me h o j text steps stage at;
+      entered = entered ∙ entered_is c me h o heading text steps stage is at;
     }

@@ -11,16 +11,12 @@ use Rattle.session_calls.specs.Plans.{done}
 use Rattle.session_calls.proofs.PlaceLemmas.{ring_answer}
 use Rattle.ntrip_client.specs.declared.answer.Answer.{Answer as HeadAnswer}
 use Rattle.ntrip_client.specs.declared.answer.Answer.TheVariants as heads
-use Rattle.upstream_relay.specs.declared.fault.RelayHalt.{RelayHalt}
-use Rattle.upstream_relay.specs.declared.fault.RelayHalt.TheVariants as relays
 use Rattle.upstream_relay.specs.declared.session.RelaySession.{RelaySession}
 use Rattle.upstream_relay.specs.Owed.{publishing, after_claim, owed, IsDone}
 use Rattle.upstream_relay.specs.Called.{Adds}
-use Rattle.upstream_relay.specs.Halts.{IsHaltOf}
 use Rattle.upstream_relay.specs.Standing.{StandsFor}
-use Rattle.session_core.specs.Published.{RelayFed, IsRelayRefused}
+use Rattle.session_core.proofs.Published.{RelayFed}
 use Rattle.session_core.proofs.PlacedLemmas.{IsAt, went_calls, at_none, at_more}
-use Rattle.session_core.proofs.SourceLemmas.{lacks_there, worn_there}
 
 -- ---- steps at one mountpoint
 
@@ -105,19 +101,3 @@ relay_fed shape alone seen places mount d new me session bytes steps within (mor
       (steps ++ more) stands.made))) heard;
   stands = stands;
 }
-
-pub relay_refused_at : {P : Type 0} (may_lack : P → Bool) (worn : P → ℕ) (places : List P) (mount : ℕ) (d new : P)
-    (halt : RelayHalt) → mount < length places → IsHaltOf (may_lack (get_or places mount d)) (worn new) halt
-    → IsRelayRefused (map may_lack places) (map worn (set places mount new)) halt
-relay_refused_at may_lack worn places mount d new relays.BadHead within is = tt
-relay_refused_at may_lack worn places mount d new relays.LongHead within is = tt
-relay_refused_at may_lack worn places mount d new relays.Coding within is = tt
-relay_refused_at may_lack worn places mount d new relays.Table within is = tt
-relay_refused_at may_lack worn places mount d new (relays.Status status) within is = tt
-relay_refused_at may_lack worn places mount d new (relays.Taken caller claim) within is = tt
-relay_refused_at may_lack worn places mount d new relays.Done within is = tt
-relay_refused_at may_lack worn places mount d new (relays.BadChunk place) within is = tt
-relay_refused_at may_lack worn places mount d new (relays.Worn given) within is = worn_there worn places mount new given
-    within is.0 is.1
-relay_refused_at may_lack worn places mount d new relays.Memory within is =
-    lacks_there may_lack places mount d within is

@@ -17,14 +17,14 @@ use Rattle.session_calls.specs.Rings.{Went}
 use Rattle.session_calls.proofs.PlaceLemmas.{kept_by_one, ring_answer, went_turn}
 use Rattle.session_calls.proofs.WentLemmas.{went_none}
 use Rattle.source_session.specs.Calls.{publishes, HeardAll, HeardUntil, IsUnclaimed}
-use Rattle.source_session.specs.Refusals.{IsClaimFault, IsHaltOf}
 use Rattle.source_session.specs.Standing.{is_cut_short}
 use Rattle.source_session.specs.declared.fault.ClaimFault.{ClaimFault}
 use Rattle.source_session.specs.declared.fault.ClaimFault.TheVariants as claims
 use Rattle.source_session.specs.declared.fault.SourceHalt.{SourceHalt}
 use Rattle.source_session.specs.declared.fault.SourceHalt.TheVariants as sources
 use Rattle.upstream_relay.proofs.StepLemmas.{steps_of, on_ring_of, pairs_made, pairs_begun}
-use Rattle.session_core.specs.Published.{Published, steps_unclaimed, IsWornBy, IsClaimRefused, IsFeedRefused, IsTurnRefused}
+use Rattle.session_core.specs.Refusals.{IsTurnRefused}
+use Rattle.session_core.proofs.Published.{Published, steps_unclaimed}
 use Rattle.session_core.proofs.PlacedLemmas.{IsAt, went_calls, at_none, at_more}
 
 -- ---- steps of pairs
@@ -36,7 +36,7 @@ steps_at mount (p ∷ pairs) = at_more mount mount p.0 p.1 (steps_of mount pairs
 -- ---- refusals
 
 pub worn_there : {P : Type 0} (worn : P → ℕ) (places : List P) (mount : ℕ) (new : P) (given : ℕ) → mount < length places
-    → worn new ≡ given → 2 ^ 62 ≤ given → IsWornBy (map worn (set places mount new)) given
+    → worn new ≡ given → 2 ^ 62 ≤ given → Contains (map worn (set places mount new)) given × (2 ^ 62 ≤ given)
 worn_there worn places mount new given within is most =
     let long : length (set places mount new) ≡ length places = length-set places mount new in (
       (
@@ -60,25 +60,6 @@ pub turn_refused_at : {P : Type 0} (may_lack : P → Bool) (worn : P → ℕ) (p
 turn_refused_at may_lack worn places mount d new (turns.Worn given) within is =
     worn_there worn places mount new given within is.0 is.1
 turn_refused_at may_lack worn places mount d new turns.Memory within is =
-    lacks_there may_lack places mount d within is
-
-pub claim_refused_at : {P : Type 0} (may_lack : P → Bool) (worn : P → ℕ) (places : List P) (mount : ℕ) (d new : P)
-    (fault : ClaimFault) → mount < length places → IsClaimFault (may_lack (get_or places mount d)) (worn new) fault
-    → IsClaimRefused (map may_lack places) (map worn (set places mount new)) fault
-claim_refused_at may_lack worn places mount d new (claims.Taken caller claim) within is = tt
-claim_refused_at may_lack worn places mount d new (claims.Worn given) within is =
-    worn_there worn places mount new given within is.0 is.1
-claim_refused_at may_lack worn places mount d new claims.Memory within is =
-    lacks_there may_lack places mount d within is
-
-pub feed_refused_at : {P : Type 0} (may_lack : P → Bool) (worn : P → ℕ) (places : List P) (mount : ℕ) (d new : P)
-    (halt : SourceHalt) → mount < length places → IsHaltOf (may_lack (get_or places mount d)) (worn new) halt
-    → IsFeedRefused (map may_lack places) (map worn (set places mount new)) halt
-feed_refused_at may_lack worn places mount d new sources.Done within is = tt
-feed_refused_at may_lack worn places mount d new (sources.BadChunk place) within is = tt
-feed_refused_at may_lack worn places mount d new (sources.Worn given) within is =
-    worn_there worn places mount new given within is.0 is.1
-feed_refused_at may_lack worn places mount d new sources.Memory within is =
     lacks_there may_lack places mount d within is
 
 -- ---- a claim that was not given

@@ -1,7 +1,7 @@
 -- A turn of a rover.
 use Rattle.std.proofs.Common.{◌≡◌, ◌∙◌, ◌&&◌, ℕ, Bool, true, false, IsTrue, List, [], ◌∷◌, ◌++◌, map, refl, sym, ap, subst, inl, inr, Option, None, Some, Result, Ok, Err, append_assoc}
 use Rattle.std.specs.Result.{result_err}
-use Rattle.std.specs.Prelude.{OnOk, OnErr, IfErr, IfNone, IfSome, is_none, reverse, unwrap_or}
+use Rattle.std.specs.Prelude.{OnOk, OnErr, IfErr, IfNone, IfSome, is_none, reverse}
 use Rattle.std.proofs.lemmas.List.{append-nil}
 use Rattle.turn_log.specs.History.{History, GoesOn}
 use Rattle.gga_read.specs.declared.Position.{Position}
@@ -12,11 +12,10 @@ use Rattle.caster_accounts.specs.declared.call.BookCall.{BookCall}
 use Rattle.caster_accounts.specs.declared.call.BookCall.TheVariants.{Enter}
 use Rattle.caster_accounts.specs.declared.call.BookAnswer.TheVariants.{Entered}
 use Rattle.ntrip_head.specs.declared.request.Version.{Version}
-use Rattle.ntrip_head.specs.declared.request.Version.TheVariants.{One}
 use Rattle.rover_cursor.specs.declared.segment.Segment.{Segment}
 use Rattle.rover_cursor.specs.declared.fault.SegFault.{SegFault}
 use Rattle.rover_cursor.specs.declared.fault.SegFault.TheVariants as seg_faults
-use Rattle.session_calls.specs.Steps.{Step, to_ring, at_ring, at_book, ask_of, on_book}
+use Rattle.session_calls.specs.Steps.{Answer, Step, to_ring, at_ring, at_book, ask_of, on_book}
 use Rattle.session_calls.specs.Plans.{Plan, done, asks, IsMade, IsBegun}
 use Rattle.session_calls.specs.Rings.{Went, history_at}
 use Rattle.session_calls.proofs.PlanLemmas.{made_begun}
@@ -37,8 +36,8 @@ use Rattle.session_core.specs.declared.session.Session.{Session}
 use Rattle.session_core.specs.declared.stage.Stage.{Stage}
 use Rattle.session_core.specs.declared.stage.Stage.TheVariants as stages
 use Rattle.session_model.specs.Setting.{caps, shapes}
-use Rattle.session_model.specs.Judged.{Opening, Judged, judged}
-use Rattle.session_model.specs.Owed.{Received, received, plan_of}
+use Rattle.session_model.specs.Judged.{Opening, Judged, rover, judged}
+use Rattle.session_model.specs.Owed.{came_by, first_answer, came_to, plan_of}
 use Rattle.session_model.specs.Endings.{ended_by}
 use Rattle.session_model.specs.Replies.{opening_text, reply_of, version_of, kept_frames, sent_by}
 use Rattle.session_model.specs.Run.{Histories}
@@ -277,7 +276,7 @@ body_sent c h old now me version before after frames resumes extends sent =
 
 -- what a rover's steps begin with tells how it was received
 received_on : (steps behind more : List Step) (account : ℕ) → steps ≡ at_book (Enter account) Entered ∷ behind
-    → received (steps ++ more) ≡ received steps
+    → first_answer (steps ++ more) ≡ first_answer steps
 received_on steps behind more account is = rw is refl
 
 segments_behind : (steps behind : List Step) (account : ℕ) → steps ≡ at_book (Enter account) Entered ∷ behind
@@ -329,20 +328,21 @@ sent_on : (c : Config) (me : ℕ) (h : Histories) (old now : List (History RingC
     → ((mount : ℕ) → (later : History RingCall) × (history_at old mount ≡ history_at h.rings mount ++ later))
     → frames_sent (shapes c) now after ≡ frames_sent (shapes c) old (rover_of was).segments ++ frames
     → after ≡ segments_after [] (at.behind ++ more)
-    → sent ≡ sent_by c h.rings o j (received steps) (reverse (segments_after [] steps))
+    → sent ≡ sent_by c h.rings o (came_to j steps) (reverse (segments_after [] steps))
     → sent ++ body_of (rover_of was).version frames
-    ≡ sent_by c now o j (received (steps ++ more)) (reverse (segments_after [] (steps ++ more)))
+    ≡ sent_by c now o (came_to j (steps ++ more)) (reverse (segments_after [] (steps ++ more)))
 sent_on c me h old now o j steps more account was after frames sent at extends kept are is =
     let version : Version = (rover_of was).version in
-    let named : unwrap_or (version_of j) One ≡ version =
-    ap (λ (k : Judged). unwrap_or (version_of k) One) at.judged_is ∙ sym at.version in
+    let named : version_of (came_to j steps) ≡ version =
+    ap (λ (k : Judged). version_of (came_to k steps)) at.judged_is
+    ∙ ap (λ (l : List Step). version_of (came_to (rover at.terms at.tail) l)) at.steps_are ∙ sym at.version in
     let segments : segments_after [] steps ≡ (rover_of was).segments =
     segments_behind steps at.behind account at.steps_are ∙ sym at.stands.segments in
     let later : segments_after [] (steps ++ more) ≡ after =
     segments_behind (steps ++ more) (at.behind ++ more) account (ap (λ (l : List Step). l ++ more) at.steps_are)
     ∙ sym are in
     let opening : List ℕ = opening_text c o in
-    let reply : List ℕ = reply_of c j (received steps) in
+    let reply : List ℕ = reply_of c (came_to j steps) in
     let begun : sent ≡ opening ++ reply ++ body_of version (kept_frames c h.rings (reverse (rover_of was).segments)) =
     is ∙ ap (λ (v : Version). opening ++ reply ++ body_of v (kept_frames c h.rings
     (reverse (segments_after [] steps)))) named
@@ -354,8 +354,8 @@ sent_on c me h old now o j steps more account was after frames sent at extends k
     ∙ ap (λ (l : List Segment). opening ++ reply ++ body_of version (kept_frames c now (reverse l))) (sym later)
     ∙ ap (λ (v : Version). opening ++ reply ++ body_of v (kept_frames c now
     (reverse (segments_after [] (steps ++ more))))) (sym named)
-    ∙ ap (λ (by : Received). opening ++ reply_of c j by ++ body_of (unwrap_or (version_of j) One) (kept_frames c now
-    (reverse (segments_after [] (steps ++ more))))) (sym (received_on steps at.behind more account at.steps_are))
+    ∙ ap (λ (by : Option Answer). opening ++ reply_of c (came_by j by) ++ body_of (version_of (came_by j by))
+    (kept_frames c now (reverse (segments_after [] (steps ++ more))))) (sym (received_on steps at.behind more account at.steps_are))
 
 turned_rover : (c : Config) (ring_alone book_alone : Bool) (old now : List (History RingCall))
     (book : History BookCall) (budget : ℕ) (session : Session) (o : Opening) (text : List ℕ) (steps : List Step)
@@ -394,10 +394,10 @@ turned_rover c ring_alone book_alone old now book budget session o text steps h 
             (subst (λ (l : List Step). IsMade (plan_of c j) l) (sym owed)
             (subst (λ (e : Option Ending). IsMadeBy (is_halted e) (plan_of c j) (owed_among steps)) going
             stands.owes));
-        ends = ends_on ended (ended_by j (received (steps ++ more))) by
-            (subst (λ (r : Received). EndsAs None (ended_by j r))
+        ends = ends_on ended (ended_by (came_to j (steps ++ more))) by
+            (subst (λ (r : Option Answer). EndsAs None (ended_by (came_by j r)))
             (sym (received_on steps at.behind more account at.steps_are))
-            (subst (λ (e : Option Ending). EndsAs e (ended_by j (received steps))) going stands.ends));
+            (subst (λ (e : Option Ending). EndsAs e (ended_by (came_to j steps))) going stands.ends));
         stage = rover_on c session.me h (record { rings = now; book = book }) j steps more account was next at
             turned.admission turned.resumable others.book read.stands;
         halts = halts_at account was next ended halts turned.halt;
@@ -405,7 +405,7 @@ turned_rover c ring_alone book_alone old now book budget session o text steps h 
             (sent_on c session.me h old now o j steps more account was (rover_of next).segments turned.frames sent at
             (λ mount. ((others.rings.rings mount).0, (others.rings.rings mount).1)) turned.sent read.stands.segments
             (subst (λ (e : Option Ending). IsSentBy (is_halted_uncalled e steps) sent
-            (sent_by c h.rings o j (received steps)
+            (sent_by c h.rings o (came_to j steps)
             (reverse (segments_after [] steps)))) going stands.sent_is));
       });
     }

@@ -1,17 +1,16 @@
 -- How a connection begins: with its first calls, its reply and the session that it leaves.
-use Rattle.std.specs.Prelude.{◌≡◌, ℕ, ◌+◌, ◌⊎◌, ⊤, Bool, List, [], ◌++◌, reverse, Option, None, Some, unwrap_or}
+use Rattle.std.specs.Prelude.{◌≡◌, ℕ, ◌⊎◌, ⊤, Bool, List, [], ◌++◌, reverse, Option, None, Some}
 use Rattle.session_calls.specs.Steps.{Step}
 use Rattle.rover_session.specs.Made.{segments_after, owed_among}
 use Rattle.rover_session.specs.Body.{body_of}
 use Rattle.rover_session.specs.Standing.{rover_of}
-use Rattle.ntrip_head.specs.declared.request.Version.TheVariants.{One}
 use Rattle.cast_config.specs.declared.config.Config.{Config}
 use Rattle.session_model.specs.declared.ending.Ending.{Ending}
 use Rattle.session_model.specs.declared.ending.Ending.TheVariants.{Memory}
 use Rattle.session_core.specs.declared.stage.Stage.{Stage}
 use Rattle.session_core.specs.declared.stage.Stage.TheVariants.{Over, Rover}
 use Rattle.session_model.specs.Judged.{Opening, Judged}
-use Rattle.session_model.specs.Owed.{received, plan_of}
+use Rattle.session_model.specs.Owed.{came_to, plan_of}
 use Rattle.session_model.specs.Endings.{ended_by}
 use Rattle.session_model.specs.Replies.{reply_of, version_of, kept_frames}
 use Rattle.session_model.specs.Run.{Histories}
@@ -22,8 +21,8 @@ use Rattle.session_core.specs.Standing.{is_halted, is_halted_uncalled, IsMadeBy,
 -- what is sent of a connection that is so judged, behind its opening
 abbrev pub due_by : Config → Histories → Judged → List Step → List ℕ
 due_by c histories j steps =
-    reply_of c j (received steps)
-    ++ body_of (unwrap_or (version_of j) One)
+    reply_of c (came_to j steps)
+    ++ body_of (version_of (came_to j steps))
     (kept_frames c histories.rings (reverse (segments_after [] steps)))
 
 -- A connection that is so judged was begun: it made what it owes and was sent its reply.
@@ -35,7 +34,7 @@ pub record Begins (c : Config) (alone : Bool) (old now : Histories) (me : ℕ) (
   pub called : Called c alone old now me more
   pub no_read : owed_among more ≡ more
   pub owes : IsMadeBy (is_halted ended) (plan_of c j) (owed_among more)
-  pub ends : EndsAs ended (ended_by j (received more))
+  pub ends : EndsAs ended (ended_by (came_to j more))
   pub stage_is : (opening : Opening) (text : List ℕ)
       → IsAtStage c me now opening j text more stage
   pub halts : EndsAt stage ended

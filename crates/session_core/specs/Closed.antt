@@ -8,8 +8,8 @@ use Rattle.session_model.specs.declared.ending.Ending.{Ending}
 use Rattle.session_model.specs.declared.ending.Last.{Last}
 use Rattle.session_model.specs.declared.report.Receipt.{Receipt}
 use Rattle.session_model.specs.Judged.{Judged}
-use Rattle.session_model.specs.Owed.{received, closing}
-use Rattle.session_model.specs.Endings.{ended_last}
+use Rattle.session_model.specs.Owed.{Came, came_to, closing}
+use Rattle.session_model.specs.Endings.{at_end, ended_last}
 use Rattle.session_model.specs.Reports.{junk_of, is_entered}
 use Rattle.session_model.specs.Run.{Histories}
 use Rattle.session_model.specs.Called.{Called}
@@ -20,20 +20,20 @@ abbrev pub IsSettled : Bool → Plan → List Step → Type 0
 IsSettled true plan steps = IsMade plan steps
 IsSettled false plan steps = steps ≡ []
 
-abbrev pub ending_by : Option Ending → Last → List Step → Ending
-ending_by None last steps = ended_last last (received steps)
-ending_by (Some end) last steps = end
+abbrev pub ending_by : Option Ending → Last → Came → Ending
+ending_by None last came = ended_last last (at_end came)
+ending_by (Some end) last came = end
 
 -- the receipt of a connection with these steps, whose judgment is this
 pub record IsReceipt (ended : Option Ending) (j : Judged) (steps : List Step) (last : Last)
     (receipt : Receipt) : Type 0 where
-  pub ending : receipt.ending ≡ ending_by ended last steps
+  pub ending : receipt.ending ≡ ending_by ended last (came_to j steps)
   pub segments : receipt.segments ≡ reverse (segments_after [] steps)
   pub sent : receipt.sent ≡ sent_in (segments_after [] steps)
   pub overrun : receipt.overrun ≡ overrun_in (segments_after [] steps)
-  pub junk : IsTrue (is_halted ended) ⊎ (receipt.junk ≡ junk_of j (received steps))
-  pub at_most : receipt.junk ≤ junk_of j (received steps)
-  pub entered : receipt.entered ≡ is_entered (received steps)
+  pub junk : IsTrue (is_halted ended) ⊎ (receipt.junk ≡ junk_of (came_to j steps))
+  pub at_most : receipt.junk ≤ junk_of (came_to j steps)
+  pub entered : receipt.entered ≡ is_entered (came_to j steps)
 
 -- of a connection with this judgment and these steps so far
 pub record IsClosed (c : Config) (alone : Bool) (old now : Histories) (me : ℕ)

@@ -21,7 +21,8 @@ use Rattle.cast_config.specs.declared.config.Config.{Config}
 use Rattle.session_core.specs.declared.session.Session.{Session}
 use Rattle.session_core.specs.declared.stage.Stage.{Stage}
 use Rattle.session_core.specs.declared.stage.Stage.TheVariants.{Source, Relay, Rover}
-use Rattle.session_model.specs.Owed.{Received, unasked, claimed, entered}
+use Rattle.session_model.specs.declared.ending.Ending.{Ending}
+use Rattle.session_model.specs.declared.ending.Ending.TheVariants as endings
 use Rattle.session_model.specs.Run.{Histories}
 use Rattle.session_model.specs.Called.{Called}
 
@@ -60,16 +61,16 @@ IsHeldBy caps me histories _ = ⊤
 
 -- ---- what is told of it
 
--- how it was received, as far as its stage tells
-abbrev pub received_claim : Option ℕ → Received
-received_claim None = unasked
-received_claim (Some claim) = claimed claim
+-- how it ends if it comes to its end now
+abbrev pub end_claimed : Option ℕ → Ending
+end_claimed None = endings.NoHead
+end_claimed (Some claim) = endings.SourceEnd claim
 
-abbrev pub received_at : Stage → Received
-received_at (Source mount session) = claimed session.claim
-received_at (Relay mount session) = received_claim (relay_standing.claim_at session.stage)
-received_at (Rover account session) = entered
-received_at _ = unasked
+abbrev pub end_at : Stage → Ending
+end_at (Source mount session) = endings.SourceEnd session.claim
+end_at (Relay mount session) = end_claimed (relay_standing.claim_at session.stage)
+end_at (Rover account session) = endings.RoverEnd
+end_at _ = endings.NoHead
 
 -- the segments of a rover, the newest first
 abbrev pub segments_at : Stage → List Segment

@@ -1,4 +1,4 @@
-pub mod Published
+pub mod Refusals
 pub mod Entries
 pub mod Standing
 pub mod Begun
@@ -6,5 +6,6 @@ pub mod Closed
 pub mod Feeding
 pub mod Closing
 pub mod Beginnings
+pub mod Places
 pub mod Turned
 pub mod States

@@ -1,11 +1,12 @@
 -- What a session stands for: how its connection opened, the bytes that came in, the calls that were
 -- made, the histories that the last of them left, and the bytes that were sent.
-use Rattle.std.specs.Prelude.{◌≡◌, ◌≢◌, ℕ, ◌+◌, ◌^◌, ◌<◌, ◌⊎◌, Bool, true, false, ◌&&◌, IsTrue, List, [], ◌∷◌, ◌++◌, length, reverse, Option, None, Some, unwrap_or, slice_get, is_none}
+use Rattle.std.specs.Prelude.{◌≡◌, ◌≢◌, ℕ, ◌+◌, ◌^◌, ◌<◌, ◌⊎◌, ⊤, Bool, true, false, ◌&&◌, IsTrue, List, [], ◌∷◌, ◌++◌, length, reverse, Option, None, Some, unwrap_or, slice_get, is_none}
 use Rattle.caster_accounts.specs.declared.call.BookCall.TheVariants.{Enter}
 use Rattle.caster_accounts.specs.declared.call.BookAnswer.TheVariants.{Entered}
 use Rattle.caster_accounts.specs.History.{may_leave}
-use Rattle.session_calls.specs.Steps.{Step, at_book}
-use Rattle.session_calls.specs.Plans.{Plan, done}
+use Rattle.mount_ring.specs.declared.call.RingAnswer.TheVariants.{Given}
+use Rattle.session_calls.specs.Steps.{of_ring, Step, at_book}
+use Rattle.session_calls.specs.Plans.{Plan}
 use Rattle.session_calls.specs.Rings.{history_at}
 use Rattle.source_session.specs.declared.session.SourceSession.{SourceSession}
 use Rattle.source_session.specs.Calls.{IsHolding}
@@ -29,10 +30,10 @@ use Rattle.session_core.specs.declared.session.Session.{Session}
 use Rattle.session_model.specs.Setting.{shapes, caps}
 use Rattle.session_model.specs.Headings.{Heading}
 use Rattle.session_model.specs.Judged.{Opening, sends_head, relays, SourceTerms, RoverTerms, Judged, waiting, source, rover, judged, mount_fed}
-use Rattle.session_model.specs.Owed.{claimed, received, terms_of, plan_of, closing}
+use Rattle.session_model.specs.Owed.{Came, nothing, over, holding, inside, first_answer, came_to, terms_of, plan_of}
 use Rattle.session_model.specs.Endings.{ended_by}
 use Rattle.session_model.specs.Replies.{opening_text, sent_by}
-use Rattle.session_model.specs.Reports.{IsHeadingOf, junk_of, is_entered}
+use Rattle.session_model.specs.Reports.{IsHeadingOf}
 use Rattle.session_model.specs.Run.{Histories}
 use Rattle.session_model.specs.Called.{Called, OthersCalled, is_halt}
 
@@ -67,13 +68,18 @@ EndsAs ended by = IsTrue (is_halted ended) ⊎ (ended ≡ by)
 
 -- ---- stages
 
+-- it holds no claim and is inside no account
+abbrev pub IsFree : Came → Type 0
+IsFree nothing = ⊤
+IsFree (over reply end) = ⊤
+IsFree (holding terms body claim) = ⊥
+IsFree (inside terms) = ⊥
+
 -- nothing is to be closed, and there is nothing to tell
 pub record IsOver (judged : Judged) (steps : List Step) : Type 0 where
   pub known : judged ≢ waiting
-  pub closed : closing judged steps ≡ done
+  pub free : IsFree (came_to judged steps)
   pub segments : segments_after [] steps ≡ []
-  pub junk : junk_of judged (received steps) ≡ 0
-  pub outside : is_entered (received steps) ≡ false
   pub no_read : owed_among steps ≡ steps
 
 -- a source that was given its claim
@@ -87,7 +93,7 @@ pub record IsSource (c : Config) (me : ℕ) (histories : Histories) (judged : Ju
   pub caller : session.me ≡ me
   pub stands : source_standing.StandsFor session body
   pub chunked : source_standing.is_chunked session ≡ terms.chunked
-  pub claim : received steps ≡ claimed session.claim
+  pub claim : first_answer steps ≡ Some (of_ring (Given session.claim))
   pub holds : IsHolding me session.claim (history_at histories.rings mount)
   pub no_read : owed_among steps ≡ steps
   pub segments : segments_after [] steps ≡ []
@@ -169,12 +175,12 @@ pub record Stands (c : Config) (session : Session) (opening : Opening) (text : L
   pub is_heading : IsHeadingOf (Some opening) text heading
   pub owes : IsMadeBy (is_halted session.ended) (plan_of c (judged c opening heading text))
       (owed_among steps)
-  pub ends : EndsAs session.ended (ended_by (judged c opening heading text) (received steps))
+  pub ends : EndsAs session.ended (ended_by (came_to (judged c opening heading text) steps))
   pub stage : IsAtStage c session.me histories opening (judged c opening heading text) text steps
       session.stage
   pub halts : EndsAt session.stage session.ended
   pub sent_is : IsSentBy (is_halted_uncalled session.ended steps) sent
-      (sent_by c histories.rings opening (judged c opening heading text) (received steps)
+      (sent_by c histories.rings opening (came_to (judged c opening heading text) steps)
       (reverse (segments_after [] steps)))
 
 -- memory was lacking before anything was called or replied

@@ -1,13 +1,13 @@
 //! Connections without head and reply.
 
-ghost use Rattle.std.specs.Prelude.{◌≡◌, ◌≤◌, ℕ, IsTrue, [], map, IfOk, IfSome, OnErr};
-ghost use Rattle.turn_log.specs.Turn.{SamePlace};
-ghost use Rattle.session_calls.specs.Rings.{AllLater, AllSpeak, SamePlaces};
+ghost use Rattle.std.specs.Prelude.{◌≡◌, ℕ, IsTrue, [], map, IfOk, IfSome, OnErr};
+ghost use Rattle.session_calls.specs.Rings.{AllSpeak};
 ghost use Rattle.cast_config.specs.Kept.{KeepsRules};
-ghost use Rattle.session_model.specs.Called.{IsCause, alone_at, seen_at};
-ghost use Rattle.session_core.specs.Beginnings.{bare_opening, worn_at};
+ghost use Rattle.session_model.specs.Called.{IsCause};
+ghost use Rattle.session_core.specs.Beginnings.{bare_opening};
 ghost use Rattle.session_model.specs.Setting.{caps, shapes};
 ghost use Rattle.session_core.specs.Standing.{Fed};
+ghost use Rattle.session_core.specs.Places.{Stay, seen_in, alone_in, worn_in};
 
 use crate::begun::{Begun, REPLY_ROOM};
 use crate::ending::Bare;
@@ -60,28 +60,19 @@ impl Session {
         requires caps { B.shape places.old.book ≡ caps config.now }
         requires rings { AllSpeak T.speaks places.old.rings.items me }
         requires book { IsTrue (B.speaks places.old.book me) }
-        ensures same_rings { SamePlaces T.shape T.speaks T.may_lack T.alone T.home
-            places.old.rings.items places.new.rings.items }
-        ensures same_book { SamePlace B.shape B.speaks B.may_lack B.alone B.home
-            places.old.book places.new.book }
-        ensures worn_rings { AllLater (map T.worn places.old.rings.items)
-            (map T.worn places.new.rings.items) }
-        ensures worn_book { B.worn places.old.book ≤ B.worn places.new.book }
+        ensures stay { Stay T.Turns B.Turns places.old places.new }
         ensures me { IfOk result (λ session. session.me ≡ me) }
-        ensures begun { IfOk result (λ session. Fed config.now
-            (alone_at T.alone B.alone places.old.rings.items places.old.book)
-            (seen_at T.seen B.seen places.old.rings.items places.old.book)
-            (seen_at T.seen B.seen places.new.rings.items places.new.book) session
+        ensures begun { IfOk result (λ session. Fed config.now (alone_in T.Turns B.Turns places.old)
+            (seen_in T.Turns B.Turns places.old) (seen_in T.Turns B.Turns places.new) session
             (bare_opening role mount.now) [] [] [] [] []) }
-        ensures cause { IfOk result (λ session. IfSome session.ended (IsCause
-            (worn_at T.worn B.worn places.new.rings.items places.new.book))) }
+        ensures cause { IfOk result (λ session. IfSome session.ended
+            (IsCause (worn_in T.Turns B.Turns places.new))) }
         ensures err { OnErr result (places.new ≡ places.old) }
     {
         let mut nothing = Vec::with_capacity(alloc, REPLY_ROOM)?;
         match role {
             Bare::Source => {
-                let rings = places.rings.as_mut_slice();
-                let begun = judge_bare_source(config, me, mount, rings, &mut nothing);
+                let begun = judge_bare_source(config, me, mount, places, &mut nothing);
                 Ok(Session::of(alloc, me, begun))
             }
             Bare::Rover => {

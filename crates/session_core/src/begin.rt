@@ -1,27 +1,26 @@
 //! How a connection begins, once its head is whole.
 
-ghost use Rattle.std.specs.Prelude.{◌≡◌, ◌+◌, ◌<◌, ◌≤◌, ◌++◌, Bool, IsTrue, [], length, map, vec_len, Some, Ok, IfNone, IfSome};
+ghost use Rattle.std.specs.Prelude.{◌≡◌, ◌+◌, ◌<◌, ◌≤◌, ◌++◌, [], length, map, vec_len, Some, Ok, IfNone, IfSome};
 ghost use Rattle.std.specs.Vec.{vec_capacity};
-ghost use Rattle.turn_log.specs.History.{History};
-ghost use Rattle.caster_accounts.specs.declared.call.BookCall.{BookCall};
-ghost use Rattle.session_calls.specs.Rings.{AllLater, AllSpeak, SamePlaces, all_alone};
+ghost use Rattle.session_calls.specs.Rings.{AllSpeak};
 ghost use Rattle.cast_config.specs.declared.config.Config.{Config as ConfigValue};
 ghost use Rattle.session_model.specs.Setting.{shapes};
 ghost use Rattle.session_model.specs.Judged.{source_judged};
 ghost use Rattle.session_model.specs.Called.{IsCause};
 ghost use Rattle.session_core.specs.Begun.{BeginsFor, StartsAs};
-ghost use Rattle.session_model.specs.Replies.{text_if};
-ghost use Rattle.session_core.specs.Beginnings.{text_unclaimed, end_unclaimed, histories_of};
+ghost use Rattle.session_core.specs.Beginnings.{text_unclaimed, end_unclaimed};
+ghost use Rattle.session_core.specs.Places.{Stay, alone_in, seen_in, worn_in};
 
-use crate::at::claim_at;
 use crate::begun::{Begun, REPLY_ROOM, push_reply};
+use crate::places::Places;
 use crate::stage::Stage;
+use caster_accounts::Book;
 use mount_ring::Ring;
 use ntrip_head::Version;
 use ntrip_reply::Reply;
 use rtcm_frame::Cutter;
 use session_model::Ending;
-use source_session::ClaimFault;
+use source_session::{ClaimFault, SourceSession};
 use turn_log::Turns;
 
 /// A source whose claim was not given is told so, if another one holds the mountpoint.
@@ -43,28 +42,24 @@ fn unclaimed(version: Option<Version>, fault: ClaimFault, out: &mut Vec<u8>) -> 
 
 /// Lets a source in that is admitted to the mountpoint of this number: it claims the mountpoint,
 /// and is then replied to.
-pub(crate) fn begin_source<T: Turns<Ring>>(
+pub(crate) fn begin_source<T: Turns<Ring>, B: Turns<Book>>(
     me: u32,
     version: Option<Version>,
     mount: u32,
     chunked: bool,
-    rings: &mut [T],
+    places: &mut Places<T, B>,
     out: &mut Vec<u8>,
 ) -> Begun
-    requires within { mount < length rings.old }
-    requires speaks { AllSpeak T.speaks rings.old me }
-    ensures same { SamePlaces T.shape T.speaks T.may_lack T.alone T.home rings.old rings.new }
-    ensures worn { AllLater (map T.worn rings.old) (map T.worn rings.new) }
-    ensures begins { (c : ConfigValue) (alone : Bool) (book : History BookCall)
-        → map T.shape rings.old ≡ shapes c
-        → (IsTrue alone → IsTrue (all_alone T.alone rings.old))
-        → BeginsFor c alone (histories_of (map T.seen rings.old) book)
-        (histories_of (map T.seen rings.new) book) me
-        (source_judged version chunked [] (Ok mount)) result.stage result.ended
-        out.old.items out.new.items }
+    requires within { mount < length places.old.rings.items }
+    requires speaks { AllSpeak T.speaks places.old.rings.items me }
+    ensures stay { Stay T.Turns B.Turns places.old places.new }
+    ensures begins { (c : ConfigValue) → map T.shape places.old.rings.items ≡ shapes c
+        → BeginsFor c (alone_in T.Turns B.Turns places.old) (seen_in T.Turns B.Turns places.old)
+        (seen_in T.Turns B.Turns places.new) me (source_judged version chunked [] (Ok mount))
+        result.stage result.ended out.old.items out.new.items }
     ensures untold { IfNone version (out.new.items ≡ out.old.items) }
     ensures starts { StartsAs result.stage result.ended }
-    ensures cause { IfSome result.ended (IsCause (map T.worn rings.new)) }
+    ensures cause { IfSome result.ended (IsCause (worn_in T.Turns B.Turns places.new)) }
 {
     let Ok(()) = out.reserve(REPLY_ROOM) else {
         return Begun::over(Ending::Memory);
@@ -72,7 +67,7 @@ pub(crate) fn begin_source<T: Turns<Ring>>(
     let Ok(cutter) = Box::new(*out.allocator(), Cutter::new()) else {
         return Begun::over(Ending::Memory);
     };
-    match claim_at(rings, me, mount, chunked, cutter) {
+    match SourceSession::claim(me, chunked, cutter, &mut places.rings[mount as usize]) {
         Ok(session) => {
             push_reply(version, Reply::SourceOk, out);
             Begun {

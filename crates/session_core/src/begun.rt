@@ -1,12 +1,11 @@
 //! What becomes of a connection as it begins, and its reply.
 
-ghost use Rattle.std.specs.Prelude.{◌≡◌, ℕ, ◌+◌, ◌≤◌, ◌++◌, ◌⊎◌, Bool, [], length, vec_len, IfNone, Some};
+ghost use Rattle.std.specs.Prelude.{◌≡◌, ℕ, ◌+◌, ◌≤◌, ◌++◌, ◌⊎◌, Bool, [], vec_len, IfNone, Some};
 ghost use Rattle.std.specs.Vec.{vec_capacity};
 ghost use Rattle.ntrip_reply.specs.Text.{reply_text};
 ghost use Rattle.cast_config.specs.declared.config.Config.{Config as ConfigValue};
 ghost use Rattle.session_model.specs.Setting as setting;
-ghost use Rattle.session_model.specs.Judged.{Judged, refused};
-ghost use Rattle.session_model.specs.Judged as judged;
+ghost use Rattle.session_model.specs.Judged.{finished, replied};
 ghost use Rattle.session_core.specs.Beginnings.{IsTableFor};
 ghost use Rattle.session_model.specs.Replies.{text_if};
 ghost use Rattle.session_model.specs.Run.{Histories};
@@ -70,7 +69,7 @@ pub(crate) fn refuse(
 ) -> Begun
     ensures begins { (c : ConfigValue) (alone : Bool) (h : Histories) (me : ℕ)
         → IsTableFor version table.now c
-        → BeginsFor c alone h h me (refused version with ending) result.stage result.ended
+        → BeginsFor c alone h h me (finished (replied version with) ending) result.stage result.ended
         out.old.items out.new.items }
     ensures untold { IfNone version (out.new.items ≡ out.old.items) }
     ensures starts { StartsAs result.stage result.ended }
@@ -86,8 +85,8 @@ pub(crate) fn refuse(
 pub(crate) fn send_table(version: Version, table: &[u8], out: &mut Vec<u8>) -> Begun
     ensures begins { (c : ConfigValue) (alone : Bool) (h : Histories) (me : ℕ)
         → table.now ≡ setting.table c
-        → BeginsFor c alone h h me (judged.table version) result.stage result.ended
-        out.old.items out.new.items }
+        → BeginsFor c alone h h me (finished (Some (version, Reply.Table)) Ending.TableSent)
+        result.stage result.ended out.old.items out.new.items }
     ensures starts { StartsAs result.stage result.ended }
     ensures cause { (result.ended ≡ Some Ending.TableSent) ⊎ (result.ended ≡ Some Ending.Memory) }
 {

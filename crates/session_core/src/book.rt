@@ -1,11 +1,11 @@
 //! Calls on the book of accounts.
 
-ghost use Rattle.std.specs.Prelude.{◌≡◌, ◌<◌, ◌≤◌, [], ◌∷◌, length, IsTrue, IfErr, IfOk, OnErr, OnOk};
+ghost use Rattle.std.specs.Prelude.{◌≡◌, ◌<◌, [], ◌∷◌, length, IsTrue, IfErr, IfOk, OnErr, OnOk};
 ghost use Rattle.caster_accounts.specs.History.{may_leave};
 ghost use Rattle.turn_log.specs.Faults.{IsFault};
 ghost use Rattle.turn_log.specs.Heard.{Heard};
-ghost use Rattle.turn_log.specs.Turn.{SamePlace};
 ghost use Rattle.session_core.specs.Entries.{answer_of};
+ghost use Rattle.session_core.specs.Places.{StaysAtBook};
 
 use caster_accounts::{Book, BookAnswer, BookCall};
 use turn_log::{Played, TurnFault, Turns};
@@ -23,8 +23,7 @@ pub enum Entry {
 pub(crate) fn enter<B: Turns<Book>>(book: &mut B, me: u32, account: u32) -> Result<Entry, TurnFault>
     requires speaks { IsTrue (B.speaks book.old me) }
     requires known { account < length (B.shape book.old) }
-    ensures same { SamePlace B.shape B.speaks B.may_lack B.alone B.home book.old book.new }
-    ensures worn { B.worn book.old ≤ B.worn book.new }
+    ensures stay { StaysAtBook B.Turns book.old book.new }
     ensures heard { IfOk result (λ entry.
         Heard (B.alone book.old) (⟦<Book as Played>⟧.answer (B.shape book.old))
         (B.seen book.old) (B.seen book.new) me
@@ -51,8 +50,7 @@ pub(crate) fn leave<B: Turns<Book>>(
 ) -> Result<(), TurnFault>
     requires speaks { IsTrue (B.speaks book.old me) }
     requires inside { IsTrue (may_leave (B.shape book.old) (B.seen book.old) me account) }
-    ensures same { SamePlace B.shape B.speaks B.may_lack B.alone B.home book.old book.new }
-    ensures worn { B.worn book.old ≤ B.worn book.new }
+    ensures stay { StaysAtBook B.Turns book.old book.new }
     ensures heard { OnOk result
         (Heard (B.alone book.old) (⟦<Book as Played>⟧.answer (B.shape book.old))
         (B.seen book.old) (B.seen book.new) me

@@ -2,9 +2,9 @@
 
 ghost use Rattle.std.specs.Prelude.{◌≡◌, [], false, reverse, unwrap_or};
 ghost use Rattle.rover_session.specs.Made.{overrun_in, sent_in};
-ghost use Rattle.session_core.specs.Closing.{IsJunkAt, received_at, segments_at};
+ghost use Rattle.session_core.specs.Closing.{IsJunkAt, end_at, segments_at};
 ghost use Rattle.session_model.specs.Endings.{ended_last};
-ghost use Rattle.session_model.specs.Reports.{is_entered};
+ghost use Rattle.session_core.specs.Turned.{is_rover};
 
 use crate::stage::Stage;
 use session_model::{Ending, Last, Receipt, Segments};
@@ -12,7 +12,7 @@ use std::alloc::Global;
 
 /// How a connection at this stage ends that came to its end.
 fn ending_at_end(stage: &Stage) -> Ending
-    ensures { result ≡ ended_last Last.End (received_at stage.now) }
+    ensures { result ≡ end_at stage.now }
 {
     match stage {
         Stage::Head(_) => Ending::NoHead,
@@ -33,7 +33,7 @@ fn ending_at_end(stage: &Stage) -> Ending
 
 /// How a connection at this stage ends that is closed so.
 pub(crate) fn ending_last(stage: &Stage, last: Last) -> Ending
-    ensures { result ≡ ended_last last (received_at stage.now) }
+    ensures { result ≡ ended_last last (end_at stage.now) }
 {
     match last {
         Last::End => ending_at_end(stage),
@@ -44,7 +44,7 @@ pub(crate) fn ending_last(stage: &Stage, last: Last) -> Ending
 
 /// How a connection at this stage ended: by itself, or else as it is closed.
 fn ending_of(stage: &Stage, ended: Option<Ending>, last: Last) -> Ending
-    ensures { result ≡ unwrap_or ended (ended_last last (received_at stage.now)) }
+    ensures { result ≡ unwrap_or ended (ended_last last (end_at stage.now)) }
 {
     ended.unwrap_or(ending_last(stage, last))
 }
@@ -96,12 +96,12 @@ pub(crate) fn receipt_of(
     last: Last,
     settled: bool,
 ) -> Receipt
-    ensures ending { result.ending ≡ unwrap_or ended (ended_last last (received_at stage)) }
+    ensures ending { result.ending ≡ unwrap_or ended (ended_last last (end_at stage)) }
     ensures segments { result.segments ≡ reverse (segments_at stage) }
     ensures sent { result.sent ≡ sent_in (segments_at stage) }
     ensures overrun { result.overrun ≡ overrun_in (segments_at stage) }
     ensures junk { IsJunkAt stage result.junk }
-    ensures entered { result.entered ≡ is_entered (received_at stage) }
+    ensures entered { result.entered ≡ is_rover stage }
     ensures settled { result.settled ≡ settled }
 {
     let ending = ending_of(&stage, ended, last);

@@ -1,18 +1,14 @@
 //! Bytes that come in on a connection.
 
-ghost use Rattle.std.specs.Prelude.{◌≡◌, ◌≤◌, ◌<◌, ◌⊎◌, ◌++◌, ℕ, Bool, IsTrue, List, [], length, map, take, IfNone, IfSome, None, Some};
+ghost use Rattle.std.specs.Prelude.{◌≡◌, ◌≤◌, ◌<◌, ◌++◌, ℕ, IsTrue, List, length, map, take, IfNone, IfSome, None, Some};
 ghost use Rattle.std.specs.Option.{option_map};
 ghost use Rattle.std.specs.Result.{result_err};
-ghost use Rattle.turn_log.specs.History.{History};
-ghost use Rattle.turn_log.specs.Turn.{SamePlace};
-ghost use Rattle.caster_accounts.specs.declared.call.BookCall.{BookCall};
 ghost use Rattle.ntrip_head.specs.Head.{IsOpen};
 ghost use Rattle.session_calls.specs.Steps.{Step};
-ghost use Rattle.session_calls.specs.Rings.{AllLater, AllSpeak, SamePlaces, all_alone};
+ghost use Rattle.session_calls.specs.Rings.{AllSpeak};
 ghost use Rattle.cast_config.specs.declared.config.Config.{Config as ConfigValue};
 ghost use Rattle.cast_config.specs.Kept.{KeepsRules};
-ghost use Rattle.session_model.specs.Called.{IsCause, OthersCalled, alone_at, seen_at};
-ghost use Rattle.session_core.specs.Beginnings.{histories_of, worn_at};
+ghost use Rattle.session_model.specs.Called.{IsCause, OthersCalled};
 ghost use Rattle.session_core.specs.Feeding.{FedOn, HasBegunFor, IsBehindHead, end_of_relay, end_of_source};
 ghost use Rattle.session_model.specs.Judged.{Opening};
 ghost use Rattle.session_model.specs.Run.{Histories};
@@ -21,14 +17,13 @@ ghost use Rattle.session_model.specs.Setting as setting;
 ghost use Rattle.session_core.specs.Turned.{flow_of};
 ghost use Rattle.session_core.specs.Standing.{Fed, Follows, Stands, StandsFor};
 ghost use Rattle.session_core.specs.Begun.{StartsAs};
+ghost use Rattle.session_core.specs.Places.{Stay, seen_in, alone_in, worn_in};
 
-use crate::at::feed_at;
 use crate::begun::{Begun, refuse};
 use crate::ending::Flow;
 use crate::head::take_head;
 use crate::judging::begin_head;
 use crate::places::Places;
-use crate::relay_at::feed_relay_at;
 use crate::rovers::halted;
 use crate::session::Session;
 use crate::stage::Stage;
@@ -114,27 +109,19 @@ fn hear_head<T: Turns<Ring>, B: Turns<Book>>(
     requires caps { B.shape places.old.book ≡ caps config.now }
     requires rings { AllSpeak T.speaks places.old.rings.items me }
     requires book { IsTrue (B.speaks places.old.book me) }
-    ensures same_rings { SamePlaces T.shape T.speaks T.may_lack T.alone T.home
-        places.old.rings.items places.new.rings.items }
-    ensures same_book { SamePlace B.shape B.speaks B.may_lack B.alone B.home
-        places.old.book places.new.book }
-    ensures worn_rings { AllLater (map T.worn places.old.rings.items)
-        (map T.worn places.new.rings.items) }
-    ensures worn_book { B.worn places.old.book ≤ B.worn places.new.book }
+    ensures stay { Stay T.Turns B.Turns places.old places.new }
     ensures within { result.count ≤ length bytes.now }
     ensures open { IfNone result.begun (IsOpen (head.old ++ bytes.now)) }
     ensures bytes { IfNone result.begun (head.new ≡ head.old ++ bytes.now) }
     ensures places { IfNone result.begun (places.new ≡ places.old) }
     ensures out { IfNone result.begun (out.new ≡ out.old) }
     ensures begun { IfSome result.begun (λ begun. HasBegunFor config.now
-        (alone_at T.alone B.alone places.old.rings.items places.old.book)
-        (seen_at T.seen B.seen places.old.rings.items places.old.book)
-        (seen_at T.seen B.seen places.new.rings.items places.new.book) me
-        (head.old ++ take result.count bytes.now) begun.stage begun.ended
-        out.old.items out.new.items) }
+        (alone_in T.Turns B.Turns places.old) (seen_in T.Turns B.Turns places.old)
+        (seen_in T.Turns B.Turns places.new) me (head.old ++ take result.count bytes.now)
+        begun.stage begun.ended out.old.items out.new.items) }
     ensures starts { IfSome result.begun (λ begun. StartsAs begun.stage begun.ended) }
-    ensures cause { IfSome result.begun (λ begun. IfSome begun.ended (IsCause
-        (worn_at T.worn B.worn places.new.rings.items places.new.book))) }
+    ensures cause { IfSome result.begun (λ begun. IfSome begun.ended
+        (IsCause (worn_in T.Turns B.Turns places.new))) }
 {
     let taken = take_head(head, bytes);
     let count = taken.count;
@@ -159,49 +146,8 @@ fn hear_head<T: Turns<Ring>, B: Turns<Book>>(
 }
 
 impl Session {
-    /// Takes more bytes behind the head.
-    fn feed_body<T: Turns<Ring>>(&mut self, bytes: &[u8], rings: &mut [T])
-        requires behind { IsBehindHead self.old.stage }
-        requires goes_on { self.old.ended ≡ None }
-        requires speaks { AllSpeak T.speaks rings.old self.old.me }
-        requires follows { (c : ConfigValue) × (book : History BookCall)
-            × ((cap : ℕ) × KeepsRules cap c) × (map T.shape rings.old ≡ shapes c)
-            × Follows c self.old (histories_of (map T.seen rings.old) book) (length bytes.now) }
-        ensures same { SamePlaces T.shape T.speaks T.may_lack T.alone T.home rings.old rings.new }
-        ensures worn { AllLater (map T.worn rings.old) (map T.worn rings.new) }
-        ensures me { self.new.me ≡ self.old.me }
-        ensures fed { (c : ConfigValue) (alone : Bool) (book : History BookCall)
-            (opening : Opening) (text : List ℕ) (steps : List Step) (histories : Histories)
-            (sent : List ℕ) → map T.shape rings.old ≡ shapes c
-            → (IsTrue alone → IsTrue (all_alone T.alone rings.old))
-            → Stands c self.old opening text steps histories sent
-            → OthersCalled histories (histories_of (map T.seen rings.old) book) self.old.me
-            → FedOn c alone (histories_of (map T.seen rings.old) book)
-            (histories_of (map T.seen rings.new) book) self.new opening (text ++ bytes.now) steps
-            sent }
-        ensures cause { IfSome self.new.ended (IsCause (map T.worn rings.new)) }
-    {
-        match &mut self.stage {
-            Stage::Head(_) => unreachable!(),
-            Stage::Over => unreachable!(),
-            Stage::Source { mount, session } => {
-                let fed = feed_at(session, bytes, rings, *mount);
-                self.ended = ended_source(session.claim_number(), fed);
-            }
-            Stage::Relay { mount, session } => {
-                let fed = feed_relay_at(session, bytes, rings, *mount);
-                self.ended = ended_relay(session.claim_number(), fed);
-            }
-            Stage::Rover {
-                account: _,
-                session,
-            } => {
-                self.ended = halted(session.feed(bytes, rings));
-            }
-        }
-    }
-
-    /// Takes more bytes behind the head, at the rings among these places.
+    /// Takes more bytes behind the head. Those of a source or of a relay come to calls at the ring
+    /// of its mountpoint.
     fn feed_behind<T: Turns<Ring>, B: Turns<Book>>(
         &mut self,
         bytes: &[u8],
@@ -212,30 +158,35 @@ impl Session {
         requires rings { AllSpeak T.speaks places.old.rings.items self.old.me }
         requires follows { (c : ConfigValue) × ((cap : ℕ) × KeepsRules cap c)
             × (map T.shape places.old.rings.items ≡ shapes c)
-            × Follows c self.old (seen_at T.seen B.seen places.old.rings.items places.old.book)
-            (length bytes.now) }
-        ensures same_rings { SamePlaces T.shape T.speaks T.may_lack T.alone T.home
-            places.old.rings.items places.new.rings.items }
-        ensures worn_rings { AllLater (map T.worn places.old.rings.items)
-            (map T.worn places.new.rings.items) }
-        ensures same_book { SamePlace B.shape B.speaks B.may_lack B.alone B.home
-            places.old.book places.new.book }
-        ensures worn_book { B.worn places.old.book ≤ B.worn places.new.book }
+            × Follows c self.old (seen_in T.Turns B.Turns places.old) (length bytes.now) }
+        ensures stay { Stay T.Turns B.Turns places.old places.new }
         ensures me { self.new.me ≡ self.old.me }
         ensures fed { (c : ConfigValue) (opening : Opening) (text : List ℕ) (steps : List Step)
-            (histories : Histories) (sent : List ℕ)
-            → map T.shape places.old.rings.items ≡ shapes c
+            (histories : Histories) (sent : List ℕ) → map T.shape places.old.rings.items ≡ shapes c
             → Stands c self.old opening text steps histories sent
-            → OthersCalled histories
-            (seen_at T.seen B.seen places.old.rings.items places.old.book) self.old.me
-            → FedOn c (alone_at T.alone B.alone places.old.rings.items places.old.book)
-            (seen_at T.seen B.seen places.old.rings.items places.old.book)
-            (seen_at T.seen B.seen places.new.rings.items places.new.book) self.new opening
-            (text ++ bytes.now) steps sent }
-        ensures cause { IfSome self.new.ended (IsCause
-            (worn_at T.worn B.worn places.new.rings.items places.new.book)) }
+            → OthersCalled histories (seen_in T.Turns B.Turns places.old) self.old.me
+            → FedOn c (alone_in T.Turns B.Turns places.old) (seen_in T.Turns B.Turns places.old)
+            (seen_in T.Turns B.Turns places.new) self.new opening (text ++ bytes.now) steps sent }
+        ensures cause { IfSome self.new.ended (IsCause (worn_in T.Turns B.Turns places.new)) }
     {
-        self.feed_body(bytes, places.rings.as_mut_slice());
+        match &mut self.stage {
+            Stage::Head(_) => unreachable!(),
+            Stage::Over => unreachable!(),
+            Stage::Source { mount, session } => {
+                let fed = session.feed(bytes, &mut places.rings[*mount as usize]);
+                self.ended = ended_source(session.claim_number(), fed);
+            }
+            Stage::Relay { mount, session } => {
+                let fed = session.feed(bytes, &mut places.rings[*mount as usize]);
+                self.ended = ended_relay(session.claim_number(), fed);
+            }
+            Stage::Rover {
+                account: _,
+                session,
+            } => {
+                self.ended = halted(session.feed(bytes, places.rings.as_mut_slice()));
+            }
+        }
     }
 
     /// Is what became of it once its head was whole.
@@ -273,28 +224,19 @@ impl Session {
         requires caps { B.shape places.old.book ≡ caps config.now }
         requires rings { AllSpeak T.speaks places.old.rings.items self.old.me }
         requires book { IsTrue (B.speaks places.old.book self.old.me) }
-        requires follows { Follows config.now self.old
-            (seen_at T.seen B.seen places.old.rings.items places.old.book) (length bytes.now) }
-        ensures same_rings { SamePlaces T.shape T.speaks T.may_lack T.alone T.home
-            places.old.rings.items places.new.rings.items }
-        ensures same_book { SamePlace B.shape B.speaks B.may_lack B.alone B.home
-            places.old.book places.new.book }
-        ensures worn_rings { AllLater (map T.worn places.old.rings.items)
-            (map T.worn places.new.rings.items) }
-        ensures worn_book { B.worn places.old.book ≤ B.worn places.new.book }
+        requires follows { Follows config.now self.old (seen_in T.Turns B.Turns places.old)
+            (length bytes.now) }
+        ensures stay { Stay T.Turns B.Turns places.old places.new }
         ensures me { self.new.me ≡ self.old.me }
         ensures flow { result ≡ flow_of self.new.ended }
         ensures fed { (opening : Opening) (text : List ℕ) (steps : List Step)
             (histories : Histories) (sent : List ℕ)
             → StandsFor config.now self.old opening text steps histories sent
-            → OthersCalled histories
-            (seen_at T.seen B.seen places.old.rings.items places.old.book) self.old.me
-            → Fed config.now (alone_at T.alone B.alone places.old.rings.items places.old.book)
-            (seen_at T.seen B.seen places.old.rings.items places.old.book)
-            (seen_at T.seen B.seen places.new.rings.items places.new.book) self.new opening
-            (text ++ bytes.now) steps sent out.old.items out.new.items }
-        ensures cause { IfSome self.new.ended (IsCause
-            (worn_at T.worn B.worn places.new.rings.items places.new.book)) }
+            → OthersCalled histories (seen_in T.Turns B.Turns places.old) self.old.me
+            → Fed config.now (alone_in T.Turns B.Turns places.old)
+            (seen_in T.Turns B.Turns places.old) (seen_in T.Turns B.Turns places.new) self.new
+            opening (text ++ bytes.now) steps sent out.old.items out.new.items }
+        ensures cause { IfSome self.new.ended (IsCause (worn_in T.Turns B.Turns places.new)) }
     {
         let Stage::Head(head) = &mut self.stage else {
             self.feed_behind(bytes, places);

@@ -1,11 +1,8 @@
 //! What becomes of a connection, by what its head asks for.
 
 ghost use Rattle.std.specs.Prelude.{◌≡◌, ℕ, ◌≤◌, ◌⊎◌, Bool, IsTrue, List, [], length, map, Some, Ok, Err, IfNone, IfSome, Result, Option, ◌<◌, None, IfOk, false};
-ghost use Rattle.turn_log.specs.History.{History};
-ghost use Rattle.turn_log.specs.Turn.{SamePlace};
-ghost use Rattle.caster_accounts.specs.declared.call.BookCall.{BookCall};
 ghost use Rattle.base_select.specs.Measure.{IsOnEarth};
-ghost use Rattle.session_calls.specs.Rings.{AllLater, AllSpeak, SamePlaces, all_alone};
+ghost use Rattle.session_calls.specs.Rings.{AllSpeak};
 ghost use Rattle.gga_read.specs.declared.Position.{Position as PositionValue};
 ghost use Rattle.cast_config.specs.declared.config.Config.{Config as ConfigValue};
 ghost use Rattle.cast_config.specs.Kept.{KeepsRules};
@@ -17,11 +14,12 @@ ghost use Rattle.access_groups.specs.declared.admission.Denial.{Denial as Denial
 ghost use Rattle.access_groups.specs.Admission.{Gives, admission as admission_of, source_admission};
 ghost use Rattle.session_model.specs.Setting.{shapes, caps};
 ghost use Rattle.session_model.specs.Setting as setting;
-ghost use Rattle.session_model.specs.Judged.{rover_judged, source_judged, bare_admission, fault_judged, request_judged};
+ghost use Rattle.session_model.specs.Judged.{rover_judged, source_judged, bare_admission, request_judged};
 ghost use Rattle.session_model.specs.Run.{Histories};
-ghost use Rattle.session_model.specs.Called.{IsCause, seen_at, alone_at};
-ghost use Rattle.session_core.specs.Beginnings.{histories_of, worn_at, IsRequestOnEarth, IsTableFor};
+ghost use Rattle.session_model.specs.Called.{IsCause};
+ghost use Rattle.session_core.specs.Beginnings.{IsRequestOnEarth, IsTableFor};
 ghost use Rattle.session_core.specs.Begun.{BeginsFor, IsLostAt, StartsAs};
+ghost use Rattle.session_core.specs.Places.{Stay, seen_in, alone_in, worn_in};
 
 use crate::begin::begin_source;
 use crate::begun::{Begun, refuse, send_table};
@@ -120,23 +118,14 @@ pub(crate) fn judge_rover<T: Turns<Ring>, B: Turns<Book>>(
     requires caps { B.shape places.old.book ≡ caps config.now }
     requires rings { AllSpeak T.speaks places.old.rings.items me }
     requires book { IsTrue (B.speaks places.old.book me) }
-    ensures same_rings { SamePlaces T.shape T.speaks T.may_lack T.alone T.home
-        places.old.rings.items places.new.rings.items }
-    ensures same_book { SamePlace B.shape B.speaks B.may_lack B.alone B.home
-        places.old.book places.new.book }
-    ensures worn_rings { AllLater (map T.worn places.old.rings.items)
-        (map T.worn places.new.rings.items) }
-    ensures worn_book { B.worn places.old.book ≤ B.worn places.new.book }
-    ensures begins { BeginsFor config.now
-        (alone_at T.alone B.alone places.old.rings.items places.old.book)
-        (seen_at T.seen B.seen places.old.rings.items places.old.book)
-        (seen_at T.seen B.seen places.new.rings.items places.new.book) me
-        (rover_judged version first [] (admission_of config.now auth.now mount.now))
-        result.stage result.ended out.old.items out.new.items }
+    ensures stay { Stay T.Turns B.Turns places.old places.new }
+    ensures begins { BeginsFor config.now (alone_in T.Turns B.Turns places.old)
+        (seen_in T.Turns B.Turns places.old) (seen_in T.Turns B.Turns places.new) me (rover_judged
+        version first [] (admission_of config.now auth.now mount.now)) result.stage result.ended
+        out.old.items out.new.items }
     ensures untold { IfNone version (out.new.items ≡ out.old.items) }
     ensures starts { StartsAs result.stage result.ended }
-    ensures cause { IfSome result.ended (IsCause
-        (worn_at T.worn B.worn places.new.rings.items places.new.book)) }
+    ensures cause { IfSome result.ended (IsCause (worn_in T.Turns B.Turns places.new)) }
 {
     match admit(alloc, config, auth, mount) {
         Ok(admission) => begin_rover(alloc, config, me, version, &admission, first, places, out),
@@ -145,7 +134,7 @@ pub(crate) fn judge_rover<T: Turns<Ring>, B: Turns<Book>>(
 }
 
 /// What becomes of a source that would feed a mountpoint with this password.
-fn judge_source<T: Turns<Ring>>(
+fn judge_source<T: Turns<Ring>, B: Turns<Book>>(
     config: &Config,
     table: &[u8],
     me: u32,
@@ -153,27 +142,24 @@ fn judge_source<T: Turns<Ring>>(
     mount: &MountName,
     password: &[u8],
     chunked: bool,
-    rings: &mut [T],
+    places: &mut Places<T, B>,
     out: &mut Vec<u8>,
 ) -> Begun
     requires kept { (cap : ℕ) × KeepsRules cap config.now }
     requires table { IsTableFor version table.now config.now }
-    requires shapes { map T.shape rings.old ≡ shapes config.now }
-    requires speaks { AllSpeak T.speaks rings.old me }
-    ensures same { SamePlaces T.shape T.speaks T.may_lack T.alone T.home rings.old rings.new }
-    ensures worn { AllLater (map T.worn rings.old) (map T.worn rings.new) }
-    ensures begins { (alone : Bool) (book : History BookCall)
-        → (IsTrue alone → IsTrue (all_alone T.alone rings.old))
-        → BeginsFor config.now alone (histories_of (map T.seen rings.old) book)
-        (histories_of (map T.seen rings.new) book) me
+    requires shapes { map T.shape places.old.rings.items ≡ shapes config.now }
+    requires speaks { AllSpeak T.speaks places.old.rings.items me }
+    ensures stay { Stay T.Turns B.Turns places.old places.new }
+    ensures begins { BeginsFor config.now (alone_in T.Turns B.Turns places.old)
+        (seen_in T.Turns B.Turns places.old) (seen_in T.Turns B.Turns places.new) me
         (source_judged version chunked [] (source_admission config.now mount.now password.now))
         result.stage result.ended out.old.items out.new.items }
     ensures untold { IfNone version (out.new.items ≡ out.old.items) }
     ensures starts { StartsAs result.stage result.ended }
-    ensures cause { IfSome result.ended (IsCause (map T.worn rings.new)) }
+    ensures cause { IfSome result.ended (IsCause (worn_in T.Turns B.Turns places.new)) }
 {
     match admit_source(config, mount, password) {
-        Ok(mount) => begin_source(me, version, mount, chunked, rings, out),
+        Ok(mount) => begin_source(me, version, mount, chunked, places, out),
         Err(denial) => deny_source(version, denial, table, out),
     }
 }
@@ -192,30 +178,27 @@ fn admit_bare(config: &Config, mount: &MountName) -> Result<u32, SourceDenial>
 }
 
 /// What becomes of a source without a head, by the name of its mountpoint alone.
-pub(crate) fn judge_bare_source<T: Turns<Ring>>(
+pub(crate) fn judge_bare_source<T: Turns<Ring>, B: Turns<Book>>(
     config: &Config,
     me: u32,
     mount: &MountName,
-    rings: &mut [T],
+    places: &mut Places<T, B>,
     out: &mut Vec<u8>,
 ) -> Begun
     requires kept { (cap : ℕ) × KeepsRules cap config.now }
-    requires shapes { map T.shape rings.old ≡ shapes config.now }
-    requires speaks { AllSpeak T.speaks rings.old me }
-    ensures same { SamePlaces T.shape T.speaks T.may_lack T.alone T.home rings.old rings.new }
-    ensures worn { AllLater (map T.worn rings.old) (map T.worn rings.new) }
-    ensures begins { (alone : Bool) (book : History BookCall)
-        → (IsTrue alone → IsTrue (all_alone T.alone rings.old))
-        → BeginsFor config.now alone (histories_of (map T.seen rings.old) book)
-        (histories_of (map T.seen rings.new) book) me
+    requires shapes { map T.shape places.old.rings.items ≡ shapes config.now }
+    requires speaks { AllSpeak T.speaks places.old.rings.items me }
+    ensures stay { Stay T.Turns B.Turns places.old places.new }
+    ensures begins { BeginsFor config.now (alone_in T.Turns B.Turns places.old)
+        (seen_in T.Turns B.Turns places.old) (seen_in T.Turns B.Turns places.new) me
         (source_judged None false [] (bare_admission config.now mount.now))
         result.stage result.ended out.old.items out.new.items }
     ensures untold { out.new.items ≡ out.old.items }
     ensures starts { StartsAs result.stage result.ended }
-    ensures cause { IfSome result.ended (IsCause (map T.worn rings.new)) }
+    ensures cause { IfSome result.ended (IsCause (worn_in T.Turns B.Turns places.new)) }
 {
     match admit_bare(config, mount) {
-        Ok(mount) => begin_source(me, None, mount, false, rings, out),
+        Ok(mount) => begin_source(me, None, mount, false, places, out),
         Err(denial) => deny_source(None, denial, &[], out),
     }
 }
@@ -237,22 +220,13 @@ fn begin_request<T: Turns<Ring>, B: Turns<Book>>(
     requires caps { B.shape places.old.book ≡ caps config.now }
     requires rings { AllSpeak T.speaks places.old.rings.items me }
     requires book { IsTrue (B.speaks places.old.book me) }
-    ensures same_rings { SamePlaces T.shape T.speaks T.may_lack T.alone T.home
-        places.old.rings.items places.new.rings.items }
-    ensures same_book { SamePlace B.shape B.speaks B.may_lack B.alone B.home
-        places.old.book places.new.book }
-    ensures worn_rings { AllLater (map T.worn places.old.rings.items)
-        (map T.worn places.new.rings.items) }
-    ensures worn_book { B.worn places.old.book ≤ B.worn places.new.book }
-    ensures begins { BeginsFor config.now
-        (alone_at T.alone B.alone places.old.rings.items places.old.book)
-        (seen_at T.seen B.seen places.old.rings.items places.old.book)
-        (seen_at T.seen B.seen places.new.rings.items places.new.book) me
-        (request_judged config.now [] (Ok request.now))
-        result.stage result.ended out.old.items out.new.items }
+    ensures stay { Stay T.Turns B.Turns places.old places.new }
+    ensures begins { BeginsFor config.now (alone_in T.Turns B.Turns places.old)
+        (seen_in T.Turns B.Turns places.old) (seen_in T.Turns B.Turns places.new) me
+        (request_judged config.now [] (Ok request.now)) result.stage result.ended out.old.items
+        out.new.items }
     ensures starts { StartsAs result.stage result.ended }
-    ensures cause { IfSome result.ended (IsCause
-        (worn_at T.worn B.worn places.new.rings.items places.new.book)) }
+    ensures cause { IfSome result.ended (IsCause (worn_in T.Turns B.Turns places.new)) }
 {
     match request {
         Request::Table(version) => send_table(*version, table, out),
@@ -286,7 +260,7 @@ fn begin_request<T: Turns<Ring>, B: Turns<Book>>(
             mount,
             password.bytes(),
             *chunked,
-            places.rings.as_mut_slice(),
+            places,
             out,
         ),
     }
@@ -329,26 +303,15 @@ pub(crate) fn begin_head<T: Turns<Ring>, B: Turns<Book>>(
     requires caps { B.shape places.old.book ≡ caps config.now }
     requires rings { AllSpeak T.speaks places.old.rings.items me }
     requires book { IsTrue (B.speaks places.old.book me) }
-    ensures same_rings { SamePlaces T.shape T.speaks T.may_lack T.alone T.home
-        places.old.rings.items places.new.rings.items }
-    ensures same_book { SamePlace B.shape B.speaks B.may_lack B.alone B.home
-        places.old.book places.new.book }
-    ensures worn_rings { AllLater (map T.worn places.old.rings.items)
-        (map T.worn places.new.rings.items) }
-    ensures worn_book { B.worn places.old.book ≤ B.worn places.new.book }
+    ensures stay { Stay T.Turns B.Turns places.old places.new }
     ensures begins { ((answer : Result RequestValue HeadFaultValue) × HeadAnswer head.now answer
-        × BeginsFor config.now
-        (alone_at T.alone B.alone places.old.rings.items places.old.book)
-        (seen_at T.seen B.seen places.old.rings.items places.old.book)
-        (seen_at T.seen B.seen places.new.rings.items places.new.book) me
-        (request_judged config.now [] answer)
-        result.stage result.ended out.old.items out.new.items)
-        ⊎ IsLostAt (seen_at T.seen B.seen places.old.rings.items places.old.book)
-        (seen_at T.seen B.seen places.new.rings.items places.new.book)
+        × BeginsFor config.now (alone_in T.Turns B.Turns places.old)
+        (seen_in T.Turns B.Turns places.old) (seen_in T.Turns B.Turns places.new) me
+        (request_judged config.now [] answer) result.stage result.ended out.old.items out.new.items)
+        ⊎ IsLostAt (seen_in T.Turns B.Turns places.old) (seen_in T.Turns B.Turns places.new)
         result.stage result.ended out.old.items out.new.items }
     ensures starts { StartsAs result.stage result.ended }
-    ensures cause { IfSome result.ended (IsCause
-        (worn_at T.worn B.worn places.new.rings.items places.new.book)) }
+    ensures cause { IfSome result.ended (IsCause (worn_in T.Turns B.Turns places.new)) }
 {
     match read_head(alloc, head) {
         Ok(request) => begin_request(alloc, config, table, me, &request, places, out),

@@ -1,7 +1,6 @@
 //! One connection of a caster, from its first byte to its receipt.
 #![tactic(auto)]
 
-mod at;
 mod bare;
 mod begin;
 mod begun;
@@ -12,7 +11,6 @@ mod feeding;
 mod head;
 mod judging;
 mod places;
-mod relay_at;
 mod rover_state;
 mod rovers;
 mod session;

@@ -1,10 +1,9 @@
 //! How a rover begins.
 
-ghost use Rattle.std.specs.Prelude.{◌≡◌, ℕ, ◌+◌, ◌<◌, ◌≤◌, ◌++◌, IsTrue, List, [], length, map, unwrap_or, vec_len, vec_capacity, Ok, Err, IfNone, IfOk, IfSome, OnOk, option_to_list, slice_get};
+ghost use Rattle.std.specs.Prelude.{◌≡◌, ℕ, ◌+◌, ◌<◌, ◌≤◌, ◌++◌, IsTrue, List, [], map, unwrap_or, vec_len, vec_capacity, Ok, Err, IfNone, IfOk, IfSome, OnOk, option_to_list, slice_get};
 ghost use Rattle.std.specs.Result.{result_err};
-ghost use Rattle.turn_log.specs.Turn.{SamePlace};
 ghost use Rattle.base_select.specs.Measure.{IsOnEarth};
-ghost use Rattle.session_calls.specs.Rings.{AllLater, AllSpeak, SamePlaces};
+ghost use Rattle.session_calls.specs.Rings.{AllSpeak};
 ghost use Rattle.rover_session.specs.Standing.{rover_of, IsNew};
 ghost use Rattle.ntrip_head.specs.declared.request.Version.TheVariants.{One};
 ghost use Rattle.ntrip_head.specs.declared.request.Auth.{Auth as AuthValue};
@@ -15,9 +14,10 @@ ghost use Rattle.session_model.specs.Setting as setting;
 ghost use Rattle.session_model.specs.Judged.{rover_judged};
 ghost use Rattle.session_model.specs.Owed.{terms_of};
 ghost use Rattle.session_model.specs.Replies.{text_if};
-ghost use Rattle.session_model.specs.Called.{IsCause, seen_at, alone_at};
-ghost use Rattle.session_core.specs.Beginnings.{end_unentered, ended_joining, worn_at};
+ghost use Rattle.session_model.specs.Called.{IsCause};
+ghost use Rattle.session_core.specs.Beginnings.{end_unentered, ended_joining};
 ghost use Rattle.session_core.specs.Begun.{BeginsFor, StartsAs};
+ghost use Rattle.session_core.specs.Places.{Stay, seen_in, alone_in, worn_in};
 
 use crate::begun::{Begun, REPLY_ROOM, push_reply};
 use crate::book::{Entry, enter};
@@ -157,23 +157,14 @@ pub(crate) fn begin_rover<T: Turns<Ring>, B: Turns<Book>>(
     requires caps { B.shape places.old.book ≡ caps config.now }
     requires rings { AllSpeak T.speaks places.old.rings.items me }
     requires book { IsTrue (B.speaks places.old.book me) }
-    ensures same_rings { SamePlaces T.shape T.speaks T.may_lack T.alone T.home
-        places.old.rings.items places.new.rings.items }
-    ensures same_book { SamePlace B.shape B.speaks B.may_lack B.alone B.home
-        places.old.book places.new.book }
-    ensures worn_rings { AllLater (map T.worn places.old.rings.items)
-        (map T.worn places.new.rings.items) }
-    ensures worn_book { B.worn places.old.book ≤ B.worn places.new.book }
-    ensures begins { BeginsFor config.now
-        (alone_at T.alone B.alone places.old.rings.items places.old.book)
-        (seen_at T.seen B.seen places.old.rings.items places.old.book)
-        (seen_at T.seen B.seen places.new.rings.items places.new.book) me
-        (rover_judged version first [] (Ok admission.now)) result.stage result.ended
-        out.old.items out.new.items }
+    ensures stay { Stay T.Turns B.Turns places.old places.new }
+    ensures begins { BeginsFor config.now (alone_in T.Turns B.Turns places.old)
+        (seen_in T.Turns B.Turns places.old) (seen_in T.Turns B.Turns places.new) me
+        (rover_judged version first [] (Ok admission.now)) result.stage result.ended out.old.items
+        out.new.items }
     ensures untold { IfNone version (out.new.items ≡ out.old.items) }
     ensures starts { StartsAs result.stage result.ended }
-    ensures cause { IfSome result.ended (IsCause
-        (worn_at T.worn B.worn places.new.rings.items places.new.book)) }
+    ensures cause { IfSome result.ended (IsCause (worn_in T.Turns B.Turns places.new)) }
 {
     let Ok(mut session) = new_session(alloc, config, me, version, admission) else {
         return Begun::over(Ending::Memory);

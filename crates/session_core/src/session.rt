@@ -1,17 +1,15 @@
 //! One connection, from its first byte to its receipt.
 
 ghost use Rattle.std.specs.Prelude.{◌≡◌, ◌<◌, ◌≤◌, ◌++◌, ℕ, List, [], length, map, IsTrue, IfOk, OnOk, OnErr, None, Some, false, is_some};
-ghost use Rattle.turn_log.specs.Turn.{SamePlace};
 ghost use Rattle.session_calls.specs.Steps.{Step};
-ghost use Rattle.session_calls.specs.Rings.{AllLater, AllSpeak, SamePlaces};
+ghost use Rattle.session_calls.specs.Rings.{AllSpeak};
 ghost use Rattle.cast_config.specs.declared.config.Config.{Config as ConfigValue};
 ghost use Rattle.cast_config.specs.Kept.{KeepsRules};
-ghost use Rattle.session_core.specs.Beginnings.{lacks_at, worn_at};
-ghost use Rattle.session_model.specs.Called.{Called, OthersCalled, alone_at, seen_at};
+ghost use Rattle.session_model.specs.Called.{Called, OthersCalled};
 ghost use Rattle.session_core.specs.Closing.{closing_of};
 ghost use Rattle.session_model.specs.Headings.{Heading};
 ghost use Rattle.session_model.specs.Judged.{Opening, judged, relays, sends_head};
-ghost use Rattle.session_core.specs.Published.{MayRefuse};
+ghost use Rattle.session_core.specs.Refusals.{MayRefuse};
 ghost use Rattle.session_model.specs.Replies.{opening_text};
 ghost use Rattle.session_model.specs.Reports.{IsHeadingOf};
 ghost use Rattle.session_model.specs.Run.{Histories};
@@ -19,10 +17,11 @@ ghost use Rattle.session_model.specs.Setting.{caps, shapes};
 ghost use Rattle.session_core.specs.Standing.{Follows, IsNewRelay, StandsFor};
 ghost use Rattle.session_core.specs.Closed.{IsClosed, IsSettled};
 ghost use Rattle.upstream_relay.specs.Request.{relay_request};
+ghost use Rattle.session_core.specs.Places.{Stay, seen_in, alone_in, worn_in, lacks_in};
 
 use crate::closing::receipt_of;
 use crate::places::Places;
-use crate::settle::settle_at;
+use crate::settle::settle;
 use crate::stage::Stage;
 use cast_config::{Config, Relay};
 use caster_accounts::Book;
@@ -127,38 +126,27 @@ impl Session {
         requires book { IsTrue (B.speaks places.old.book self.me) }
         requires follows { (c : ConfigValue) × (map T.shape places.old.rings.items ≡ shapes c)
             × (B.shape places.old.book ≡ caps c)
-            × Follows c self
-            (seen_at T.seen B.seen places.old.rings.items places.old.book) 0 }
-        ensures same_rings { SamePlaces T.shape T.speaks T.may_lack T.alone T.home
-            places.old.rings.items places.new.rings.items }
-        ensures same_book { SamePlace B.shape B.speaks B.may_lack B.alone B.home
-            places.old.book places.new.book }
-        ensures worn_rings { AllLater (map T.worn places.old.rings.items)
-            (map T.worn places.new.rings.items) }
-        ensures worn_book { B.worn places.old.book ≤ B.worn places.new.book }
+            × Follows c self (seen_in T.Turns B.Turns places.old) 0 }
+        ensures stay { Stay T.Turns B.Turns places.old places.new }
         ensures called { (c : ConfigValue) → map T.shape places.old.rings.items ≡ shapes c
             → B.shape places.old.book ≡ caps c → (more : List Step)
-            × Called c (alone_at T.alone B.alone places.old.rings.items places.old.book)
-            (seen_at T.seen B.seen places.old.rings.items places.old.book)
-            (seen_at T.seen B.seen places.new.rings.items places.new.book) self.me more
+            × Called c (alone_in T.Turns B.Turns places.old) (seen_in T.Turns B.Turns places.old)
+            (seen_in T.Turns B.Turns places.new) self.me more
             × IsSettled result.settled (closing_of self) more }
-        ensures unsettled { result.settled ≡ false → MayRefuse
-            (lacks_at T.may_lack B.may_lack places.old.rings.items places.old.book)
-            (worn_at T.worn B.worn places.new.rings.items places.new.book) }
+        ensures unsettled { result.settled ≡ false
+            → MayRefuse (lacks_in T.Turns B.Turns places.old) (worn_in T.Turns B.Turns places.new) }
         ensures closed { (c : ConfigValue) (opening : Opening) (heading : Heading) (text : List ℕ)
             (steps : List Step) (histories : Histories) (sent : List ℕ)
             → map T.shape places.old.rings.items ≡ shapes c → B.shape places.old.book ≡ caps c
             → IsHeadingOf (Some opening) text heading
             → StandsFor c self opening text steps histories sent
-            → OthersCalled histories
-            (seen_at T.seen B.seen places.old.rings.items places.old.book) self.me
-            → IsClosed c (alone_at T.alone B.alone places.old.rings.items places.old.book)
-            (seen_at T.seen B.seen places.old.rings.items places.old.book)
-            (seen_at T.seen B.seen places.new.rings.items places.new.book) self.me self.ended
-            (judged c opening heading text) steps last result }
+            → OthersCalled histories (seen_in T.Turns B.Turns places.old) self.me
+            → IsClosed c (alone_in T.Turns B.Turns places.old) (seen_in T.Turns B.Turns places.old)
+            (seen_in T.Turns B.Turns places.new) self.me self.ended (judged c opening heading text)
+            steps last result }
     {
         let mut stage = self.stage;
-        let settled = settle_at(self.me, &mut stage, places);
+        let settled = settle(self.me, &mut stage, places);
         receipt_of(self.alloc, stage, self.ended, last, settled.is_ok())
     }
 }

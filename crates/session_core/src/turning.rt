@@ -1,18 +1,16 @@
 //! Turns of a rover.
 
-ghost use Rattle.std.specs.Prelude.{◌≡◌, ◌≤◌, ℕ, List, false, map, IfSome, IsTrue, None, true};
-ghost use Rattle.std.specs.Result.{result_err};
-ghost use Rattle.turn_log.specs.Turn.{SamePlace};
+ghost use Rattle.std.specs.Prelude.{◌≡◌, ℕ, List, false, map, IfSome, IsTrue, None, true};
 ghost use Rattle.session_calls.specs.Steps.{Step};
-ghost use Rattle.session_calls.specs.Rings.{AllLater, AllSpeak, SamePlaces, all_alone};
+ghost use Rattle.session_calls.specs.Rings.{AllSpeak, all_alone};
 ghost use Rattle.cast_config.specs.declared.config.Config.{Config as ConfigValue};
-ghost use Rattle.session_core.specs.Beginnings.{ended_joining, worn_at};
-ghost use Rattle.session_model.specs.Called.{IsCause, OthersCalled, alone_at, is_halt, seen_at};
+ghost use Rattle.session_model.specs.Called.{IsCause, OthersCalled, is_halt};
 ghost use Rattle.session_model.specs.Judged.{Opening};
 ghost use Rattle.session_model.specs.Run.{Histories};
 ghost use Rattle.session_model.specs.Setting.{caps, shapes};
 ghost use Rattle.session_core.specs.Standing.{Follows, StandsFor};
 ghost use Rattle.session_core.specs.Turned.{IsReadBy, Turned, TurnedAt, flow_of, is_rover};
+ghost use Rattle.session_core.specs.Places.{Stay, StayAtRings, seen_in, alone_in, worn_in};
 
 use crate::ending::Flow;
 use crate::places::Places;
@@ -44,8 +42,7 @@ fn turn_at<T: Turns<Ring>>(
 ) -> Option<Ending>
     requires speaks { AllSpeak T.speaks rings.old me }
     requires reads { IsReadBy (map T.shape rings.old) me (map T.seen rings.old) stage.old }
-    ensures same { SamePlaces T.shape T.speaks T.may_lack T.alone T.home rings.old rings.new }
-    ensures worn { AllLater (map T.worn rings.old) (map T.worn rings.new) }
+    ensures stay { StayAtRings T.Turns rings.old rings.new }
     ensures bystander { is_rover stage.old ≡ false → (result ≡ None) × (stage.new ≡ stage.old)
         × (rings.new ≡ rings.old) × (out.new.items ≡ out.old.items) }
     ensures turned { TurnedAt (map T.shape rings.old) (all_alone T.alone rings.old)
@@ -91,38 +88,26 @@ impl Session {
         requires goes_on { self.old.ended ≡ None }
         requires follows { (c : ConfigValue) × (map T.shape places.old.rings.items ≡ shapes c)
             × (B.shape places.old.book ≡ caps c)
-            × Follows c self.old
-            (seen_at T.seen B.seen places.old.rings.items places.old.book) 0 }
+            × Follows c self.old (seen_in T.Turns B.Turns places.old) 0 }
         ensures me { self.new.me ≡ self.old.me }
-        ensures same_rings { SamePlaces T.shape T.speaks T.may_lack T.alone T.home
-            places.old.rings.items places.new.rings.items }
-        ensures same_book { SamePlace B.shape B.speaks B.may_lack B.alone B.home
-            places.old.book places.new.book }
-        ensures worn_rings { AllLater (map T.worn places.old.rings.items)
-            (map T.worn places.new.rings.items) }
-        ensures worn_book { B.worn places.old.book ≤ B.worn places.new.book }
+        ensures stay { Stay T.Turns B.Turns places.old places.new }
         ensures flow { result ≡ flow_of self.new.ended }
         ensures halts { IfSome self.new.ended (λ end. IsTrue (is_halt end)) }
-        ensures cause { IfSome self.new.ended (IsCause
-            (worn_at T.worn B.worn places.new.rings.items places.new.book)) }
-        ensures refused { IfSome self.new.ended (λ end.
-            (seen_at T.seen B.seen places.new.rings.items places.new.book
-            ≡ seen_at T.seen B.seen places.old.rings.items places.old.book)
-            × (out.new.items ≡ out.old.items)) }
+        ensures cause { IfSome self.new.ended (IsCause (worn_in T.Turns B.Turns places.new)) }
+        ensures refused { IfSome self.new.ended (λ end. (seen_in T.Turns B.Turns places.new
+            ≡ seen_in T.Turns B.Turns places.old) × (out.new.items ≡ out.old.items)) }
         ensures bystander { is_rover self.old.stage ≡ false → (self.new ≡ self.old)
             × (places.new.rings.items ≡ places.old.rings.items)
             × (places.new.book ≡ places.old.book) × (out.new.items ≡ out.old.items) }
         ensures turned { is_rover self.old.stage ≡ true
             → (c : ConfigValue) (opening : Opening) (text : List ℕ) (steps : List Step)
-            (histories : Histories) (sent : List ℕ)
-            → map T.shape places.old.rings.items ≡ shapes c → B.shape places.old.book ≡ caps c
+            (histories : Histories) (sent : List ℕ) → map T.shape places.old.rings.items ≡ shapes c
+            → B.shape places.old.book ≡ caps c
             → StandsFor c self.old opening text steps histories sent
-            → OthersCalled histories
-            (seen_at T.seen B.seen places.old.rings.items places.old.book) self.old.me
-            → Turned c (alone_at T.alone B.alone places.old.rings.items places.old.book)
-            (seen_at T.seen B.seen places.old.rings.items places.old.book)
-            (seen_at T.seen B.seen places.new.rings.items places.new.book) budget self.new
-            opening text steps sent out.old.items out.new.items }
+            → OthersCalled histories (seen_in T.Turns B.Turns places.old) self.old.me
+            → Turned c (alone_in T.Turns B.Turns places.old) (seen_in T.Turns B.Turns places.old)
+            (seen_in T.Turns B.Turns places.new) budget self.new opening text steps sent
+            out.old.items out.new.items }
     {
         let rings = places.rings.as_mut_slice();
         let ended = turn_at(self.me, &mut self.stage, budget, rings, out);

@@ -17,8 +17,8 @@ use Rattle.source_session.specs.Body.{payload, frames_of}
 use Rattle.upstream_relay.specs.Owed.{publishing, after_claim}
 use Rattle.rover_session.specs.Owed.{Terms, if_held, looks, chooses, changed, joins, follows, joins_each, plan_by}
 use Rattle.cast_config.specs.declared.config.Config.{Config}
-use Rattle.session_model.specs.Judged.{Judged, waiting, refused, unanswered, table, source, rover}
-use Rattle.session_model.specs.Owed.{Received, unasked, claimed, taken, entered, full, received_by, if_entered, terms_of, plan_of, closing_by}
+use Rattle.session_model.specs.Judged.{Judged, waiting, finished, source, rover}
+use Rattle.session_model.specs.Owed.{Came, nothing, over, holding, inside, is_let_in, if_entered, terms_of, plan_of, closing_by}
 
 -- no read, and no publishing of what is no frame
 abbrev pub IsGoodCall : RingCall → Type 0
@@ -94,40 +94,25 @@ good_by : (near : Bool) (terms : Terms) (told : List Position) → IsGood (plan_
 good_by false terms told = good_each terms.filter terms.bases
 good_by true terms told = good_follows terms None told
 
-good_entered : (by : Received) (plan : Plan) → IsGood plan → IsGood (if_entered by plan)
-good_entered unasked plan good = tt
-good_entered (claimed claim) plan good = tt
-good_entered (taken caller claim) plan good = tt
-good_entered entered plan good = good
-good_entered (full busy cap) plan good = tt
+good_entered : (let_in : Bool) (plan : Plan) → IsGood plan → IsGood (if_entered let_in plan)
+good_entered true plan good = good
+good_entered false plan good = tt
 
 -- ---- what is owed for bytes, and at the end
 
 pub good_plan : (c : Config) (j : Judged) → IsGood (plan_of c j)
 good_plan c waiting = tt
-good_plan c (refused version reply end) = tt
-good_plan c (unanswered end) = tt
-good_plan c (table version) = tt
+good_plan c (finished reply end) = tt
 good_plan c (source terms body) =
     (tt, good_claim terms.mount (frames_of terms.chunked body) (all-frames (payload terms.chunked body)))
 good_plan c (rover terms tail) = (
   tt,
-  λ answer. good_entered (received_by answer) _
+  λ answer. good_entered (is_let_in answer) _
       (good_by terms.admission.near (terms_of c terms.admission) (option_to_list terms.first ++ reports tail)),
 )
 
-pub good_closing : (j : Judged) (by : Received) (segments : List Segment) → IsGood (closing_by j by segments)
-good_closing waiting by segments = tt
-good_closing (refused version reply end) by segments = tt
-good_closing (unanswered end) by segments = tt
-good_closing (table version) by segments = tt
-good_closing (source terms body) unasked segments = tt
-good_closing (source terms body) (claimed claim) segments = (tt, λ answer. tt)
-good_closing (source terms body) (taken caller claim) segments = tt
-good_closing (source terms body) entered segments = tt
-good_closing (source terms body) (full busy cap) segments = tt
-good_closing (rover terms tail) unasked segments = tt
-good_closing (rover terms tail) (claimed claim) segments = tt
-good_closing (rover terms tail) (taken caller claim) segments = tt
-good_closing (rover terms tail) entered segments = (tt, λ answer. tt)
-good_closing (rover terms tail) (full busy cap) segments = tt
+pub good_closing : (came : Came) (segments : List Segment) → IsGood (closing_by came segments)
+good_closing nothing segments = tt
+good_closing (over reply end) segments = tt
+good_closing (holding terms body claim) segments = (tt, λ answer. tt)
+good_closing (inside terms) segments = (tt, λ answer. tt)

@@ -29,7 +29,7 @@ use Rattle.access_groups.specs.Admission.{admission, source_admission}
 use Rattle.session_model.specs.Headings.{Heading, incomplete, too_long, whole, answered}
 use Rattle.session_model.proofs.HeadingLemmas.{said_from}
 use Rattle.session_model.specs.Judged.{Opening, sends_head, relays, bare_source, bare_rover, SourceTerms, RoverTerms, Judged, waiting, once, source_judged, rover_judged, request_judged, heading_judged, said_judged, relay_judged, mount_fed, judged, bare_admission}
-use Rattle.session_model.specs.Owed.{Received, unasked, claimed, taken, entered, full, received_by, source_plan, if_entered, terms_of, entering_plan, plan_of}
+use Rattle.session_model.specs.Owed.{is_let_in, source_plan, if_entered, terms_of, entering_plan, plan_of}
 
 -- ---- a source
 
@@ -62,19 +62,16 @@ source_begins terms body more = (
 
 -- ---- a rover
 
-entered_begins : (by : Received) (p q : Plan) → Begins p q → Begins (if_entered by p) (if_entered by q)
-entered_begins unasked p q begins = tt
-entered_begins (claimed claim) p q begins = tt
-entered_begins (taken caller claim) p q begins = tt
-entered_begins entered p q begins = begins
-entered_begins (full busy cap) p q begins = tt
+entered_begins : (let_in : Bool) (p q : Plan) → Begins p q → Begins (if_entered let_in p) (if_entered let_in q)
+entered_begins true p q begins = begins
+entered_begins false p q begins = tt
 
 pub entering_begins : (c : Config) (terms : RoverTerms) (tail more : List ℕ)
     → Begins (entering_plan c terms tail) (entering_plan c terms (tail ++ more))
 entering_begins c terms tail more = (
   refl,
   λ answer.
-      entered_begins (received_by answer) _ _ (rover_begins (terms_of c terms.admission) terms.first tail more),
+      entered_begins (is_let_in answer) _ _ (rover_begins (terms_of c terms.admission) terms.first tail more),
 )
 
 -- ---- who is let in

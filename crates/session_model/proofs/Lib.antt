@@ -9,5 +9,6 @@ pub mod KeepLemmas
 pub mod WellLemmas
 pub mod PromiseLemmas
 pub mod MoreLemmas
+pub mod CameLemmas
 pub mod QuietLemmas
 pub mod ReportSums

@@ -23,16 +23,14 @@ use Rattle.access_groups.specs.declared.admission.SourceDenial.TheVariants as so
 use Rattle.access_groups.specs.Admission.{admission, source_admission}
 use Rattle.session_model.specs.declared.ending.Ending.TheVariants as endings
 use Rattle.session_model.specs.Headings.{Heading, incomplete, too_long, whole, answered}
-use Rattle.session_model.specs.Judged.{Opening, sends_head, relays, bare_source, bare_rover, Judged, waiting, refused, unanswered, table, source, rover, once, source_judged, rover_judged, request_judged, heading_judged, said_judged, relay_judged, mount_fed, judged, bare_admission}
+use Rattle.session_model.specs.Judged.{Opening, sends_head, relays, bare_source, bare_rover, Judged, waiting, finished, source, rover, once, source_judged, rover_judged, request_judged, heading_judged, said_judged, relay_judged, mount_fed, judged, bare_admission}
 use Rattle.session_model.specs.Reports.{IsHeadingOf}
 use Rattle.session_model.proofs.LawLemmas.{of_stays, long_says, whole_says, answered_says}
 
 -- so a judgment goes on
 abbrev pub with_more : Judged → List ℕ → Judged
 with_more waiting more = waiting
-with_more (refused version reply end) more = refused version reply end
-with_more (unanswered end) more = unanswered end
-with_more (table version) more = table version
+with_more (finished reply end) more = finished reply end
 with_more (source terms body) more = source terms (body ++ more)
 with_more (rover terms tail) more = rover terms (tail ++ more)
 
@@ -91,7 +89,7 @@ heading_more : (c : Config) (h : Heading) (text more : List ℕ) → heading_jud
     → heading_judged c h (text ++ more) ≡ with_more (heading_judged c h text) more
 heading_more c incomplete text more not = absurd (not refl)
 heading_more c too_long text more not =
-    once_more 8192 text more (λ body. refused (Some One) replies.BadHead endings.LongHead) (λ body. refl) not
+    once_more 8192 text more (λ body. finished (Some (One, replies.BadHead)) endings.LongHead) (λ body. refl) not
 heading_more c (whole at answer) text more not =
     once_more at text more (λ body. request_judged c body answer) (λ body. request_more c body more answer) not
 heading_more c (answered at said) text more not = absurd (not refl)
@@ -100,7 +98,7 @@ relay_more : (mount : ℕ) (h : Heading) (text more : List ℕ) → relay_judged
     → relay_judged mount h (text ++ more) ≡ with_more (relay_judged mount h text) more
 relay_more mount incomplete text more not = absurd (not refl)
 relay_more mount too_long text more not =
-    once_more 8192 text more (λ body. unanswered endings.LongHead) (λ body. refl) not
+    once_more 8192 text more (λ body. finished None endings.LongHead) (λ body. refl) not
 relay_more mount (whole at answer) text more not = absurd (not refl)
 relay_more mount (answered at said) text more not =
     once_more at text more (λ body. said_judged mount body said) (λ body. said_more mount body more said) not

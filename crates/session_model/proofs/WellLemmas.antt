@@ -20,7 +20,7 @@ use Rattle.session_model.specs.declared.ending.Ending.{Ending}
 use Rattle.session_model.specs.declared.ending.Last.TheVariants as lasts
 use Rattle.session_model.specs.Headings.{Heading}
 use Rattle.session_model.specs.Judged.{Opening, sends_head, relays, bare_source, bare_rover, Judged, judged}
-use Rattle.session_model.specs.Owed.{received, plan_of, closing, Happening, arrives, takes_turn, ends, owed}
+use Rattle.session_model.specs.Owed.{came_to, plan_of, closing, Happening, arrives, takes_turn, ends, owed}
 use Rattle.session_model.specs.Run.{Histories, Connected, World, Moved, nothing_called, made, with_calls, judged_of, makes, closed_if, with_text, with_last, moved, moved_if, is_concerned, happens_in, happens, placed_if, placed, is_opened, opened_if, fresh, opens, after_event, after_events, closes, world}
 use Rattle.session_model.proofs.GoodLemmas.{IsGood, good_left, good_plan, good_closing}
 use Rattle.session_model.proofs.KeepLemmas.{Later, later_same, later_both, AllSound, all_later, AreFrames, Kept, plan_keeps, turn_keeps}
@@ -56,7 +56,7 @@ makes_moves c h d plan good frames sound =
     by_kept c h d plan (plan_keeps c d.number h (segments_after [] d.steps) plan good frames sound)
 
 pub closing_good : (j : Judged) (steps : List Step) → IsGood (closing j steps)
-closing_good j steps = good_closing j (received steps) (segments_after [] steps)
+closing_good j steps = good_closing (came_to j steps) (segments_after [] steps)
 
 closed_moves : (end : Option Ending) (c : Config) (j : Judged) (old : Histories) (m : Moved) → Moves c old m
     → Moves c old (closed_if end c j m)

@@ -5,7 +5,7 @@ use Rattle.session_calls.specs.Plans.{IsMade, IsBegun}
 use Rattle.cast_config.specs.declared.config.Config.{Config}
 use Rattle.session_model.specs.Headings.{Heading}
 use Rattle.session_model.specs.Judged.{Opening, judged}
-use Rattle.session_model.specs.Owed.{Happening, arrives, takes_turn, ends, received, owed}
+use Rattle.session_model.specs.Owed.{Happening, arrives, takes_turn, ends, came_to, owed}
 use Rattle.session_model.specs.Endings.{ended_by}
 use Rattle.session_model.specs.Reports.{IsHeadingOf}
 
@@ -40,7 +40,7 @@ pub record IsGoingOn (c : Config) (opening : Opening) (text : List ℕ) (steps :
     : Type 0 where
   pub heading : Heading
   pub is_heading : IsHeadingOf (Some opening) text heading
-  pub unended : ended_by (judged c opening heading text) (received steps) ≡ None
+  pub unended : ended_by (came_to (judged c opening heading text) steps) ≡ None
 
 -- what it made for the event is all that it owes for it, by the heading of all its bytes
 pub record IsOwed (c : Config) (opening : Opening) (text : List ℕ) (steps : List Step)

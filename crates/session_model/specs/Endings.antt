@@ -6,8 +6,8 @@ use Rattle.session_model.specs.declared.ending.Ending.{Ending}
 use Rattle.session_model.specs.declared.ending.Ending.TheVariants as endings
 use Rattle.session_model.specs.declared.ending.Last.{Last}
 use Rattle.session_model.specs.declared.ending.Last.TheVariants as lasts
-use Rattle.session_model.specs.Judged.{Judged, waiting, refused, unanswered, table, source, rover}
-use Rattle.session_model.specs.Owed.{Received, claimed, taken, entered, full, received}
+use Rattle.session_model.specs.Judged.{Judged}
+use Rattle.session_model.specs.Owed.{Came, nothing, over, holding, inside, came_to}
 
 -- ---- by itself
 
@@ -25,42 +25,33 @@ claimed_ending true claim body =
     let reading : Reading = read body in
     body_ending claim (is_ended reading.phase) (is_broken reading.phase) reading.taken
 
-abbrev pub source_ending : Bool → List ℕ → Received → Option Ending
-source_ending chunked body (claimed claim) = claimed_ending chunked claim body
-source_ending chunked body (taken caller claim) = Some (endings.Taken caller claim)
-source_ending chunked body _ = None
-
-abbrev pub rover_ending : Received → Option Ending
-rover_ending (full busy cap) = Some (endings.Full busy cap)
-rover_ending _ = None
-
-abbrev pub ended_by : Judged → Received → Option Ending
-ended_by waiting by = None
-ended_by (refused version reply end) by = Some end
-ended_by (unanswered end) by = Some end
-ended_by (table version) by = Some endings.TableSent
-ended_by (source terms body) by = source_ending terms.chunked body by
-ended_by (rover terms tail) by = rover_ending by
+abbrev pub ended_by : Came → Option Ending
+ended_by (over reply end) = Some end
+ended_by (holding terms body claim) = claimed_ending terms.chunked claim body
+ended_by _ = None
 
 -- ---- as it was closed
 
-abbrev pub at_end : Received → Ending
-at_end (claimed claim) = endings.SourceEnd claim
-at_end entered = endings.RoverEnd
-at_end _ = endings.NoHead
+-- one that comes to its end
+abbrev pub at_end : Came → Ending
+at_end nothing = endings.NoHead
+at_end (over reply end) = end
+at_end (holding terms body claim) = endings.SourceEnd claim
+at_end (inside terms) = endings.RoverEnd
 
-abbrev pub ended_last : Last → Received → Ending
-ended_last lasts.End by = at_end by
-ended_last lasts.ReadFault by = endings.ReadFault
-ended_last lasts.WriteFault by = endings.WriteFault
+abbrev pub ended_last : Last → Ending → Ending
+ended_last lasts.End end = end
+ended_last lasts.ReadFault end = endings.ReadFault
+ended_last lasts.WriteFault end = endings.WriteFault
 
 -- ---- both
 
 -- what ended it first
 abbrev pub ending_of : Judged → List Step → Last → Ending
 ending_of judged steps last =
-    unwrap_or (ended_by judged (received steps)) (ended_last last (received steps))
+    let came : Came = came_to judged steps in
+    unwrap_or (ended_by came) (ended_last last (at_end came))
 
 -- whether it goes on, closed so or not
 abbrev pub goes_on : Judged → List Step → Option Last → Bool
-goes_on judged steps closed = is_none closed && is_none (ended_by judged (received steps))
+goes_on judged steps closed = is_none closed && is_none (ended_by (came_to judged steps))

@@ -47,15 +47,16 @@ pub record RoverTerms : Type 0 where
   pub admission : Admission
   pub first : Option Position
 
+-- the reply that is made in this version of NTRIP; none is made without a version
+abbrev pub replied : Option Version → Reply → Option (Version × Reply)
+replied None reply = None
+replied (Some version) reply = Some (version, reply)
+
 pub data Judged : Type 0 where
   -- nothing can be said yet
   waiting : Judged
-  -- it is refused with this reply, if it is replied to, and ends so
-  refused : Option Version → Reply → Ending → Judged
-  -- another caster's answer ends it so; no reply is sent to a caster
-  unanswered : Ending → Judged
-  -- it is sent the sourcetable
-  table : Version → Judged
+  -- it is sent this reply, if one is made, and ends so
+  finished : Option (Version × Reply) → Ending → Judged
   -- with all bytes behind the head
   source : SourceTerms → List ℕ → Judged
   rover : RoverTerms → List ℕ → Judged
@@ -66,35 +67,36 @@ abbrev pub source_judged : Option Version → Bool → List ℕ → Result ℕ S
 source_judged version chunked body (Ok mount) =
     source (record { version = version; mount = mount; chunked = chunked }) body
 source_judged version chunked body (Err sources.NoMount) =
-    refused version replies.SourceNoMount endings.NoMount
+    finished (replied version replies.SourceNoMount) endings.NoMount
 source_judged version chunked body (Err sources.Password) =
-    refused version replies.SourcePassword endings.SourcePassword
+    finished (replied version replies.SourcePassword) endings.SourcePassword
 
 abbrev pub rover_judged : Option Version → Option Position → List ℕ → Result Admission Denial
     → Judged
 rover_judged version first tail (Ok admission) =
     rover (record { version = version; admission = admission; first = first }) tail
 rover_judged version first tail (Err denials.NoMount) =
-    refused version replies.RoverNoMount endings.NoMount
+    finished (replied version replies.RoverNoMount) endings.NoMount
 rover_judged version first tail (Err denials.NoAccount) =
-    refused version replies.Unauthorized endings.NoAccount
+    finished (replied version replies.Unauthorized) endings.NoAccount
 rover_judged version first tail (Err (denials.Password account)) =
-    refused version replies.Unauthorized (endings.Password account)
+    finished (replied version replies.Unauthorized) (endings.Password account)
 rover_judged version first tail (Err (denials.Group group)) =
-    refused version replies.Denied (endings.Denied group)
+    finished (replied version replies.Denied) (endings.Denied group)
 rover_judged version first tail (Err denials.Memory) = waiting
 
 -- ---- what a head asks for
 
 abbrev pub fault_judged : HeadFault → Judged
-fault_judged heads.Bad = refused (Some One) replies.BadHead endings.BadHead
-fault_judged heads.Method = refused (Some One) replies.Method endings.Method
-fault_judged heads.Coding = refused (Some One) replies.Coding endings.Coding
+fault_judged heads.Bad = finished (Some (One, replies.BadHead)) endings.BadHead
+fault_judged heads.Method = finished (Some (One, replies.Method)) endings.Method
+fault_judged heads.Coding = finished (Some (One, replies.Coding)) endings.Coding
 fault_judged heads.Memory = waiting
 
 abbrev pub request_judged : Config → List ℕ → Result Request HeadFault → Judged
 request_judged c body (Err fault) = fault_judged fault
-request_judged c body (Ok (requests.Table version)) = table version
+request_judged c body (Ok (requests.Table version)) =
+    finished (Some (version, replies.Table)) endings.TableSent
 request_judged c body (Ok (requests.Rover version mount auth first)) =
     rover_judged (Some version) first body (admission c auth mount)
 request_judged c body (Ok (requests.Source version mount password chunked)) =
@@ -110,7 +112,7 @@ once false judged = waiting
 abbrev pub heading_judged : Config → Heading → List ℕ → Judged
 heading_judged c incomplete text = waiting
 heading_judged c too_long text =
-    once (nat_le 8192 (length text)) (refused (Some One) replies.BadHead endings.LongHead)
+    once (nat_le 8192 (length text)) (finished (Some (One, replies.BadHead)) endings.LongHead)
 heading_judged c (whole at answer) text =
     once (nat_le at (length text)) (request_judged c (drop at text) answer)
 heading_judged c (answered at said) text = waiting
@@ -124,16 +126,17 @@ ending_by_answer refusals.Coding = endings.Coding
 ending_by_answer refusals.Table = endings.UpstreamTable
 ending_by_answer (refusals.Status status) = endings.Upstream status
 
--- the caster's frames are those of a source of the mountpoint that the relay feeds
+-- the caster's frames are those of a source of the mountpoint that the relay feeds; no reply is sent
+-- to a caster
 abbrev pub said_judged : ℕ → List ℕ → Said → Judged
 said_judged mount body (Ok chunked) =
     source (record { version = None; mount = mount; chunked = chunked }) body
-said_judged mount body (Err refusal) = unanswered (ending_by_answer refusal)
+said_judged mount body (Err refusal) = finished None (ending_by_answer refusal)
 
 abbrev pub relay_judged : ℕ → Heading → List ℕ → Judged
 relay_judged mount incomplete text = waiting
 relay_judged mount too_long text =
-    once (nat_le 8192 (length text)) (unanswered endings.LongHead)
+    once (nat_le 8192 (length text)) (finished None endings.LongHead)
 relay_judged mount (whole at answer) text = waiting
 relay_judged mount (answered at said) text =
     once (nat_le at (length text)) (said_judged mount (drop at text) said)

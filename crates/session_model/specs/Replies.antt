@@ -20,43 +20,31 @@ use Rattle.cast_config.specs.declared.config.Config.{Config}
 use Rattle.cast_config.specs.declared.config.Relay.{Relay}
 use Rattle.session_model.specs.Setting.{shapes}
 use Rattle.session_model.specs.Setting as setting
-use Rattle.session_model.specs.Judged.{Opening, relays, Judged, waiting, refused, unanswered, table, source, rover}
-use Rattle.session_model.specs.Owed.{Received, claimed, taken, entered, full}
+use Rattle.session_model.specs.Judged.{Opening, relays, replied}
+use Rattle.session_model.specs.Owed.{Came, nothing, over, holding, inside}
 
 -- ---- the reply
 
 -- nothing where no reply is made
+abbrev pub replied_text : Option (Version × Reply) → List ℕ → List ℕ
+replied_text None sourcetable = []
+replied_text (Some (version, reply)) sourcetable = reply_text version reply sourcetable
+
 abbrev pub text_if : Option Version → Reply → List ℕ → List ℕ
-text_if None reply sourcetable = []
-text_if (Some version) reply sourcetable = reply_text version reply sourcetable
+text_if version reply sourcetable = replied_text (replied version reply) sourcetable
 
-abbrev pub source_reply : Option Version → Received → List ℕ
-source_reply version (claimed claim) = text_if version replies.SourceOk []
-source_reply version (taken caller claim) = text_if version replies.Taken []
-source_reply version _ = []
-
-abbrev pub rover_reply : Option Version → Received → List ℕ
-rover_reply version entered = text_if version replies.RoverOk []
-rover_reply version (full busy cap) = text_if version replies.Full []
-rover_reply version _ = []
-
-abbrev pub reply_of : Config → Judged → Received → List ℕ
-reply_of c waiting by = []
-reply_of c (refused version reply end) by = text_if version reply (setting.table c)
-reply_of c (unanswered end) by = []
-reply_of c (table version) by = reply_text version replies.Table (setting.table c)
-reply_of c (source terms body) by = source_reply terms.version by
-reply_of c (rover terms tail) by = rover_reply terms.version by
+abbrev pub reply_of : Config → Came → List ℕ
+reply_of c nothing = []
+reply_of c (over reply end) = replied_text reply (setting.table c)
+reply_of c (holding terms body claim) = text_if terms.version replies.SourceOk []
+reply_of c (inside terms) = text_if terms.version replies.RoverOk []
 
 -- ---- the body
 
-abbrev pub version_of : Judged → Option Version
-version_of waiting = None
-version_of (refused version reply end) = version
-version_of (unanswered end) = None
-version_of (table version) = Some version
-version_of (source terms body) = terms.version
-version_of (rover terms tail) = terms.version
+-- in which version it goes out: a bare rover is sent its frames as one of NTRIP 1.0 is
+abbrev pub version_of : Came → Version
+version_of (inside terms) = unwrap_or terms.version One
+version_of _ = One
 
 -- the frames that a segment kept of all that its mountpoint's history published
 abbrev pub kept_of : Config → List (History RingCall) → Segment → List (List ℕ)
@@ -78,9 +66,7 @@ abbrev pub opening_text : Config → Opening → List ℕ
 opening_text c (relays n) = request_if (slice_get c.relay n)
 opening_text c _ = []
 
--- a bare rover is sent its frames as one of NTRIP 1.0 is
-abbrev pub sent_by : Config → List (History RingCall) → Opening → Judged → Received → List Segment
-    → List ℕ
-sent_by c histories opening judged by segments =
-    opening_text c opening ++ reply_of c judged by
-    ++ body_of (unwrap_or (version_of judged) One) (kept_frames c histories segments)
+abbrev pub sent_by : Config → List (History RingCall) → Opening → Came → List Segment → List ℕ
+sent_by c histories opening came segments =
+    opening_text c opening ++ reply_of c came
+    ++ body_of (version_of came) (kept_frames c histories segments)

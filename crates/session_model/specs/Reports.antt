@@ -23,8 +23,8 @@ use Rattle.session_model.specs.declared.report.Closed.{Closed}
 use Rattle.session_model.specs.declared.report.Connection.{Connection}
 use Rattle.session_model.specs.declared.report.Report.{Report}
 use Rattle.session_model.specs.Headings.{Heading, incomplete, IsHeading, IsAnswering}
-use Rattle.session_model.specs.Judged.{Opening, sends_head, relays, bare_source, bare_rover, Judged, source, judged}
-use Rattle.session_model.specs.Owed.{Received, claimed, entered, received}
+use Rattle.session_model.specs.Judged.{Opening, sends_head, relays, bare_source, bare_rover, Judged, judged}
+use Rattle.session_model.specs.Owed.{Came, holding, inside, came_to}
 use Rattle.session_model.specs.Endings.{ending_of}
 use Rattle.session_model.specs.Replies.{sent_by}
 use Rattle.session_model.specs.Run.{Histories, Connected, World, judged_of, world}
@@ -32,16 +32,12 @@ use Rattle.session_model.specs.Run.{Histories, Connected, World, judged_of, worl
 -- ---- of one connection
 
 -- the junk of the payload of a source that was given its claim
-abbrev pub junk_if : Received → Bool → List ℕ → ℕ
-junk_if (claimed claim) chunked body = (cut (payload chunked body)).junk
-junk_if _ chunked body = 0
+abbrev pub junk_of : Came → ℕ
+junk_of (holding terms body claim) = (cut (payload terms.chunked body)).junk
+junk_of _ = 0
 
-abbrev pub junk_of : Judged → Received → ℕ
-junk_of (source terms body) by = junk_if by terms.chunked body
-junk_of _ by = 0
-
-abbrev pub is_entered : Received → Bool
-is_entered entered = true
+abbrev pub is_entered : Came → Bool
+is_entered (inside terms) = true
 is_entered _ = false
 
 -- what a connection came to that was closed so, with every closing turn taken
@@ -53,8 +49,8 @@ receipt_of judged steps last =
       segments = reverse segments;
       sent = sent_in segments;
       overrun = overrun_in segments;
-      junk = junk_of judged (received steps);
-      entered = is_entered (received steps);
+      junk = junk_of (came_to judged steps);
+      entered = is_entered (came_to judged steps);
       settled = true;
     }
 
@@ -65,7 +61,7 @@ told_of c headings h d =
     record {
       number = d.number;
       receipt = receipt;
-      bytes = sent_by c h.rings d.opening judged (received d.steps) receipt.segments;
+      bytes = sent_by c h.rings d.opening (came_to judged d.steps) receipt.segments;
     }
 
 -- ---- of the caster

@@ -19,7 +19,7 @@ use Rattle.session_model.specs.declared.ending.Last.TheVariants as lasts
 use Rattle.session_model.specs.Setting.{shapes, caps}
 use Rattle.session_model.specs.Headings.{Heading}
 use Rattle.session_model.specs.Judged.{Opening, sends_head, relays, bare_source, bare_rover, Judged, judged}
-use Rattle.session_model.specs.Owed.{received, Happening, arrives, takes_turn, ends, closing, owed}
+use Rattle.session_model.specs.Owed.{came_to, Happening, arrives, takes_turn, ends, closing, owed}
 use Rattle.session_model.specs.Endings.{ended_by, goes_on}
 
 -- ---- what was called
@@ -107,7 +107,7 @@ abbrev pub goes_to : Config → Heading → Histories → Connected → Plan →
 goes_to c heading h now plan =
     let moved = makes c h now plan in
     let judged = judged_of c heading now in
-    closed_if (ended_by judged (received moved.connection.steps)) c judged moved
+    closed_if (ended_by (came_to judged moved.connection.steps)) c judged moved
 
 abbrev pub with_text : Connected → List ℕ → Connected
 with_text d text = record {

@@ -7,7 +7,7 @@ use Rattle.cast_config.specs.declared.config.Config.{Config}
 use Rattle.cast_config.specs.Kept.{KeepsRules}
 use Rattle.session_core.specs.declared.rover_state.RoverState.{RoverState}
 use Rattle.session_model.specs.Headings.{Heading}
-use Rattle.session_model.specs.Owed.{Happening, arrives, takes_turn, ends}
+use Rattle.session_model.specs.Owed.{first_answer, Happening, arrives, takes_turn, ends}
 use Rattle.session_model.specs.Endings.{goes_on}
 use Rattle.session_model.specs.Reports.{told_of}
 use Rattle.session_model.specs.Run.{Histories, Connected, World, Moved, judged_of, moved, moved_if, happens_in, is_opened}
@@ -151,7 +151,7 @@ module _ (c : Config) (headings : ℕ → Heading) (old now : Histories) where
     where
       by_goes : (goes : Bool) (d : Connected)
           → greeting_for c old now (cond goes (rover_of c (headings d.number) d) None)
-          ≡ sent_greeting goes c old now (version_in (judged_of c (headings d.number) d)) (segments_of d)
+          ≡ sent_greeting goes c old now (version_in (judged_of c (headings d.number) d) (first_answer d.steps)) (segments_of d)
       by_goes true d = refl
       by_goes false d = refl
 
@@ -231,7 +231,7 @@ module _ (c : Config) (cap : ℕ) (heading : Heading) (h : Histories) (d : Conne
   over_extra : (what : Happening) → goes_on (judged_of c heading d) d.steps d.closed ≡ false
       → IsExtra what extra (greeting_to c heading h h d) → extra ≡ []
   over_extra (arrives more) over is =
-      is ∙ ap (λ (b : Bool). sent_greeting b c h h (version_in (judged_of c heading d)) (segments_of d)) over
+      is ∙ ap (λ (b : Bool). sent_greeting b c h h (version_in (judged_of c heading d) (first_answer d.steps)) (segments_of d)) over
   over_extra (takes_turn budget) over is = is
   over_extra (ends last) over is = is
 

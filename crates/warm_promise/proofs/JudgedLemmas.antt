@@ -23,13 +23,10 @@ use Rattle.access_groups.specs.declared.admission.SourceDenial.{SourceDenial}
 use Rattle.access_groups.specs.declared.admission.SourceDenial.TheVariants as sources
 use Rattle.access_groups.specs.Admission.{admission, source_admission}
 use Rattle.caster_accounts.specs.declared.call.BookCall.TheVariants.{Enter}
-use Rattle.mount_ring.specs.declared.call.RingCall.TheVariants.{Claim}
-use Rattle.mount_ring.specs.declared.call.RingAnswer.{RingAnswer}
 use Rattle.mount_ring.specs.declared.call.RingAnswer.TheVariants.{Given, Taken, Released, At, Joined, Looked, Read}
-use Rattle.session_calls.specs.Steps.{Answer, of_ring, Step, to_ring, to_book, at_ring, at_book}
+use Rattle.caster_accounts.specs.declared.call.BookAnswer.TheVariants.{Entered}
+use Rattle.session_calls.specs.Steps.{Answer, of_ring, of_book, Step, to_book}
 use Rattle.session_calls.specs.Plans.{Plan, asks, IsMade}
-use Rattle.source_session.specs.Body.{frames_of}
-use Rattle.upstream_relay.specs.Owed.{after_claim}
 use Rattle.rover_session.specs.Owed.{plan_by}
 use Rattle.rover_session.specs.Made.{segments_after, owed_among}
 use Rattle.rover_session.proofs.MadeLemmas.{owed-append}
@@ -37,8 +34,9 @@ use Rattle.cast_config.specs.declared.config.Config.{Config}
 use Rattle.session_model.specs.declared.ending.Ending.TheVariants as endings
 use Rattle.session_model.specs.declared.ending.Last.{Last}
 use Rattle.session_model.specs.Headings.{Heading, incomplete, too_long, whole, answered}
-use Rattle.session_model.specs.Judged.{Opening, sends_head, relays, bare_source, bare_rover, RoverTerms, Judged, waiting, refused, unanswered, table, source, rover, source_judged, rover_judged, request_judged, once, heading_judged, said_judged, relay_judged, mount_fed, bare_admission, judged}
-use Rattle.session_model.specs.Owed.{Received, entered, received, received_by, if_entered, terms_of, plan_of, closing}
+use Rattle.session_model.specs.Judged.{Opening, sends_head, relays, bare_source, bare_rover, SourceTerms, RoverTerms, Judged, waiting, finished, source, rover, source_judged, rover_judged, request_judged, once, heading_judged, said_judged, relay_judged, mount_fed, bare_admission, judged}
+use Rattle.session_model.specs.Owed.{came_by, first_answer, came_to, is_let_in, if_entered, terms_of, plan_of, closing}
+use Rattle.session_model.proofs.CameLemmas.{entered_parts, rover_same as came_same}
 use Rattle.session_model.specs.Endings.{goes_on}
 use Rattle.session_model.specs.Replies.{reply_of, version_of}
 use Rattle.session_model.specs.Reports.{is_entered}
@@ -54,9 +52,7 @@ use Rattle.warm_promise.specs.Greeted.{joins_by_bytes}
 
 abbrev pub near_of : Judged → Bool
 near_of waiting = true
-near_of (refused version reply end) = true
-near_of (unanswered end) = true
-near_of (table version) = true
+near_of (finished reply end) = true
 near_of (source terms body) = true
 near_of (rover terms tail) = terms.admission.near
 
@@ -95,8 +91,8 @@ far_near (bare_rover mount) j is = is
 
 -- it is replied to as before, and one that does not join by bytes owes no more
 pub record Same (c : Config) (o : Opening) (j k : Judged) : Type 0 where
-  pub version : version_of k ≡ version_of j
-  pub reply : (by : Received) → reply_of c k by ≡ reply_of c j by
+  pub version : (by : Option Answer) → version_of (came_by k by) ≡ version_of (came_by j by)
+  pub reply : (by : Option Answer) → reply_of c (came_by k by) ≡ reply_of c (came_by j by)
   pub bytes : by_bytes o k ≡ by_bytes o j
   pub far : by_bytes o j ≡ false → plan_of c k ≡ plan_of c j
 
@@ -105,7 +101,7 @@ abbrev pub Grows : Config → Opening → Judged → Judged → Type 0
 Grows c o j k = ((j ≡ waiting) × (by_bytes o k ≡ true)) ⊎ Same c o j k
 
 pub same_self : (c : Config) (o : Opening) (j : Judged) → Same c o j j
-same_self c o j = record { version = refl; reply = λ by. refl; bytes = refl; far = λ is. refl }
+same_self c o j = record { version = λ by. refl; reply = λ by. refl; bytes = refl; far = λ is. refl }
 
 far_plan : (near : Bool) (terms : _) (one two : List Position) → near ≡ false
     → plan_by near terms one ≡ plan_by near terms two
@@ -115,21 +111,34 @@ far_plan true terms one two is = absurd cc
 rover_same : (c : Config) (o : Opening) (terms : RoverTerms) (tail more : List ℕ)
     → Same c o (rover terms tail) (rover terms more)
 rover_same c o terms tail more = record {
-  version = refl;
-  reply = λ by. refl;
+  version = λ by. ap version_of (came_same terms tail more by);
+  reply = λ by. ap (reply_of c) (came_same terms tail more by);
   bytes = by_same o (rover terms tail) (rover terms more) refl;
   far = λ is. ap (λ (p : Plan). asks (to_book (Enter terms.admission.account))
-      (λ answer. if_entered (received_by answer) p))
+      (λ answer. if_entered (is_let_in answer) p))
       (far_plan terms.admission.near (terms_of c terms.admission) (option_to_list terms.first ++ reports more)
       (option_to_list terms.first ++ reports tail) (far_near o (rover terms tail) is));
 }
+
+source_alike : (c : Config) (terms : SourceTerms) (body other : List ℕ) (by : Option Answer)
+    → (version_of (came_by (source terms other) by) ≡ version_of (came_by (source terms body) by))
+    × (reply_of c (came_by (source terms other) by) ≡ reply_of c (came_by (source terms body) by))
+source_alike c terms body other None = (refl, refl)
+source_alike c terms body other (Some (of_ring (Given claim))) = (refl, refl)
+source_alike c terms body other (Some (of_ring (Taken caller claim))) = (refl, refl)
+source_alike c terms body other (Some (of_ring Released)) = (refl, refl)
+source_alike c terms body other (Some (of_ring (At place))) = (refl, refl)
+source_alike c terms body other (Some (of_ring (Joined cursor))) = (refl, refl)
+source_alike c terms body other (Some (of_ring (Looked live))) = (refl, refl)
+source_alike c terms body other (Some (of_ring (Read report))) = (refl, refl)
+source_alike c terms body other (Some (of_book answer)) = (refl, refl)
 
 source_grows : (c : Config) (o : Opening) (version : Option Version) (chunked : Bool) (body more : List ℕ)
     (r : Result ℕ SourceDenial)
     → Grows c o (source_judged version chunked body r) (source_judged version chunked (body ++ more) r)
 source_grows c o version chunked body more (Ok mount) = inr (record {
-  version = refl;
-  reply = λ by. refl;
+  version = λ by. (source_alike c _ body (body ++ more) by).0;
+  reply = λ by. (source_alike c _ body (body ++ more) by).1;
   bytes = by_same o (source_judged version chunked body (Ok mount)) (source_judged version chunked (body ++ more)
       (Ok mount)) refl;
   far = λ is. absurd (false≢true
@@ -184,7 +193,7 @@ heading_grows : (c : Config) (h : Heading) (text more : List ℕ)
     → Grows c sends_head (heading_judged c h text) (heading_judged c h (text ++ more))
 heading_grows c incomplete text more = inl (refl, refl)
 heading_grows c too_long text more =
-    once_grows c sends_head 8192 text more (λ body. refused (Some One) replies.BadHead endings.LongHead) (λ j. refl)
+    once_grows c sends_head 8192 text more (λ body. finished (Some (One, replies.BadHead)) endings.LongHead) (λ j. refl)
     (λ body. inr (same_self c sends_head _))
 heading_grows c (whole at answer) text more =
     once_grows c sends_head at text more (λ body. request_judged c body answer) (λ j. refl)
@@ -195,7 +204,7 @@ relay_grows : (c : Config) (n mount : ℕ) (h : Heading) (text more : List ℕ)
     → Grows c (relays n) (relay_judged mount h text) (relay_judged mount h (text ++ more))
 relay_grows c n mount incomplete text more = inl (refl, refl)
 relay_grows c n mount too_long text more =
-    once_grows c (relays n) 8192 text more (λ body. unanswered endings.LongHead) (λ j. refl)
+    once_grows c (relays n) 8192 text more (λ body. finished None endings.LongHead) (λ j. refl)
     (λ body. inr (same_self c (relays n) _))
 relay_grows c n mount (whole at answer) text more = inl (refl, refl)
 relay_grows c n mount (answered at said) text more =
@@ -224,17 +233,15 @@ none_goes false is = absurd cc
 pub going_called : (c : Config) (j : Judged) (steps : List Step) (closed : Option Last)
     → goes_on j steps closed ≡ true → IsMade (plan_of c j) (owed_among steps) → (j ≡ waiting) ⊎ IsSome steps
 going_called c waiting steps closed goes made = inl refl
-going_called c (refused version reply end) steps closed goes made = absurd (none_goes (is_none closed) goes)
-going_called c (unanswered end) steps closed goes made = absurd (none_goes (is_none closed) goes)
-going_called c (table version) steps closed goes made = absurd (none_goes (is_none closed) goes)
+going_called c (finished reply end) steps closed goes made = absurd (none_goes (is_none closed) goes)
 going_called c (source terms body) [] closed goes made = absurd made
 going_called c (source terms body) (step ∷ steps) closed goes made = inr (step, steps, refl)
 going_called c (rover terms tail) [] closed goes made = absurd made
 going_called c (rover terms tail) (step ∷ steps) closed goes made = inr (step, steps, refl)
 
-pub received_some : (steps more : List Step) → IsSome steps → received (steps ++ more) ≡ received steps
+pub received_some : (steps more : List Step) → IsSome steps → first_answer (steps ++ more) ≡ first_answer steps
 received_some steps more (step, rest, is) =
-    ap (λ (l : List Step). received (l ++ more)) is ∙ sym (ap received is)
+    ap (λ (l : List Step). first_answer (l ++ more)) is ∙ sym (ap first_answer is)
 
 -- ---- who has segments
 
@@ -242,7 +249,8 @@ received_some steps more (step, rest, is) =
 abbrev pub IsOne : Judged → List Step → Type 0
 IsOne j steps =
     (segments_after [] steps ≡ [])
-    ⊎ ((terms : RoverTerms) × (tail : List ℕ) × (j ≡ rover terms tail) × (received steps ≡ entered))
+    ⊎ ((terms : RoverTerms) × (tail : List ℕ) × (j ≡ rover terms tail)
+    × (first_answer steps ≡ Some (of_book Entered)))
 
 module _ (c : Config) (heading : Heading) (h : Histories) (d : Connected) (s : Stood c heading h d) where
   owed_is : owed_among d.steps ≡ owed_among s.first ++ owed_among s.last
@@ -253,7 +261,7 @@ module _ (c : Config) (heading : Heading) (h : Histories) (d : Connected) (s : S
     | inl (none, goes) ↦ subst (λ (l : List Step). AreJoins IsNever (owed_among l)) (sym none) tt
     | inr (over, made) ↦
         last_such IsNever (closing (judged_of c heading d) s.first) s.last
-        (closing_such IsNever (judged_of c heading d) (received s.first) (segments_after [] s.first)) made
+        (closing_such IsNever (came_to (judged_of c heading d) s.first) (segments_after [] s.first)) made
   ]
 
   pub no_segments : AreJoins IsNever (owed_among s.first) → segments_after [] d.steps ≡ []
@@ -270,16 +278,14 @@ module _ (c : Config) (heading : Heading) (h : Histories) (d : Connected) (s : S
 
   one_by : (j : Judged) → IsMade (plan_of c j) (owed_among s.first) → IsOne j d.steps
   one_by waiting made = inl (no_segments (subst (AreJoins IsNever) (sym made) tt))
-  one_by (refused version reply end) made = inl (no_segments (subst (AreJoins IsNever) (sym made) tt))
-  one_by (unanswered end) made = inl (no_segments (subst (AreJoins IsNever) (sym made) tt))
-  one_by (table version) made = inl (no_segments (subst (AreJoins IsNever) (sym made) tt))
+  one_by (finished reply end) made = inl (no_segments (subst (AreJoins IsNever) (sym made) tt))
   one_by (source terms body) made = inl (no_segments (source_joins c terms body (owed_among s.first) made))
   one_by (rover terms tail) made = elim (entry_made c terms tail (owed_among s.first) first_answered made) [
     | inl entry ↦ inr (
       terms,
       tail,
       refl,
-      sym (received_owed d.steps s.walked.on) ∙ ap received (owed_is
+      sym (received_owed d.steps s.walked.on) ∙ ap first_answer (owed_is
           ∙ ap (λ (l : List Step). l ++ owed_among s.last) entry.steps_are),
     )
     | inr other ↦ inl (no_segments (subst (AreJoins IsNever) (sym other.steps_are) (tt, tt)))
@@ -290,69 +296,10 @@ module _ (c : Config) (heading : Heading) (h : Histories) (d : Connected) (s : S
 
   -- ---- who entered
 
-  received_is : received d.steps ≡ received (owed_among s.first ++ owed_among s.last)
-  received_is = sym (received_owed d.steps s.walked.on) ∙ ap received owed_is
-
   abbrev IsEntered : Judged → Type 0
-  IsEntered j = (terms : RoverTerms) × (tail : List ℕ) × (j ≡ rover terms tail) × (received d.steps ≡ entered)
+  IsEntered j =
+      (terms : RoverTerms) × (tail : List ℕ) × (j ≡ rover terms tail)
+      × (first_answer d.steps ≡ Some (of_book Entered))
 
-  quiet_out : owed_among s.first ≡ [] → s.last ≡ [] → is_entered (received d.steps) ≡ true → ⊥
-  quiet_out none over is =
-      false≢true (sym (ap is_entered (received_is
-      ∙ ap (λ (l : List Step). received (l ++ owed_among s.last)) none
-      ∙ ap (λ (l : List Step). received (owed_among l)) over)) ∙ is)
-
-  abbrev EndsBy : Judged → Type 0
-  EndsBy j = (s.last ≡ []) ⊎ IsMade (closing j s.first) s.last
-
-  none_last : (j : Judged) → EndsBy j → (IsMade (closing j s.first) s.last → s.last ≡ []) → s.last ≡ []
-  none_last j (inl none) from = none
-  none_last j (inr made) from = from made
-
-  ring_out : (answer : RingAnswer) → is_entered (received_by (of_ring answer)) ≡ true → ⊥
-  ring_out (Given claim) is = cc
-  ring_out (Taken caller claim) is = cc
-  ring_out Released is = cc
-  ring_out (At place) is = cc
-  ring_out (Joined cursor) is = cc
-  ring_out (Looked live) is = cc
-  ring_out (Read report) is = cc
-
-  source_out : (mount : ℕ) (next : Answer → Plan) (steps : List Step) → IsMade (asks (to_ring mount Claim) next) steps
-      → is_entered (received (steps ++ owed_among s.last)) ≡ true → ⊥
-  source_out mount next [] made is = absurd made
-  source_out mount next (at_ring at call answer ∷ steps) made is = ring_out answer is
-  source_out mount next (at_book call answer ∷ steps) made is = book_ring made.0
-    where
-      book_ring : to_book call ≡ to_ring mount Claim → ⊥
-      book_ring so = cc
-
-  entered_by : (j : Judged) → IsMade (plan_of c j) (owed_among s.first) → EndsBy j
-      → is_entered (received d.steps) ≡ true → IsEntered j
-  entered_by waiting made ends is = absurd (quiet_out made (none_last waiting ends (λ m. m)) is)
-  entered_by (refused version reply end) made ends is =
-      absurd (quiet_out made (none_last (refused version reply end) ends (λ m. m)) is)
-  entered_by (unanswered end) made ends is = absurd (quiet_out made (none_last (unanswered end) ends (λ m. m)) is)
-  entered_by (table version) made ends is = absurd (quiet_out made (none_last (table version) ends (λ m. m)) is)
-  entered_by (source terms body) made ends is =
-      absurd (source_out terms.mount (after_claim terms.mount (frames_of terms.chunked body)) (owed_among s.first) made
-      (sym (ap is_entered received_is) ∙ is))
-  entered_by (rover terms tail) made ends is =
-      elim (entry_made c terms tail (owed_among s.first) first_answered made) [
-        | inl entry ↦ (
-          terms,
-          tail,
-          refl,
-          received_is ∙ ap (λ (l : List Step). received (l ++ owed_among s.last)) entry.steps_are,
-        )
-        | inr other ↦
-            absurd (false≢true (sym (ap is_entered (received_is
-            ∙ ap (λ (l : List Step). received (l ++ owed_among s.last)) other.steps_are)) ∙ is))
-      ]
-
-  pub has_entered : is_entered (received d.steps) ≡ true → IsEntered (judged_of c heading d)
-  has_entered is =
-      entered_by (judged_of c heading d) s.made_is (elim s.ends [
-        | inl (none, goes) ↦ inl none
-        | inr (over, made) ↦ inr made
-      ]) is
+  pub has_entered : is_entered (came_to (judged_of c heading d) d.steps) ≡ true → IsEntered (judged_of c heading d)
+  has_entered is = entered_parts (judged_of c heading d) (first_answer d.steps) is

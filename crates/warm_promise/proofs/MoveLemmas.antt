@@ -8,7 +8,7 @@ use Rattle.mount_ring.specs.Reads.{read_report, read_frames}
 use Rattle.rover_cursor.specs.declared.segment.Segment.{Segment}
 use Rattle.rover_cursor.specs.Segments.{read_on}
 use Rattle.rover_cursor.proofs.SoundLemmas.{kept-read, IsSound-read}
-use Rattle.session_calls.specs.Steps.{Step, answer_of}
+use Rattle.session_calls.specs.Steps.{Answer, Step, answer_of}
 use Rattle.session_calls.specs.Plans.{Plan, done, asks, left, IsMade}
 use Rattle.session_calls.specs.Rings.{shape_at}
 use Rattle.rover_session.specs.Owed.{reads}
@@ -22,7 +22,7 @@ use Rattle.session_model.specs.declared.ending.Last.{Last}
 use Rattle.session_model.specs.Setting.{shapes}
 use Rattle.session_model.specs.Headings.{Heading}
 use Rattle.session_model.specs.Judged.{Opening, RoverTerms, Judged, waiting, rover, judged}
-use Rattle.session_model.specs.Owed.{Received, received, plan_of, closing, arrives, takes_turn, ends}
+use Rattle.session_model.specs.Owed.{came_by, first_answer, came_to, plan_of, closing, arrives, takes_turn, ends}
 use Rattle.session_model.specs.Endings.{ended_by, goes_on}
 use Rattle.session_model.specs.Promises.{permits_of, published_at, IsSoundIn}
 use Rattle.session_model.specs.Run.{Histories, Connected, Moved, with_calls, made, judged_of, makes, closed_if, with_text, moved}
@@ -47,16 +47,16 @@ segments_of d = segments_after [] d.steps
 -- with greetings it was sent these bytes, and without greetings those
 abbrev pub SentOf : Config → Heading → Histories → Connected → List ℕ → Type 0
 SentOf c heading h d bytes =
-    Sent c h.rings d.opening (judged_of c heading d) (received d.steps) (segments_of d) bytes
+    Sent c h.rings d.opening (judged_of c heading d) (first_answer d.steps) (segments_of d) bytes
 
 abbrev pub plain_of : Config → Heading → Histories → Connected → List ℕ
 plain_of c heading h d =
-    plain c h.rings d.opening (judged_of c heading d) (received d.steps) (segments_of d)
+    plain c h.rings d.opening (judged_of c heading d) (first_answer d.steps) (segments_of d)
 
 -- its greeting by what led from the old histories to these
 abbrev pub greeting_to : Config → Heading → Histories → Histories → Connected → List ℕ
 greeting_to c heading old now d =
-    sent_greeting (goes_on (judged_of c heading d) d.steps d.closed) c old now (version_in (judged_of c heading d))
+    sent_greeting (goes_on (judged_of c heading d) d.steps d.closed) c old now (version_in (judged_of c heading d) (first_answer d.steps))
     (segments_of d)
 
 -- what it was sent before, what it is sent without greetings, and its greeting
@@ -68,14 +68,14 @@ with_more bytes before after greeting = bytes ++ (drop (length before) after ++ 
 pub stays_so : (c : Config) (heading : Heading) (old now : Histories) (d : Connected) → Later old.rings now.rings
     → IsSoundOf c old.rings d → plain_of c heading now d ≡ plain_of c heading old d
 stays_so c heading old now d later sound =
-    plain_same c old.rings now.rings d.opening (judged_of c heading d) (judged_of c heading d) (received d.steps) []
+    plain_same c old.rings now.rings d.opening (judged_of c heading d) (judged_of c heading d) (first_answer d.steps) []
     (segments_of d) (same_self c d.opening (judged_of c heading d)) later sound (All-nil (IsNew c now.rings))
 
 pub sent_on : (c : Config) (heading : Heading) (old now : Histories) (d : Connected) (bytes : List ℕ)
     → Later old.rings now.rings → IsSoundOf c old.rings d → SentOf c heading old d bytes
     → SentOf c heading now d bytes
 sent_on c heading old now d bytes later sound sent =
-    stays_sent c old.rings now.rings d.opening (judged_of c heading d) (received d.steps) (segments_of d) bytes later
+    stays_sent c old.rings now.rings d.opening (judged_of c heading d) (first_answer d.steps) (segments_of d) bytes later
     sound sent
 
 -- ---- bytes came in
@@ -101,7 +101,7 @@ walk_closing c old m j before news walk =
     let last = made c me m.histories (closing j steps) in
     subst (Walk c old (with_calls me m.histories last) before news) (sym (segments-append [] steps last))
     (never_plan c old m.histories me (closing j steps) before news (segments_after [] steps) (closing_good j steps)
-    (closing_such IsNever j (received steps) (segments_after [] steps)) walk)
+    (closing_such IsNever (came_to j steps) (segments_after [] steps)) walk)
 
 pub came_if : (end : Option Ending) (c : Config) (h : Histories) (d now : Connected) (plan : Plan) (j : Judged) (m : Moved)
     → Came c h d now plan m → Came c h d now plan (closed_if end c j m)
@@ -179,17 +179,17 @@ module _ (c : Config) (cap : ℕ) (heading : Heading) (h : Histories) (d : Conne
 
   came : Came c h d now plan m
   came =
-      came_if (ended_by k (received (makes c h now plan).connection.steps)) c h d now plan k (makes c h now plan)
+      came_if (ended_by (came_to k (makes c h now plan).connection.steps)) c h d now plan k (makes c h now plan)
       (came_first c h d now plan refl (good_left (plan_of c k) (owed_among d.steps) (good_plan c k))
       (subst (λ (n : ℕ). IsWithin n plan) (sym s.walked.size)
       (left_within (length c.mount) (plan_of c k) (owed_among d.steps)
       (plan_within c k (judged_fed c cap d.opening heading (d.text ++ text) kept)))))
 
-  abbrev by : Received
-  by = received m.connection.steps
+  abbrev by : Option Answer
+  by = first_answer m.connection.steps
 
   uncut : is_none m.connection.closed ≡ true
-  uncut = ap is_none came.closed ∙ (and_parts (is_none d.closed) (is_none (ended_by j (received d.steps))) goes).0
+  uncut = ap is_none came.closed ∙ (and_parts (is_none d.closed) (is_none (ended_by (came_to j d.steps))) goes).0
 
   later : Later h.rings m.histories.rings
   later = (well.moved_moves c heading h d (arrives text) frames sound).later
@@ -214,7 +214,7 @@ module _ (c : Config) (cap : ℕ) (heading : Heading) (h : Histories) (d : Conne
     | inr (terms, tail, is, in_it) ↦
         absurd (false≢true (sym stops
         ∙ ap (λ (x : Judged). goes_on x m.connection.steps m.connection.closed) is
-        ∙ ap (λ (r : Received). is_none m.connection.closed && is_none (ended_by (rover terms tail) r)) in_it
+        ∙ ap (λ (r : Option Answer). is_none m.connection.closed && is_none (ended_by (came_by (rover terms tail) r))) in_it
         ∙ ap (λ (b : Bool). b && true) uncut))
   ]
     where
@@ -246,37 +246,37 @@ module _ (c : Config) (cap : ℕ) (heading : Heading) (h : Histories) (d : Conne
           ∙ left_made (plan_of c j) (owed_among d.steps) (still_made c heading h d s goes)
 
   -- with its greeting, by what it is judged to be now
-  abbrev IsSentNow : List ℕ → Received → List Segment → Type 0
+  abbrev IsSentNow : List ℕ → Option Answer → List Segment → Type 0
   IsSentNow bytes r segments =
       Sent c m.histories.rings o k r segments
       (with_more bytes (plain_of c heading h d) (plain c m.histories.rings o k r segments)
-      (sent_greeting goes_now c h m.histories (version_in k) segments))
+      (sent_greeting goes_now c h m.histories (version_in k r) segments))
 
-  by_news : (bytes : List ℕ) (r : Received) (news : List Segment)
+  by_news : (bytes : List ℕ) (r : Option Answer) (news : List Segment)
       → (walk : Walk c h m.histories (segments_of d) news (segments_of m.connection))
       → Sent c m.histories.rings o k r (news ++ segments_of d)
       (with_more bytes (plain_of c heading h d) (plain c m.histories.rings o k r (news ++ segments_of d))
-      (body_of (version_in k) (new_greeting c m.histories.rings news)))
+      (body_of (version_in k r) (new_greeting c m.histories.rings news)))
       → IsSentNow bytes r (segments_of m.connection)
   by_news bytes r news walk sent =
       let segments = segments_of m.connection in
-      let text_is = greets_new goes_now c h m.histories (version_in k) (segments_of d) news segments walk
+      let text_is = greets_new goes_now c h m.histories (version_in k r) (segments_of d) news segments walk
       (none_new news walk) in
       subst (λ (l : List ℕ). Sent c m.histories.rings o k r segments
       (with_more bytes (plain_of c heading h d) (plain c m.histories.rings o k r segments) l)) (sym text_is)
       (subst (λ (l : List Segment). Sent c m.histories.rings o k r l
       (with_more bytes (plain_of c heading h d) (plain c m.histories.rings o k r l)
-      (body_of (version_in k) (new_greeting c m.histories.rings news)))) (sym walk.all) sent)
+      (body_of (version_in k r) (new_greeting c m.histories.rings news)))) (sym walk.all) sent)
 
   came_same : (bytes : List ℕ) → Same c o j k → IsSome d.steps → SentOf c heading h d bytes
       → IsSentNow bytes by (segments_of m.connection)
   came_same bytes same some sent =
       let choice = chosen (by_bytes o j) refl same in
-      let as_before : by ≡ received d.steps =
-      ap received came.steps ∙ received_some d.steps came.more some in
-      subst (λ (r : Received). IsSentNow bytes r (segments_of m.connection)) (sym as_before)
-      (by_news bytes (received d.steps) choice.0 choice.1.walk
-      (more_same c h.rings m.histories.rings o j k (received d.steps) choice.0 (segments_of d) bytes same later sound
+      let as_before : by ≡ first_answer d.steps =
+      ap first_answer came.steps ∙ received_some d.steps came.more some in
+      subst (λ (r : Option Answer). IsSentNow bytes r (segments_of m.connection)) (sym as_before)
+      (by_news bytes (first_answer d.steps) choice.0 choice.1.walk
+      (more_same c h.rings m.histories.rings o j k (first_answer d.steps) choice.0 (segments_of d) bytes same later sound
       choice.1.walk.each choice.1.none sent))
 
   came_judged : (bytes : List ℕ) → j ≡ waiting → by_bytes o k ≡ true → SentOf c heading h d bytes
@@ -290,14 +290,14 @@ module _ (c : Config) (cap : ℕ) (heading : Heading) (h : Histories) (d : Conne
       let walk = came.walk.1 in
       by_news bytes by news walk
       (subst (λ (l : List Segment). Sent c m.histories.rings o k by (news ++ l)
-      (with_more bytes (plain c h.rings o j (received d.steps) l) (plain c m.histories.rings o k by (news ++ l))
-      (body_of (version_in k) (new_greeting c m.histories.rings news)))) (sym none)
+      (with_more bytes (plain c h.rings o j (first_answer d.steps) l) (plain c m.histories.rings o k by (news ++ l))
+      (body_of (version_in k by) (new_greeting c m.histories.rings news)))) (sym none)
       (subst (λ (x : Judged). Sent c m.histories.rings o k by (news ++ [])
-      (with_more bytes (plain c h.rings o x (received d.steps) []) (plain c m.histories.rings o k by (news ++ []))
-      (body_of (version_in k) (new_greeting c m.histories.rings news)))) (sym waits)
-      (more_judged c h.rings m.histories.rings o k (received d.steps) by news bytes walk.each joins
-      (subst (λ (x : Judged). Sent c h.rings o x (received d.steps) [] bytes) waits
-      (subst (λ (l : List Segment). Sent c h.rings o j (received d.steps) l bytes) none sent)))))
+      (with_more bytes (plain c h.rings o x (first_answer d.steps) []) (plain c m.histories.rings o k by (news ++ []))
+      (body_of (version_in k by) (new_greeting c m.histories.rings news)))) (sym waits)
+      (more_judged c h.rings m.histories.rings o k (first_answer d.steps) by news bytes walk.each joins
+      (subst (λ (x : Judged). Sent c h.rings o x (first_answer d.steps) [] bytes) waits
+      (subst (λ (l : List Segment). Sent c h.rings o j (first_answer d.steps) l bytes) none sent)))))
     where
       not_both : (terms : RoverTerms) (tail : List ℕ) → waiting ≡ rover terms tail → ⊥
       not_both terms tail is = cc
@@ -313,7 +313,7 @@ module _ (c : Config) (cap : ℕ) (heading : Heading) (h : Histories) (d : Conne
   IsSentAs bytes x y =
       Sent c m.histories.rings x y by (segments_of m.connection)
       (with_more bytes (plain_of c heading h d) (plain c m.histories.rings x y by (segments_of m.connection))
-      (sent_greeting (goes_on y m.connection.steps m.connection.closed) c h m.histories (version_in y)
+      (sent_greeting (goes_on y m.connection.steps m.connection.closed) c h m.histories (version_in y by)
       (segments_of m.connection)))
 
   pub bytes_sent : (bytes : List ℕ) → SentOf c heading h d bytes
@@ -343,7 +343,7 @@ module _ (c : Config) (heading : Heading) (h : Histories) (d : Connected) (budge
   some_steps [] segment older is = absurd cc
   some_steps (step ∷ steps) segment older is = (step, steps, refl)
 
-  abbrev IsSteps : Histories → Received → List Segment → Type 0
+  abbrev IsSteps : Histories → Option Answer → List Segment → Type 0
   IsSteps now r segments =
       Sent c now.rings d.opening (judged_of c heading d) r segments
       (with_more bytes (plain_of c heading h d) (plain c now.rings d.opening (judged_of c heading d) r segments) [])
@@ -351,7 +351,7 @@ module _ (c : Config) (heading : Heading) (h : Histories) (d : Connected) (budge
   turned : (segments : List Segment) → segments_of d ≡ segments → AllSound c h.rings segments
       → SentOf c heading h d bytes → IsTurned (turn segments)
   turned [] is sound sent =
-      subst (λ (l : List Step). IsSteps h (received l) (segments_after [] l)) (sym (append-nil d.steps))
+      subst (λ (l : List Step). IsSteps h (first_answer l) (segments_after [] l)) (sym (append-nil d.steps))
       (subst (SentOf c heading h d) (sym (none_more bytes (plain_of c heading h d) (plain_of c heading h d) refl)) sent)
   turned (segment ∷ older) is sound sent =
       let steps = made c d.number h (reads budget (segment ∷ older)) in
@@ -365,18 +365,18 @@ module _ (c : Config) (heading : Heading) (h : Histories) (d : Connected) (budge
       let sound_one = All-head (IsSoundIn c h.rings) segment older sound in
       let segments_are : segments_after [] (d.steps ++ steps) ≡ read ∷ older =
       segments-append [] d.steps steps ∙ ap (λ (l : List Segment). segments_after l steps) is in
-      let by_is : received (d.steps ++ steps) ≡ received d.steps =
+      let by_is : first_answer (d.steps ++ steps) ≡ first_answer d.steps =
       received_some d.steps steps (some_steps d.steps segment older is) in
-      subst (λ (r : Received). IsSteps now r (segments_after [] (d.steps ++ steps))) (sym by_is)
-      (subst (λ (l : List Segment). IsSteps now (received d.steps) l) (sym segments_are)
-      (subst (λ (l : List Segment). Sent c now.rings d.opening (judged_of c heading d) (received d.steps) (read ∷ older)
-      (with_more bytes (plain c h.rings d.opening (judged_of c heading d) (received d.steps) l)
-      (plain c now.rings d.opening (judged_of c heading d) (received d.steps) (read ∷ older)) [])) (sym is)
+      subst (λ (r : Option Answer). IsSteps now r (segments_after [] (d.steps ++ steps))) (sym by_is)
+      (subst (λ (l : List Segment). IsSteps now (first_answer d.steps) l) (sym segments_are)
+      (subst (λ (l : List Segment). Sent c now.rings d.opening (judged_of c heading d) (first_answer d.steps) (read ∷ older)
+      (with_more bytes (plain c h.rings d.opening (judged_of c heading d) (first_answer d.steps) l)
+      (plain c now.rings d.opening (judged_of c heading d) (first_answer d.steps) (read ∷ older)) [])) (sym is)
       (read_sent c h.rings now.rings segment read older more later sound refl
       (kept_on c h.rings now.rings read later (IsSound-read permits capacity published segment budget sound_one)
       ∙ kept-read permits capacity published segment budget sound_one)
-      (kept_on c h.rings now.rings segment later sound_one) d.opening (judged_of c heading d) (received d.steps) bytes
-      (subst (λ (l : List Segment). Sent c h.rings d.opening (judged_of c heading d) (received d.steps) l bytes) is
+      (kept_on c h.rings now.rings segment later sound_one) d.opening (judged_of c heading d) (first_answer d.steps) bytes
+      (subst (λ (l : List Segment). Sent c h.rings d.opening (judged_of c heading d) (first_answer d.steps) l bytes) is
       sent))))
 
   pub turn_sent : IsSoundOf c h.rings d → SentOf c heading h d bytes
@@ -400,25 +400,25 @@ module _ (c : Config) (heading : Heading) (h : Histories) (d : Connected) (last 
   over_segments =
       let walk = never_plan c h h d.number (closing (judged_of c heading d) d.steps) (segments_of d) [] (segments_of d)
       (closing_good (judged_of c heading d) d.steps)
-      (closing_such IsNever (judged_of c heading d) (received d.steps) (segments_of d)) (walk_start c h (segments_of d))
+      (closing_such IsNever (came_to (judged_of c heading d) d.steps) (segments_of d)) (walk_start c h (segments_of d))
       in segments-append [] d.steps last_steps ∙ walk.all
 
-  over_received : received over.connection.steps ≡ received d.steps
+  over_received : first_answer over.connection.steps ≡ first_answer d.steps
   over_received = received_closed (judged_of c heading d) d.steps last_steps
       (made_is c d.number h (closing (judged_of c heading d) d.steps))
 
   pub end_plain : plain_of c heading over.histories over.connection ≡ plain_of c heading h d
   end_plain =
-      ap (λ (r : Received). plain c over.histories.rings d.opening (judged_of c heading d) r
+      ap (λ (r : Option Answer). plain c over.histories.rings d.opening (judged_of c heading d) r
       (segments_of over.connection)) over_received
-      ∙ ap (plain c over.histories.rings d.opening (judged_of c heading d) (received d.steps)) over_segments
+      ∙ ap (plain c over.histories.rings d.opening (judged_of c heading d) (first_answer d.steps)) over_segments
       ∙ stays_so c heading h over.histories d over_later sound
 
   pub end_sent : (bytes : List ℕ) → SentOf c heading h d bytes
       → SentOf c heading over.histories over.connection bytes
   end_sent bytes sent =
-      subst (λ (r : Received). Sent c over.histories.rings d.opening (judged_of c heading d) r
+      subst (λ (r : Option Answer). Sent c over.histories.rings d.opening (judged_of c heading d) r
       (segments_of over.connection) bytes) (sym over_received)
-      (subst (λ (l : List Segment). Sent c over.histories.rings d.opening (judged_of c heading d) (received d.steps) l
+      (subst (λ (l : List Segment). Sent c over.histories.rings d.opening (judged_of c heading d) (first_answer d.steps) l
       bytes) (sym over_segments)
       (sent_on c heading h over.histories d bytes over_later sound sent))

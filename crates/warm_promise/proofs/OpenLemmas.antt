@@ -16,8 +16,8 @@ use Rattle.rover_session.specs.Owed.{plan_by, Terms}
 use Rattle.cast_config.specs.declared.config.Config.{Config}
 use Rattle.cast_config.specs.Kept.{KeepsRules}
 use Rattle.session_model.specs.Headings.{Heading, incomplete, too_long, whole, answered}
-use Rattle.session_model.specs.Judged.{Opening, sends_head, relays, bare_source, bare_rover, RoverTerms, Judged, waiting, unanswered, rover, source_judged, rover_judged, once, said_judged, relay_judged, mount_fed, bare_admission, judged}
-use Rattle.session_model.specs.Owed.{Received, unasked, claimed, taken, entered, full, received, received_by, if_entered, terms_of, plan_of, arrives}
+use Rattle.session_model.specs.Judged.{Opening, sends_head, relays, bare_source, bare_rover, RoverTerms, Judged, waiting, finished, rover, source_judged, rover_judged, once, said_judged, relay_judged, mount_fed, bare_admission, judged}
+use Rattle.session_model.specs.Owed.{came_to, is_let_in, if_entered, terms_of, plan_of, arrives}
 use Rattle.session_model.specs.Endings.{ended_by}
 use Rattle.session_model.specs.Replies.{kept_frames}
 use Rattle.session_model.specs.Reports.{IsHeadingOf}
@@ -69,22 +69,19 @@ relay_no_rover : (terms : RoverTerms) (tail : List ℕ) (mount : ℕ) (heading :
     → relay_judged mount heading text ≡ rover terms tail → ⊥
 relay_no_rover terms tail mount incomplete text is = cc
 relay_no_rover terms tail mount too_long text is =
-    once_no_rover (nat_le 8192 (length text)) _ terms tail (λ so. unanswered_no so) is
+    once_no_rover (nat_le 8192 (length text)) _ terms tail (λ so. finished_no so) is
   where
-    unanswered_no : {end : _} → unanswered end ≡ rover terms tail → ⊥
-    unanswered_no so = cc
+    finished_no : {end : _} → finished None end ≡ rover terms tail → ⊥
+    finished_no so = cc
 relay_no_rover terms tail mount (whole at answer) text is = cc
 relay_no_rover terms tail mount (answered at said) text is =
     once_no_rover (nat_le at (length text)) (said_judged mount (drop at text) said) terms tail
     (said_no_rover terms tail mount (drop at text) said) is
 
 -- a bare rover that joins by bytes joins by none
-entered_never : (by : Received) (plan : Plan) → JoinsSuch IsNever plan → JoinsSuch IsNever (if_entered by plan)
-entered_never unasked plan never = tt
-entered_never (claimed claim) plan never = tt
-entered_never (taken caller claim) plan never = tt
-entered_never entered plan never = never
-entered_never (full busy cap) plan never = tt
+entered_never : (let_in : Bool) (plan : Plan) → JoinsSuch IsNever plan → JoinsSuch IsNever (if_entered let_in plan)
+entered_never true plan never = never
+entered_never false plan never = tt
 
 near_never : (near : Bool) (terms : Terms) → near ≡ true → JoinsSuch IsNever (plan_by near terms [])
 near_never true terms is = tt
@@ -93,7 +90,7 @@ near_never false terms is = absurd cc
 rover_never : (c : Config) (r : Result Admission Denial) → near_of (rover_judged None None [] r) ≡ true
     → JoinsSuch IsNever (left (plan_of c (rover_judged None None [] r)) [])
 rover_never c (Ok a) is =
-    (tt, λ answer. entered_never (received_by answer) _ (near_never a.near (terms_of c a) is))
+    (tt, λ answer. entered_never (is_let_in answer) _ (near_never a.near (terms_of c a) is))
 rover_never c (Err denials.NoMount) is = tt
 rover_never c (Err denials.NoAccount) is = tt
 rover_never c (Err (denials.Password account)) is = tt
@@ -122,7 +119,7 @@ module _ (c : Config) (cap : ℕ) (heading : Heading) (h : Histories) (number : 
 
   came : Came c h (fresh number o) (with_text (fresh number o) []) plan m
   came =
-      came_if (ended_by k (received (makes c h (with_text (fresh number o) []) plan).connection.steps)) c h
+      came_if (ended_by (came_to k (makes c h (with_text (fresh number o) []) plan).connection.steps)) c h
       (fresh number o) (with_text (fresh number o) []) plan k (makes c h (with_text (fresh number o) []) plan)
       (came_first c h (fresh number o) (with_text (fresh number o) []) plan refl
       (good_left (plan_of c k) [] (good_plan c k))

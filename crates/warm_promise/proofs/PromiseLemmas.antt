@@ -21,7 +21,9 @@ use Rattle.session_model.specs.declared.ending.Last.TheVariants as lasts
 use Rattle.session_model.specs.declared.report.Report.{Report}
 use Rattle.session_model.specs.Headings.{Heading}
 use Rattle.session_model.specs.Judged.{Opening, sends_head, relays, bare_source, bare_rover, RoverTerms, Judged, waiting, rover, judged}
-use Rattle.session_model.specs.Owed.{Received, entered, received, arrives, takes_turn, ends}
+use Rattle.caster_accounts.specs.declared.call.BookAnswer.TheVariants.{Entered}
+use Rattle.session_calls.specs.Steps.{Answer, of_book}
+use Rattle.session_model.specs.Owed.{came_by, first_answer, came_to, arrives, takes_turn, ends}
 use Rattle.session_model.specs.Replies.{opening_text, reply_of, version_of}
 use Rattle.session_model.specs.Reports.{told_of, is_entered, opened_as, opened_if, bytes_to, IsHeadingOf, AreHeadings, report}
 use Rattle.session_model.specs.Run.{Histories, Connected, World, judged_of, is_opened, opens, after_event, after_events, world}
@@ -187,28 +189,30 @@ module _ (c : Config) (headings : ℕ → Heading) (script : List Event) (h : Hi
   j = judged_of c (headings d.number) d
 
   -- one that did not enter
-  plain_so : is_entered (received d.steps) ≡ false → bytes d.number ≡ (told_of c headings h d).bytes
+  plain_so : is_entered (came_to j d.steps) ≡ false → bytes d.number ≡ (told_of c headings h d).bytes
   plain_so out =
       let none : segments_of d ≡ [] = elim (is_one c (headings d.number) h d s) [
         | inl none ↦ none
-        | inr (terms, tail, so, in_it) ↦ absurd (false≢true (sym out ∙ ap is_entered in_it))
+        | inr (terms, tail, so, in_it) ↦
+            absurd (false≢true (sym out ∙ ap (λ (x : Judged). is_entered (came_to x d.steps)) so
+            ∙ ap (λ (r : Option Answer). is_entered (came_by (rover terms tail) r)) in_it))
       ] in
       let frames : sent.frames ≡ [] =
       none_back (by_bytes d.opening j) c h.rings sent.frames
       (subst (λ (l : List Segment). AreSentBack (by_bytes d.opening j) c h.rings l sent.frames) none sent.sent) in
       sent.bytes_are
-      ∙ ap (λ (l : List (List ℕ)). (opening_text c d.opening ++ reply_of c j (received d.steps))
-      ++ body_of (unwrap_or (version_of j) One) l) frames
-      ∙ ap (plain c h.rings d.opening j (received d.steps)) (sym none)
+      ∙ ap (λ (l : List (List ℕ)). (opening_text c d.opening ++ reply_of c (came_to j d.steps))
+      ++ body_of (version_of (came_to j d.steps)) l) frames
+      ∙ ap (plain c h.rings d.opening j (first_answer d.steps)) (sym none)
 
   -- one that did
-  rover_so : is_entered (received d.steps) ≡ true
+  rover_so : is_entered (came_to j d.steps) ≡ true
       → IsGreetedRover c headings script h.rings (told_with bytes (told_of c headings h d))
   rover_so in_it =
       let e = has_entered c (headings d.number) h d s in_it in
       rover_as e.0 e.1 e.2 e.3
     where
-      rover_as : (terms : RoverTerms) (tail : List ℕ) → j ≡ rover terms tail → received d.steps ≡ entered
+      rover_as : (terms : RoverTerms) (tail : List ℕ) → j ≡ rover terms tail → first_answer d.steps ≡ Some (of_book Entered)
           → IsGreetedRover c headings script h.rings (told_with bytes (told_of c headings h d))
       rover_as terms tail so received_so = record {
         opening = d.opening;
@@ -225,21 +229,21 @@ module _ (c : Config) (headings : ℕ → Heading) (script : List Event) (h : Hi
             (back_sent (by_bytes d.opening j) c h.rings (segments_of d) sent.frames sent.sent);
         body = body_of (unwrap_or terms.version One) sent.frames;
         bytes = sent.bytes_are
-            ∙ ap (λ (x : Judged). (opening_text c d.opening ++ reply_of c x (received d.steps))
-            ++ body_of (unwrap_or (version_of x) One) sent.frames) so
-            ∙ ap (λ (r : Received). (opening_text c d.opening ++ reply_of c (rover terms tail) r)
-            ++ body_of (unwrap_or terms.version One) sent.frames) received_so;
+            ∙ ap (λ (x : Judged). (opening_text c d.opening ++ reply_of c (came_to x d.steps))
+            ++ body_of (version_of (came_to x d.steps)) sent.frames) so
+            ∙ ap (λ (r : Option Answer). (opening_text c d.opening ++ reply_of c (came_by (rover terms tail) r))
+            ++ body_of (version_of (came_by (rover terms tail) r)) sent.frames) received_so;
         holds = frames_held (unwrap_or terms.version One) sent.frames
             (sent_frames (by_bytes d.opening j) c h.rings (segments_of d) sent.frames all sent.sent);
       }
 
-  sent_so : (is_in : Bool) → is_entered (received d.steps) ≡ is_in
+  sent_so : (is_in : Bool) → is_entered (came_to j d.steps) ≡ is_in
       → IsSentSo is_in c headings script h.rings (told_with bytes (told_of c headings h d)) (told_of c headings h d)
   sent_so true in_it = rover_so in_it
   sent_so false out = plain_so out
 
   pub told_so : IsToldSo c headings script h.rings (told_with bytes (told_of c headings h d)) (told_of c headings h d)
-  told_so = (refl, refl, sent_so (is_entered (received d.steps)) refl)
+  told_so = (refl, refl, sent_so (is_entered (came_to j d.steps)) refl)
 
 all_told : (c : Config) (headings : ℕ → Heading) (script : List Event) (h : Histories) (bytes : ℕ → List ℕ)
     (ds : List Connected) → AreFrames h.rings → All (IsStood c headings h) ds → All (IsRead c headings script) ds

@@ -1,6 +1,5 @@
 -- What a connection was sent so far with its greetings, and what more calls add to it.
 use Rattle.std.proofs.Common.{◌≡◌, ◌∙◌, ◌++◌, ℕ, Bool, true, false, List, [], ◌∷◌, length, drop, reverse, All, Option, None, refl, sym, ap, subst, append_assoc}
-use Rattle.std.specs.Prelude.{unwrap_or}
 use Rattle.std.proofs.lemmas.List.{append-nil}
 use Rattle.std.proofs.lemmas.List.Elements.{All-head, All-tail}
 use Rattle.std.proofs.lemmas.List.Concat.{flat_map-append}
@@ -15,7 +14,8 @@ use Rattle.rover_session.specs.Body.{body_of}
 use Rattle.rover_session.proofs.LawLemmas.{body-append}
 use Rattle.cast_config.specs.declared.config.Config.{Config}
 use Rattle.session_model.specs.Judged.{Opening, Judged, waiting}
-use Rattle.session_model.specs.Owed.{Received}
+use Rattle.session_calls.specs.Steps.{Answer}
+use Rattle.session_model.specs.Owed.{came_by}
 use Rattle.session_model.specs.Promises.{IsSoundIn}
 use Rattle.session_model.specs.Replies.{opening_text, reply_of, version_of, kept_of, kept_frames, sent_by}
 use Rattle.session_model.specs.Run.{Histories}
@@ -31,25 +31,25 @@ use Rattle.warm_promise.proofs.JudgedLemmas.{by_bytes, Same}
 
 -- ---- with greetings and without
 
-abbrev pub version_in : Judged → Version
-version_in j = unwrap_or (version_of j) One
+abbrev pub version_in : Judged → Option Answer → Version
+version_in j by = version_of (came_by j by)
 
-abbrev pub front : Config → Opening → Judged → Received → List ℕ
-front c o j by = opening_text c o ++ reply_of c j by
+abbrev pub front : Config → Opening → Judged → Option Answer → List ℕ
+front c o j by = opening_text c o ++ reply_of c (came_by j by)
 
 -- without greetings, by its segments, the newest first
-abbrev pub plain : Config → List (History RingCall) → Opening → Judged → Received → List Segment → List ℕ
-plain c h o j by segments = sent_by c h o j by (reverse segments)
+abbrev pub plain : Config → List (History RingCall) → Opening → Judged → Option Answer → List Segment → List ℕ
+plain c h o j by segments = sent_by c h o (came_by j by) (reverse segments)
 
 abbrev pub AreSentBack : Bool → Config → List (History RingCall) → List Segment → List (List ℕ) → Type 0
 AreSentBack true c h segments frames = AreBack c h [] segments frames
 AreSentBack false c h segments frames = frames ≡ kept_frames c h (reverse segments)
 
 -- with greetings it was sent these bytes
-pub record Sent (c : Config) (h : List (History RingCall)) (o : Opening) (j : Judged) (by : Received)
+pub record Sent (c : Config) (h : List (History RingCall)) (o : Opening) (j : Judged) (by : Option Answer)
     (segments : List Segment) (bytes : List ℕ) : Type 0 where
   pub frames : List (List ℕ)
-  pub bytes_are : bytes ≡ front c o j by ++ body_of (version_in j) frames
+  pub bytes_are : bytes ≡ front c o j by ++ body_of (version_in j by) frames
   pub sent : AreSentBack (by_bytes o j) c h segments frames
 
 -- where an event sends no more
@@ -147,39 +147,38 @@ sent_more false c old now news segments frames later sound all none back =
     (append-nil frames ∙ back ∙ sym (kept_back c old now segments later sound))
 
 -- of one that was judged before
-pub plain_same : (c : Config) (old now : List (History RingCall)) (o : Opening) (j k : Judged) (by : Received)
+pub plain_same : (c : Config) (old now : List (History RingCall)) (o : Opening) (j k : Judged) (by : Option Answer)
     (news segments : List Segment) → Same c o j k → Later old now → AllSound c old segments → All (IsNew c now) news
     → plain c now o k by (news ++ segments) ≡ plain c old o j by segments
 plain_same c old now o j k by news segments same later sound all =
-    ap (λ (frames : List (List ℕ)). front c o k by ++ body_of (version_in k) frames)
+    ap (λ (frames : List (List ℕ)). front c o k by ++ body_of (version_in k by) frames)
     (kept_new c now news segments all ∙ kept_back c old now segments later sound)
-    ∙ ap (λ (v : Option Version). front c o k by ++ body_of (unwrap_or v One) (kept_frames c old (reverse segments)))
-    same.version
-    ∙ ap (λ (r : List ℕ). (opening_text c o ++ r) ++ body_of (version_in j) (kept_frames c old (reverse segments)))
+    ∙ ap (λ (v : Version). front c o k by ++ body_of v (kept_frames c old (reverse segments))) (same.version by)
+    ∙ ap (λ (r : List ℕ). (opening_text c o ++ r) ++ body_of (version_in j by) (kept_frames c old (reverse segments)))
     (same.reply by)
 
-pub more_same : (c : Config) (old now : List (History RingCall)) (o : Opening) (j k : Judged) (by : Received)
+pub more_same : (c : Config) (old now : List (History RingCall)) (o : Opening) (j k : Judged) (by : Option Answer)
     (news segments : List Segment) (bytes : List ℕ) → Same c o j k → Later old now → AllSound c old segments
     → All (IsNew c now) news → (by_bytes o j ≡ false → news ≡ []) → Sent c old o j by segments bytes
     → Sent c now o k by (news ++ segments)
     (bytes ++ (drop (length (plain c old o j by segments)) (plain c now o k by (news ++ segments))
-    ++ body_of (version_in k) (new_greeting c now news)))
+    ++ body_of (version_in k by) (new_greeting c now news)))
 more_same c old now o j k by news segments bytes same later sound all none sent =
     let greeting = new_greeting c now news in
     let before = plain c old o j by segments in
     let after = plain c now o k by (news ++ segments) in
-    let front_same : front c o j by ++ body_of (version_in j) sent.frames
-    ≡ front c o k by ++ body_of (version_in k) sent.frames =
-    ap (λ (r : List ℕ). (opening_text c o ++ r) ++ body_of (version_in j) sent.frames) (sym (same.reply by))
-    ∙ ap (λ (v : Option Version). front c o k by ++ body_of (unwrap_or v One) sent.frames) (sym same.version) in
+    let front_same : front c o j by ++ body_of (version_in j by) sent.frames
+    ≡ front c o k by ++ body_of (version_in k by) sent.frames =
+    ap (λ (r : List ℕ). (opening_text c o ++ r) ++ body_of (version_in j by) sent.frames) (sym (same.reply by))
+    ∙ ap (λ (v : Version). front c o k by ++ body_of v sent.frames) (sym (same.version by)) in
     let nothing : drop (length before) after ≡ [] =
     ap (drop (length before)) (plain_same c old now o j k by news segments same later sound all)
     ∙ drop-length before in
     record {
       frames = sent.frames ++ greeting;
-      bytes_are = ap (λ (l : List ℕ). bytes ++ (l ++ body_of (version_in k) greeting)) nothing
-          ∙ ap (λ (l : List ℕ). l ++ body_of (version_in k) greeting) (sent.bytes_are ∙ front_same)
-          ∙ body_more (front c o k by) (version_in k) sent.frames greeting;
+      bytes_are = ap (λ (l : List ℕ). bytes ++ (l ++ body_of (version_in k by) greeting)) nothing
+          ∙ ap (λ (l : List ℕ). l ++ body_of (version_in k by) greeting) (sent.bytes_are ∙ front_same)
+          ∙ body_more (front c o k by) (version_in k by) sent.frames greeting;
       sent = subst (λ (b : Bool). AreSentBack b c now (news ++ segments) (sent.frames ++ greeting)) (sym same.bytes)
           (sent_more (by_bytes o j) c old now news segments sent.frames later sound all none sent.sent);
     }
@@ -190,16 +189,16 @@ pub none_back : (joins : Bool) (c : Config) (h : List (History RingCall)) (frame
 none_back true c h frames back = back
 none_back false c h frames back = back
 
-pub more_judged : (c : Config) (old now : List (History RingCall)) (o : Opening) (k : Judged) (before by : Received)
+pub more_judged : (c : Config) (old now : List (History RingCall)) (o : Opening) (k : Judged) (before by : Option Answer)
     (news : List Segment) (bytes : List ℕ) → All (IsNew c now) news → by_bytes o k ≡ true
     → Sent c old o waiting before [] bytes
     → Sent c now o k by (news ++ [])
     (bytes ++ (drop (length (plain c old o waiting before [])) (plain c now o k by (news ++ []))
-    ++ body_of (version_in k) (new_greeting c now news)))
+    ++ body_of (version_in k by) (new_greeting c now news)))
 more_judged c old now o k before by news bytes all joins sent =
     let greeting = new_greeting c now news in
     let opening = opening_text c o in
-    let reply = reply_of c k by in
+    let reply = reply_of c (came_by k by) in
     let was : List ℕ = plain c old o waiting before [] in
     let after = plain c now o k by (news ++ []) in
     let none : sent.frames ≡ [] = none_back (by_bytes o waiting) c old sent.frames sent.sent in
@@ -207,20 +206,20 @@ more_judged c old now o k before by news bytes all joins sent =
     let bytes_was : bytes ≡ opening =
     sent.bytes_are ∙ ap (λ (l : List (List ℕ)). (opening ++ []) ++ body_of One l) none ∙ at_first in
     let after_is : after ≡ was ++ reply =
-    ap (λ (l : List (List ℕ)). (opening ++ reply) ++ body_of (version_in k) l) (kept_new c now news [] all)
+    ap (λ (l : List (List ℕ)). (opening ++ reply) ++ body_of (version_in k by) l) (kept_new c now news [] all)
     ∙ append-nil (opening ++ reply) ∙ ap (λ (l : List ℕ). l ++ reply) (sym at_first) in
     record {
       frames = [] ++ greeting;
-      bytes_are = ap (λ (l : List ℕ). bytes ++ (l ++ body_of (version_in k) greeting)) (drop_more was after reply after_is)
-          ∙ ap (λ (l : List ℕ). l ++ (reply ++ body_of (version_in k) greeting)) bytes_was
-          ∙ sym (append_assoc opening reply (body_of (version_in k) greeting));
+      bytes_are = ap (λ (l : List ℕ). bytes ++ (l ++ body_of (version_in k by) greeting)) (drop_more was after reply after_is)
+          ∙ ap (λ (l : List ℕ). l ++ (reply ++ body_of (version_in k by) greeting)) bytes_was
+          ∙ sym (append_assoc opening reply (body_of (version_in k by) greeting));
       sent = subst (λ (b : Bool). AreSentBack b c now (news ++ []) ([] ++ greeting)) (sym joins)
           (back_more c now news [] [] all refl);
     }
 
 -- ---- nothing new
 
-pub stays_sent : (c : Config) (old now : List (History RingCall)) (o : Opening) (j : Judged) (by : Received)
+pub stays_sent : (c : Config) (old now : List (History RingCall)) (o : Opening) (j : Judged) (by : Option Answer)
     (segments : List Segment) (bytes : List ℕ) → Later old now → AllSound c old segments
     → Sent c old o j by segments bytes → Sent c now o j by segments bytes
 stays_sent c old now o j by segments bytes later sound sent = record {
@@ -258,7 +257,7 @@ module _ (c : Config) (old now : List (History RingCall)) (segment read : Segmen
       (back_later c old now [] (segment ∷ older) frames later sound back)
   read_back false frames back = ap (λ (l : List (List ℕ)). l ++ more) back ∙ sym kept_all
 
-  pub read_sent : (o : Opening) (j : Judged) (by : Received) (bytes : List ℕ)
+  pub read_sent : (o : Opening) (j : Judged) (by : Option Answer) (bytes : List ℕ)
       → Sent c old o j by (segment ∷ older) bytes
       → Sent c now o j by (read ∷ older)
       (bytes ++ (drop (length (plain c old o j by (segment ∷ older))) (plain c now o j by (read ∷ older)) ++ []))
@@ -266,14 +265,14 @@ module _ (c : Config) (old now : List (History RingCall)) (segment read : Segmen
       let before = plain c old o j by (segment ∷ older) in
       let after = plain c now o j by (read ∷ older) in
       let kept_before = kept_frames c old (reverse (segment ∷ older)) in
-      let after_is : after ≡ before ++ body_of (version_in j) more =
-      ap (λ (l : List (List ℕ)). front c o j by ++ body_of (version_in j) l) kept_all
-      ∙ sym (body_more (front c o j by) (version_in j) kept_before more) in
+      let after_is : after ≡ before ++ body_of (version_in j by) more =
+      ap (λ (l : List (List ℕ)). front c o j by ++ body_of (version_in j by) l) kept_all
+      ∙ sym (body_more (front c o j by) (version_in j by) kept_before more) in
       record {
         frames = sent.frames ++ more;
         bytes_are = ap (λ (l : List ℕ). bytes ++ l) (append-nil (drop (length before) after)
-            ∙ drop_more before after (body_of (version_in j) more) after_is)
-            ∙ ap (λ (l : List ℕ). l ++ body_of (version_in j) more) sent.bytes_are
-            ∙ body_more (front c o j by) (version_in j) sent.frames more;
+            ∙ drop_more before after (body_of (version_in j by) more) after_is)
+            ∙ ap (λ (l : List ℕ). l ++ body_of (version_in j by) more) sent.bytes_are
+            ∙ body_more (front c o j by) (version_in j by) sent.frames more;
         sent = read_back (by_bytes o j) sent.frames sent.sent;
       }

@@ -19,8 +19,8 @@ use Rattle.run_promise.specs.Promised.{Holds, IsPromised}
 
 -- ---- the frames
 
--- of each of six messages (1005, 1006, 1007, 1008, 1033 and 1230 of RTCM 10403.3) the last frame that
--- was published at the segment's mountpoint before the segment began, where it is permitted
+-- of each of six messages (1005, 1006, 1007, 1008, 1033 and 1230 of RTCM 10403.3) the last frame
+-- that was published at the segment's mountpoint before the segment began, where it is permitted
 abbrev pub greeting_of : Config → List (History RingCall) → Segment → List (List ℕ)
 greeting_of c histories segment =
     last_permitted (permits_of c segment) (take segment.from (published_at histories segment))

@@ -13,8 +13,8 @@ ghost use Rattle.warm_promise.specs.Greeted.{IsGreeted};
 use session_core::Report;
 
 /// The report of a recorded session with greetings is promised, where the configuration keeps its
-/// rules: but for the bytes it keeps the promise of a run without greetings, and each rover was sent
-/// its segments in order, each with its greeting before its frames.
+/// rules: but for the bytes it keeps the promise of a run without greetings, and each rover was
+/// sent its segments in order, each with its greeting before its frames.
 pub fn greeted_reports_are_promised()
     ensures { (c : Config) (cap : ℕ) (kind : ScriptKind) (script : List Event) (r : Report)
         → KeepsRules cap c → IsSession kind script → IsWarmReport c script r

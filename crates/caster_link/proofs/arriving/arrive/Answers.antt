@@ -22,7 +22,7 @@ take_turn-requires-clause-ready g c =
       c.args.config.now,
       fit_kept c.args.config.now c.args.session.now.me c.feed.new.self.me _ _ c.feed.ensures.me
           (known_same t.shape b.shape t.speaks b.speaks t.may_lack b.may_lack t.alone b.alone t.home b.home items
-          new.rings.items book new.book c.feed.ensures.same_rings c.feed.ensures.same_book)
+          new.rings.items book new.book c.feed.ensures.stay.at_rings.same c.feed.ensures.stay.at_book.same)
           c.requires.fit,
       follows_fed c.args.config.now (alone_at t.alone b.alone items book) (seen_at t.seen b.seen items book)
           (seen_at t.seen b.seen new.rings.items new.book) c.args.session.now c.feed.new.self c.args.out.now.items
@@ -34,7 +34,7 @@ returns-in-Ended-clause-known g c =
     let t = g.T.Turns in let b = g.B.Turns in
     known_same t.shape b.shape t.speaks b.speaks t.may_lack b.may_lack t.alone b.alone t.home b.home
     c.args.places.now.rings.items c.feed.new.places.rings.items c.args.places.now.book c.feed.new.places.book
-    c.feed.ensures.same_rings c.feed.ensures.same_book
+    c.feed.ensures.stay.at_rings.same c.feed.ensures.stay.at_book.same
 
 pub returns-in-Open-clause-known : goal.returns-in-Open-clause-known
 returns-in-Open-clause-known g c =
@@ -42,18 +42,18 @@ returns-in-Open-clause-known g c =
     c.take_turn.ensures.known
     ∙ known_same t.shape b.shape t.speaks b.speaks t.may_lack b.may_lack t.alone b.alone t.home b.home
     c.args.places.now.rings.items c.feed.new.places.rings.items c.args.places.now.book c.feed.new.places.book
-    c.feed.ensures.same_rings c.feed.ensures.same_book
+    c.feed.ensures.stay.at_rings.same c.feed.ensures.stay.at_book.same
 
 pub returns-in-Ended-clause-later : goal.returns-in-Ended-clause-later
 returns-in-Ended-clause-later g c =
     worn_later g.T.Turns.shape g.T.Turns.worn c.args.places.now.rings.items c.feed.new.places.rings.items _ _
-    c.feed.ensures.same_rings.0 c.feed.ensures.worn_rings c.feed.ensures.worn_book
+    c.feed.ensures.stay.at_rings.same.0 c.feed.ensures.stay.at_rings.worn c.feed.ensures.stay.at_book.worn
 
 pub returns-in-Open-clause-later : goal.returns-in-Open-clause-later
 returns-in-Open-clause-later g c =
     later_both _ _ _
     (worn_later g.T.Turns.shape g.T.Turns.worn c.args.places.now.rings.items c.feed.new.places.rings.items _ _
-    c.feed.ensures.same_rings.0 c.feed.ensures.worn_rings c.feed.ensures.worn_book) c.take_turn.ensures.later
+    c.feed.ensures.stay.at_rings.same.0 c.feed.ensures.stay.at_rings.worn c.feed.ensures.stay.at_book.worn) c.take_turn.ensures.later
 
 pub returns-in-Ended-clause-arrived : goal.returns-in-Ended-clause-arrived
 returns-in-Ended-clause-arrived g c = λ opening me start sent whats reached.
@@ -93,5 +93,5 @@ returns-in-Open-clause-arrived g c = λ opening me start sent whats reached.
     (whats ++ arrives c.args.bytes.now ∷ [])
     (fit_kept c.args.config.now c.args.session.now.me me _ _ (sym reached.caller)
     (known_same t.shape b.shape t.speaks b.speaks t.may_lack b.may_lack t.alone b.alone t.home b.home items
-    new.rings.items book new.book c.feed.ensures.same_rings c.feed.ensures.same_book)
+    new.rings.items book new.book c.feed.ensures.stay.at_rings.same c.feed.ensures.stay.at_book.same)
     c.requires.fit) reached_on)

@@ -21,12 +21,12 @@ returns-clause-known g c =
     let t = g.T.Turns in let b = g.B.Turns in
     known_same t.shape b.shape t.speaks b.speaks t.may_lack b.may_lack t.alone b.alone t.home b.home
     c.args.places.now.rings.items c.turn.new.places.rings.items c.args.places.now.book c.turn.new.places.book
-    c.turn.ensures.same_rings c.turn.ensures.same_book
+    c.turn.ensures.stay.at_rings.same c.turn.ensures.stay.at_book.same
 
 pub returns-clause-later : goal.returns-clause-later
 returns-clause-later g c =
     worn_later g.T.Turns.shape g.T.Turns.worn c.args.places.now.rings.items c.turn.new.places.rings.items _ _
-    c.turn.ensures.same_rings.0 c.turn.ensures.worn_rings c.turn.ensures.worn_book
+    c.turn.ensures.stay.at_rings.same.0 c.turn.ensures.stay.at_rings.worn c.turn.ensures.stay.at_book.worn
 
 pub returns-clause-turned : goal.returns-clause-turned
 returns-clause-turned g c = λ config opening me start sent whats fit reached.

@@ -52,7 +52,7 @@ returns-clause-known g c =
     let t = g.T.Turns in let b = g.B.Turns in
     known_same t.shape b.shape t.speaks b.speaks t.may_lack b.may_lack t.alone b.alone t.home b.home
     c.run-last.new.places.rings.items c.close.new.places.rings.items c.run-last.new.places.book
-    c.close.new.places.book c.close.ensures.same_rings c.close.ensures.same_book
+    c.close.new.places.book c.close.ensures.stay.at_rings.same c.close.ensures.stay.at_book.same
     ∙ c.run-last.ensures.known
 
 pub returns-clause-served : goal.returns-clause-served
@@ -83,8 +83,8 @@ returns-clause-worn g c =
     let now = seen_at t.seen b.seen c.close.new.places.rings.items c.close.new.places.book in
     worn_still (map t.worn mid.rings.items) (map t.worn c.close.new.places.rings.items) (b.worn mid.book)
     (b.worn c.close.new.places.book) c.run-last.new.session.ended c.run-last.result _ c.close.result.ending
-    (same_length t.shape t.worn mid.rings.items c.close.new.places.rings.items c.close.ensures.same_rings.0)
-    c.close.ensures.worn_rings c.close.ensures.worn_book c.run-last.ensures.cause
+    (same_length t.shape t.worn mid.rings.items c.close.new.places.rings.items c.close.ensures.stay.at_rings.same.0)
+    c.close.ensures.stay.at_rings.worn c.close.ensures.stay.at_book.worn c.run-last.ensures.cause
     (ending_is c.args.setup.now.config.now (opening_of c.args.role) c.in-Ok.session.me
     (alone_at t.alone b.alone mid.rings.items mid.book) start (seen_at t.seen b.seen mid.rings.items mid.book) now
     c.run-last.new.session (g.L.Link.told c.args.link.now) (g.L.Link.told c.run-last.new.link) c.run-last.result
@@ -104,7 +104,7 @@ pub returns-clause-later : goal.returns-clause-later
 returns-clause-later g c =
     later_both _ _ _ c.run-last.ensures.later
     (worn_later g.T.Turns.shape g.T.Turns.worn c.run-last.new.places.rings.items c.close.new.places.rings.items _ _
-    c.close.ensures.same_rings.0 c.close.ensures.worn_rings c.close.ensures.worn_book)
+    c.close.ensures.stay.at_rings.same.0 c.close.ensures.stay.at_rings.worn c.close.ensures.stay.at_book.worn)
 
 pub returns-clause-unsettled : goal.returns-clause-unsettled
 returns-clause-unsettled g c = λ is.
@@ -113,7 +113,7 @@ returns-clause-unsettled g c = λ is.
     let new = c.close.new.places in
     let may = c.close.ensures.unsettled is in
     let same = known_same t.shape b.shape t.speaks b.speaks t.may_lack b.may_lack t.alone b.alone t.home b.home
-    mid.rings.items new.rings.items mid.book new.book c.close.ensures.same_rings c.close.ensures.same_book in
+    mid.rings.items new.rings.items mid.book new.book c.close.ensures.stay.at_rings.same c.close.ensures.stay.at_book.same in
     subst (λ (lacks : Bool). MayRefuse (record {
       may_lack = lacks;
       turns = worn_at t.worn b.worn new.rings.items new.book;

@@ -1,8 +1,8 @@
-use Rattle.std.proofs.Common.{◌∙◌, ℕ, [], length, map, sym, ap, subst, arith, Result, None, false}
+use Rattle.std.proofs.Common.{◌∙◌, ℕ, [], length, sym, ap, subst, arith, Result, None, false}
 use Rattle.std.proofs.lemmas.List.{length-map}
 use Rattle.access_groups.specs.declared.admission.SourceDenial.{SourceDenial}
 use Rattle.session_model.specs.Judged.{source_judged}
-use Rattle.session_core.specs.Beginnings.{histories_of}
+use Rattle.session_core.specs.Places.{alone_in, seen_in, worn_in}
 use Rattle.session_core.specs.Begun.{BeginsFor}
 use Rattle.session_core.proofs.HeldLemmas.{length_shapes}
 use Rattle.session_core.proofs.judging.judge_bare_source.Goals as goal
@@ -12,29 +12,27 @@ begin_source-requires-clause-within g c =
     omega (
       arith,
       c.in-Ok.ensures.within,
-      length-map c.args.rings.now g.T.Turns.shape,
+      length-map c.args.places.now.rings.items g.T.Turns.shape,
       ap length c.requires.shapes,
       length_shapes c.args.config.now,
     )
 
 pub returns-in-Ok-clause-begins : goal.returns-in-Ok-clause-begins
-returns-in-Ok-clause-begins g c alone book from =
-    subst (λ (answer : Result ℕ SourceDenial). BeginsFor c.args.config.now alone
-    (histories_of (map g.T.Turns.seen c.args.rings.now) book)
-    (histories_of (map g.T.Turns.seen c.begin_source.new.rings) book) c.args.me
+returns-in-Ok-clause-begins g c =
+    subst (λ (answer : Result ℕ SourceDenial). BeginsFor c.args.config.now (alone_in g.T.Turns g.B.Turns c.args.places.now)
+    (seen_in g.T.Turns g.B.Turns c.args.places.now) (seen_in g.T.Turns g.B.Turns c.begin_source.new.places) c.args.me
     (source_judged None false [] answer) c.begin_source.result.stage c.begin_source.result.ended
     c.args.out.now.items c.begin_source.new.out.items) (sym (sym c.admit_bare.ensures.value ∙ c.in-Ok.is))
-    (c.begin_source.ensures.begins c.args.config.now alone book c.requires.shapes from)
+    (c.begin_source.ensures.begins c.args.config.now c.requires.shapes)
 
 pub returns-in-Err-clause-begins : goal.returns-in-Err-clause-begins
-returns-in-Err-clause-begins g c alone book from =
-    subst (λ (answer : Result ℕ SourceDenial). BeginsFor c.args.config.now alone
-    (histories_of (map g.T.Turns.seen c.args.rings.now) book) (histories_of (map g.T.Turns.seen c.args.rings.now) book)
-    c.args.me (source_judged None false [] answer) c.deny_source.result.stage
-    c.deny_source.result.ended c.args.out.now.items c.deny_source.new.out.items)
-    (sym (sym c.admit_bare.ensures.value ∙ c.in-Err.is))
-    (c.deny_source.ensures.begins c.args.config.now alone (histories_of (map g.T.Turns.seen c.args.rings.now) book)
-    c.args.me false tt)
+returns-in-Err-clause-begins g c =
+    let alone = alone_in g.T.Turns g.B.Turns c.args.places.now in
+    let seen = seen_in g.T.Turns g.B.Turns c.args.places.now in
+    subst (λ (answer : Result ℕ SourceDenial). BeginsFor c.args.config.now alone seen seen c.args.me
+    (source_judged None false [] answer) c.deny_source.result.stage c.deny_source.result.ended
+    c.args.out.now.items c.deny_source.new.out.items) (sym (sym c.admit_bare.ensures.value ∙ c.in-Err.is))
+    (c.deny_source.ensures.begins c.args.config.now alone seen c.args.me false tt)
 
 pub returns-in-Err-clause-cause : goal.returns-in-Err-clause-cause
-returns-in-Err-clause-cause g c = c.deny_source.ensures.cause (map g.T.Turns.worn c.args.rings.now)
+returns-in-Err-clause-cause g c = c.deny_source.ensures.cause (worn_in g.T.Turns g.B.Turns c.args.places.now)

@@ -6,9 +6,9 @@ use Rattle.caster_replay.proofs.desks.Desks.close.Goals as goal
 
 pub returns-clause-same : goal.returns-clause-same
 returns-clause-same c = record {
-  rings = c.close.ensures.same_rings.0 ∙ ap (λ (v : DesksValue). v.rings) c.self.view_is;
-  book = c.close.ensures.same_book.0 ∙ ap (λ (v : DesksValue). v.book) c.self.view_is;
-  cleared = cleared_same c.self.inside.places.rings.items c.close.new.places.rings.items c.close.ensures.same_rings.4
+  rings = c.close.ensures.stay.at_rings.same.0 ∙ ap (λ (v : DesksValue). v.rings) c.self.view_is;
+  book = c.close.ensures.stay.at_book.same.0 ∙ ap (λ (v : DesksValue). v.book) c.self.view_is;
+  cleared = cleared_same c.self.inside.places.rings.items c.close.new.places.rings.items c.close.ensures.stay.at_rings.same.4
       ∙ ap (λ (v : DesksValue). v.cleared) c.self.view_is;
 }
 

@@ -14,10 +14,7 @@ use Rattle.session_core.proofs.session.Session.feed.Goals as goal
 
 pub returns-in_default : goal.returns-in_default
 returns-in_default g c = record {
-  same_rings = c.feed_behind.ensures.same_rings;
-  same_book = c.feed_behind.ensures.same_book;
-  worn_rings = c.feed_behind.ensures.worn_rings;
-  worn_book = c.feed_behind.ensures.worn_book;
+  stay = c.feed_behind.ensures.stay;
   me = c.feed_behind.ensures.me;
   flow = c.flow_after.ensures;
   fed = λ opening text steps histories sent stands others.
@@ -73,7 +70,7 @@ feed_behind-requires-2-clause-rings g c =
     subst (AllSpeak g.T.Turns.speaks c.hear_head-begun.new.places.rings.items)
     (sym (ap (λ (s : Session). s.me) c.go_on_as.ensures))
     (speak_same g.T.Turns.speaks c.args.places.now.rings.items c.hear_head-begun.new.places.rings.items
-    c.args.self.now.me c.hear_head-begun.ensures.same_rings.1 c.requires.rings)
+    c.args.self.now.me c.hear_head-begun.ensures.stay.at_rings.same.1 c.requires.rings)
 
 pub feed_behind-requires-2-clause-follows : goal.feed_behind-requires-2-clause-follows
 feed_behind-requires-2-clause-follows g c =
@@ -87,7 +84,7 @@ feed_behind-requires-2-clause-follows g c =
     let front : List ℕ = c.in-Head.head ++ take heard.result.count bytes in (
       config,
       c.requires.kept,
-      heard.ensures.same_rings.0 ∙ c.requires.shapes,
+      heard.ensures.stay.at_rings.same.0 ∙ c.requires.shapes,
       subst (λ (l : List ℕ). Follows config c.go_on_as.new.self now (length l))
           (sym (rest_of bytes heard.result.count heard.ensures.within))
           (begun_follows config alone old now c.args.self.now.me c.go_on_as.new.self follows.0 follows.1 bytes follows.2
@@ -115,8 +112,8 @@ returns-clause-fed g c = λ opening text steps histories sent stands others.
     let alone = alone_at g.T.Turns.alone g.B.Turns.alone c.args.places.now.rings.items c.args.places.now.book in
     let still = alone_at g.T.Turns.alone g.B.Turns.alone heard.new.places.rings.items heard.new.places.book in
     let same : still ≡ alone = alone_as g.T.Turns.alone g.B.Turns.alone c.args.places.now.rings.items
-    heard.new.places.rings.items c.args.places.now.book heard.new.places.book heard.ensures.same_rings.3
-    heard.ensures.same_book.3 in
+    heard.new.places.rings.items c.args.places.now.book heard.new.places.book heard.ensures.stay.at_rings.same.3
+    heard.ensures.stay.at_book.same.3 in
     let front : List ℕ = c.in-Head.head ++ take heard.result.count bytes in
     fed_behind config alone old mid now c.args.self.now.me c.go_on_as.new.self c.feed_behind-2.new.self opening text
     bytes steps sent c.in-Head.head c.args.out.now.items heard.new.out.items heard.result.count
@@ -134,5 +131,5 @@ returns-clause-fed g c = λ opening text steps histories sent stands others.
     (rest_of bytes heard.result.count heard.ensures.within)
     (subst (λ a. FedOn config a mid now c.feed_behind-2.new.self o
     (before ++ take (length bytes - heard.result.count) (drop heard.result.count bytes)) ss so_far) same
-    (c.feed_behind-2.ensures.fed config o before ss h so_far (heard.ensures.same_rings.0 ∙ c.requires.shapes) s
+    (c.feed_behind-2.ensures.fed config o before ss h so_far (heard.ensures.stay.at_rings.same.0 ∙ c.requires.shapes) s
     between)))

@@ -23,7 +23,7 @@ returns-clause-turned g c = λ is config opening text steps histories sent shape
     let turned = c.turn_at-ended.ensures in
     let new = c.turn_at-ended.new.rings in
     let long : length new ≡ length items =
-    length_same g.T.Turns.shape c.as_mut_slice-rings.result.now new turned.same.0 ∙ ap length there in
+    length_same g.T.Turns.shape c.as_mut_slice-rings.result.now new turned.stay.same.0 ∙ ap length there in
     let back = back_whole new items (vec_len c.args.places.now.rings) long
     (sym (sym (ap length there) ∙ c.as_mut_slice-rings.ensures.len)) in
     rw back (turned_by config (all_alone g.T.Turns.alone items) (g.B.Turns.alone c.args.places.now.book)
@@ -42,7 +42,7 @@ returns-clause-cause g c =
     let turned = c.turn_at-ended.ensures in
     let new = c.turn_at-ended.new.rings in
     let long : length new ≡ length items =
-    length_same g.T.Turns.shape c.as_mut_slice-rings.result.now new turned.same.0 ∙ ap length there in
+    length_same g.T.Turns.shape c.as_mut_slice-rings.result.now new turned.stay.same.0 ∙ ap length there in
     worn_back g.T.Turns.worn g.B.Turns.worn new items (vec_len c.args.places.now.rings) c.args.places.now.book
     c.turn_at-ended.result
     (back_whole new items (vec_len c.args.places.now.rings) long
@@ -56,7 +56,7 @@ returns-clause-refused g c =
     let turned = c.turn_at-ended.ensures in
     let new = c.turn_at-ended.new.rings in
     let long : length new ≡ length items =
-    length_same g.T.Turns.shape c.as_mut_slice-rings.result.now new turned.same.0 ∙ ap length there in
+    length_same g.T.Turns.shape c.as_mut_slice-rings.result.now new turned.stay.same.0 ∙ ap length there in
     let back = back_whole new items (vec_len c.args.places.now.rings) long
     (sym (sym (ap length there) ∙ c.as_mut_slice-rings.ensures.len)) in
     rw back (refused_back g.T.Turns.seen g.B.Turns.seen c.as_mut_slice-rings.result.now items new c.args.places.now.book
@@ -70,7 +70,7 @@ returns-clause-bystander g c = λ apart.
     let new = c.turn_at-ended.new.rings in
     let still = turned.bystander apart in
     let long : length new ≡ length items =
-    length_same g.T.Turns.shape c.as_mut_slice-rings.result.now new turned.same.0 ∙ ap length there in (
+    length_same g.T.Turns.shape c.as_mut_slice-rings.result.now new turned.stay.same.0 ∙ ap length there in (
       same_session c.args.self.now c.turn_at-ended.new.stage c.turn_at-ended.result still.1 still.0 c.requires.goes_on,
       back_whole new items (vec_len c.args.places.now.rings) long
           (sym (sym (ap length there) ∙ c.as_mut_slice-rings.ensures.len)) ∙ still.2 ∙ there,
