@@ -22,13 +22,13 @@ use Rattle.caster_places.specs.Known.{Fit}
 use Rattle.caster_places.specs.Leaves.{Leaves, left_in}
 use Rattle.caster_places.specs.Piles.{AreMatched}
 use Rattle.caster_places.specs.Rows.{AreAt, RingLocks, BookLock, left_by}
-use Rattle.caster_serve.specs.declared.shared.Shared.{Shared}
-use Rattle.caster_serve.specs.Sharing.{IsReady}
+use Rattle.caster_seats.specs.declared.shared.Shared.{Shared}
+use Rattle.caster_seats.specs.Sharing.{IsReady}
 use Rattle.caster_link.specs.Wear.{Wear, lacks_in, only_worn}
 use Rattle.caster_serve.specs.Works.{IsWithin}
 use Rattle.caster_serve.specs.Callers.{Caller, Served, ServedOver, IsServed, AreServed, ends_of, is_whole, is_whole_at, seen_of, uncalled}
-use Rattle.caster_serve.specs.Hands.{HandTold}
-use Rattle.caster_serve.specs.Seated.{AreAllAt, AreBelow, AreLegal, AreSeated, HavePlaces, IsSeated}
+use Rattle.caster_seats.specs.Hands.{HandTold}
+use Rattle.caster_seats.specs.Seated.{AreAllAt, AreBelow, AreLegal, AreSeated, HavePlaces, IsSeated}
 use Rattle.caster_serve.specs.Serving.{TaskTold, HandServed, FitsEnd, MayServe, caller_of}
 use Rattle.caster_serve.proofs.WorkLemmas.{relay_on, worked_on}
 use Rattle.caster_link.proofs.WornLemmas.{WearsOn, later_none}

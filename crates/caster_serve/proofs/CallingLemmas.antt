@@ -10,11 +10,11 @@ use Rattle.caster_serve.specs.Ends.{EndTold, IsUnserved, IsUnused, end_told, kin
 use Rattle.caster_places.specs.Piles.{AreMatched}
 use Rattle.caster_places.specs.Rows.{ArePiles, AreWornWithin, RingLocks, BookLock}
 use Rattle.caster_places.specs.declared.piles.Piles.{Piles}
-use Rattle.caster_serve.specs.declared.shared.Shared.{Shared}
-use Rattle.caster_serve.specs.Sharing.{IsReady}
+use Rattle.caster_seats.specs.declared.shared.Shared.{Shared}
+use Rattle.caster_seats.specs.Sharing.{IsReady}
 use Rattle.caster_serve.specs.Callers.{ends_of, is_whole, seen_of}
-use Rattle.caster_serve.specs.Hands.{HandTold, with_work}
-use Rattle.caster_serve.specs.Seated.{AreAllAt, AreBelow, AreLegal, AreSeated, HaveLeft, HavePlaces, rows_of, works_of}
+use Rattle.caster_seats.specs.Hands.{HandTold, with_work}
+use Rattle.caster_seats.specs.Seated.{AreAllAt, AreBelow, AreLegal, AreSeated, HaveLeft, HavePlaces, rows_of, works_of}
 use Rattle.caster_serve.specs.Serving.{HandServed, HaveCalled, MayServe, TaskTold, caller_of, task_told}
 use Rattle.caster_serve.proofs.CallersLemmas.{HaveServed, callers_of, fit_ends, have_places, have_served, legal_rows, may_serve_with, new_task, whole_are}
 

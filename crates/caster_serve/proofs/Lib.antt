@@ -1,7 +1,5 @@
 pub mod LeaveLemmas
 pub mod WorkLemmas
-pub mod SharingLemmas
-pub mod SittingLemmas
 pub mod CallersLemmas
 pub mod CallingLemmas
 pub mod WholeLemmas

@@ -24,10 +24,10 @@ use Rattle.session_core.proofs.HeldLemmas.{length_shapes}
 use Rattle.caster_serve.specs.Ends.{EndTold, HasAsked, HasTakenBack, IsUnused, a_worker, asked_of, doors_in, links_in, door_failed, kind_of, kinds, relays_from}
 use Rattle.caster_places.specs.declared.piles.Piles.{Piles}
 use Rattle.caster_places.specs.Rows.{AreWhole, AreWornWithin, ArePiles, left_by}
-use Rattle.caster_serve.specs.declared.shared.Shared.{Shared}
+use Rattle.caster_seats.specs.declared.shared.Shared.{Shared}
 use Rattle.caster_serve.specs.declared.whole.ServeFault.{ServeFault}
 use Rattle.caster_serve.specs.declared.whole.ServeFault.TheVariants as faults
-use Rattle.caster_serve.specs.Sharing.{IsReady}
+use Rattle.caster_seats.specs.Sharing.{IsReady}
 use Rattle.caster_serve.specs.Callers.{Caller, calls_in, ends_of, seen_of}
 use Rattle.caster_serve.specs.Serving.{HaveCalled}
 use Rattle.caster_serve.specs.Caster.{HasGivenBack, AllServed, NoneServed, ClosedWhole, EndedEarly, Ended, Refused, HasServed}

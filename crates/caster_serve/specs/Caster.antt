@@ -20,10 +20,10 @@ pub record HasGivenBack (ends : List EndTold) (old new : StreetTold) : Type 0 wh
   pub links : Grew old.links new.links (links_in ends)
 
 -- All callers served: in the order of their numbers, first the workers and then the relays. Then
--- all doors and links were given back. There is one history of each mountpoint and one of the
--- book: each caller has seen a beginning of it with all its own calls, and nobody else called. A
--- receipt tells of a worn place, or is not settled, only where one of these histories has 2^62 calls
--- or more.
+-- all doors and links were given back. There is one history of each mountpoint and one of the book:
+-- each caller has seen a beginning of it with all its own calls, and nobody else called. A receipt
+-- tells of a worn place, or is not settled, only where one of these histories has 2^62 calls or
+-- more.
 pub record AllServed (c : Config) (limit : ℕ) (old new : StreetTold) (callers : List Caller)
     (histories : Histories) : Type 0 where
   pub kinds_are : map kind_of (ends_of callers) ≡ kinds c

@@ -1,8 +1,5 @@
-pub mod Sharing
 pub mod Works
 pub mod Callers
-pub mod Hands
-pub mod Seated
 pub mod Prepared
 pub mod Caster
 pub mod Visits

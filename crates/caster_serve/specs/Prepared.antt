@@ -4,8 +4,8 @@ use mathlib.Core.Option.{some}
 use lib.ListN.{get_elem?}
 use Rattle.caster_places.specs.Rows.{ArePiles, HaveRoom, IsRoomFor}
 use Rattle.caster_serve.specs.declared.whole.Ready.{Ready}
-use Rattle.caster_serve.specs.declared.shared.Passes.{Passes}
-use Rattle.caster_serve.specs.Sharing.{AreNewPasses, AreOpenFor, IsReady}
+use Rattle.caster_seats.specs.declared.shared.Passes.{Passes}
+use Rattle.caster_seats.specs.Sharing.{AreNewPasses, AreOpenFor, IsReady}
 
 -- its locks are open with new passes for so many callers, and there is room for what comes back
 pub record IsPrepared (callers : ℕ) (ready : Ready) : Type 0 where

@@ -16,11 +16,11 @@ use Rattle.caster_serve.specs.declared.task.Task.{Task}
 use Rattle.caster_places.specs.Known.{Fit}
 use Rattle.caster_places.specs.Rows.{ArePiles, AreWornWithin}
 use Rattle.caster_places.specs.declared.piles.Piles.{Piles}
-use Rattle.caster_serve.specs.declared.shared.Shared.{Shared}
+use Rattle.caster_seats.specs.declared.shared.Shared.{Shared}
 use Rattle.caster_link.specs.Wear.{wear_of}
 use Rattle.caster_serve.specs.Works.{IsWithin}
 use Rattle.caster_serve.specs.Callers.{Caller, AreServed, Served, ends_of, is_whole, seen_of}
-use Rattle.caster_serve.specs.Hands.{HandTold}
+use Rattle.caster_seats.specs.Hands.{HandTold}
 
 -- ---- its task
 

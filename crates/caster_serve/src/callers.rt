@@ -9,15 +9,14 @@ ghost use Rattle.caster_places.specs.Rows.{ArePiles, HaveRoom};
 ghost use Rattle.caster_places.specs.Piles.{AreMatched};
 ghost use Rattle.caster_serve.specs.Callers.{is_whole};
 ghost use Rattle.caster_serve.specs.Serving.{HandServed, HaveCalled, MayServe, caller_of};
-ghost use Rattle.caster_serve.specs.Sharing.{AreNewPasses, IsReady};
+ghost use Rattle.caster_seats.specs.Sharing.{AreNewPasses, IsReady};
 
-use crate::hands::{Hand, leave_all, sit_all};
-use crate::shared::{Passes, Shared};
 use crate::task::Task;
 use crate::threads::{Serves, serve_all};
 use cast_config::Config;
 use cast_io::{Door, Link};
 use caster_places::Piles;
+use caster_seats::{Hand, Passes, Shared, leave_all, sit_all};
 use std::alloc::{AllocError, Global};
 use std::sync::Wait;
 use std::thread::Threads;
@@ -83,7 +82,14 @@ pub(crate) fn serve_tasks<L: Link + Send, D: Door<Link = L> + Send, R: Threads +
     ensures kept { OnErr result (tasks.new.items ≡ tasks.old.items) }
 {
     let mut hands = sit_all(rt, alloc, shared, passes, tasks)?;
-    serve_hands(rt, alloc, shared.config, &shared.table, &mut hands, limit);
+    serve_hands(
+        rt,
+        alloc,
+        shared.config(),
+        shared.table(),
+        &mut hands,
+        limit,
+    );
     let is_whole = are_whole(&hands, limit);
     leave_all(hands, piles, tasks);
     Ok(is_whole)

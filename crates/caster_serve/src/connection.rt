@@ -5,14 +5,14 @@ ghost use Rattle.session_calls.specs.Rings.{AllLater};
 ghost use Rattle.caster_places.specs.Known.{Fit};
 ghost use Rattle.caster_link.specs.Links.{opening_of};
 ghost use Rattle.caster_link.specs.Served.{LinkServed};
-ghost use Rattle.caster_serve.specs.Sharing.{IsReady};
+ghost use Rattle.caster_seats.specs.Sharing.{IsReady};
 ghost use Rattle.caster_link.specs.Wear.{IsWorn, IsWornBy};
 
-use crate::shared::Shared;
 use cast_io::Link;
 use caster_accounts::Book;
 use caster_link::{Role, serve_places};
 use caster_places::AllPlaces;
+use caster_seats::Shared;
 use mount_ring::Ring;
 use session_core::{Places, Receipt};
 use std::alloc::Global;

@@ -2,11 +2,10 @@
 
 ghost use Rattle.std.specs.Prelude.{◌≡◌, ◌<◌, ℕ, length, slice_index_or};
 ghost use Rattle.std.specs.List.{All};
-ghost use Rattle.caster_serve.specs.Hands.{hand_told};
+ghost use Rattle.caster_seats.specs.Hands.{hand_told};
 ghost use Rattle.caster_serve.specs.Serving.{HandServed, MayServe, task_told};
 
 use crate::accept_loop::work_places;
-use crate::hands::Hand;
 use crate::relay::serve_relay;
 use crate::task::{End, Task};
 use cast_config::Config;
@@ -14,6 +13,7 @@ use cast_io::{Door, Link};
 use caster_accounts::Book;
 use caster_link::Setup;
 use caster_places::AllPlaces;
+use caster_seats::Hand;
 use mount_ring::Ring;
 use session_core::Places;
 use std::alloc::Global;
@@ -54,7 +54,7 @@ fn do_task<T: Turns<Ring>, B: Turns<Book>, L: Link, D: Door<Link = L>, R: Wait>(
 /// What serves in a thread of its own.
 pub(crate) trait Serves: Send {
     ghost use Rattle.caster_serve.specs.Callers.{is_whole};
-    ghost use Rattle.caster_serve.specs.Hands.{HandTold};
+    ghost use Rattle.caster_seats.specs.Hands.{HandTold};
     ghost use Rattle.caster_serve.specs.Serving.{HandServed, MayServe, TaskTold, caller_of};
 
     /// What is told of it.
@@ -72,7 +72,7 @@ pub(crate) trait Serves: Send {
 
 impl<'a, L: Link + Send, D: Door<Link = L> + Send, R: Wait + Sync> Serves
     for Hand<'a, Task<D, L>, R> {
-    ghost use Rattle.caster_serve.specs.Hands.{hand_told};
+    ghost use Rattle.caster_seats.specs.Hands.{hand_told};
     ghost use Rattle.caster_serve.specs.Serving.{task_told};
 
     ghost told = { λ hand. hand_told hand.number

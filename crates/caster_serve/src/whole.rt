@@ -9,11 +9,11 @@ ghost use Rattle.caster_serve.specs.Prepared.{IsPrepared};
 
 use crate::callers::serve_tasks;
 use crate::listeners::{ask_all, give_back};
-use crate::shared::{Passes, Shared};
 use crate::task::Task;
 use cast_config::Config;
 use cast_io::{Street, StreetFault};
 use caster_places::{Piles, Totals};
+use caster_seats::{Passes, Shared};
 use session_core::Closed;
 use std::alloc::{AllocError, Global};
 use std::sync::Wait;

@@ -3,17 +3,17 @@
 ghost use Rattle.std.specs.Prelude.{◌≡◌, ◌+◌, ◌*◌, ◌^◌, ◌<◌, ◌≤◌, ℕ};
 ghost use Rattle.caster_accounts.specs.Sums.{nothing};
 ghost use Rattle.caster_places.specs.Known.{Fit};
-ghost use Rattle.caster_serve.specs.Sharing.{IsReady};
+ghost use Rattle.caster_seats.specs.Sharing.{IsReady};
 ghost use Rattle.session_calls.specs.Rings.{AllLater};
 ghost use Rattle.caster_link.specs.Wear.{only_worn};
 ghost use Rattle.caster_serve.specs.Works.{Worked};
 
 use crate::accept_loop::work_places;
-use crate::shared::Shared;
 use crate::tally::Tally;
 use cast_io::Door;
 use caster_accounts::Book;
 use caster_places::AllPlaces;
+use caster_seats::Shared;
 use mount_ring::Ring;
 use session_core::Places;
 use std::alloc::Global;

@@ -12,8 +12,8 @@ use std::alloc::Global;
 use std::sync::Wait;
 use std::test::Fail;
 
-/// A link that answers as one in memory. It notes the number of each mountpoint that it is told, as a
-/// digit, where it is another one than before; and `w` for a write and `r` for a rest.
+/// A link that answers as one in memory. It notes the number of each mountpoint that it is told, as
+/// a digit, where it is another one than before; and `w` for a write and `r` for a rest.
 #[derive(Drop)]
 struct PlacedLink {
     link: MemLink,
@@ -70,8 +70,8 @@ fn notes_of<R: Wait + Sync>(
     Ok(link.notes)
 }
 
-// It is told before the reply is written, and so before its next rest and read. Of a relay it is known
-// from the first.
+// It is told before the reply is written, and so before its next rest and read. Of a relay it is
+// known from the first.
 #[test]
 fn a_link_is_told_where_its_session_is(rt: HostRuntime) -> Result<(), Fail> {
     let refused = b"SOURCE wrong ALPHA\r\n\r\n".as_slice();

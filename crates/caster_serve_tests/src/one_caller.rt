@@ -4,14 +4,15 @@ ghost use Rattle.std.specs.Prelude.{◌≡◌, ◌<◌, ◌≤◌, ◌^◌, ℕ,
 ghost use mathlib.Core.Option.{some};
 ghost use lib.ListN.{get_elem?};
 ghost use Rattle.caster_places.specs.Known.{Fit};
-ghost use Rattle.caster_serve.specs.Sharing.{AreNewPasses, IsReady};
+ghost use Rattle.caster_seats.specs.Sharing.{AreNewPasses, IsReady};
 
 use crate::setting::{config_of, is_there};
 use crate::telling::{Ended, ended_at, ended_of};
 use cast_io::{Door, Link, MemDoor, MemLink};
 use caster_accounts::Book;
 use caster_places::AllPlaces;
-use caster_serve::{Passes, Role, Shared, Tally, Worker, serve_link, work};
+use caster_seats::{Passes, Shared};
+use caster_serve::{Role, Tally, Worker, serve_link, work};
 use mount_ring::Ring;
 use session_core::{Ending, Places, Receipt};
 use std::alloc::Global;

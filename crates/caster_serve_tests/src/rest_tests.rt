@@ -197,8 +197,8 @@ impl Door for NotingDoor {
     }
 }
 
-/// What a door notes at which a client arrives, then nothing, and then one that ends at once, while a
-/// worker serves two links.
+/// What a door notes at which a client arrives, then nothing, and then one that ends at once, while
+/// a worker serves two links.
 fn door_notes<R: Wait + Sync>(rt: &R, alloc: Global) -> Result<Vec<u8>, Fail> {
     let door = NotingDoor {
         door: door_with(alloc, &[], &[])?,

@@ -3,13 +3,13 @@
 
 ghost use Rattle.std.specs.Prelude.{◌<◌, IsTrue, length};
 ghost use Rattle.caster_places.specs.Known.{Fit};
-ghost use Rattle.caster_serve.specs.Sharing.{IsReady};
+ghost use Rattle.caster_seats.specs.Sharing.{IsReady};
 
 use crate::one_caller::sit_down;
 use crate::setting::{FRAME_A, config_of};
 use caster_accounts::Book;
 use caster_places::AllPlaces;
-use caster_serve::Shared;
+use caster_seats::Shared;
 use mount_ring::{Cursor, Outbox, ReadReport, Ring, RingAnswer, RingCall};
 use rtcm_frame::Frame;
 use session_core::Places;

@@ -28,9 +28,9 @@ pub(crate) struct Stop {
     pub(crate) awaits: usize,
 }
 
-/// A link that answers as one in memory, but for its stops. Of each call it notes a letter: `b` where
-/// a read gave bytes, `i` where it gave nothing yet, `e` at the end, `f` where it failed, `w` for a
-/// write and `r` for a rest.
+/// A link that answers as one in memory, but for its stops. Of each call it notes a letter: `b`
+/// where a read gave bytes, `i` where it gave nothing yet, `e` at the end, `f` where it failed, `w`
+/// for a write and `r` for a rest.
 #[derive(Drop)]
 pub(crate) struct TimedLink<'a, R: Clock> {
     rt: &'a R,

@@ -4,14 +4,15 @@ use Rattle.std.specs.List.{list_all}
 use Rattle.caster_serve.specs.Ends.{end_told}
 use Rattle.caster_serve.specs.Serving.{task_told}
 use Rattle.caster_serve.proofs.CallingLemmas.{have_called, have_room, may_serve, new_served}
-use Rattle.caster_serve.proofs.SittingLemmas.{less_room}
+use Rattle.caster_seats.proofs.SittingLemmas.{less_room}
 use Rattle.caster_serve.proofs.callers.serve_tasks.Goals as goal
 
 pub serve_hands-requires-clause-fit : goal.serve_hands-requires-clause-fit
 serve_hands-requires-clause-fit g c κs within =
-    may_serve g.D.Door.told g.L.Link.told _ c.args.shared.now _ c.args.limit c.args.tasks.now.items
-    c.in_ok-hands.hands.items c.deref.ensures.value c.requires.ready c.ranges.limit.fits c.requires.kinds
-    c.requires.unused c.requires.unserved c.in_ok-hands.ensures.seated
+    rw c.config.ensures
+    (may_serve g.D.Door.told g.L.Link.told _ c.args.shared.now _ c.args.limit c.args.tasks.now.items
+    c.in_ok-hands.hands.items c.table.ensures c.requires.ready c.ranges.limit.fits c.requires.kinds
+    c.requires.unused c.requires.unserved c.in_ok-hands.ensures.seated)
 
 pub leave_all-requires-clause-room : goal.leave_all-requires-clause-room
 leave_all-requires-clause-room g c κs within =
@@ -37,7 +38,7 @@ leave_all-requires-clause-places g c κs within =
     let shared = c.args.shared.now in
     let served = new_served g.D.Door.told g.L.Link.told _ shared c.args.limit c.args.tasks.now.items
     c.in_ok-hands.hands.items c.serve_hands.new.hands.items c.requires.unused c.requires.unserved
-    c.in_ok-hands.ensures.seated c.serve_hands.ensures.served in
+    c.in_ok-hands.ensures.seated (rw c.config.ensures at c.serve_hands.ensures.served) in
     have_room (task_told g.D.Door.told g.L.Link.told) _ _ shared c.args.limit
     (map (end_told g.D.Door.told g.L.Link.told) c.args.tasks.now.items) c.serve_hands.new.hands.items
     c.requires.empty.size served
@@ -47,10 +48,10 @@ returns-clause-called g c =
     let shared = c.args.shared.now in
     let served = new_served g.D.Door.told g.L.Link.told _ shared c.args.limit c.args.tasks.now.items
     c.in_ok-hands.hands.items c.serve_hands.new.hands.items c.requires.unused c.requires.unserved
-    c.in_ok-hands.ensures.seated c.serve_hands.ensures.served in
+    c.in_ok-hands.ensures.seated (rw c.config.ensures at c.serve_hands.ensures.served) in
     have_called (task_told g.D.Door.told g.L.Link.told) _ shared c.args.limit
     (map (end_told g.D.Door.told g.L.Link.told) c.args.tasks.now.items) c.sit_all.new.works.items _
     c.serve_hands.new.hands.items c.args.piles.now _ _ c.requires.ready c.in_ok-hands.ensures.taken c.requires.kinds
-    served c.leave_all.ensures.works (c.are_whole-is_whole.ensures ∙ ap (list_all _) c.deref-2.ensures.value)
+    served c.leave_all.ensures.works (c.are_whole-is_whole.ensures ∙ ap (list_all _) c.deref.ensures.value)
     c.leave_all.ensures.left c.leave_all.ensures.worn c.leave_all.ensures.legal c.requires.empty c.requires.none
     c.leave_all.ensures.passes

@@ -1,7 +1,7 @@
 -- The last of the passes is that of the last caller.
 use Rattle.std.proofs.Common.{◌≡◌, ℕ, length, arith, subst}
-use Rattle.caster_serve.specs.Sharing.{ArePassesOf}
-use Rattle.caster_serve.proofs.SittingLemmas.{are_passes, front_new, last_new}
+use Rattle.caster_seats.specs.Sharing.{ArePassesOf}
+use Rattle.caster_seats.proofs.SittingLemmas.{are_passes, front_new, last_new}
 use Rattle.caster_serve_tests.proofs.one_caller.sit_down.Goals as goal
 
 pub places-requires-clause-passes : goal.places-requires-clause-passes
