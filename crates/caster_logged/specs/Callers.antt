@@ -82,16 +82,16 @@ caller_logged caller = record {
   end = end_logged caller.end;
 }
 
--- the links that came back to a worker's door, as many as it served, in order; and the one link of a
--- relay
+-- the links that came back to a worker's door, as many as it served, in order; and the one link of
+-- a relay
 abbrev pub AreLinksAt : End → ℕ → List Entry → Type 0
 AreLinksAt (door log) count entries =
     (log.back ≡ map (λ (entry : Entry). entry.link) entries) × (length entries ≡ count)
 AreLinksAt (link number log) count entries =
     map (λ (entry : Entry). entry.link) entries ≡ log ∷ []
 
--- The caller of this number served these links, from the first call on, and called nothing else; its
--- tally counts the receipts of the rovers among them.
+-- The caller of this number served these links, from the first call on, and called nothing else;
+-- its tally counts the receipts of the rovers among them.
 pub record IsCallerKept (c : Config) (histories : Histories) (me : ℕ) (caller : CallerLog) : Type 0
   where
     pub entries : List Entry
@@ -125,11 +125,11 @@ abbrev pub ends_of : List CallerLog → List End
 ends_of callers = map (λ (caller : CallerLog). caller.end) callers
 
 -- A caster served to its end. The street was asked for a door for each worker at one address, and
--- then for the peer of each relay. The callers are these workers and then the relays, and their doors
--- and links came back to the street, in order. Each caller kept what is promised, each worker of as
--- many links as it was to serve, by these histories, one for each mountpoint; nobody else called
--- there, and whole frames alone were published. The totals are those of the histories and of the
--- callers' tallies.
+-- then for the peer of each relay. The callers are these workers and then the relays, and their
+-- doors and links came back to the street, in order. Each caller kept what is promised, each worker
+-- of as many links as it was to serve, by these histories, one for each mountpoint; nobody else
+-- called there, and whole frames alone were published. The totals are those of the histories and of
+-- the callers' tallies.
 pub record HasServedAll (c : Config) (addr : List ℕ) (limit : ℕ) (old new : StreetLog)
     (closed : Closed) : Type 0 where
   pub asked : new.asked ≡ old.asked ++ asked_of c addr

@@ -17,9 +17,9 @@ use Rattle.caster_record.specs.Recorded.{IsAtEnd}
 use Rattle.caster_record.specs.Recording.{kind_of}
 use Rattle.caster_record.specs.Rounds.{AreRounds, moves_of}
 
--- The link of this number took what the moves say, and what the events bring in on its connection is
--- what its reads gave. Its writes took exactly what its connection is sent, or where one failed the
--- first of that. A call of it failed only where its count rose.
+-- The link of this number took what the moves say, and what the events bring in on its connection
+-- is what its reads gave. Its writes took exactly what its connection is sent, or where one failed
+-- the first of that. A call of it failed only where its count rose.
 pub record IsPeer (k : ℕ) (moves : List Move) (script : List Event) (sent : List ℕ)
     (link : LinkLog) : Type 0 where
   pub taken : link.taken ≡ taken_in k moves

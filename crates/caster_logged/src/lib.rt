@@ -2,8 +2,8 @@
 //! their reads, links that log what they gave and took, doors and a street that log what came back,
 //! and an output that holds what was written.
 //!
-//! Clauses over any such things say a list where it is told. Here it is: the lists stand in the logs,
-//! and no clause has a premise of that kind. They are read in this order:
+//! Clauses over any such things say a list where it is told. Here it is: the lists stand in the
+//! logs, and no clause has a premise of that kind. They are read in this order:
 //!
 //! - `specs/Inputs.antt`: which bytes were read;
 //! - `specs/Callers.antt`: what was promised of the links that a caster served;

@@ -33,8 +33,8 @@ pub record Keeps {L : Type 0} (told : L → LinkTold) (c : Config) (recorder : R
   pub opened : AreUpTo (length links) (numbers_from no_numbers (events_in recorder)).opened
   pub bound : recorder.tape.size ≤ 8378380
 
--- So it is between rounds. Where the door told its arrivals to come before them all, and tells those
--- now, the rounds took one for each time that they asked it; and it had no fault.
+-- So it is between rounds. Where the door told its arrivals to come before them all, and tells
+-- those now, the rounds took one for each time that they asked it; and it had no fault.
 pub record RestsAfter {L : Type 0} (told : L → LinkTold) (c : Config) (limit : ℕ)
     (before now : DoorTold) (recorder : Recorder) (links : List L) (torn : List Bool)
     : Type 0 where

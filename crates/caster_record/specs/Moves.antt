@@ -64,8 +64,8 @@ MakeAll c (move ∷ moves) before after =
 
 -- ---- what the moves took of the arrivals to come at the door
 
--- A move took this of the arrivals to come: a link where one came, and an idle one where nobody did,
--- or nothing where none was to come. No other move asks the door.
+-- A move took this of the arrivals to come: a link where one came, and an idle one where nobody
+-- did, or nothing where none was to come. No other move asks the door.
 abbrev pub Asks : Move → List (Option LinkTold) → List (Option LinkTold) → Type 0
 Asks (came k) old new =
     (link : LinkTold) × TakesArrival (λ (told : LinkTold). told) (arrived.Link link) old new

@@ -25,9 +25,9 @@ IsAtEnd c limit script count =
 -- The events are a session, whose script reads as them, and the report is that of their replay.
 -- They are those of rounds, in which each link was served in its place, and each link, by what it
 -- tells, took what these rounds and the report say. What the events bring in on a connection is
--- what the reads of its link gave. Where the door tells its arrivals to come, they are those that it
--- told before without those that these rounds took, each time that they asked it. The recording came
--- to its end, and the script has at most 8 MiB.
+-- what the reads of its link gave. Where the door tells its arrivals to come, they are those that
+-- it told before without those that these rounds took, each time that they asked it. The recording
+-- came to its end, and the script has at most 8 MiB.
 pub record IsRecorded (c : Config) (limit : ℕ) (before now : DoorTold) (script : List Event)
     (report : Report) (links : List LinkTold) : Type 0 where
   pub session : IsSession (kind_of c) script

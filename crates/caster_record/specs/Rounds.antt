@@ -75,7 +75,8 @@ HasBegun limit few moves before after count =
     (IsFull limit few before × (moves ≡ []) × (after ≡ before) × (count ≡ few))
     ⊎ (MayAsk limit few before × HasAnswered few moves before after count)
 
--- A round, up to the link of number n: the door was asked, or not, and then each link had its place.
+-- A round, up to the link of number n: the door was asked, or not, and then each link had its
+-- place.
 pub record IsRound (c : Config) (limit : ℕ) (earlier : List Move) (few n : ℕ) (round : List Move)
     (before after : List Event) (count : ℕ) : Type 0 where
   pub first : List Move

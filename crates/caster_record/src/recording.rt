@@ -321,10 +321,10 @@ pub fn hang_up_all<D: Door>(door: &mut D, mut links: Vec<D::Link>)
 ///
 /// It goes in rounds: one accept while fewer links came than may, whoever is connected; then, for
 /// each connection that goes on, in increasing order of number, a read of at most 4,096 bytes, a
-/// turn of 16 frames where it has frames to read, and a write of what it was then sent. A connection whose write fails
-/// while it goes on breaks. After a round in which nothing happened the door rests. It ends where
-/// `limit` links came and none goes on, or where the lines of the events have more than 8,370,000
-/// bytes.
+/// turn of 16 frames where it has frames to read, and a write of what it was then sent. A
+/// connection whose write fails while it goes on breaks. After a round in which nothing happened
+/// the door rests. It ends where `limit` links came and none goes on, or where the lines of the
+/// events have more than 8,370,000 bytes.
 ///
 /// # Errors
 /// `Network` where the door failed, and `Memory` for want of memory, also where a session was

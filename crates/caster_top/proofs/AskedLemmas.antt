@@ -2,9 +2,8 @@
 use Rattle.std.proofs.Common.{◌≡◌, ℕ, List, [], ◌∷◌, ◌++◌, Option, Some, refl, ap, sym, subst, ◌∙◌, append_assoc, inl, inr}
 use Rattle.cast_io.specs.Told.{Grew}
 use Rattle.cast_config.specs.declared.config.Config.{Config}
-use Rattle.caster_top.specs.declared.command.Aim.{Aim}
 use Rattle.caster_top.specs.declared.command.Start.{Start}
-use Rattle.caster_top.specs.Command.{Form, over, replay, form_of}
+use Rattle.caster_top.specs.Command.{Form, replay, form_of}
 use Rattle.caster_top.specs.Told.{FilesTold, IsConfigAt, IsAsked}
 
 -- first these, and then those
@@ -32,9 +31,3 @@ pub both_asked : (start : Start) (config session : List ℕ) (files : FilesTold)
     → IsAsked (Some (replay start config session)) files old new
 both_asked start config session files old mid new c first second is =
     (config ∷ session ∷ [], inr (refl, c, is), grew_both old mid new (config ∷ []) (session ∷ []) first second)
-
--- one file for words that name it
-pub over_asked : (words : List (List ℕ)) (aim : Aim) (path : List ℕ) (files : FilesTold) (old new : Option (List (List ℕ)))
-    → form_of words ≡ Some (over aim path) → Grew old new (path ∷ []) → IsAsked (form_of words) files old new
-over_asked words aim path files old new h grew =
-    asked_so words (Some (over aim path)) files old new h (path ∷ [], refl, grew)

@@ -1,5 +1,5 @@
 -- What a program that is to be a caster answers, ends with and says by its status.
-use Rattle.std.proofs.Common.{◌≡◌, ℕ, ◌≤◌, ◌⊎◌, true, false, List, [], ◌∷◌, length, Option, None, Some, Result, Ok, Err, inl, inr, refl, ap, sym, subst, ◌∙◌, arith}
+use Rattle.std.proofs.Common.{◌≡◌, ℕ, ◌≤◌, ◌⊎◌, true, false, List, [], ◌∷◌, length, Option, Some, Result, Ok, Err, inl, inr, refl, ap, sym, subst, ◌∙◌, arith}
 use Rattle.std.proofs.lemmas.List.{length-map}
 use Rattle.std.specs.Io.KnownBytes.{Appends}
 use Rattle.cast_io.specs.Causes.{Rose}
@@ -18,7 +18,7 @@ use Rattle.caster_serve.specs.declared.whole.ServeFault.TheVariants as faults
 use Rattle.caster_top.specs.declared.answers.Answer.{Answer}
 use Rattle.caster_top.specs.declared.command.Task.{Task}
 use Rattle.caster_top.specs.declared.command.Task.TheVariants.{Serve, Record}
-use Rattle.caster_top.specs.Command.{Form, bare, over, replay, made, casting, fetching, AreCasting, CastNothing, form_of}
+use Rattle.caster_top.specs.Command.{Form, casting, AreCasting, CastNothing, form_of}
 use Rattle.caster_top.specs.Outcome.{Exit, exactly, EndsSo, Came, whole_exit, usage_exit, network_exit, ending_of_casting, ending_of_bytes, session_in}
 use Rattle.caster_top.specs.Told.{Files, FilesTold, Input, IsConfigFrom, IsConfigIn, IsAsked, IsOutcome, HaveCome}
 use Rattle.caster_top.specs.Answers.{exit_of, IsRefused, IsRefusedAt, IsAnswer, Writes}
@@ -355,24 +355,10 @@ complete_run task files config addr limit before after fault old new first now s
 -- ---- where the street is left alone
 
 unserved_not : (status : ℕ) → IsUnserved status → (status ≡ 0) ⊎ ((status ≡ 7) ⊎ (status ≡ 6)) → ⊥
-unserved_not status (inl a) (inl b) = omega (arith, a, b)
-unserved_not status (inl a) (inr (inl b)) = omega (arith, a, b)
-unserved_not status (inl a) (inr (inr b)) = omega (arith, a, b)
-unserved_not status (inr (inl a)) (inl b) = omega (arith, a, b)
-unserved_not status (inr (inl a)) (inr (inl b)) = omega (arith, a, b)
-unserved_not status (inr (inl a)) (inr (inr b)) = omega (arith, a, b)
-unserved_not status (inr (inr (inl a))) (inl b) = omega (arith, a, b)
-unserved_not status (inr (inr (inl a))) (inr (inl b)) = omega (arith, a, b)
-unserved_not status (inr (inr (inl a))) (inr (inr b)) = omega (arith, a, b)
-unserved_not status (inr (inr (inr a))) (inl b) = omega (arith, a, b)
-unserved_not status (inr (inr (inr a))) (inr (inl b)) = omega (arith, a, b)
-unserved_not status (inr (inr (inr a))) (inr (inr b)) = omega (arith, a, b)
+unserved_not status is ends = omega arith
 
 not_five : (status : ℕ) → IsUnserved status → status ≡ 5 → ⊥
-not_five status (inl a) b = omega (arith, a, b)
-not_five status (inr (inl a)) b = omega (arith, a, b)
-not_five status (inr (inr (inl a))) b = omega (arith, a, b)
-not_five status (inr (inr (inr a))) b = omega (arith, a, b)
+not_five status is five = omega arith
 
 unserved_end : (task : Task) (files : Files) (config addr : List ℕ) (limit : ℕ) (before after : StreetTold)
     (fault : Type 0) (old new : Option (List ℕ)) (first now status : ℕ) (end : Exit) → IsUnserved status
@@ -393,20 +379,10 @@ unserved_end task files config addr limit before after fault old new first now s
 cast_or_not : (words : List (List ℕ)) (form : Option Form) → form_of words ≡ form
     → ((task : Task) × (config addr : List ℕ) × (limit : ℕ) × AreCasting task words config addr limit)
     ⊎ CastNothing words
-cast_or_not words None h =
-    inr (λ task config addr limit are. read_other words None task config addr limit h are (λ e. absurd cc))
-cast_or_not words (Some (bare capacity)) h =
-    inr (λ task config addr limit are. read_other words _ task config addr limit h are (λ e. absurd cc))
-cast_or_not words (Some (over aim path)) h =
-    inr (λ task config addr limit are. read_other words _ task config addr limit h are (λ e. absurd cc))
-cast_or_not words (Some (replay start first second)) h =
-    inr (λ task config addr limit are. read_other words _ task config addr limit h are (λ e. absurd cc))
-cast_or_not words (Some (made seed frames rovers)) h =
-    inr (λ task config addr limit are. read_other words _ task config addr limit h are (λ e. absurd cc))
 cast_or_not words (Some (casting task config addr limit)) h =
     inl (task, config, addr, limit, form-form_of words (casting task config addr limit) h)
-cast_or_not words (Some (fetching frames targets)) h =
-    inr (λ task config addr limit are. read_other words _ task config addr limit h are (λ e. absurd cc))
+cast_or_not words form h =
+    inr (λ task config addr limit are. read_other words form task config addr limit h are (λ e. absurd cc))
 
 pub unserved_run : (words : List (List ℕ)) (files : Files) (before after : StreetTold) (fault : Type 0)
     (old new : Option (List ℕ)) (first now status : ℕ) → IsUnserved status
@@ -427,12 +403,8 @@ unserved_run words files before after fault old new first now status is alone ca
 pub of_caster : (words : List (List ℕ)) (input : Input) (files : Files)
     → HaveCome IsOfCaster words input files
     → (task : Task) × (config addr : List ℕ) × (limit : ℕ) × AreCasting task words config addr limit
-of_caster words input files (bare capacity, came, are, told, is) = absurd is
-of_caster words input files (over aim path, came, are, told, is) = absurd is
-of_caster words input files (replay start config session, came, are, told, is) = absurd is
-of_caster words input files (made seed frames rovers, came, are, told, is) = absurd is
 of_caster words input files (casting task config addr limit, came, are, told, is) = (task, config, addr, limit, are)
-of_caster words input files (fetching frames targets, came, are, told, is) = absurd is
+of_caster words input files (form, came, are, told, is) = absurd is
 
 -- ---- from more
 

@@ -6,7 +6,6 @@ use Rattle.session_script.specs.declared.ScriptKind.TheVariants.{Bare}
 use Rattle.session_script.specs.declared.ScriptFault.{ScriptFault}
 use Rattle.session_script.specs.Script.{script_of}
 use Rattle.session_script.proofs.SessionLemmas.{script_read}
-use Rattle.cast_io.specs.Causes.{Rose}
 use Rattle.cast_io.specs.Stores.{content_of}
 use Rattle.cast_config.specs.declared.config.Config.{Config}
 use Rattle.cast_config.specs.Bare as settings
@@ -14,11 +13,11 @@ use Rattle.cast_config.specs.Document.{IsRead}
 use Rattle.run_texts.specs.Texts.{IsRunText, report, made_text}
 use Rattle.run_texts.proofs.BareLemmas.{bare_text}
 use Rattle.caster_top.specs.declared.answers.Answer.{Answer}
-use Rattle.caster_top.specs.declared.answers.Answer.TheVariants.{Done, Valid, NoConfig, NoSession, Usage, Long, ReadFault, NetworkFault, Memory}
+use Rattle.caster_top.specs.declared.answers.Answer.TheVariants.{ReadFault, Memory}
 use Rattle.caster_top.specs.declared.command.Aim.{Aim}
 use Rattle.caster_top.specs.declared.command.Start.{Start}
 use Rattle.caster_top.specs.declared.command.Start.TheVariants.{Cold}
-use Rattle.caster_top.specs.Command.{Form, bare, over, replay, made, casting, fetching, AreBare, AreOver, ArePlayed, AreMake, AreOf, AreOfNoForm, form_of}
+use Rattle.caster_top.specs.Command.{Form, bare, over, replay, made, AreBare, AreOver, ArePlayed, AreMake, AreOf, AreOfNoForm, form_of}
 use Rattle.caster_top.specs.Outcome.{Exit, Ending, IsReportText, report_of, EndsSo, Came, session_in, ending_of_script, ending_of_config, ending_of_bytes, ending_of_form, ending_of}
 use Rattle.caster_top.specs.Told.{Files, FilesTold, Holds, Input, IsConfigFrom, IsConfigIn, IsSessionFrom, HasCome, EndsWith, FollowsOutcome, HaveForm, HaveFault, HaveCome}
 use Rattle.caster_top.specs.Answers.{exit_of, IsAnswer, Writes}
@@ -42,31 +41,7 @@ answer_written : (words : List (List ℕ)) (input : Input) (files : Files) (of_i
     → EndsWith status old new (exit_of answer) → Ended words input files of_input of_store old new status
 answer_written words input files of_input of_store old new status Memory is written = inl (written.0, is)
 answer_written words input files of_input of_store old new status ReadFault is written = inr (inl (written.0, is))
-answer_written words input files of_input of_store old new status (Done text) is written = inr (inr (_, is, written))
-answer_written words input files of_input of_store old new status Valid is written = inr (inr (_, is, written))
-answer_written words input files of_input of_store old new status (NoConfig text) is written =
-    inr (inr (_, is, written))
-answer_written words input files of_input of_store old new status (NoSession text) is written =
-    inr (inr (_, is, written))
-answer_written words input files of_input of_store old new status Usage is written = inr (inr (_, is, written))
-answer_written words input files of_input of_store old new status Long is written = inr (inr (_, is, written))
-answer_written words input files of_input of_store old new status NetworkFault is written =
-    inr (inr (_, is, written))
-
--- where no count rose, the outcome followed or memory was wanting
-pub undisturbed_run : (words : List (List ℕ)) (input : Input) (files : Files) (of_input of_store : Type 0)
-    (old new : Option (List ℕ)) (before now status : ℕ) (answer : Answer)
-    → IsAnswer words input files of_input of_store answer → Writes (exit_of answer) old new before now status
-    → (HaveFault words of_input of_store → ⊥) → (Rose before now → ⊥)
-    → (status ≡ 7) ⊎ FollowsOutcome words input files status old new
-undisturbed_run words input files of_input of_store old new before now status answer is (inr failed) r w =
-    absurd (w failed.1)
-undisturbed_run words input files of_input of_store old new before now status answer is (inl written) r w =
-    elim (answer_written words input files of_input of_store old new status answer is written) [
-      | inl memory ↦ inl memory.0
-      | inr (inl fault) ↦ absurd (r fault.1)
-      | inr (inr follows) ↦ inr follows
-    ]
+answer_written words input files of_input of_store old new status answer is written = inr (inr (_, is, written))
 
 -- where the status names no fault, the outcome followed
 pub decided_run : (words : List (List ℕ)) (input : Input) (files : Files) (of_input of_store : Type 0)
@@ -201,49 +176,27 @@ one_form words a b first second = sym (form_of-form words a first) ∙ form_of-f
 pub bare_fault : (words : List (List ℕ)) (of_input of_store : Type 0) (capacity : ℕ) → AreBare words capacity
     → (of_input → ⊥) → HaveFault words of_input of_store → ⊥
 bare_fault words of_input of_store capacity are read (bare other, of, fault) = read fault
-bare_fault words of_input of_store capacity are read (over aim path, of, fault) =
-    let e = one_form words (bare capacity) (over aim path) are of in absurd cc
-bare_fault words of_input of_store capacity are read (replay start config session, of, fault) =
-    let e = one_form words (bare capacity) (replay start config session) are of in absurd cc
-bare_fault words of_input of_store capacity are read (made seed frames rovers, of, fault) = absurd fault
-bare_fault words of_input of_store capacity are read (casting task config addr limit, of, fault) =
-    let e = one_form words (bare capacity) (casting task config addr limit) are of in absurd cc
-bare_fault words of_input of_store capacity are read (fetching frames targets, of, fault) = absurd fault
+bare_fault words of_input of_store capacity are read (form, of, fault) =
+    let e = one_form words (bare capacity) form are of in absurd cc
 
 pub over_fault : (words : List (List ℕ)) (of_input of_store : Type 0) (aim : Aim) (path : List ℕ)
     → AreOver aim words path → (of_store → ⊥) → HaveFault words of_input of_store → ⊥
-over_fault words of_input of_store aim path are read (bare capacity, of, fault) =
-    let e = one_form words (over aim path) (bare capacity) are of in absurd cc
 over_fault words of_input of_store aim path are read (over other other_path, of, fault) = read fault
-over_fault words of_input of_store aim path are read (replay start config session, of, fault) = read fault
-over_fault words of_input of_store aim path are read (made seed frames rovers, of, fault) = absurd fault
-over_fault words of_input of_store aim path are read (casting task config addr limit, of, fault) = read fault
-over_fault words of_input of_store aim path are read (fetching frames targets, of, fault) = absurd fault
+over_fault words of_input of_store aim path are read (form, of, fault) =
+    let e = one_form words (over aim path) form are of in absurd cc
 
 pub replay_fault : (words : List (List ℕ)) (of_input of_store : Type 0) (start : Start) (config session : List ℕ)
     → ArePlayed start words config session → (of_store → ⊥) → HaveFault words of_input of_store → ⊥
-replay_fault words of_input of_store start config session are read (bare capacity, of, fault) =
-    let e = one_form words (replay start config session) (bare capacity) are of in absurd cc
-replay_fault words of_input of_store start config session are read (over aim path, of, fault) = read fault
 replay_fault words of_input of_store start config session are read (replay again other other_session, of, fault) =
     read fault
-replay_fault words of_input of_store start config session are read (made seed frames rovers, of, fault) = absurd fault
-replay_fault words of_input of_store start config session are read (casting task other addr limit, of, fault) =
-    read fault
-replay_fault words of_input of_store start config session are read (fetching frames targets, of, fault) = absurd fault
+replay_fault words of_input of_store start config session are read (form, of, fault) =
+    let e = one_form words (replay start config session) form are of in absurd cc
 
 pub make_fault : (words : List (List ℕ)) (of_input of_store : Type 0) (seed frames rovers : ℕ)
     → AreMake words seed frames rovers → HaveFault words of_input of_store → ⊥
-make_fault words of_input of_store seed frames rovers are (bare capacity, of, fault) =
-    let e = one_form words (made seed frames rovers) (bare capacity) are of in absurd cc
-make_fault words of_input of_store seed frames rovers are (over aim path, of, fault) =
-    let e = one_form words (made seed frames rovers) (over aim path) are of in absurd cc
-make_fault words of_input of_store seed frames rovers are (replay start config session, of, fault) =
-    let e = one_form words (made seed frames rovers) (replay start config session) are of in absurd cc
 make_fault words of_input of_store seed frames rovers are (made s f r, of, fault) = absurd fault
-make_fault words of_input of_store seed frames rovers are (casting task config addr limit, of, fault) =
-    let e = one_form words (made seed frames rovers) (casting task config addr limit) are of in absurd cc
-make_fault words of_input of_store seed frames rovers are (fetching most targets, of, fault) = absurd fault
+make_fault words of_input of_store seed frames rovers are (form, of, fault) =
+    let e = one_form words (made seed frames rovers) form are of in absurd cc
 
 -- ---- sessions that are made
 

@@ -11,7 +11,7 @@ use Rattle.caster_top.specs.declared.answers.Answer.{Answer}
 use Rattle.caster_top.specs.declared.answers.Answer.TheVariants.{Done, Valid, NoConfig, NoSession, Usage, Long, ReadFault, NetworkFault, Memory}
 use Rattle.caster_top.specs.Command.{Form, bare, over, replay, made, casting, fetching, AreFetch, AreOf, form_of}
 use Rattle.caster_top.specs.Outcome.{Exit, Came}
-use Rattle.caster_top.specs.Told.{Files, FilesTold, Input, IsAsked, IsWhole, FollowsOutcome, HaveCome, IsStatus}
+use Rattle.caster_top.specs.Told.{Files, FilesTold, Input, IsAsked, FollowsOutcome}
 use Rattle.caster_top.specs.Answers.{exit_of, Writes}
 use Rattle.caster_top.specs.Fetching.{HasFetched, HasFetching, TriedEnd, frames_in}
 use Rattle.caster_top.specs.Casting.{IsUnserved}
@@ -99,17 +99,6 @@ fetch_unserved most targets before after old new first now status all (inr (inr 
     fetch_never 4 most targets before after old new first now status all is refl
 fetch_unserved most targets before after old new first now status all (inr (inr (inr is))) =
     fetch_never 8 most targets before after old new first now status all is refl
-
-pub fetch_status : (most : ℕ) (targets : List Target) (before after : StreetTold) (old new : Option (List ℕ))
-    (first now status : ℕ) → HasFetching most targets before after old new first now status → IsStatus status
-fetch_status most targets before after old new first now status all = elim all.ends [
-  | inl fetched ↦ elim fetched.ends [
-    | inl enough ↦ inl enough.0
-    | inr fewer ↦ inr (inr (inr (inr (inr (inr (inr (inr (inr fewer.0))))))))
-  ]
-  | inr (inl torn) ↦ inr (inr (inr (inr (inr (inl torn.0)))))
-  | inr (inr wanting) ↦ inr (inr (inr (inr (inr (inr (inr (inl wanting.0)))))))
-]
 
 -- with 5 the count rose
 pub fetch_rose : (most : ℕ) (targets : List Target) (before after : StreetTold) (old new : Option (List ℕ))
@@ -209,10 +198,6 @@ pub fetch_follows : (words : List (List ℕ)) (input : Input) (files : Files) (m
 fetch_follows words input files most targets before after old new first now status are all torn wanting =
     let fetched = fetched_at most targets before after old new first now status all torn wanting in
     tries_follow words input files most targets before after old new status are fetched fetched.ends
-
-pub fetch_whole : (words : List (List ℕ)) (input : Input) (files : Files) (most : ℕ)
-    (targets : List Target) → AreFetch words most targets → HaveCome IsWhole words input files
-fetch_whole words input files most targets are = (fetching most targets, fetch_came false, are, tt, tt)
 
 -- ---- another command
 

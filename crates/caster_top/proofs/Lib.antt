@@ -14,5 +14,7 @@ pub mod PieceLemmas
 pub mod CastingLemmas
 pub mod OfflineLemmas
 pub mod PromiseLemmas
+pub mod OutcomeLemmas
 pub mod RunLemmas
 pub mod DoneLemmas
+pub mod CallLemmas

@@ -7,7 +7,7 @@ use Rattle.std.specs.Str.Lines.{lines}
 use Rattle.session_script.specs.declared.Event.{Event}
 use Rattle.session_script.specs.declared.ScriptKind.{ScriptKind}
 use Rattle.session_script.specs.declared.ScriptFault.{ScriptFault}
-use Rattle.session_script.specs.declared.ScriptFault.TheVariants.{Line, State, NoStop, Long, Memory}
+use Rattle.session_script.specs.declared.ScriptFault.TheVariants.{Line, State, NoStop, Long}
 use Rattle.session_script.specs.Line.{event_of_line}
 use Rattle.session_script.specs.Numbers.{Numbers, no_numbers}
 use Rattle.session_script.specs.Script.{is_skipped, may_follow, after_event, onto_events, events_of_lines, script_of}
@@ -90,55 +90,34 @@ pub whole_script : (start : Start) (c : Config) (script : Result (List Event) Sc
     → status_of (ending_of_script start c script) ≡ 0 → IsOk script
 whole_script start c (Ok events) h = refl
 whole_script start c (Err (Line n)) h = absurd (omega arith)
-whole_script start c (Err (State n)) h = absurd (omega arith)
-whole_script start c (Err NoStop) h = absurd (omega arith)
-whole_script start c (Err Long) h = absurd (omega arith)
-whole_script start c (Err Memory) h = absurd (omega arith)
+whole_script start c script h = absurd (omega arith)
 
 pub script_not_usage : (start : Start) (c : Config) (script : Result (List Event) ScriptFault)
     → status_of (ending_of_script start c script) ≡ 1 → ⊥
-script_not_usage start c (Ok events) h = omega arith
 script_not_usage start c (Err (Line n)) h = omega arith
-script_not_usage start c (Err (State n)) h = omega arith
-script_not_usage start c (Err NoStop) h = omega arith
-script_not_usage start c (Err Long) h = omega arith
-script_not_usage start c (Err Memory) h = omega arith
+script_not_usage start c script h = omega arith
 
 pub script_not_config : (start : Start) (c : Config) (script : Result (List Event) ScriptFault)
     → status_of (ending_of_script start c script) ≡ 2 → ⊥
-script_not_config start c (Ok events) h = omega arith
 script_not_config start c (Err (Line n)) h = omega arith
-script_not_config start c (Err (State n)) h = omega arith
-script_not_config start c (Err NoStop) h = omega arith
-script_not_config start c (Err Long) h = omega arith
-script_not_config start c (Err Memory) h = omega arith
+script_not_config start c script h = omega arith
 
 pub script_not_network : (start : Start) (c : Config) (script : Result (List Event) ScriptFault)
     → status_of (ending_of_script start c script) ≡ 6 → ⊥
-script_not_network start c (Ok events) h = omega arith
 script_not_network start c (Err (Line n)) h = omega arith
-script_not_network start c (Err (State n)) h = omega arith
-script_not_network start c (Err NoStop) h = omega arith
-script_not_network start c (Err Long) h = omega arith
-script_not_network start c (Err Memory) h = omega arith
+script_not_network start c script h = omega arith
 
 pub faulty_script : (start : Start) (c : Config) (script : Result (List Event) ScriptFault)
     → status_of (ending_of_script start c script) ≡ 3 → IsNoSession script
-faulty_script start c (Ok events) h = absurd (omega arith)
 faulty_script start c (Err (Line n)) h = tt
 faulty_script start c (Err (State n)) h = tt
 faulty_script start c (Err NoStop) h = tt
-faulty_script start c (Err Long) h = absurd (omega arith)
-faulty_script start c (Err Memory) h = absurd (omega arith)
+faulty_script start c script h = absurd (omega arith)
 
 is_long : (start : Start) (c : Config) (script : Result (List Event) ScriptFault)
     → status_of (ending_of_script start c script) ≡ 8 → script ≡ Err Long
-is_long start c (Ok events) h = absurd (omega arith)
-is_long start c (Err (Line n)) h = absurd (omega arith)
-is_long start c (Err (State n)) h = absurd (omega arith)
-is_long start c (Err NoStop) h = absurd (omega arith)
 is_long start c (Err Long) h = refl
-is_long start c (Err Memory) h = absurd (omega arith)
+is_long start c script h = absurd (omega arith)
 
 pub long_script : (start : Start) (c : Config) (kind : ScriptKind) (bytes : List ℕ)
     → status_of (ending_of_script start c (script_of kind bytes)) ≡ 8 → 8388608 < length bytes

@@ -1,9 +1,12 @@
 -- What the status of an ending says of what came.
-use Rattle.std.proofs.Common.{◌≡◌, ℕ, ◌<◌, ◌≤◌, ◌⊎◌, nat_lt, Bool, true, false, List, length, Result, Ok, Err, IsOk, inl, inr, refl, ap, sym, subst, ◌∙◌, arith}
+use Rattle.std.proofs.Common.{◌≡◌, ℕ, ◌<◌, ◌≤◌, ◌⊎◌, nat_lt, Bool, true, false, List, length, Option, None, Some, Result, Ok, Err, IsOk, inl, inr, refl, ap, sym, subst, ◌∙◌, arith}
 use Rattle.std.specs.Prelude.{⊤}
 use Rattle.std.proofs.lemmas.Bool.{cases_Bool}
 use Rattle.std.proofs.lemmas.Bool.Decides.{nat_tests}
 use Rattle.session_script.specs.declared.ScriptKind.TheVariants.{Bare, Replay}
+use Rattle.session_script.specs.declared.Event.{Event}
+use Rattle.session_script.specs.declared.ScriptFault.{ScriptFault}
+use Rattle.session_script.specs.declared.ScriptFault.TheVariants as scripts
 use Rattle.session_script.specs.Script.{script_of}
 use Rattle.cast_config.specs.declared.config.Config.{Config}
 use Rattle.cast_config.specs.declared.fault.ConfigFault.{ConfigFault}
@@ -17,8 +20,8 @@ use Rattle.caster_top.specs.declared.command.Task.{Task}
 use Rattle.caster_top.specs.declared.command.Task.TheVariants.{Serve, Record}
 use Rattle.caster_top.specs.Command.{Form, bare, over, replay, made, casting, fetching}
 use Rattle.caster_top.specs.Reading.{config_in}
-use Rattle.caster_top.specs.Outcome.{Exit, Ending, exactly, document_of, report_of, closing_of, script_over, enough_of, fewer_than, EndsSo, Came, session_in, ending_of_script, ending_of_config, ending_of_casting, ending_of_fetching, ending_of_read, ending_of_bytes, ending_of_form}
-use Rattle.caster_top.specs.Told.{IsConfigIn, IsNoConfig, IsWhole, IsFaultyConfig, IsFaultyScript, IsTooLong}
+use Rattle.caster_top.specs.Outcome.{Exit, Ending, exactly, document_of, report_of, closing_of, script_over, enough_of, fewer_than, EndsSo, Came, session_in, ending_of_script, ending_of_config, ending_of_casting, ending_of_fetching, ending_of_read, ending_of_bytes, ending_of_form, ending_of}
+use Rattle.caster_top.specs.Told.{IsConfigIn, IsNoConfig, IsStatus, IsWhole, IsFaultyConfig, IsFaultyScript, IsTooLong}
 use Rattle.caster_top.proofs.AnswerLemmas.{ending_of_bytes-long, ending_of_bytes-short}
 use Rattle.caster_top.proofs.ScriptLemmas.{status_of, whole_script, script_not_usage, script_not_config, script_not_network, faulty_script, long_script}
 
@@ -189,12 +192,8 @@ no_usage_form (fetching frames targets) came h = not_fetched came.failed frames 
 
 -- only a caster can end with 6
 abbrev pub IsOfCaster : Form → Came → Type 0
-IsOfCaster (bare capacity) came = ⊥
-IsOfCaster (over aim path) came = ⊥
-IsOfCaster (replay start config session) came = ⊥
-IsOfCaster (made seed frames rovers) came = ⊥
 IsOfCaster (casting task config addr limit) came = ⊤
-IsOfCaster (fetching frames targets) came = ⊥
+IsOfCaster form came = ⊥
 
 pub network_form : (form : Form) (came : Came) → status_of (ending_of_form form came) ≡ 6 → IsOfCaster form came
 network_form (bare capacity) came h =
@@ -275,3 +274,47 @@ too_long_form (casting task config addr limit) came h =
     only_long_casting task came.failed came (long_bytes (ending_of_casting task came.failed) came.config h)
 too_long_form (fetching frames targets) came h =
     absurd (not_fetched came.failed frames 8 h (omega arith) (omega arith))
+
+-- ---- every status is one of those that there are
+
+script_status : (start : Start) (c : Config) (script : Result (List Event) ScriptFault)
+    → IsStatus (status_of (ending_of_script start c script))
+script_status start c (Ok events) = inl refl
+script_status start c (Err scripts.Long) = inr (inr (inr (inr (inr (inr (inr (inr (inl refl))))))))
+script_status start c (Err scripts.Memory) = inr (inr (inr (inr (inr (inr (inr (inl refl)))))))
+script_status start c script = inr (inr (inr (inl refl)))
+
+bytes_status : (next : Config → Ending) (bytes : List ℕ) → ((c : Config) → IsStatus (status_of (next c)))
+    → IsStatus (status_of (ending_of_bytes next bytes))
+bytes_status next bytes each = elim (bytes_cases next bytes) [
+  | too_many status long ↦ inr (inr (inr (inr (inr (inr (inr (inr (inl status))))))))
+  | read c is ends ↦ subst (λ (e : Ending). IsStatus (status_of e)) (sym ends) (each c)
+  | faulty status short none ↦ inr (inr (inl status))
+  | wanting status ↦ inr (inr (inr (inr (inr (inr (inr (inl status)))))))
+]
+
+cast_status : (task : Task) (failed : Bool) (c : Config) → IsStatus (status_of (ending_of_casting task failed c))
+cast_status task failed c = elim (casting_status task failed c) [
+  | inl ended ↦ inl ended
+  | inr ended ↦ inr (inr (inr (inr (inr (inr (inl ended))))))
+]
+
+fetched_status : (failed : Bool) (frames : ℕ) → IsStatus (status_of (ending_of_fetching failed frames))
+fetched_status true frames = inr (inr (inr (inr (inr (inr (inr (inr (inr refl))))))))
+fetched_status false frames = inl refl
+
+form_status : (form : Form) (came : Came) → IsStatus (status_of (ending_of_form form came))
+form_status (bare capacity) came = script_status Cold (settings.bare capacity) (script_of Bare came.script)
+form_status (over aim path) came =
+    bytes_status (ending_of_config aim) came.config (λ c. inl (ok_status aim c))
+form_status (replay start config session) came =
+    bytes_status (replayed start came.script) came.config
+    (λ c. script_status start c (session_in c came.script))
+form_status (made seed frames rovers) came = inl refl
+form_status (casting task config addr limit) came =
+    bytes_status (ending_of_casting task came.failed) came.config (λ c. cast_status task came.failed c)
+form_status (fetching frames targets) came = fetched_status came.failed frames
+
+pub ending_status : (read : Option Form) (came : Came) → IsStatus (status_of (ending_of read came))
+ending_status None came = inr (inl refl)
+ending_status (Some form) came = form_status form came

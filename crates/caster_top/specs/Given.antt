@@ -1,5 +1,5 @@
--- What input and files gave in a call: where they tell the steps that they took, the bytes that these
--- gave, and where they tell their bytes, just those.
+-- What input and files gave in a call: where they tell the steps that they took, the bytes that
+-- these gave, and where they tell their bytes, just those.
 use Rattle.std.specs.Prelude.{◌≡◌, ℕ, ◌<◌, ◌⊎◌, List, [], ◌∷◌, ◌++◌, length, Option}
 use Rattle.std.specs.List.{concat}
 use Rattle.cast_io.specs.declared.steps.SourceStep.{SourceStep}
@@ -25,8 +25,8 @@ GaveTooMuchOf path old new bytes = (before after : List (SourceStep (List ℕ)))
     × (pieces : List (List ℕ)) × BeginsTooLong (concat pieces) bytes
     × Grew old new (before ++ (steps.Opened path ∷ (pieces_given pieces ++ after)))
 
--- These bytes are all that the input gave in a call: all that it had, where it tells that, and reads
--- gave exactly them and then came to the end.
+-- These bytes are all that the input gave in a call: all that it had, where it tells that, and
+-- reads gave exactly them and then came to the end.
 abbrev pub InputGave : Option (List ℕ) → Log → Log → List ℕ → Type 0
 InputGave left old new bytes = Tells left bytes × GaveAll old new bytes
 

@@ -5,6 +5,8 @@ pub mod Told
 pub mod Given
 pub mod Answers
 pub mod Casting
+pub mod Kept
+pub mod Calls
 pub mod Recording
 pub mod Fetching
 pub mod Done

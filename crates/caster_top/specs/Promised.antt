@@ -25,14 +25,15 @@ pub record IsPromisedText (c : Config) (events : List Event) (text : List ℕ) :
   pub promised : IsPromised c events report
   pub text_is : text ≡ report_text c report
 
--- the text is that of a report with greetings of these events that keeps the promise of such a report
+-- the text is that of a report with greetings of these events that keeps the promise of such a
+-- report
 pub record IsGreetedText (c : Config) (events : List Event) (text : List ℕ) : Type 0 where
   pub report : Report
   pub greeted : IsGreeted c events report
   pub text_is : text ≡ report_text c report
 
--- What these words came to keeps the promise: the report of a bare session, that of a session over a
--- configuration, with greetings or without, the one that a replay of a recorded session's script
+-- What these words came to keeps the promise: the report of a bare session, that of a session over
+-- a configuration, with greetings or without, the one that a replay of a recorded session's script
 -- gives, and each link of a caster that served to its end.
 pub record KeepPromise (words : List (List ℕ)) (left : Option (List ℕ)) (files : FilesTold)
     (before after : StreetTold) (old new : Option (List ℕ)) : Type 0 where

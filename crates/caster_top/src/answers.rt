@@ -3,9 +3,10 @@ ghost use Rattle.std.specs.Prelude.{◌≡◌, ◌≤◌, ◌+◌, ◌*◌, ℕ,
 ghost use Rattle.cast_io.specs.Causes.{Rose};
 ghost use Rattle.cast_io.specs.Pieces.{Loses};
 ghost use Rattle.caster_top.specs.declared.command.Task.{Task};
-ghost use Rattle.caster_top.specs.Command.{AreCasting, CastNothing, FetchNothing, IsWithin, NameNoFile, NamesNoFile, ReadNoInput, ReadsNoInput, files_of, form_of, offline_form, texts};
+ghost use Rattle.caster_top.specs.Command.{AreCasting, CastNothing, FetchNothing, IsWithin, NamesNoFile, ReadsNoInput, files_of, form_of, offline_form, texts};
 ghost use Rattle.caster_top.specs.Outcome.{exactly, whole_exit};
 ghost use Rattle.caster_top.specs.Given.{FileCame, InputCame};
+ghost use Rattle.caster_top.specs.Kept.{KeepsFiles, LeavesInput, LeavesStore};
 ghost use Rattle.caster_top.specs.Told.{IsAsked};
 ghost use Rattle.caster_top.specs.Answers.{answer_of_fault, exit_of, IsAnswer, IsOfflineAnswer, GivesEnd};
 ghost use Rattle.caster_top.specs.Casting.{IsCastingAnswer};
@@ -110,17 +111,11 @@ where
         (FileCame (S.store store.old).files (S.log store.old) (S.log store.new))
         (Rose (I.faults input.old) (I.faults input.new))
         (Rose (S.faults store.old) (S.faults store.new)) result }
-    ensures input_later { I.faults input.old ≤ I.faults input.new }
-    ensures store_later { S.faults store.old ≤ S.faults store.new }
-    ensures unread { ReadNoInput (texts words.now) → input.new ≡ input.old }
-    ensures unasked { NameNoFile (texts words.now) → store.new ≡ store.old }
-    ensures reads { Loses (λ came. I.reads input.new ≤ I.reads input.old + length came + 1)
-        (I.left input.old) (I.left input.new) }
     ensures asked { IsAsked (form_of (texts words.now)) (S.store store.old).files
         (S.store store.old).asked (S.store store.new).asked }
-    ensures files { (S.store store.new).files ≡ (S.store store.old).files }
-    ensures few { S.reads store.new
-        ≤ S.reads store.old + 8388610 * length (files_of (form_of (texts words.now))) }
+    ensures kept_input { LeavesInput I.left I.faults I.reads (texts words.now) input.old input.new }
+    ensures kept_store { LeavesStore S.store S.faults S.reads (texts words.now)
+        store.old store.new }
     ensures casting { (task : Task) (config addr : List ℕ) (limit : ℕ)
         → AreCasting task (texts words.now) config addr limit
         → IsCastingAnswer task
@@ -160,17 +155,15 @@ fn answer_offline<S: Store, I: Source>(
         (FileCame (S.store store.old).files (S.log store.old) (S.log store.new))
         (Rose (I.faults input.old) (I.faults input.new))
         (Rose (S.faults store.old) (S.faults store.new)) result }
-    ensures input_later { I.faults input.old ≤ I.faults input.new }
-    ensures store_later { S.faults store.old ≤ S.faults store.new }
-    ensures unread { ReadsNoInput (offline_form command.entry) → input.new ≡ input.old }
-    ensures unasked { NamesNoFile (offline_form command.entry) → store.new ≡ store.old }
-    ensures reads { Loses (λ came. I.reads input.new ≤ I.reads input.old + length came + 1)
-        (I.left input.old) (I.left input.new) }
     ensures asked { IsAsked (Some (offline_form command.entry)) (S.store store.old).files
         (S.store store.old).asked (S.store store.new).asked }
-    ensures files { (S.store store.new).files ≡ (S.store store.old).files }
-    ensures few { S.reads store.new
-        ≤ S.reads store.old + 8388610 * length (files_of (Some (offline_form command.entry))) }
+    ensures unread { ReadsNoInput (offline_form command.entry) → input.new ≡ input.old }
+    ensures reads { Loses (λ came. I.reads input.new ≤ I.reads input.old + length came + 1)
+        (I.left input.old) (I.left input.new) }
+    ensures input_later { I.faults input.old ≤ I.faults input.new }
+    ensures unasked { NamesNoFile (offline_form command.entry) → store.new ≡ store.old }
+    ensures kept { KeepsFiles S.store S.faults S.reads
+        (8388610 * length (files_of (Some (offline_form command.entry)))) store.old store.new }
 {
     match command {
         Offline::Bare(capacity) => answer_to_input(alloc, capacity, input),

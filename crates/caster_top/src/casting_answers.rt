@@ -1,5 +1,5 @@
 //! What is decided by a caster, one that serves or one that records.
-ghost use Rattle.std.specs.Prelude.{◌≡◌, ◌≤◌, ◌+◌, ◌∷◌, [], length, vec_capacity};
+ghost use Rattle.std.specs.Prelude.{◌≡◌, ◌≤◌, ◌∷◌, [], length, vec_capacity};
 ghost use Rattle.std.specs.Result.{ForOk};
 ghost use Rattle.cast_io.specs.Causes.{Rose};
 ghost use Rattle.cast_io.specs.Told.{Grew};
@@ -12,6 +12,7 @@ ghost use Rattle.caster_top.specs.Command.{most_of};
 ghost use Rattle.caster_top.specs.Outcome.{EndsSo, exactly, whole_exit};
 ghost use Rattle.caster_top.specs.Answers.{GivesEnd, IsGiven};
 ghost use Rattle.caster_top.specs.Given.{FileCame};
+ghost use Rattle.caster_top.specs.Kept.{KeepsFiles};
 ghost use Rattle.caster_top.specs.Casting.{CameTo, GivesCame, GivesServed, HasCast, IsCastingAnswer};
 
 use crate::answers::Answer;
@@ -49,10 +50,8 @@ where
         (FileCame (S.store store.old).files (S.log store.old) (S.log store.new))
         config.now addr.now limit (N.told street.old) (N.told street.new)
         (Rose (S.faults store.old) (S.faults store.new)) result }
-    ensures later { S.faults store.old ≤ S.faults store.new }
     ensures asked { Grew (S.store store.old).asked (S.store store.new).asked (config.now ∷ []) }
-    ensures files { (S.store store.new).files ≡ (S.store store.old).files }
-    ensures few { S.reads store.new ≤ S.reads store.old + 8388610 }
+    ensures kept { KeepsFiles S.store S.faults S.reads 8388610 store.old store.new }
     ensures street_later { (N.told street.old).faults ≤ (N.told street.new).faults }
 {
     match config_at(alloc, config, store) {
@@ -112,8 +111,8 @@ where
     answer_to_served(config, served, room)
 }
 
-// The answer to what a caster that serves over this configuration came to, in the room that was made
-// for its totals.
+// The answer to what a caster that serves over this configuration came to, in the room that was
+// made for its totals.
 fn answer_to_served(config: &Config, served: Result<Closed, ServeFault>, room: Vec<u8>) -> Answer
     requires sizes { ForOk served (λ closed. (length closed.mounts ≡ length config.now.mount)
         × (length closed.accounts ≡ length config.now.account)) }

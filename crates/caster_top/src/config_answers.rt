@@ -1,5 +1,5 @@
 //! What is decided by the configuration in a file.
-ghost use Rattle.std.specs.Prelude.{◌≡◌, ◌≤◌, ◌<◌, ◌+◌, ◌∷◌, [], ℕ, List, Ok, length, vec_len, IfErr, IfOk, IsErrOf, ⊤};
+ghost use Rattle.std.specs.Prelude.{◌≡◌, ◌≤◌, ◌<◌, ◌∷◌, [], ℕ, List, Ok, length, vec_len, IfErr, IfOk, IsErrOf, ⊤};
 ghost use Rattle.cast_io.specs.Causes.{Rose};
 ghost use Rattle.cast_io.specs.Logs.{GoesOn};
 ghost use Rattle.cast_io.specs.Told.{Grew};
@@ -10,6 +10,7 @@ ghost use Rattle.config_table.specs.Table.{table_records};
 ghost use Rattle.config_write.specs.Written.{WasRead};
 ghost use Rattle.caster_top.specs.Outcome.{IsDocumentOf, ending_of_config, exactly, exit_of_config_fault};
 ghost use Rattle.caster_top.specs.Given.{FileCame};
+ghost use Rattle.caster_top.specs.Kept.{KeepsFiles};
 ghost use Rattle.caster_top.specs.Told.{IsConfigFrom};
 ghost use Rattle.caster_top.specs.Answers.{GivesEnd, IsFileAnswer, IsGiven, IsRefusal, IsRefused};
 
@@ -31,10 +32,8 @@ pub fn answer_over<S: Store>(alloc: Global, aim: Aim, path: &str, store: &mut S)
     ensures answer { IsFileAnswer aim path.now
         (FileCame (S.store store.old).files (S.log store.old) (S.log store.new))
         (Rose (S.faults store.old) (S.faults store.new)) result }
-    ensures later { S.faults store.old ≤ S.faults store.new }
     ensures asked { Grew (S.store store.old).asked (S.store store.new).asked (path.now ∷ []) }
-    ensures files { (S.store store.new).files ≡ (S.store store.old).files }
-    ensures few { S.reads store.new ≤ S.reads store.old + 8388610 }
+    ensures kept { KeepsFiles S.store S.faults S.reads 8388610 store.old store.new }
 {
     match config_at(alloc, path, store) {
         Ok(config) => answer_to_config(alloc, aim, &config),
@@ -55,10 +54,8 @@ pub fn config_at<S: Store>(alloc: Global, path: &str, store: &mut S) -> Result<C
         (FileCame (S.store store.old).files (S.log store.old) (S.log store.new))
         (Rose (S.faults store.old) (S.faults store.new))) }
     ensures on { GoesOn (S.log store.old) (S.log store.new) }
-    ensures later { S.faults store.old ≤ S.faults store.new }
     ensures asked { Grew (S.store store.old).asked (S.store store.new).asked (path.now ∷ []) }
-    ensures files { (S.store store.new).files ≡ (S.store store.old).files }
-    ensures few { S.reads store.new ≤ S.reads store.old + 8388610 }
+    ensures kept { KeepsFiles S.store S.faults S.reads 8388610 store.old store.new }
 {
     match read_file(alloc, path, store) {
         Ok(bytes) => config_of(alloc, &bytes),
@@ -84,10 +81,8 @@ pub fn read_file<S: Store>(
     ensures on { GoesOn (S.log store.old) (S.log store.new) }
     ensures failed { IsErrOf result ReadAllFault.Failed
         → Rose (S.faults store.old) (S.faults store.new) }
-    ensures later { S.faults store.old ≤ S.faults store.new }
     ensures asked { Grew (S.store store.old).asked (S.store store.new).asked (path.now ∷ []) }
-    ensures files { (S.store store.new).files ≡ (S.store store.old).files }
-    ensures few { S.reads store.new ≤ S.reads store.old + 8388610 }
+    ensures kept { KeepsFiles S.store S.faults S.reads 8388610 store.old store.new }
 {
     let Ok(()) = store.open(path) else {
         return Err(ReadAllFault::Failed);

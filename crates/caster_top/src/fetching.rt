@@ -5,6 +5,7 @@ ghost use Rattle.cast_text.specs.Name.{is_name};
 ghost use Rattle.ntrip_fetch.specs.Tries.{CanBeTried};
 ghost use Rattle.caster_top.specs.Command.{are_few_targets, are_targets, is_target, protocol_of, target_of, targets_of, texts, user_of};
 ghost use Rattle.caster_top.specs.Fetching.{HasFetching, frames_in};
+ghost use Rattle.caster_top.specs.Kept.{LeavesOutput};
 
 use cast_io::{Sink, Street};
 use cast_text::{MountName, NameFault, Text, TextFault, UserName};
@@ -39,8 +40,7 @@ pub fn fetch_frames<R: Wait, N: Street, O: Sink>(
     ensures fetching { HasFetching frames (targets_of (texts words.now))
         (N.told street.old) (N.told street.new)
         (O.taken out.old) (O.taken out.new) (O.faults out.old) (O.faults out.new) result }
-    ensures unharmed { result ≢ 5 → O.faults out.new ≡ O.faults out.old }
-    ensures out_faults { O.faults out.old ≤ O.faults out.new }
+    ensures kept_output { LeavesOutput (O.faults out.old) (O.faults out.new) result }
     ensures street_faults { (N.told street.old).faults ≤ (N.told street.new).faults }
 {
     let mut targets = Vec::new(alloc);

@@ -13,6 +13,7 @@ ghost use Rattle.caster_top.specs.declared.command.Start.TheVariants.{Cold};
 ghost use Rattle.caster_top.specs.Command.{replay};
 ghost use Rattle.caster_top.specs.Outcome.{IsReportText, exactly, ending_of_script, exit_of_fault};
 ghost use Rattle.caster_top.specs.Given.{FileCame, InputCame};
+ghost use Rattle.caster_top.specs.Kept.{KeepsFiles};
 ghost use Rattle.caster_top.specs.Told.{IsAsked};
 ghost use Rattle.caster_top.specs.Answers.{GivesEnd, IsInputAnswer, IsReplayAnswer, IsSessionAnswer};
 
@@ -57,11 +58,9 @@ pub fn answer_to_replay<S: Store>(
     ensures answer { IsReplayAnswer start config.now session.now
         (FileCame (S.store store.old).files (S.log store.old) (S.log store.new))
         (Rose (S.faults store.old) (S.faults store.new)) result }
-    ensures later { S.faults store.old ≤ S.faults store.new }
     ensures asked { IsAsked (Some (replay start config.now session.now)) (S.store store.old).files
         (S.store store.old).asked (S.store store.new).asked }
-    ensures files { (S.store store.new).files ≡ (S.store store.old).files }
-    ensures few { S.reads store.new ≤ S.reads store.old + 16777220 }
+    ensures kept { KeepsFiles S.store S.faults S.reads 16777220 store.old store.new }
 {
     match config_at(alloc, config, store) {
         Ok(config) => answer_to_session(alloc, start, &config, session, store),
@@ -82,10 +81,8 @@ fn answer_to_session<S: Store>(
         (FileCame (S.store store.old).files (S.log store.old) (S.log store.new))
         (Rose (S.faults store.old) (S.faults store.new)) result }
     ensures on { GoesOn (S.log store.old) (S.log store.new) }
-    ensures later { S.faults store.old ≤ S.faults store.new }
     ensures asked { Grew (S.store store.old).asked (S.store store.new).asked (path.now ∷ []) }
-    ensures files { (S.store store.new).files ≡ (S.store store.old).files }
-    ensures few { S.reads store.new ≤ S.reads store.old + 8388610 }
+    ensures kept { KeepsFiles S.store S.faults S.reads 8388610 store.old store.new }
 {
     match read_file(alloc, path, store) {
         Ok(bytes) => answer_to_script(alloc, start, config, kind_for(config), &bytes),

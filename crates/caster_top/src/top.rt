@@ -1,40 +1,29 @@
 //! The call that the program makes.
-ghost use Rattle.std.specs.Prelude.{◌≡◌, ◌≢◌, ◌≤◌, ◌<◌, ◌+◌, ◌*◌, ◌⊎◌, ℕ, List, Some, Ok, Result, codes, length, OnOk, OnErr};
+ghost use Rattle.std.specs.Prelude.{◌≡◌, ◌≢◌, ◌≤◌, ◌<◌, ◌⊎◌, ℕ, List, Some, Ok, Result, OnOk, OnErr};
 ghost use Rattle.std.specs.Io.KnownBytes.{Appends};
 ghost use Rattle.session_script.specs.declared.Event.{Event};
 ghost use Rattle.session_script.specs.declared.ScriptKind.TheVariants.{Bare};
 ghost use Rattle.session_script.specs.Script.{script_of};
-ghost use Rattle.session_script.specs.Writing.{script_text};
 ghost use Rattle.run_texts.specs.Texts.{IsRunText, IsWarmText, made_text, report};
-ghost use Rattle.session_model.specs.declared.report.Closed.{Closed};
-ghost use Rattle.session_model.specs.Text.{closed_text};
 ghost use Rattle.cast_io.specs.Causes.{Rose, HasCause};
-ghost use Rattle.cast_io.specs.Pieces.{AppendsPrefix, Loses};
-ghost use Rattle.cast_io.specs.Stores.{content_of};
-ghost use Rattle.sourcetable.specs.Table.{table_text};
+ghost use Rattle.cast_io.specs.Pieces.{AppendsPrefix};
 ghost use Rattle.cast_config.specs.declared.config.Config.{Config};
 ghost use Rattle.cast_config.specs.Bare.{bare};
-ghost use Rattle.cast_config.specs.Document.{IsRead};
-ghost use Rattle.config_table.specs.Table.{table_records};
-ghost use Rattle.config_write.specs.Written.{HasVersion};
-ghost use Rattle.caster_top.specs.declared.command.Aim.{Aim};
-ghost use Rattle.caster_top.specs.declared.command.Aim.TheVariants.{Check, Table, Migrate};
 ghost use Rattle.caster_top.specs.declared.command.Task.{Task};
-ghost use Rattle.caster_top.specs.Command.{AreBare, AreCasting, AreFetch, AreMake, AreOver, AreOfNoForm, AreRecord, AreReplay, AreServe, AreWarm, AskNoStreet, CastNothing, FetchNothing, NameNoFile, ReadNoInput, WriteAtEnd, files_of, form_of, texts};
-ghost use Rattle.caster_top.specs.Outcome.{memory_exit, network_exit, one_line, read_fault_exit, session_in};
-ghost use Rattle.caster_top.specs.Told.{FollowsOutcome, HaveCome, HaveFault, Holds, IsAsked, IsConfigAt, IsFaultyConfig, IsFaultyScript, IsSessionAt, IsStatus, IsTooLong, IsWhole, Tells, WritesPart};
+ghost use Rattle.caster_top.specs.Command.{AreBare, AreCasting, AreFetch, AreMake, AreOfNoForm, AreReplay, AreWarm, CastNothing, FetchNothing, WriteAtEnd, form_of, texts};
+ghost use Rattle.caster_top.specs.Outcome.{memory_exit, network_exit, read_fault_exit};
+ghost use Rattle.caster_top.specs.Told.{FollowsOutcome, HaveCome, HaveFault, Holds, IsAsked, IsConfigAt, IsFaultyConfig, IsFaultyScript, IsSessionAt, IsTooLong, Tells, WritesPart};
 ghost use Rattle.caster_top.specs.Answers.{exit_of, Writes};
-ghost use Rattle.caster_top.specs.Casting.{HasCast, HasCasting, IsUnserved, no_network};
+ghost use Rattle.caster_top.specs.Casting.{HasCast, HasCasting, no_network};
 ghost use Rattle.caster_top.specs.Done.{WasDone};
 ghost use Rattle.caster_top.specs.Given.{FileCame, FileGave, InputCame, InputGave};
+ghost use Rattle.caster_top.specs.Kept.{LeavesInput, LeavesOutput, LeavesStore, LeavesStreet};
 ghost use Rattle.caster_top.specs.Promised.{KeepPromise, WasPromised};
-ghost use Rattle.caster_top.specs.Recording.{HasRecorded};
 ghost use Rattle.caster_top.specs.Fetching.{HasFetched, HasFetching};
 ghost use Rattle.caster_top.specs.Running.{EndsByAnswer, HasRun};
 ghost use Rattle.ntrip_fetch.specs.Tries.{HasStopped};
 ghost use Rattle.ntrip_fetch.specs.declared.left.FetchFault.TheVariants as faults;
 ghost use Rattle.ntrip_fetch.specs.declared.target.Target.{Target};
-ghost use Rattle.caster_serve.specs.Caster.{HasServed};
 
 use crate::answers::{Answer, answer_to};
 use crate::fetch_words::fetch_in;
@@ -91,6 +80,9 @@ const PIECE: usize = 65_536;
 /// the reading of the script, its size, its grammar and the run. Nothing is written before the run
 /// has ended, and the text is written in pieces of 65,536 bytes. A fetch writes each frame as it
 /// comes, and nothing else.
+///
+/// What follows from the clauses `outcome`, `undisturbed` and `casting` alone is said by the laws
+/// `outcome_says`, `undisturbed_says` and `casting_says` (`src/laws.rt`).
 pub fn caster<R: Threads + Wait + Sync, S: Store, I: Source, O: Sink, N: Street>(
     rt: &R,
     alloc: Global,
@@ -107,31 +99,6 @@ where
         → AreBare (texts words.now) capacity
         → I.left input.old ≡ Some bytes → script_of Bare bytes ≡ Ok events
         → Appends (O.taken out.old) (O.taken out.new) (report (bare capacity) events) }
-    ensures complete { (capacity : ℕ) (bytes : List ℕ) (events : List Event)
-        → AreBare (texts words.now) capacity
-        → I.left input.old ≡ Some bytes → script_of Bare bytes ≡ Ok events
-        → ¬ Rose (I.faults input.old) (I.faults input.new)
-        → ¬ Rose (O.faults out.old) (O.faults out.new)
-        → (result ≡ 7) ⊎ ((result ≡ 0)
-        × Appends (O.taken out.old) (O.taken out.new) (report (bare capacity) events)) }
-
-    // What is done with a configuration.
-    ensures checked { result ≡ 0 → (path : List ℕ) → AreOver Check (texts words.now) path
-        → (c : Config) × IsConfigAt (S.store store.old).files path c
-        × Appends (O.taken out.old) (O.taken out.new) (one_line (codes "ok")) }
-    ensures tabled { result ≡ 0 → (path : List ℕ) → AreOver Table (texts words.now) path
-        → (c : Config) × IsConfigAt (S.store store.old).files path c
-        × Appends (O.taken out.old) (O.taken out.new) (table_text (table_records c)) }
-    ensures migrated { result ≡ 0 → (path : List ℕ) → AreOver Migrate (texts words.now) path
-        → (c : Config) × (text : List ℕ) × IsConfigAt (S.store store.old).files path c
-        × IsRead text (Ok c) × HasVersion 2 text
-        × Appends (O.taken out.old) (O.taken out.new) text }
-    ensures complete_over { (aim : Aim) (path : List ℕ) (files : List (List ℕ × List ℕ))
-        (bytes : List ℕ) (c : Config)
-        → AreOver aim (texts words.now) path → (S.store store.old).files ≡ Some files
-        → content_of files path ≡ Some bytes → length bytes ≤ 8388608 → IsRead bytes (Ok c)
-        → ¬ Rose (S.faults store.old) (S.faults store.new)
-        → ¬ Rose (O.faults out.old) (O.faults out.new) → (result ≡ 7) ⊎ (result ≡ 0) }
 
     // What is done with a session over a configuration.
     ensures replayed { result ≡ 0 → (config session : List ℕ)
@@ -140,15 +107,6 @@ where
         × IsConfigAt (S.store store.old).files config c
         × IsSessionAt (S.store store.old).files session c events
         × IsRunText c events text × Appends (O.taken out.old) (O.taken out.new) text }
-    ensures complete_replay { (config session : List ℕ) (files : List (List ℕ × List ℕ))
-        (bytes script : List ℕ) (c : Config) (events : List Event)
-        → AreReplay (texts words.now) config session → (S.store store.old).files ≡ Some files
-        → content_of files config ≡ Some bytes → length bytes ≤ 8388608 → IsRead bytes (Ok c)
-        → content_of files session ≡ Some script → session_in c script ≡ Ok events
-        → ¬ Rose (S.faults store.old) (S.faults store.new)
-        → ¬ Rose (O.faults out.old) (O.faults out.new)
-        → (result ≡ 7) ⊎ ((result ≡ 0) × (text : List ℕ) × IsRunText c events text
-        × Appends (O.taken out.old) (O.taken out.new) text) }
 
     // And what is done with it where rovers are greeted.
     ensures warmed { result ≡ 0 → (config session : List ℕ)
@@ -157,43 +115,18 @@ where
         × IsConfigAt (S.store store.old).files config c
         × IsSessionAt (S.store store.old).files session c events
         × IsWarmText c events text × Appends (O.taken out.old) (O.taken out.new) text }
-    ensures complete_warm { (config session : List ℕ) (files : List (List ℕ × List ℕ))
-        (bytes script : List ℕ) (c : Config) (events : List Event)
-        → AreWarm (texts words.now) config session → (S.store store.old).files ≡ Some files
-        → content_of files config ≡ Some bytes → length bytes ≤ 8388608 → IsRead bytes (Ok c)
-        → content_of files session ≡ Some script → session_in c script ≡ Ok events
-        → ¬ Rose (S.faults store.old) (S.faults store.new)
-        → ¬ Rose (O.faults out.old) (O.faults out.new)
-        → (result ≡ 7) ⊎ ((result ≡ 0) × (text : List ℕ) × IsWarmText c events text
-        × Appends (O.taken out.old) (O.taken out.new) text) }
 
     // What is done with a number.
     ensures made { result ≡ 0 → (seed frames rovers : ℕ)
         → AreMake (texts words.now) seed frames rovers
         → Appends (O.taken out.old) (O.taken out.new) (made_text seed frames rovers) }
-    ensures complete_make { (seed frames rovers : ℕ)
-        → AreMake (texts words.now) seed frames rovers
-        → ¬ Rose (O.faults out.old) (O.faults out.new)
-        → (result ≡ 7) ⊎ ((result ≡ 0)
-        × Appends (O.taken out.old) (O.taken out.new) (made_text seed frames rovers)) }
 
-    // What a caster does that serves, or that records: the whole of it, and what that says with 0
-    // and with 6.
+    // What a caster does that serves, or that records: the whole of it.
     ensures casting { (task : Task) (config addr : List ℕ) (limit : ℕ)
         → AreCasting task (texts words.now) config addr limit
         → HasCasting task (Holds (S.store store.old).files) config addr limit
         (N.told street.old) (N.told street.new) (Rose (S.faults store.old) (S.faults store.new))
         (O.taken out.old) (O.taken out.new) (O.faults out.old) (O.faults out.new) result }
-    ensures served { result ≡ 0 → (config addr : List ℕ) (limit : ℕ)
-        → AreServe (texts words.now) config addr limit
-        → (c : Config) × (closed : Closed) × IsConfigAt (S.store store.old).files config c
-        × HasServed c addr limit (N.told street.old) (N.told street.new) (Ok closed)
-        × Appends (O.taken out.old) (O.taken out.new) (closed_text c closed) }
-    ensures recorded { result ≡ 0 → (config addr : List ℕ) (limit : ℕ)
-        → AreRecord (texts words.now) config addr limit
-        → (c : Config) × (events : List Event) × IsConfigAt (S.store store.old).files config c
-        × HasRecorded c addr limit (N.told street.old) (N.told street.new) events
-        × Appends (O.taken out.old) (O.taken out.new) (script_text events) }
 
     // And what the sessions promise that were reported, or recorded.
     ensures promised { result ≡ 0 → KeepPromise (texts words.now) (I.left input.old)
@@ -222,15 +155,6 @@ where
         × HasCast task c addr limit (N.told street.old) (N.told street.new) no_network
         × Rose (N.told street.old).faults (N.told street.new).faults
         × Appends (O.taken out.old) (O.taken out.new) network_exit.text }
-    ensures complete_cast { (task : Task) (config addr : List ℕ) (limit : ℕ)
-        (files : List (List ℕ × List ℕ)) (bytes : List ℕ) (c : Config)
-        → AreCasting task (texts words.now) config addr limit
-        → (S.store store.old).files ≡ Some files
-        → content_of files config ≡ Some bytes → length bytes ≤ 8388608 → IsRead bytes (Ok c)
-        → ¬ Rose (S.faults store.old) (S.faults store.new)
-        → ¬ Rose (O.faults out.old) (O.faults out.new)
-        → ¬ Rose (N.told street.old).faults (N.told street.new).faults
-        → (result ≡ 7) ⊎ (result ≡ 0) }
 
     // What a fetch does: the whole of it, what that says with 0 and 9, and what there is to write
     // where the sink or memory failed.
@@ -252,14 +176,8 @@ where
         (O.taken out.old) (O.taken out.new) faults.Memory }
     ensures too_few { result ≡ 9 → (frames : ℕ) × (targets : List Target)
         × AreFetch (texts words.now) frames targets }
-    ensures unserved { IsUnserved result → N.told street.new ≡ N.told street.old }
-    ensures alone { AskNoStreet (texts words.now) → street.new ≡ street.old }
-    ensures street_faults { (N.told street.old).faults ≤ (N.told street.new).faults }
 
     // When each status comes.
-    ensures status { IsStatus result }
-    ensures whole { result ≡ 0 → HaveCome IsWhole
-        (texts words.now) (Tells (I.left input.old)) (Holds (S.store store.old).files) }
     ensures usage { result ≡ 1 → AreOfNoForm (texts words.now) }
     ensures no_form { AreOfNoForm (texts words.now) → (result ≡ 1) ⊎ (result ≡ 5) }
     ensures no_config { result ≡ 2 → HaveCome IsFaultyConfig
@@ -272,23 +190,18 @@ where
     ensures write_fault { result ≡ 5 → Rose (O.faults out.old) (O.faults out.new) }
     ensures too_long { result ≡ 8 → HaveCome IsTooLong
         (texts words.now) (Tells (I.left input.old)) (Holds (S.store store.old).files) }
-    ensures store_faults { S.faults store.old ≤ S.faults store.new }
-    ensures input_faults { I.faults input.old ≤ I.faults input.new }
-    ensures out_faults { O.faults out.old ≤ O.faults out.new }
-    ensures unharmed { result ≢ 5 → O.faults out.new ≡ O.faults out.old }
 
-    // What is read: of the input at most once more than bytes came, and nothing but for a bare
-    // session; of the store the named files, each asked for once, in their order, and no other. A
+    // What the store is asked for: the named files, each once, in their order, and no other. A
     // session is asked for only where its configuration is one.
-    ensures unread { ReadNoInput (texts words.now) → input.new ≡ input.old }
-    ensures reads { Loses (λ came. I.reads input.new ≤ I.reads input.old + length came + 1)
-        (I.left input.old) (I.left input.new) }
-    ensures unasked { NameNoFile (texts words.now) → store.new ≡ store.old }
     ensures asked { IsAsked (form_of (texts words.now)) (S.store store.old).files
         (S.store store.old).asked (S.store store.new).asked }
-    ensures files { (S.store store.new).files ≡ (S.store store.old).files }
-    ensures few { S.reads store.new
-        ≤ S.reads store.old + 8388610 * length (files_of (form_of (texts words.now))) }
+
+    // What is not touched.
+    ensures kept_input { LeavesInput I.left I.faults I.reads (texts words.now) input.old input.new }
+    ensures kept_store { LeavesStore S.store S.faults S.reads (texts words.now)
+        store.old store.new }
+    ensures kept_street { LeavesStreet N.told (texts words.now) result street.old street.new }
+    ensures kept_output { LeavesOutput (O.faults out.old) (O.faults out.new) result }
 
     // What is written.
     ensures outcome { result ≢ 4 → result ≢ 5 → result ≢ 7
@@ -338,21 +251,13 @@ where
         (Rose (S.faults store.old) (S.faults store.new))
         (N.told street.old) (N.told street.new) (O.taken out.old) (O.taken out.new)
         (O.faults out.old) (O.faults out.new) result }
-    ensures unharmed { result ≢ 5 → O.faults out.new ≡ O.faults out.old }
-    ensures street_faults { (N.told street.old).faults ≤ (N.told street.new).faults }
-    ensures store_faults { S.faults store.old ≤ S.faults store.new }
-    ensures input_faults { I.faults input.old ≤ I.faults input.new }
-    ensures out_faults { O.faults out.old ≤ O.faults out.new }
-    ensures unread { ReadNoInput (texts words.now) → input.new ≡ input.old }
-    ensures reads { Loses (λ came. I.reads input.new ≤ I.reads input.old + length came + 1)
-        (I.left input.old) (I.left input.new) }
-    ensures unasked { NameNoFile (texts words.now) → store.new ≡ store.old }
     ensures asked { IsAsked (form_of (texts words.now)) (S.store store.old).files
         (S.store store.old).asked (S.store store.new).asked }
-    ensures files { (S.store store.new).files ≡ (S.store store.old).files }
-    ensures few { S.reads store.new
-        ≤ S.reads store.old + 8388610 * length (files_of (form_of (texts words.now))) }
-    ensures alone { AskNoStreet (texts words.now) → street.new ≡ street.old }
+    ensures kept_input { LeavesInput I.left I.faults I.reads (texts words.now) input.old input.new }
+    ensures kept_store { LeavesStore S.store S.faults S.reads (texts words.now)
+        store.old store.new }
+    ensures kept_street { LeavesStreet N.told (texts words.now) result street.old street.new }
+    ensures kept_output { LeavesOutput (O.faults out.old) (O.faults out.new) result }
 {
     match fetch_in(words) {
         Some(fetch) => fetch_frames(rt, alloc, fetch.frames, fetch.targets, street, out),
@@ -381,20 +286,13 @@ where
         (Rose (S.faults store.old) (S.faults store.new))
         (N.told street.old) (N.told street.new) (O.taken out.old) (O.taken out.new)
         (O.faults out.old) (O.faults out.new) result }
-    ensures unharmed { result ≢ 5 → O.faults out.new ≡ O.faults out.old }
-    ensures street_faults { (N.told street.old).faults ≤ (N.told street.new).faults }
-    ensures store_faults { S.faults store.old ≤ S.faults store.new }
-    ensures input_faults { I.faults input.old ≤ I.faults input.new }
-    ensures out_faults { O.faults out.old ≤ O.faults out.new }
-    ensures unread { ReadNoInput (texts words.now) → input.new ≡ input.old }
-    ensures reads { Loses (λ came. I.reads input.new ≤ I.reads input.old + length came + 1)
-        (I.left input.old) (I.left input.new) }
-    ensures unasked { NameNoFile (texts words.now) → store.new ≡ store.old }
     ensures asked { IsAsked (form_of (texts words.now)) (S.store store.old).files
         (S.store store.old).asked (S.store store.new).asked }
-    ensures files { (S.store store.new).files ≡ (S.store store.old).files }
-    ensures few { S.reads store.new
-        ≤ S.reads store.old + 8388610 * length (files_of (form_of (texts words.now))) }
+    ensures kept_input { LeavesInput I.left I.faults I.reads (texts words.now) input.old input.new }
+    ensures kept_store { LeavesStore S.store S.faults S.reads (texts words.now)
+        store.old store.new }
+    ensures kept_output { LeavesOutput (O.faults out.old) (O.faults out.new) result }
+    ensures street_faults { (N.told street.old).faults ≤ (N.told street.new).faults }
     ensures alone { CastNothing (texts words.now) → street.new ≡ street.old }
 {
     let answer = answer_to(rt, alloc, words, store, input, street);
@@ -413,8 +311,7 @@ pub fn refuse_for_memory<O: Sink>(out: &mut O) -> u8
 fn end_with<O: Sink>(answer: Answer, out: &mut O) -> u8
     ensures writes { Writes (exit_of answer) (O.taken out.old) (O.taken out.new)
         (O.faults out.old) (O.faults out.new) result }
-    ensures later { O.faults out.old ≤ O.faults out.new }
-    ensures unharmed { result ≢ 5 → O.faults out.new ≡ O.faults out.old }
+    ensures kept_output { LeavesOutput (O.faults out.old) (O.faults out.new) result }
 {
     write_answer(&answer, out)
 }
@@ -423,8 +320,7 @@ fn end_with<O: Sink>(answer: Answer, out: &mut O) -> u8
 fn write_answer<O: Sink>(answer: &Answer, out: &mut O) -> u8
     ensures writes { Writes (exit_of answer.now) (O.taken out.old) (O.taken out.new)
         (O.faults out.old) (O.faults out.new) result }
-    ensures later { O.faults out.old ≤ O.faults out.new }
-    ensures unharmed { result ≢ 5 → O.faults out.new ≡ O.faults out.old }
+    ensures kept_output { LeavesOutput (O.faults out.old) (O.faults out.new) result }
 {
     match write_text(answer.text(), out) {
         Ok(()) => answer.status(),

@@ -24,27 +24,33 @@ returns-in-Some-Offline-clause-answer g c =
     (sym (rw c.in-Some-Offline.field-0-is at c.in-Some-Offline.ensures.command))
     (rw c.in-Some-Offline.field-0-is at c.in-Some-Offline.ensures.form) c.answer_offline.ensures.answer
 
-pub returns-in-Some-Offline-clause-unread : goal.returns-in-Some-Offline-clause-unread
-returns-in-Some-Offline-clause-unread g c none =
-    c.answer_offline.ensures.unread
-    (reads_nothing (texts c.args.words.now) _ (rw c.in-Some-Offline.field-0-is at c.in-Some-Offline.ensures.form) none)
-
-pub returns-in-Some-Offline-clause-unasked : goal.returns-in-Some-Offline-clause-unasked
-returns-in-Some-Offline-clause-unasked g c none =
-    c.answer_offline.ensures.unasked
-    (names_nothing (texts c.args.words.now) _ (rw c.in-Some-Offline.field-0-is at c.in-Some-Offline.ensures.form) none)
+pub returns-in-Some-Offline-clause-kept_input : goal.returns-in-Some-Offline-clause-kept_input
+returns-in-Some-Offline-clause-kept_input g c = record {
+  unread = λ none.
+      c.answer_offline.ensures.unread
+      (reads_nothing (texts c.args.words.now) _ (rw c.in-Some-Offline.field-0-is at c.in-Some-Offline.ensures.form) none);
+  reads = c.answer_offline.ensures.reads;
+  faults = c.answer_offline.ensures.input_later;
+}
 
 pub returns-in-Some-Offline-clause-asked : goal.returns-in-Some-Offline-clause-asked
 returns-in-Some-Offline-clause-asked g c =
     asked_so (texts c.args.words.now) _ _ _ _
     (sym (rw c.in-Some-Offline.field-0-is at c.in-Some-Offline.ensures.command)) c.answer_offline.ensures.asked
 
-pub returns-in-Some-Offline-clause-few : goal.returns-in-Some-Offline-clause-few
-returns-in-Some-Offline-clause-few g c =
-    let S = g.S.Source in
-    subst (λ (form : Option Form). S.reads c.answer_offline.new.store
-    ≤ S.reads c.args.store.now + 8388610 * length (files_of form))
-    (rw c.in-Some-Offline.field-0-is at c.in-Some-Offline.ensures.command) c.answer_offline.ensures.few
+pub returns-in-Some-Offline-clause-kept_store : goal.returns-in-Some-Offline-clause-kept_store
+returns-in-Some-Offline-clause-kept_store g c =
+    let S = g.S.Source in record {
+      unasked = λ none.
+          c.answer_offline.ensures.unasked
+          (names_nothing (texts c.args.words.now) _ (rw c.in-Some-Offline.field-0-is at c.in-Some-Offline.ensures.form)
+          none);
+      files = c.answer_offline.ensures.kept.files;
+      few = subst (λ (form : Option Form). S.reads c.answer_offline.new.store
+          ≤ S.reads c.args.store.now + 8388610 * length (files_of form))
+          (rw c.in-Some-Offline.field-0-is at c.in-Some-Offline.ensures.command) c.answer_offline.ensures.kept.few;
+      faults = c.answer_offline.ensures.kept.faults;
+    }
 
 pub returns-in-Some-Offline-clause-casting : goal.returns-in-Some-Offline-clause-casting
 returns-in-Some-Offline-clause-casting g c task config addr limit are =
@@ -62,6 +68,18 @@ returns-in-Some-Cast-clause-asked g c =
     casting_asked (texts c.args.words.now) c.in-Some-Cast.cast.task c.in-Some-Cast.cast.config.now
     c.in-Some-Cast.cast.addr.now c.in-Some-Cast.cast.limit (g.S.Source.store c.args.store.now).files _ _
     (sym (rw c.in-Some-Cast.field-0-is at c.in-Some-Cast.ensures.command)) c.answer_to_cast.ensures.asked
+
+pub returns-in-Some-Cast-clause-kept_store : goal.returns-in-Some-Cast-clause-kept_store
+returns-in-Some-Cast-clause-kept_store g c =
+    let S = g.S.Source in record {
+      unasked = λ none.
+          absurd (none.2 _ _ _ _ (rw c.in-Some-Cast.field-0-is at c.in-Some-Cast.ensures.form));
+      files = c.answer_to_cast.ensures.kept.files;
+      few = subst (λ (form : Option Form). S.reads c.answer_to_cast.new.store
+          ≤ S.reads c.args.store.now + 8388610 * length (files_of form))
+          (rw c.in-Some-Cast.field-0-is at c.in-Some-Cast.ensures.command) c.answer_to_cast.ensures.kept.few;
+      faults = c.answer_to_cast.ensures.kept.faults;
+    }
 
 pub returns-in-Some-Cast-clause-casting : goal.returns-in-Some-Cast-clause-casting
 returns-in-Some-Cast-clause-casting g c task config addr limit are =

@@ -1,7 +1,7 @@
 -- The run ended as a fetch, or with the answer that was written.
 use Rattle.std.proofs.Common.{inl, inr}
-use Rattle.caster_top.proofs.FetchClauseLemmas.{fetch_asked}
-use Rattle.caster_top.proofs.RunLemmas.{run_more}
+use Rattle.caster_top.proofs.FetchClauseLemmas.{fetch_asked, fetch_unserved}
+use Rattle.caster_top.proofs.RunLemmas.{HasRun-unserved, run_more}
 use Rattle.caster_top.proofs.top.run_words.Goals as goal
 
 pub returns-in-Some-clause-run : goal.returns-in-Some-clause-run
@@ -27,8 +27,12 @@ returns-in-Some-clause-told g c = record {
 pub returns-in-Some-clause-asked : goal.returns-in-Some-clause-asked
 returns-in-Some-clause-asked g c = fetch_asked _ _ _ _ _ c.in-Some.ensures.fetch
 
-pub returns-in-Some-clause-alone : goal.returns-in-Some-clause-alone
-returns-in-Some-clause-alone g c nothing = absurd (nothing.1 _ _ c.in-Some.ensures.fetch)
+pub returns-in-Some-clause-kept_street : goal.returns-in-Some-clause-kept_street
+returns-in-Some-clause-kept_street g c = record {
+  alone = λ nothing. absurd (nothing.1 _ _ c.in-Some.ensures.fetch);
+  unserved = λ is. fetch_unserved _ _ _ _ _ _ _ _ _ c.fetch_frames.ensures.fetching is;
+  faults = c.fetch_frames.ensures.street_faults;
+}
 
 pub returns-in-None-clause-run : goal.returns-in-None-clause-run
 returns-in-None-clause-run g c = record { ends = inl c.answer_words.ensures.run }
@@ -37,3 +41,10 @@ pub returns-in-None-clause-told : goal.returns-in-None-clause-told
 returns-in-None-clause-told g c =
     run_more _ _ _ _ _ _ _ _ _ _ _ _ _ _ (λ bytes came. came.0) (λ path bytes came. came.0)
     (record { ends = inl c.answer_words.ensures.run })
+
+pub returns-in-None-clause-kept_street : goal.returns-in-None-clause-kept_street
+returns-in-None-clause-kept_street g c = record {
+  alone = λ nothing. c.answer_words.ensures.alone nothing.0;
+  unserved = λ is. HasRun-unserved (record { ends = inl c.answer_words.ensures.run }) is;
+  faults = c.answer_words.ensures.street_faults;
+}

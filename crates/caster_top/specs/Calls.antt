@@ -1,0 +1,87 @@
+-- What is told of a call of `caster` that has ended, and three of its clauses as one word each, on
+-- which laws stand.
+use Rattle.std.specs.Prelude.{◌≡◌, ◌≢◌, ℕ, ◌≤◌, List, length, Option, Some, Ok}
+use Rattle.cast_io.specs.Causes.{Rose}
+use Rattle.cast_io.specs.Stores.{content_of}
+use Rattle.cast_io.specs.Told.{StreetTold}
+use Rattle.session_script.specs.declared.Event.{Event}
+use Rattle.cast_config.specs.declared.config.Config.{Config}
+use Rattle.cast_config.specs.Document.{IsRead}
+use Rattle.caster_top.specs.declared.command.Task.{Task}
+use Rattle.caster_top.specs.Command.{AreCasting}
+use Rattle.caster_top.specs.Outcome.{session_in}
+use Rattle.caster_top.specs.Told.{FilesTold, FollowsOutcome, HaveFault, Holds, Tells}
+use Rattle.caster_top.specs.Casting.{HasCasting}
+
+-- how often something had failed before the call, and after it
+pub record FaultCount : Type 0 where
+  pub before : ℕ
+  pub now : ℕ
+
+-- it failed in the call, and it did not
+abbrev pub HasRisen : FaultCount → Type 0
+HasRisen count = Rose count.before count.now
+
+abbrev pub IsCalm : FaultCount → Type 0
+IsCalm count = ¬ HasRisen count
+
+-- A call of `caster`: its words; the bytes that the input had left before it, and the files, where
+-- they are told; what the street told before it and after it; what the output held, where it tells
+-- that; the counts of faults of input, store and output; and its status.
+pub record CallTold : Type 0 where
+  pub words : List (List ℕ)
+  pub left : Option (List ℕ)
+  pub files : FilesTold
+  pub before : StreetTold
+  pub after : StreetTold
+  pub old : Option (List ℕ)
+  pub new : Option (List ℕ)
+  pub input_faults : FaultCount
+  pub store_faults : FaultCount
+  pub output_faults : FaultCount
+  pub status : ℕ
+
+-- ---- three clauses of the call
+
+-- status and written bytes are the outcome of words, input and files
+abbrev pub Follows : CallTold → Type 0
+Follows call =
+    FollowsOutcome call.words (Tells call.left) (Holds call.files) call.status call.old call.new
+
+-- the clause `outcome`
+abbrev pub MeetsOutcome : CallTold → Type 0
+MeetsOutcome call = call.status ≢ 4 → call.status ≢ 5 → call.status ≢ 7 → Follows call
+
+-- the clause `undisturbed`
+abbrev pub MeetsUndisturbed : CallTold → Type 0
+MeetsUndisturbed call =
+    ¬ HaveFault call.words (HasRisen call.input_faults) (HasRisen call.store_faults)
+    → IsCalm call.output_faults → call.status ≢ 7 → Follows call
+
+-- the clause `casting`
+abbrev pub MeetsCasting : CallTold → Type 0
+MeetsCasting call = (task : Task) (config addr : List ℕ) (limit : ℕ)
+    → AreCasting task call.words config addr limit
+    → HasCasting task (Holds call.files) config addr limit call.before call.after
+    (HasRisen call.store_faults) call.old call.new
+    call.output_faults.before call.output_faults.now call.status
+
+-- ---- what is told of files
+
+-- the files are told, and that of this path has at most 8 MiB and is read as this configuration
+pub record TellConfig (files : FilesTold) (path : List ℕ) (c : Config) : Type 0 where
+  pub list : List (List ℕ × List ℕ)
+  pub bytes : List ℕ
+  pub told : files ≡ Some list
+  pub content : content_of list path ≡ Some bytes
+  pub short : length bytes ≤ 8388608
+  pub read : IsRead bytes (Ok c)
+
+-- the files are told, and that of this path is a session of these events over a configuration
+pub record TellSession (files : FilesTold) (path : List ℕ) (c : Config) (events : List Event)
+    : Type 0 where
+  pub list : List (List ℕ × List ℕ)
+  pub script : List ℕ
+  pub told : files ≡ Some list
+  pub content : content_of list path ≡ Some script
+  pub read : session_in c script ≡ Ok events
