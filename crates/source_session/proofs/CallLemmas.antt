@@ -1,5 +1,5 @@
 -- The calls of a source, one after the other, and what they leave of its claim.
-use Rattle.std.proofs.Common.{◌≡◌, ℕ, ◌+◌, Bool, IsTrue, List, [], ◌∷◌, ◌++◌, length, refl, ap, ◌∙◌, sym, subst, arith, append_assoc, length-append}
+use Rattle.std.proofs.Common.{◌≡◌, ℕ, ◌+◌, Bool, IsTrue, List, [], ◌∷◌, ◌++◌, length, refl, ap, ◌∙◌, sym, subst, arith, append_assoc, length-append, Option, None, Some}
 use Rattle.std.proofs.lemmas.List.{append-nil, map-append}
 use Rattle.std.proofs.lemmas.List.Sums.{sum_by-append}
 use Rattle.rtcm_frame.specs.Cut.{cut, Parts, IsWaiting, only_rest}
@@ -16,15 +16,11 @@ use Rattle.mount_ring.specs.declared.RingCall.TheVariants.{Publish, Release}
 use Rattle.mount_ring.specs.declared.RingAnswer.{RingAnswer}
 use Rattle.mount_ring.specs.declared.RingShape.{RingShape}
 use Rattle.mount_ring.specs.Shapes.{shape_of}
-use Rattle.mount_ring.specs.History.{State, state_of, is_holder, fits, answer}
+use Rattle.mount_ring.specs.History.{State, state_of, is_holder, fits}
 use Rattle.mount_ring.specs.StillFits.{still_fits_one, one_more}
 use Rattle.source_session.specs.declared.fault.SourceHalt.{SourceHalt}
 use Rattle.source_session.specs.declared.fault.SourceHalt.TheVariants.{Done, BadChunk, Worn, Memory}
-use Rattle.source_session.specs.Calls.{publishes, IsHolding, HeldSince, HeardAll, HeardUntil, IsRefusedAt}
-
--- what a ring of this shape answers
-abbrev pub answer_at : RingShape → History RingCall → ℕ → RingCall → RingAnswer
-answer_at shape h me call = answer (shape_of shape) (state_of h) call
+use Rattle.source_session.specs.Calls.{publishes, IsHolding, HeldSince, HeardAll, HeardBy, IsRefusedAt}
 
 -- ---- the claim
 
@@ -108,16 +104,17 @@ first_more later x = record {
   heard = x.heard;
 }
 
--- ---- until a halt
+-- ---- by the time of a halt
 
-pub until_both : {C A : Type 0} {alone : Bool} {said : History C → ℕ → C → A} {a b : History C} {me : ℕ}
-    {first : List C} (halt : SourceHalt) (c : History C) (second : List C)
-    → HeardAll alone said a b me first → HeardUntil halt alone said b c me second
-    → HeardUntil halt alone said a c me (first ++ second)
-until_both Done c second x y = all_both x y
-until_both (BadChunk place) c second x y = all_both x y
-until_both (Worn turns) c second x y = first_both x y
-until_both Memory c second x y = first_both x y
+pub by_both : {C A : Type 0} {alone : Bool} {said : History C → ℕ → C → A} {a b : History C} {me : ℕ}
+    {first : List C} (halt : Option SourceHalt) (c : History C) (second : List C)
+    → HeardAll alone said a b me first → HeardBy halt alone said b c me second
+    → HeardBy halt alone said a c me (first ++ second)
+by_both None c second x y = all_both x y
+by_both (Some Done) c second x y = all_both x y
+by_both (Some (BadChunk place)) c second x y = all_both x y
+by_both (Some (Worn turns)) c second x y = first_both x y
+by_both (Some Memory) c second x y = first_both x y
 
 -- ---- the frames of a cutter, one by one
 
@@ -224,6 +221,20 @@ given_refused {alone = alone} {said = said} {old = old} {mid = mid} {now = now} 
         length-append x.passed behind.junk,
       );
     }
+
+-- the frames in front of one that is refused are the first of all
+pub first_refused : {A : Type 0} {alone : Bool} {said : History RingCall → ℕ → RingCall → A}
+    {old now : History RingCall} {me claim before junk : ℕ} {frames : List (List ℕ)} {bytes : List ℕ}
+    → IsRefusedAt alone said old now me claim frames bytes before junk
+    → HeardFirst alone said old now me (publishes claim frames)
+first_refused {claim = claim} x = record {
+  pairs = x.made.pairs;
+  unmade = publishes claim (x.frame ∷ x.later);
+  split = ap (publishes claim) x.next
+      ∙ map-append (λ f. Publish claim f) x.given (x.frame ∷ x.later)
+      ∙ ap (λ l. l ++ publishes claim (x.frame ∷ x.later)) (sym x.made.made);
+  heard = x.made.heard;
+}
 
 -- ---- one turn
 

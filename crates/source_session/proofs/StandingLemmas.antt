@@ -1,12 +1,10 @@
 -- Where a session stands, with more of its body.
-use Rattle.std.proofs.Common.{◌≡◌, ℕ, ◌+◌, ◌≤◌, ◌<◌, ◌^◌, Bool, List, [], ◌∷◌, ◌++◌, ◌-◌, length, take, drop, sum_by, get_or, length-drop, length-take-le, Result, Err, IfErr, ap, ◌∙◌, sym, subst, arith, append_assoc, length-append, Option, None, Some}
+use Rattle.std.proofs.Common.{◌≡◌, ℕ, ◌+◌, ◌≤◌, ◌<◌, ◌^◌, Bool, List, [], ◌∷◌, ◌++◌, ◌-◌, length, take, drop, sum_by, get_or, length-drop, length-take-le, ap, ◌∙◌, sym, subst, arith, append_assoc, length-append, Option, None, Some}
 use Rattle.std.proofs.lemmas.List.Sums.{sum_by-append}
 use Rattle.std.proofs.lemmas.List.{append-nil, map-append, take_more, take_rest, take-append-drop}
 use Rattle.std.specs.Prelude.{is_some, IsTrue}
 use Rattle.rtcm_frame.specs.Cut.{cut, IsWaiting}
 use Rattle.rtcm_frame.proofs.PendingLemmas.{fed_front}
-use Rattle.turn_log.specs.declared.TurnFault.{TurnFault}
-use Rattle.turn_log.specs.declared.TurnFault.TheVariants as faults
 use Rattle.rtcm_frame.specs.Pending.{Pending}
 use Rattle.turn_log.specs.History.{History}
 use Rattle.turn_log.specs.Heard.{HeardFirst}
@@ -19,11 +17,10 @@ use Rattle.mount_ring.specs.declared.RingCall.TheVariants.{Publish}
 use Rattle.source_session.specs.declared.fault.SourceHalt.{SourceHalt}
 use Rattle.source_session.specs.declared.fault.SourceHalt.TheVariants.{Done, BadChunk, Worn, Memory}
 use Rattle.source_session.specs.Body.{payload, frames_of, completed}
-use Rattle.source_session.specs.Calls.{publishes, HeardAll, HeardUntil, IfRefused, IsRefusedAt, IsRefusedIn}
+use Rattle.source_session.specs.Calls.{publishes, HeardAll, HeardBy, IsRefusedAt, IsRefusedIn}
 use Rattle.source_session.specs.Standing.{cutter_at, GoesOnAt, EndsAt, BreaksAt, IsCutUp, IsCutShort, StandsBy}
-use Rattle.source_session.specs.Refusals.{halt_refused}
 use Rattle.source_session.proofs.BodyLemmas.{plain_ended, plain_bad, payload_short, payload_more, cut_few, rest_waits, completed_by, completed_none, completed_both, cutter_more, junk_more, frames_more, rest_behind, front_counted}
-use Rattle.source_session.proofs.CallLemmas.{all_none, all_both, first_more, until_both}
+use Rattle.source_session.proofs.CallLemmas.{all_none, all_both, first_more, by_both}
 
 -- ---- what has ended, is bad or was refused stays so
 
@@ -80,20 +77,13 @@ publishes_both claim c a b d =
     ∙ map-append (λ frame. Publish claim frame) (completed c a b) (completed c (a ++ b) d)
 
 module _ {A : Type 0} (alone : Bool) (said : History RingCall → ℕ → RingCall → A) (me claim : ℕ) where
-  pub heard_more : (old mid now : History RingCall) (c : Bool) (a b d : List ℕ)
+  pub published_more : (halt : Option SourceHalt) (old mid now : History RingCall) (c : Bool) (a b d : List ℕ)
       → HeardAll alone said old mid me (publishes claim (completed c a b))
-      → HeardAll alone said mid now me (publishes claim (completed c (a ++ b) d))
-      → HeardAll alone said old now me (publishes claim (completed c a (b ++ d)))
-  heard_more old mid now c a b d x y =
-      subst (HeardAll alone said old now me) (sym (publishes_both claim c a b d)) (all_both x y)
-
-  pub until_more : (halt : SourceHalt) (old mid now : History RingCall) (c : Bool) (a b d : List ℕ)
-      → HeardAll alone said old mid me (publishes claim (completed c a b))
-      → HeardUntil halt alone said mid now me (publishes claim (completed c (a ++ b) d))
-      → HeardUntil halt alone said old now me (publishes claim (completed c a (b ++ d)))
-  until_more halt old mid now c a b d x y =
-      subst (HeardUntil halt alone said old now me) (sym (publishes_both claim c a b d))
-      (until_both halt now (publishes claim (completed c (a ++ b) d)) x y)
+      → HeardBy halt alone said mid now me (publishes claim (completed c (a ++ b) d))
+      → HeardBy halt alone said old now me (publishes claim (completed c a (b ++ d)))
+  published_more halt old mid now c a b d x y =
+      subst (HeardBy halt alone said old now me) (sym (publishes_both claim c a b d))
+      (by_both halt now (publishes claim (completed c (a ++ b) d)) x y)
 
   -- where nothing more is carried nothing more is called
   none_more : (old now : History RingCall) (c : Bool) (a b d : List ℕ)
@@ -114,25 +104,25 @@ module _ {A : Type 0} (alone : Bool) (said : History RingCall → ℕ → RingCa
       (all_none alone said h me)
 
   -- what was called until a halt is all that is called, whatever comes behind
-  pub until_on : (halt : SourceHalt) (chunks : Option Reading) (cutter : Pending) (old now : History RingCall)
+  pub published_on : (halt : SourceHalt) (chunks : Option Reading) (cutter : Pending) (old now : History RingCall)
       (a b d : List ℕ) → StandsBy (Some halt) chunks cutter (a ++ b)
-      → HeardUntil halt alone said old now me (publishes claim (completed (is_some chunks) a b))
-      → HeardUntil halt alone said old now me (publishes claim (completed (is_some chunks) a (b ++ d)))
-  until_on Done chunks cutter old now a b d stands x =
+      → HeardBy (Some halt) alone said old now me (publishes claim (completed (is_some chunks) a b))
+      → HeardBy (Some halt) alone said old now me (publishes claim (completed (is_some chunks) a (b ++ d)))
+  published_on Done chunks cutter old now a b d stands x =
       none_more old now (is_some chunks) a b d (ended_same chunks (a ++ b) d stands.0) x
-  until_on (BadChunk place) chunks cutter old now a b d stands x =
+  published_on (BadChunk place) chunks cutter old now a b d stands x =
       none_more old now (is_some chunks) a b d (bad_same chunks (a ++ b) d place stands.0) x
-  until_on (Worn turns) chunks cutter old now a b d stands x =
+  published_on (Worn turns) chunks cutter old now a b d stands x =
       subst (HeardFirst alone said old now me) (sym (publishes_both claim (is_some chunks) a b d))
       (first_more (publishes claim (completed (is_some chunks) (a ++ b) d)) x)
-  until_on Memory chunks cutter old now a b d stands x =
+  published_on Memory chunks cutter old now a b d stands x =
       subst (HeardFirst alone said old now me) (sym (publishes_both claim (is_some chunks) a b d))
       (first_more (publishes claim (completed (is_some chunks) (a ++ b) d)) x)
 
   -- a session that was halted before calls nothing
   pub halted_none : (halt : SourceHalt) (chunks : Option Reading) (cutter : Pending) (h : History RingCall)
       (a b : List ℕ) → StandsBy (Some halt) chunks cutter a
-      → HeardUntil halt alone said h h me (publishes claim (completed (is_some chunks) a b))
+      → HeardBy (Some halt) alone said h h me (publishes claim (completed (is_some chunks) a b))
   halted_none Done chunks cutter h a b stands =
       subst (λ (fs : List (List ℕ)). HeardAll alone said h h me (publishes claim fs))
       (sym (completed_none (is_some chunks) a b (ended_same chunks a b stands.0))) (all_none alone said h me)
@@ -289,47 +279,14 @@ refused_within alone said me claim c old mid now body front more rest bytes junk
       );
     }
 
--- by the refusal of a turn, and by any halt
-pub if_refused : {P : Type 0} (fault : TurnFault) → P → IfRefused (halt_refused fault) P
-if_refused (faults.Worn turns) holds = holds
-if_refused faults.Memory holds = holds
-
-pub refused_weaker : {P Q : Type 0} (halt : SourceHalt) → (P → Q) → IfRefused halt P → IfRefused halt Q
-refused_weaker Done f x = tt
-refused_weaker (BadChunk place) f x = tt
-refused_weaker (Worn turns) f x = f x
-refused_weaker Memory f x = f x
-
-pub stands_refused : (fault : TurnFault) (chunks : Option Reading) (cutter : Pending) (body : List ℕ)
-    → IsCutShort (is_some chunks) cutter body → StandsBy (Some (halt_refused fault)) chunks cutter body
-stands_refused (faults.Worn turns) chunks cutter body short = short
-stands_refused faults.Memory chunks cutter body short = short
-
-pub until_refused : {A : Type 0} {alone : Bool} {said : History RingCall → ℕ → RingCall
-    → A} {old now : History RingCall}
-    {me : ℕ} {calls : List RingCall} (fault : TurnFault) → HeardFirst alone said old now me calls
-    → HeardUntil (halt_refused fault) alone said old now me calls
-until_refused (faults.Worn turns) first = first
-until_refused faults.Memory first = first
-
-pub if_err : {X E : Type 0} (P : E → Type 0) (r : Result X E) (y : E) → r ≡ Err y → P y → IfErr r P
-if_err P r y is holds = subst (λ s. IfErr s P) (sym is) holds
-
 -- ---- the same by other names of equal things
 
-pub all_same : {A : Type 0} {alone still : Bool} {said says : History RingCall → ℕ → RingCall → A}
-    {old now : History RingCall} {me : ℕ} {calls : List RingCall} → still ≡ alone → says ≡ said
-    → HeardAll still says old now me calls → HeardAll alone said old now me calls
-all_same {alone = alone} {still = still} {said = said} {says = says} {old = old} {now = now} {me = me} {calls = calls}
-    same names x =
-    subst (λ a. HeardAll a said old now me calls) same (subst (λ f. HeardAll still f old now me calls) names x)
-
-pub until_same : {A : Type 0} {alone still : Bool} {said says : History RingCall → ℕ → RingCall → A} (halt : SourceHalt)
-    (old now : History RingCall) (me : ℕ) (calls : List RingCall) → still ≡ alone → says ≡ said
-    → HeardUntil halt still says old now me calls → HeardUntil halt alone said old now me calls
-until_same {alone = alone} {still = still} {said = said} {says = says} halt old now me calls same names x =
-    subst (λ a. HeardUntil halt a said old now me calls) same
-    (subst (λ f. HeardUntil halt still f old now me calls) names x)
+pub by_same : {A : Type 0} {alone still : Bool} {said says : History RingCall → ℕ → RingCall → A}
+    (halt : Option SourceHalt) (old now : History RingCall) (me : ℕ) (calls : List RingCall) → still ≡ alone
+    → says ≡ said → HeardBy halt still says old now me calls → HeardBy halt alone said old now me calls
+by_same {alone = alone} {still = still} {said = said} {says = says} halt old now me calls same names x =
+    subst (λ a. HeardBy halt a said old now me calls) same
+    (subst (λ f. HeardBy halt still f old now me calls) names x)
 
 pub refused_same : {A : Type 0} {alone still : Bool} {said says : History RingCall → ℕ → RingCall → A}
     (old now : History RingCall) (me claim : ℕ) (c : Bool) (body more : List ℕ) (junk : ℕ) → still ≡ alone
@@ -354,19 +311,19 @@ stands_within halt chunks cutter body front more rest bytes split stands =
     ∙ ap (λ (l : List ℕ). body ++ l) split)
     (halted_on halt chunks cutter ((body ++ front) ++ more) rest stands)
 
-pub until_within : {A : Type 0} (alone : Bool) (said : History RingCall → ℕ → RingCall → A) (me claim : ℕ)
+pub published_within : {A : Type 0} (alone : Bool) (said : History RingCall → ℕ → RingCall → A) (me claim : ℕ)
     (halt : SourceHalt) (chunks : Option Reading) (cutter : Pending) (old mid now : History RingCall)
     (body front more rest bytes : List ℕ)
     → (front ++ more) ++ rest ≡ bytes → StandsBy (Some halt) chunks cutter ((body ++ front) ++ more)
     → HeardAll alone said old mid me (publishes claim (completed (is_some chunks) body front))
-    → HeardUntil halt alone said mid now me (publishes claim (completed (is_some chunks) (body ++ front) more))
-    → HeardUntil halt alone said old now me (publishes claim (completed (is_some chunks) body bytes))
-until_within alone said me claim halt chunks cutter old mid now body front more rest bytes split stands x y =
+    → HeardBy (Some halt) alone said mid now me (publishes claim (completed (is_some chunks) (body ++ front) more))
+    → HeardBy (Some halt) alone said old now me (publishes claim (completed (is_some chunks) body bytes))
+published_within alone said me claim halt chunks cutter old mid now body front more rest bytes split stands x y =
     let c : Bool = is_some chunks in
-    subst (λ (l : List ℕ). HeardUntil halt alone said old now me (publishes claim (completed c body l))) split
-    (until_on alone said me claim halt chunks cutter old now body (front ++ more) rest
+    subst (λ (l : List ℕ). HeardBy (Some halt) alone said old now me (publishes claim (completed c body l))) split
+    (published_on alone said me claim halt chunks cutter old now body (front ++ more) rest
     (subst (StandsBy (Some halt) chunks cutter) (append_assoc body front more) stands)
-    (until_more alone said me claim halt old mid now c body front more x y))
+    (published_more alone said me claim (Some halt) old mid now c body front more x y))
 
 -- bytes in front of one, that byte, and those behind it
 pub one_within : (bytes : List ℕ) (i byte : ℕ) → i < length bytes → byte ≡ get_or bytes i 0
@@ -438,10 +395,12 @@ stands_on before halt chunks cutter body more is stands =
 pub halted_calls : {A : Type 0} (alone : Bool) (said : History RingCall → ℕ → RingCall → A) (me claim : ℕ)
     (before : Option SourceHalt) (halt : SourceHalt) (chunks : Option Reading) (cutter : Pending) (h : History RingCall)
     (a b : List ℕ) → before ≡ Some halt → StandsBy before chunks cutter a
-    → HeardUntil halt alone said h h me (publishes claim (completed (is_some chunks) a b))
+    → HeardBy before alone said h h me (publishes claim (completed (is_some chunks) a b))
 halted_calls alone said me claim before halt chunks cutter h a b is stands =
-    halted_none alone said me claim halt chunks cutter h a b
-    (subst (λ (o : Option SourceHalt). StandsBy o chunks cutter a) is stands)
+    subst (λ (o : Option SourceHalt). HeardBy o alone said h h me (publishes claim (completed (is_some chunks) a b)))
+    (sym is)
+    (halted_none alone said me claim halt chunks cutter h a b
+    (subst (λ (o : Option SourceHalt). StandsBy o chunks cutter a) is stands))
 
 -- ---- what a halt tells
 

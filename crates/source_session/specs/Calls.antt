@@ -1,5 +1,5 @@
 -- The calls of a source on its mountpoint.
-use Rattle.std.specs.Prelude.{◌≡◌, ℕ, ◌+◌, ⊤, Bool, IsTrue, List, [], ◌∷◌, ◌++◌, length, map, sum_by}
+use Rattle.std.specs.Prelude.{◌≡◌, ℕ, ◌+◌, Bool, IsTrue, List, [], ◌∷◌, ◌++◌, length, map, sum_by, Option, None, Some}
 use Rattle.turn_log.specs.History.{History, GoesOn}
 use Rattle.turn_log.specs.Heard.{calls_in, Heard, HeardFirst}
 use Rattle.mount_ring.specs.declared.RingCall.{RingCall}
@@ -35,14 +35,15 @@ pub record HeardAll {C A : Type 0} (alone : Bool) (answer : History C → ℕ �
   pub made : calls_in pairs ≡ calls
   pub heard : Heard alone answer old now me pairs
 
--- what was called by the time of a halt: at the end of the body or at a fault of it all of these,
--- and by a refused turn the first of them
-abbrev pub HeardUntil : {C A : Type 0} → SourceHalt → Bool → (History C → ℕ → C → A)
+-- what was called by the time of a halt: with none, at the end of the body or at a fault of it all
+-- of these, and by a refused turn the first of them
+abbrev pub HeardBy : {C A : Type 0} → Option SourceHalt → Bool → (History C → ℕ → C → A)
     → History C → History C → ℕ → List C → Type 0
-HeardUntil Done alone answer old now me calls = HeardAll alone answer old now me calls
-HeardUntil (BadChunk at) alone answer old now me calls = HeardAll alone answer old now me calls
-HeardUntil (Worn turns) alone answer old now me calls = HeardFirst alone answer old now me calls
-HeardUntil Memory alone answer old now me calls = HeardFirst alone answer old now me calls
+HeardBy None alone answer old now me calls = HeardAll alone answer old now me calls
+HeardBy (Some Done) alone answer old now me calls = HeardAll alone answer old now me calls
+HeardBy (Some (BadChunk at)) alone answer old now me calls = HeardAll alone answer old now me calls
+HeardBy (Some (Worn turns)) alone answer old now me calls = HeardFirst alone answer old now me calls
+HeardBy (Some Memory) alone answer old now me calls = HeardFirst alone answer old now me calls
 
 -- what was called where a claim was not given: Claim, which was answered by who holds the
 -- mountpoint; or nothing, where the turn was refused
@@ -54,13 +55,6 @@ IsUnclaimed (faults.Worn turns) alone answer old now me = now ≡ old
 IsUnclaimed faults.Memory alone answer old now me = now ≡ old
 
 -- ---- a refused turn
-
--- what stands where a turn was refused
-abbrev pub IfRefused : SourceHalt → Type 0 → Type 0
-IfRefused Done P = ⊤
-IfRefused (BadChunk at) P = ⊤
-IfRefused (Worn turns) P = P
-IfRefused Memory P = P
 
 -- Of these frames the first were published, and then one was refused. In the bytes that it stands
 -- in, each byte before it is in a published frame, is one of so many in frames before, or is junk.

@@ -1,5 +1,5 @@
 -- Where a source's session stands with the body that it was fed so far.
-use Rattle.std.specs.Prelude.{◌≡◌, ℕ, ◌+◌, ⊤, Bool, List, ◌++◌, Option, None, Some, is_some, true, false}
+use Rattle.std.specs.Prelude.{◌≡◌, ℕ, ◌+◌, ⊤, Bool, List, [], ◌++◌, Option, None, Some, is_some, true, false}
 use Rattle.rtcm_frame.specs.Cut.{cut}
 use Rattle.rtcm_frame.specs.Pending.{Pending}
 use Rattle.chunk_body.specs.Machine.{Reading, read}
@@ -57,6 +57,16 @@ StandsFor session body = StandsBy session.halt session.chunks session.cutter.val
 -- whether the body that the session is fed is in the chunked transfer coding
 abbrev pub is_chunked : SourceSession → Bool
 is_chunked session = is_some session.chunks
+
+-- a session that was fed nothing yet
+pub record IsUnfed (session : SourceSession) (me : ℕ) (chunked : Bool) : Type 0 where
+  -- it stands at the beginning of a body
+  pub stands : StandsFor session []
+  pub goes_on : session.halt ≡ None
+  -- whose calls it makes
+  pub caller : session.me ≡ me
+  -- how the body will come
+  pub coded : is_chunked session ≡ chunked
 
 -- whether a turn was refused in the midst of the body
 abbrev pub is_cut_short : Option SourceHalt → Bool

@@ -1,20 +1,21 @@
 ghost use Rattle.std.specs.Prelude.{◌≡◌, ℕ, ◌+◌, ◌^◌, ◌<◌, ◌≤◌, IsTrue, List, [], ◌∷◌, ◌++◌, length, ◌⊎◌, is_some, Some, None, OnOk, OnErr, IfOk, IfErr, IfSome, IfNone};
+ghost use Rattle.std.specs.Result.{result_err};
 ghost use Rattle.rtcm_frame.specs.Cut.{cut};
-ghost use Rattle.turn_log.specs.Turn.{SamePlace};
-ghost use Rattle.turn_log.specs.Heard.{Heard};
 ghost use Rattle.turn_log.specs.Faults.{IsFault};
 ghost use Rattle.mount_ring.specs.History.{state_of};
 ghost use Rattle.source_session.specs.Body.{payload, completed};
-ghost use Rattle.source_session.specs.Calls.{publishes, IsHolding, HeldSince, HeardAll, HeardUntil, IfRefused, IsRefusedIn, IsUnclaimed};
-ghost use Rattle.source_session.specs.Standing.{GoesOnAt, StandsBy, StandsFor, is_chunked, is_cut_short, junk_of};
+ghost use Rattle.source_session.specs.Calls.{IsHolding, HeldSince};
+ghost use Rattle.source_session.specs.Places.{Stays, HeardAt, PublishedBy, IsUnclaimedAt};
+ghost use Rattle.source_session.specs.Standing.{GoesOnAt, StandsBy, StandsFor, IsUnfed, is_chunked, is_cut_short, junk_of};
 ghost use Rattle.source_session.specs.Refusals.{IsClaimFault, IsHaltOf};
+ghost use Rattle.source_session.specs.Taken.{TookMore, HasTaken};
 
 use crate::fault::{ClaimFault, SourceHalt};
 use crate::publish::{publish_chunked, publish_plain};
 use chunk_body::Dechunk;
 use mount_ring::{Outbox, Ring, RingAnswer, RingCall};
 use rtcm_frame::Cutter;
-use turn_log::{Played, TurnFault, Turns};
+use turn_log::{TurnFault, Turns};
 
 /// A source that was given the claim of a mountpoint: it is fed the bytes of its body, and
 /// publishes each frame of RTCM 10403.3 as soon as these complete it.
@@ -45,21 +46,15 @@ impl SourceSession {
         place: &mut T,
     ) -> Result<SourceSession, ClaimFault>
         requires speaks { IsTrue (T.speaks place.old me) }
-        ensures same { SamePlace T.shape T.speaks T.may_lack T.alone T.home place.old place.new }
-        ensures worn { T.worn place.old ≤ T.worn place.new }
+        ensures stays { Stays T.Turns place.old place.new }
         ensures given { IfOk result (λ session.
-            Heard (T.alone place.old) (⟦<Ring as Played>⟧.answer (T.shape place.old))
-            (T.seen place.old) (T.seen place.new) me
+            HeardAt T.Turns place.old place.new me
             ((RingCall.Claim, RingAnswer.Given session.claim) ∷ [])) }
         ensures holds { IfOk result (λ session.
             IsHolding me session.claim (T.seen place.new)) }
-        ensures begins { IfOk result (λ session. StandsFor session []) }
-        ensures goes_on { IfOk result (λ session. session.halt ≡ None) }
-        ensures me { IfOk result (λ session. session.me ≡ me) }
-        ensures chunked { IfOk result (λ session. is_chunked session ≡ chunked) }
+        ensures begins { IfOk result (λ session. IsUnfed session me chunked) }
         ensures unclaimed { IfErr result (λ fault.
-            IsUnclaimed fault (T.alone place.old) (⟦<Ring as Played>⟧.answer (T.shape place.old))
-            (T.seen place.old) (T.seen place.new) me) }
+            IsUnclaimedAt T.Turns place.old place.new me fault) }
         ensures cause { IfErr result (IsClaimFault (T.may_lack place.old) (T.worn place.new)) }
     {
         let mut room = Outbox::new();
@@ -83,33 +78,19 @@ impl SourceSession {
             (HeldSince self.old.me self.old.claim (T.seen place.old)) }
         requires few { (body : List ℕ) × StandsFor self.old body
             × (length body + length bytes.now < 2 ^ 63) }
-        ensures same { SamePlace T.shape T.speaks T.may_lack T.alone T.home place.old place.new }
-        ensures worn { T.worn place.old ≤ T.worn place.new }
+        ensures stays { Stays T.Turns place.old place.new }
         ensures source { (self.new.me ≡ self.old.me) × (self.new.claim ≡ self.old.claim)
             × (is_chunked self.new ≡ is_chunked self.old) }
         ensures stands { (body : List ℕ) → StandsFor self.old body
             → StandsFor self.new (body ++ bytes.now) }
-        ensures heard { OnOk result ((body : List ℕ) → StandsFor self.old body
-            → HeardAll (T.alone place.old) (⟦<Ring as Played>⟧.answer (T.shape place.old))
-            (T.seen place.old) (T.seen place.new) self.old.me
-            (publishes self.old.claim (completed (is_chunked self.old) body bytes.now))) }
-        ensures until { IfErr result (λ halt. (body : List ℕ) → StandsFor self.old body
-            → HeardUntil halt (T.alone place.old) (⟦<Ring as Played>⟧.answer (T.shape place.old))
-            (T.seen place.old) (T.seen place.new) self.old.me
-            (publishes self.old.claim (completed (is_chunked self.old) body bytes.now))) }
-        ensures short { IfNone self.old.halt (IfErr result (λ halt. IfRefused halt
-            ((body : List ℕ) → StandsFor self.old body
-            → IsRefusedIn (T.alone place.old) (⟦<Ring as Played>⟧.answer (T.shape place.old))
-            (T.seen place.old) (T.seen place.new) self.old.me self.old.claim
-            (is_chunked self.old) body bytes.now (junk_of self.new)))) }
-        ensures goes_on { OnOk result (self.new.halt ≡ None) }
-        ensures halts { IfErr result (λ halt. self.new.halt ≡ Some halt) }
+        ensures heard { (body : List ℕ) → StandsFor self.old body
+            → PublishedBy T.Turns place.old place.new self.old.me self.old.claim
+            (result_err result) (completed (is_chunked self.old) body bytes.now) }
+        ensures halt { self.new.halt ≡ result_err result }
         ensures halted { IfSome self.old.halt (λ halt.
             (self.new ≡ self.old) × (place.new ≡ place.old)) }
-        ensures holds { IfNone self.old.halt
-            (IsHolding self.old.me self.old.claim (T.seen place.new)) }
-        ensures cause { IfNone self.old.halt
-            (IfErr result (IsHaltOf (T.may_lack place.old) (T.worn place.new))) }
+        ensures taken { IfNone self.old.halt
+            (HasTaken T.Turns place.old place.new self.old self.new bytes.now result) }
     {
         match self.halt {
             Some(halt) => Err(halt),
@@ -125,12 +106,10 @@ impl SourceSession {
     pub fn release<T: Turns<Ring>>(&mut self, place: &mut T) -> Result<(), TurnFault>
         requires speaks { IsTrue (T.speaks place.old self.old.me) }
         requires held { HeldSince self.old.me self.old.claim (T.seen place.old) }
-        ensures same { SamePlace T.shape T.speaks T.may_lack T.alone T.home place.old place.new }
-        ensures worn { T.worn place.old ≤ T.worn place.new }
+        ensures stays { Stays T.Turns place.old place.new }
         ensures session { self.new ≡ self.old }
         ensures released { OnOk result
-            (Heard (T.alone place.old) (⟦<Ring as Played>⟧.answer (T.shape place.old))
-            (T.seen place.old) (T.seen place.new) self.old.me
+            (HeardAt T.Turns place.old place.new self.old.me
             ((RingCall.Release self.old.claim, RingAnswer.Released) ∷ [])) }
         ensures free { OnOk result ((state_of (T.seen place.new)).holder ≡ None) }
         ensures refused { OnErr result (T.seen place.new ≡ T.seen place.old) }
@@ -164,11 +143,8 @@ impl SourceSession {
 
     // A session that was fed nothing.
     fn begin(me: u32, claim: u64, chunked: bool, mut cutter: Box<Cutter>) -> SourceSession
-        ensures begins { StandsFor result [] }
-        ensures goes_on { result.halt ≡ None }
-        ensures me { result.me ≡ me }
+        ensures begins { IsUnfed result me chunked }
         ensures claim { result.claim ≡ claim }
-        ensures chunked { is_chunked result ≡ chunked }
     {
         let chunks = chunk_reader(chunked);
         *cutter = Cutter::new();
@@ -187,32 +163,14 @@ impl SourceSession {
         requires holds { IsHolding self.old.me self.old.claim (T.seen place.old) }
         requires few { (body : List ℕ) × StandsBy None self.old.chunks self.old.cutter.value body
             × (length body + length bytes.now < 2 ^ 63) }
-        ensures same { SamePlace T.shape T.speaks T.may_lack T.alone T.home place.old place.new }
-        ensures worn { T.worn place.old ≤ T.worn place.new }
+        ensures stays { Stays T.Turns place.old place.new }
         ensures holds { IsHolding self.old.me self.old.claim (T.seen place.new) }
         ensures source { (self.new.me ≡ self.old.me) × (self.new.claim ≡ self.old.claim)
             × (is_chunked self.new ≡ is_chunked self.old) }
-        ensures stands { OnOk result ((body : List ℕ)
+        ensures took { (body : List ℕ)
             → StandsBy None self.old.chunks self.old.cutter.value body
-            → StandsBy None self.new.chunks self.new.cutter.value (body ++ bytes.now)) }
-        ensures halted { IfErr result (λ halt. (body : List ℕ)
-            → StandsBy None self.old.chunks self.old.cutter.value body
-            → StandsBy (Some halt) self.new.chunks self.new.cutter.value (body ++ bytes.now)) }
-        ensures heard { OnOk result ((body : List ℕ)
-            → StandsBy None self.old.chunks self.old.cutter.value body
-            → HeardAll (T.alone place.old) (⟦<Ring as Played>⟧.answer (T.shape place.old))
-            (T.seen place.old) (T.seen place.new) self.old.me
-            (publishes self.old.claim (completed (is_chunked self.old) body bytes.now))) }
-        ensures until { IfErr result (λ halt. (body : List ℕ)
-            → StandsBy None self.old.chunks self.old.cutter.value body
-            → HeardUntil halt (T.alone place.old) (⟦<Ring as Played>⟧.answer (T.shape place.old))
-            (T.seen place.old) (T.seen place.new) self.old.me
-            (publishes self.old.claim (completed (is_chunked self.old) body bytes.now))) }
-        ensures short { IfErr result (λ halt. IfRefused halt ((body : List ℕ)
-            → StandsBy None self.old.chunks self.old.cutter.value body
-            → IsRefusedIn (T.alone place.old) (⟦<Ring as Played>⟧.answer (T.shape place.old))
-            (T.seen place.old) (T.seen place.new) self.old.me self.old.claim
-            (is_chunked self.old) body bytes.now (junk_of self.new))) }
+            → TookMore T.Turns place.old place.new self.old.me self.old.claim (result_err result)
+            self.new.chunks self.new.cutter.value body bytes.now }
         ensures cause { IfErr result (IsHaltOf (T.may_lack place.old) (T.worn place.new)) }
     {
         match &mut self.chunks {

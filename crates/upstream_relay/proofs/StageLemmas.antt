@@ -18,7 +18,7 @@ use Rattle.source_session.specs.declared.fault.SourceHalt.{SourceHalt}
 use Rattle.source_session.specs.declared.fault.SourceHalt.TheVariants as sources
 use Rattle.source_session.specs.declared.session.SourceSession.{SourceSession}
 use Rattle.source_session.specs.Body.{frames_of, completed}
-use Rattle.source_session.specs.Calls.{publishes, HeardAll, HeardUntil, IsUnclaimed}
+use Rattle.source_session.specs.Calls.{publishes, HeardAll, HeardBy, IsUnclaimed}
 use Rattle.source_session.specs.Standing.{is_chunked, is_cut_short}
 use Rattle.source_session.specs.Standing as source
 use Rattle.source_session.proofs.BodyLemmas.{completed_first, completed_none}
@@ -243,9 +243,9 @@ no_frames : (chunked : Bool) → frames_of chunked [] ≡ []
 no_frames chunked = sym (completed_first chunked []) ∙ completed_none chunked [] [] refl
 
 pub claim_stands : (mount me : ℕ) (chunked : Bool) (s : SourceSession) (head : List ℕ)
-    → IsAnswer head (Accepted (length head) chunked) → s.halt ≡ None → s.me ≡ me → is_chunked s ≡ chunked
-    → source.StandsFor s [] → StandsAt mount me (Body s) head (at_ring mount Claim (answers.Given s.claim) ∷ [])
-claim_stands mount me chunked s head says goes caller coded stands =
+    → IsAnswer head (Accepted (length head) chunked) → source.IsUnfed s me chunked
+    → StandsAt mount me (Body s) head (at_ring mount Claim (answers.Given s.claim) ∷ [])
+claim_stands mount me chunked s head says begins =
     let nothing : drop (length head) head ≡ [] = drop_all (length head) head (omega arith) in
     let made : IsDone false (owed mount (Accepted (length head) chunked) head)
     (at_ring mount Claim (answers.Given s.claim) ∷ []) =
@@ -255,12 +255,12 @@ claim_stands mount me chunked s head says goes caller coded stands =
       says = says;
       made = subst (λ (o : Option SourceHalt). IsDone (is_cut_short o)
           (owed mount (Accepted (length head) chunked) head)
-          (at_ring mount Claim (answers.Given s.claim) ∷ [])) (sym goes) made;
+          (at_ring mount Claim (answers.Given s.claim) ∷ [])) (sym begins.goes_on) made;
       at_stage = record {
         at = length head;
-        accepted = ap (λ (c : Bool). Accepted (length head) c) (sym coded);
-        caller = caller;
-        stands = subst (source.StandsFor s) (sym nothing) stands;
+        accepted = ap (λ (c : Bool). Accepted (length head) c) (sym begins.coded);
+        caller = begins.caller;
+        stands = subst (source.StandsFor s) (sym nothing) begins.stands;
         claimed = refl;
       };
     }
@@ -408,27 +408,20 @@ module _ (alone : Bool) (said : History RingCall → ℕ → RingCall → RingAn
         (pairs_begun mount s.claim (completed (is_chunked s) (drop x.at_stage.at before) more) heard.pairs heard.unmade
         heard.split))
 
-    fed_until : (halt : SourceHalt) → t.halt ≡ Some halt → is_cut_short s.halt ≡ false
-        → HeardUntil halt alone said old now me
+    fed_by : (halt : Option SourceHalt) → t.halt ≡ halt → is_cut_short s.halt ≡ false
+        → HeardBy halt alone said old now me
         (publishes s.claim (completed (is_chunked s) (drop x.at_stage.at before) more))
         → Fed
-    fed_until sources.Done is goes heard = fed_all goes (ap is_cut_short is) heard
-    fed_until (sources.BadChunk place) is goes heard = fed_all goes (ap is_cut_short is) heard
-    fed_until (sources.Worn turns) is goes heard = fed_first goes (ap is_cut_short is) heard
-    fed_until sources.Memory is goes heard = fed_first goes (ap is_cut_short is) heard
+    fed_by None is goes heard = fed_all goes (ap is_cut_short is) heard
+    fed_by (Some sources.Done) is goes heard = fed_all goes (ap is_cut_short is) heard
+    fed_by (Some (sources.BadChunk place)) is goes heard = fed_all goes (ap is_cut_short is) heard
+    fed_by (Some (sources.Worn turns)) is goes heard = fed_first goes (ap is_cut_short is) heard
+    fed_by (Some sources.Memory) is goes heard = fed_first goes (ap is_cut_short is) heard
 
-    pub fed_ok : t.halt ≡ None → ((body : List ℕ) → source.StandsFor s body
-        → HeardAll alone said old now me (publishes s.claim (completed (is_chunked s) body more))) → Fed
-    fed_ok is heard =
+    pub body_fed : (halt : Option SourceHalt) → t.halt ≡ halt → ((body : List ℕ) → source.StandsFor s body
+        → HeardBy halt alone said old now me (publishes s.claim (completed (is_chunked s) body more))) → Fed
+    body_fed halt is heard =
         elim (cases_Bool (is_cut_short s.halt)) [
           | inl short ↦ fed_short short
-          | inr goes ↦ fed_all goes (ap is_cut_short is) (heard (drop x.at_stage.at before) x.at_stage.stands)
-        ]
-
-    pub fed_err : (halt : SourceHalt) → t.halt ≡ Some halt → ((body : List ℕ) → source.StandsFor s body
-        → HeardUntil halt alone said old now me (publishes s.claim (completed (is_chunked s) body more))) → Fed
-    fed_err halt is heard =
-        elim (cases_Bool (is_cut_short s.halt)) [
-          | inl short ↦ fed_short short
-          | inr goes ↦ fed_until halt is goes (heard (drop x.at_stage.at before) x.at_stage.stands)
+          | inr goes ↦ fed_by halt is goes (heard (drop x.at_stage.at before) x.at_stage.stands)
         ]

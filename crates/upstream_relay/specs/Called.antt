@@ -1,12 +1,16 @@
 -- What a call of a relay adds to the history of its mountpoint, and what it answers.
-use Rattle.std.specs.Prelude.{◌≡◌, ℕ, ⊤, Bool, List, Option, None, Some, Result, Ok, Err, IfNone}
+use Rattle.std.specs.Prelude.{ℕ, ⊤, Bool, List, Option, None, Some, IfNone}
 use Rattle.turn_log.specs.History.{History}
 use Rattle.turn_log.specs.Heard.{Heard}
+use Rattle.turn_log.specs.declared.place.Turns.{Ghosts}
+use Rattle.mount_ring.specs.declared.Ring.{Ring}
+use Rattle.mount_ring.specs.declared.Outbox.{Outbox}
 use Rattle.mount_ring.specs.declared.RingCall.{RingCall}
 use Rattle.mount_ring.specs.declared.RingAnswer.{RingAnswer}
+use Rattle.mount_ring.specs.declared.RingShape.{RingShape}
 use Rattle.session_calls.specs.Steps.{Step, on_ring}
 use Rattle.source_session.specs.Calls.{IsHolding, HeldSince}
-use Rattle.upstream_relay.specs.declared.fault.RelayHalt.{RelayHalt}
+use Rattle.source_session.specs.Places.{ring_answer}
 use Rattle.upstream_relay.specs.declared.body.Stage.{Stage}
 use Rattle.upstream_relay.specs.declared.body.Stage.TheVariants.{Head, Body, Halted}
 
@@ -17,10 +21,12 @@ abbrev pub Adds : Bool → (History RingCall → ℕ → RingCall → RingAnswer
 Adds alone answer old now me mount Holds =
     (steps : List Step) × Heard alone answer old now me (on_ring mount steps) × Holds steps
 
--- bytes were taken where nothing halts the relay, and what halts it is answered
-abbrev pub IsFed : {X : Type 0} → Option RelayHalt → Result X RelayHalt → Type 0
-IsFed halt (Ok x) = halt ≡ None
-IsFed halt (Err why) = halt ≡ Some why
+-- the same at a place of the mountpoint's ring, which is asked as T.Turns says
+abbrev pub AddsAt : {P : Type 0} → Ghosts P Ring RingCall RingAnswer Outbox RingShape → P → P → ℕ
+    → ℕ → (List Step → Type 0) → Type 0
+AddsAt ring old now me mount Holds =
+    Adds (ring.alone old) (ring_answer (ring.shape old)) (ring.seen old) (ring.seen now) me mount
+    Holds
 
 -- the caller holds the mountpoint under the claim that was given, if one was
 abbrev pub IsHoldingBy : ℕ → Option ℕ → History RingCall → Type 0

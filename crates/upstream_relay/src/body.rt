@@ -1,19 +1,20 @@
 //! From the head of an answer to its body.
-ghost use Rattle.std.specs.Prelude.{◌≡◌, ℕ, ◌+◌, ◌^◌, ◌<◌, ◌≤◌, IsTrue, List, [], ◌∷◌, ◌++◌, length, IfSome, IfNone, IfErr};
-ghost use Rattle.turn_log.specs.Turn.{SamePlace};
+ghost use Rattle.std.specs.Prelude.{◌≡◌, ℕ, ◌+◌, ◌^◌, ◌<◌, IsTrue, List, [], ◌∷◌, ◌++◌, length, IfSome, IfNone, IfErr};
+ghost use Rattle.std.specs.Result.{result_err};
 ghost use Rattle.session_calls.specs.Steps.{Step};
 ghost use Rattle.source_session.specs.Calls.{IsHolding, HeldSince};
+ghost use Rattle.source_session.specs.Places.{Stays};
 ghost use Rattle.ntrip_client.specs.Answer.{IsAnswer};
 ghost use Rattle.upstream_relay.specs.Standing.{StandsAt, halt_at, claim_at};
 ghost use Rattle.upstream_relay.specs.Halts.{IsHaltOf};
-ghost use Rattle.upstream_relay.specs.Called.{Adds, IsFed, IsHeldAt, IsHoldingBy};
+ghost use Rattle.upstream_relay.specs.Called.{AddsAt, IsHeldAt, IsHoldingBy};
 
 use crate::fault::RelayHalt;
 use mount_ring::Ring;
 use ntrip_client::{Answer, AnswerHead};
 use rtcm_frame::Cutter;
 use source_session::SourceSession;
-use turn_log::{Played, Turns};
+use turn_log::Turns;
 
 /// How far a relay is with the answer of the other caster.
 #[derive(Debug, Drop)]
@@ -48,16 +49,14 @@ pub fn feed_body<T: Turns<Ring>>(
     requires few { (mount : ℕ) × (body : List ℕ) × (steps : List Step)
         × StandsAt mount source.old.me (Stage.Body source.old) body steps
         × (length body + length bytes.now < 2 ^ 63) }
-    ensures same { SamePlace T.shape T.speaks T.may_lack T.alone T.home place.old place.new }
-    ensures worn { T.worn place.old ≤ T.worn place.new }
+    ensures stays { Stays T.Turns place.old place.new }
     ensures source { (source.new.me ≡ source.old.me) × (source.new.claim ≡ source.old.claim) }
     ensures adds { (mount : ℕ) (before : List ℕ) (steps : List Step)
         → StandsAt mount source.old.me (Stage.Body source.old) before steps
-        → Adds (T.alone place.old) (⟦<Ring as Played>⟧.answer (T.shape place.old))
-        (T.seen place.old) (T.seen place.new) source.old.me mount (λ more.
+        → AddsAt T.Turns place.old place.new source.old.me mount (λ more.
         StandsAt mount source.old.me (Stage.Body source.new) (before ++ bytes.now)
         (steps ++ more)) }
-    ensures fed { IsFed (halt_at (Stage.Body source.new)) result }
+    ensures fed { halt_at (Stage.Body source.new) ≡ result_err result }
     ensures halted { IfSome source.old.halt (λ halt.
         (source.new ≡ source.old) × (place.new ≡ place.old)) }
     ensures holds { IfNone source.old.halt
@@ -82,14 +81,12 @@ pub fn begin<T: Turns<Ring>>(
     requires speaks { IsTrue (T.speaks place.old me) }
     requires accepted { (head : List ℕ) × IsAnswer head (Answer.Accepted (length head) chunked)
         × (length head + length body.now < 2 ^ 63) }
-    ensures same { SamePlace T.shape T.speaks T.may_lack T.alone T.home place.old place.new }
-    ensures worn { T.worn place.old ≤ T.worn place.new }
+    ensures stays { Stays T.Turns place.old place.new }
     ensures adds { (mount : ℕ) (head : List ℕ)
         → IsAnswer head (Answer.Accepted (length head) chunked)
-        → Adds (T.alone place.old) (⟦<Ring as Played>⟧.answer (T.shape place.old))
-        (T.seen place.old) (T.seen place.new) me mount
+        → AddsAt T.Turns place.old place.new me mount
         (StandsAt mount me result.stage (head ++ body.now)) }
-    ensures fed { IsFed (halt_at result.stage) result.fed }
+    ensures fed { halt_at result.stage ≡ result_err result.fed }
     ensures holds { IsHoldingBy me (claim_at result.stage) (T.seen place.new) }
     ensures cause { IfErr result.fed (IsHaltOf (T.may_lack place.old) (T.worn place.new)) }
 {
@@ -123,13 +120,11 @@ pub fn decide<T: Turns<Ring>>(
     requires open { IsAnswer head Answer.Open }
     requires speaks { IsTrue (T.speaks place.old me) }
     requires few { length head + length bytes.now < 2 ^ 63 }
-    ensures same { SamePlace T.shape T.speaks T.may_lack T.alone T.home place.old place.new }
-    ensures worn { T.worn place.old ≤ T.worn place.new }
+    ensures stays { Stays T.Turns place.old place.new }
     ensures adds { (mount : ℕ)
-        → Adds (T.alone place.old) (⟦<Ring as Played>⟧.answer (T.shape place.old))
-        (T.seen place.old) (T.seen place.new) me mount
+        → AddsAt T.Turns place.old place.new me mount
         (StandsAt mount me result.stage (head ++ bytes.now)) }
-    ensures fed { IsFed (halt_at result.stage) result.fed }
+    ensures fed { halt_at result.stage ≡ result_err result.fed }
     ensures holds { IsHoldingBy me (claim_at result.stage) (T.seen place.new) }
     ensures cause { IfErr result.fed (IsHaltOf (T.may_lack place.old) (T.worn place.new)) }
 {
@@ -158,14 +153,12 @@ pub fn go_on<T: Turns<Ring>>(stage: Stage, me: u32, bytes: &[u8], place: &mut T)
     requires held { IsHeldAt me stage (T.seen place.old) }
     requires few { (mount : ℕ) × (before : List ℕ) × (steps : List Step)
         × StandsAt mount me stage before steps × (length before + length bytes.now < 2 ^ 63) }
-    ensures same { SamePlace T.shape T.speaks T.may_lack T.alone T.home place.old place.new }
-    ensures worn { T.worn place.old ≤ T.worn place.new }
+    ensures stays { Stays T.Turns place.old place.new }
     ensures adds { (mount : ℕ) (before : List ℕ) (steps : List Step)
         → StandsAt mount me stage before steps
-        → Adds (T.alone place.old) (⟦<Ring as Played>⟧.answer (T.shape place.old))
-        (T.seen place.old) (T.seen place.new) me mount (λ more.
+        → AddsAt T.Turns place.old place.new me mount (λ more.
         StandsAt mount me result.stage (before ++ bytes.now) (steps ++ more)) }
-    ensures fed { IsFed (halt_at result.stage) result.fed }
+    ensures fed { halt_at result.stage ≡ result_err result.fed }
     ensures halted { IfSome (halt_at stage) (λ halt.
         (result.stage ≡ stage) × (place.new ≡ place.old)) }
     ensures holds { IfNone (halt_at stage)

@@ -1,16 +1,16 @@
 ghost use Rattle.std.specs.Prelude.{◌≡◌, ℕ, ◌+◌, ◌^◌, ◌<◌, ◌≤◌, ◌⊎◌, IsTrue, Bool, List, [], ◌∷◌, ◌++◌, length, drop, Some, None, OnOk, OnErr, IfOk, IfErr, IfSome, IfNone};
+ghost use Rattle.std.specs.Result.{result_err};
 ghost use Rattle.std.specs.Vec.{vec_capacity};
-ghost use Rattle.turn_log.specs.Turn.{SamePlace};
-ghost use Rattle.turn_log.specs.Heard.{Heard};
 ghost use Rattle.turn_log.specs.Faults.{IsFault};
 ghost use Rattle.mount_ring.specs.History.{state_of};
 ghost use Rattle.session_calls.specs.Steps.{Step};
 ghost use Rattle.source_session.specs.Calls.{IsHolding, HeldSince};
+ghost use Rattle.source_session.specs.Places.{Stays, HeardAt};
 ghost use Rattle.upstream_relay.specs.Request.{version_of, relay_request};
 ghost use Rattle.upstream_relay.specs.Standing.{StandsFor, halt_at, claim_at};
 ghost use Rattle.upstream_relay.specs.Junk.{IsJunk, IsAtMostJunk};
 ghost use Rattle.upstream_relay.specs.Halts.{IsHaltOf};
-ghost use Rattle.upstream_relay.specs.Called.{Adds, IsFed, IsHoldingBy, IsHeldAt};
+ghost use Rattle.upstream_relay.specs.Called.{AddsAt, IsHoldingBy, IsHeldAt};
 
 use crate::body::{Stage, go_on};
 use crate::fault::RelayHalt;
@@ -21,7 +21,7 @@ use ntrip_head::Version;
 use rtcm_frame::Cutter;
 use std::alloc::{AllocError, Global};
 use std::{fmt, mem};
-use turn_log::{Played, TurnFault, Turns};
+use turn_log::{TurnFault, Turns};
 
 /// The version of NTRIP that this protocol is.
 fn version_of(protocol: u32) -> Version
@@ -106,16 +106,14 @@ impl RelaySession {
         requires few { (mount : ℕ) × (before : List ℕ) × (steps : List Step)
             × StandsFor mount self.old before steps
             × (length before + length bytes.now < 2 ^ 63) }
-        ensures same { SamePlace T.shape T.speaks T.may_lack T.alone T.home place.old place.new }
-        ensures worn { T.worn place.old ≤ T.worn place.new }
+        ensures stays { Stays T.Turns place.old place.new }
         ensures relay { (self.new.me ≡ self.old.me)
             × (self.new.request.items ≡ self.old.request.items) }
         ensures adds { (mount : ℕ) (before : List ℕ) (steps : List Step)
             → StandsFor mount self.old before steps
-            → Adds (T.alone place.old) (⟦<Ring as Played>⟧.answer (T.shape place.old))
-            (T.seen place.old) (T.seen place.new) self.old.me mount (λ more.
+            → AddsAt T.Turns place.old place.new self.old.me mount (λ more.
             StandsFor mount self.new (before ++ bytes.now) (steps ++ more)) }
-        ensures fed { IsFed (halt_at self.new.stage) result }
+        ensures fed { halt_at self.new.stage ≡ result_err result }
         ensures halted { IfSome (halt_at self.old.stage) (λ halt.
             (self.new ≡ self.old) × (place.new ≡ place.old)) }
         ensures holds { IfNone (halt_at self.old.stage)
@@ -137,12 +135,10 @@ impl RelaySession {
             × HeldSince self.old.me claim (T.seen place.old) }
         requires stands { (mount : ℕ) × (bytes : List ℕ) × (steps : List Step)
             × StandsFor mount self.old bytes steps }
-        ensures same { SamePlace T.shape T.speaks T.may_lack T.alone T.home place.old place.new }
-        ensures worn { T.worn place.old ≤ T.worn place.new }
+        ensures stays { Stays T.Turns place.old place.new }
         ensures session { self.new ≡ self.old }
         ensures released { OnOk result (IfSome (claim_at self.old.stage) (λ claim.
-            Heard (T.alone place.old) (⟦<Ring as Played>⟧.answer (T.shape place.old))
-            (T.seen place.old) (T.seen place.new) self.old.me
+            HeardAt T.Turns place.old place.new self.old.me
             ((RingCall.Release claim, RingAnswer.Released) ∷ []))) }
         ensures free { OnOk result ((state_of (T.seen place.new)).holder ≡ None) }
         ensures refused { OnErr result (T.seen place.new ≡ T.seen place.old) }
