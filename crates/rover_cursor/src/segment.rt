@@ -1,4 +1,4 @@
-ghost use Rattle.std.specs.Prelude.{◌≡◌, ◌+◌, ◌<◌, ◌≤◌, true, IsTrue, [], ◌∷◌, ◌++◌, length, OnOk, OnErr, IfOk, IfErr, option_to_list, vec_len, vec_capacity};
+ghost use Rattle.std.specs.Prelude.{◌≡◌, ◌+◌, ◌<◌, ◌≤◌, true, IsTrue, [], ◌∷◌, ◌++◌, length, OnErr, IfOk, IfErr, option_to_list, vec_len, vec_capacity};
 ghost use Rattle.rover_cursor.specs.Segments.{lap_overrun};
 
 use crate::fault::SegFault;
@@ -30,8 +30,8 @@ impl Segment {
     ghost use Rattle.turn_log.specs.Heard.{Heard};
     ghost use Rattle.mount_ring.specs.Shapes.{shape_of};
     ghost use Rattle.mount_ring.specs.History.{state_of, joined};
-    ghost use Rattle.rover_cursor.specs.Segments.{begun, read_on};
-    ghost use Rattle.rover_cursor.specs.Told.{IsSegment, Resumes, report_in, frames_in};
+    ghost use Rattle.rover_cursor.specs.Segments.{begun};
+    ghost use Rattle.rover_cursor.specs.Told.{IsSegment, Resumes, HasRead};
     ghost use Rattle.rover_cursor.specs.Refusals.{IsRefusal};
 
     /// Joins a mountpoint, by the filter of this number: one turn of the caller `me`, which calls
@@ -85,22 +85,8 @@ impl Segment {
             × Resumes me h (T.seen place.old) }
         ensures same { SamePlace T.shape T.speaks T.may_lack T.alone T.home place.old place.new }
         ensures worn { T.worn place.old ≤ T.worn place.new }
-        ensures heard { OnOk result
-            (Heard (T.alone place.old) (⟦<Ring as Played>⟧.answer (T.shape place.old))
-            (T.seen place.old) (T.seen place.new) me
-            ((
-              RingCall.Read self.old.cursor budget,
-              RingAnswer.Read (report_in (shape_of (T.shape place.old)) (T.seen place.new)
-                  self.old.cursor budget),
-            ) ∷ [])) }
-        ensures followed { OnOk result (self.new ≡ read_on
-            (report_in (shape_of (T.shape place.old)) (T.seen place.new) self.old.cursor budget)
-            self.old) }
-        ensures segment { OnOk result
-            (IsSegment (shape_of (T.shape place.old)) me (T.seen place.new) self.new) }
-        ensures taken { OnOk result (out.new ≡ frames_in (shape_of (T.shape place.old))
-            (T.seen place.new) self.old.cursor budget) }
-        ensures count { IfOk result (λ taken. taken ≡ length out.new) }
+        ensures read { IfOk result (HasRead (shape_of (T.shape place.old)) (T.alone place.old)
+            (T.seen place.old) (T.seen place.new) me budget self.old self.new out.new) }
         ensures err { OnErr result ((T.seen place.new ≡ T.seen place.old)
             × (self.new ≡ self.old) × (out.new ≡ out.old)) }
         ensures fault { IfErr result (IsRefusal true (T.worn place.new)) }

@@ -1,5 +1,5 @@
 -- One of several places, by its number.
-use Rattle.std.proofs.Common.{◌≡◌, ℕ, ◌<◌, Bool, List, [], ◌∷◌, length, map, get_or, set, refl, sym, ap, subst, ◌∙◌, arith}
+use Rattle.std.proofs.Common.{◌≡◌, ℕ, ◌<◌, ◌≤◌, Bool, List, [], ◌∷◌, length, map, get_or, set, refl, sym, ap, subst, ◌∙◌, arith}
 use Rattle.std.specs.List.{All, list_all, Contains}
 use Rattle.std.proofs.lemmas.List.{append-nil, get_or-map, get_or-set_same, length-map, length-set}
 use base.Stored.{Gv}
@@ -13,18 +13,21 @@ use Rattle.mount_ring.specs.Shapes.{shape_of}
 use Rattle.rover_cursor.specs.declared.fault.SegFault.{SegFault}
 use Rattle.rover_cursor.specs.declared.fault.SegFault.TheVariants.{Worn, Memory}
 use Rattle.rover_cursor.specs.Refusals.{handed_on, IsRefusal}
-use Rattle.turn_log.specs.Heard.{Heard}
+use Rattle.turn_log.specs.Turn.{SamePlace}
 use Rattle.mount_ring.specs.declared.call.RingCall.TheVariants as calls
 use Rattle.mount_ring.specs.declared.call.RingAnswer.TheVariants as answers
 use Rattle.mount_ring.specs.declared.cursor.Cursor.{Cursor}
 use Rattle.mount_ring.specs.declared.cursor.ReadReport.{ReadReport}
 use Rattle.mount_ring.specs.History.{Shape}
 use Rattle.rover_cursor.specs.declared.segment.Segment.{Segment}
-use Rattle.rover_cursor.specs.Told.{IsSegment, Resumes, report_in}
+use Rattle.rover_cursor.specs.Segments.{read_on}
+use Rattle.rover_cursor.specs.Told.{IsSegment, Resumes, HasRead, report_in, frames_in}
 use Rattle.session_calls.specs.Steps.{at_ring}
 use Rattle.session_calls.specs.Rings.{history_at, shape_at, Went, SamePlaces, IsAmong}
-use Rattle.session_calls.proofs.PlaceLemmas.{kept_by_one, went_turn, ring_answer}
+use Rattle.session_calls.proofs.PlaceLemmas.{kept_by_one, later_by_one, later_both, went_turn}
 use Rattle.rover_session.specs.Made.{IsRefusedBy}
+use Rattle.rover_session.specs.Places.{AtRing, StayAtRings}
+use Rattle.rover_session.specs.Standing.{HasReadAt}
 
 -- ---- what stands at one place
 
@@ -88,44 +91,49 @@ read_resumes shape seen places mount d me segment within is =
       ([], sym (append-nil here), refl),
     )
 
--- the read as a turn at the place
-pub read_went : {P : Type 0} (shape : P → RingShape) (alone : P → Bool) (seen : P → History RingCall)
-    (places : List P) (mount : ℕ) (d new : P) (me : ℕ) (cursor : Cursor) (budget : ℕ) → mount < length places
-    → Heard (alone (get_or places mount d)) (ring_answer (shape (get_or places mount d)))
-    (seen (get_or places mount d)) (seen new) me
-    ((
-      calls.Read cursor budget,
-      answers.Read (report_in (shape_of (shape (get_or places mount d))) (seen new) cursor
-          budget),
-    ) ∷ [])
-    → Went (map shape places) (list_all alone places) (map seen places) (map seen (set places mount new)) me
-    (at_ring mount (calls.Read cursor budget)
-    (answers.Read (report_in (shape_at (map shape places) mount) (history_at (map seen (set places mount new)) mount)
-    cursor
-    budget)) ∷ [])
-read_went shape alone seen places mount d new me cursor budget within heard =
-    subst (λ (report : ReadReport). Went (map shape places) (list_all alone places) (map seen places)
-    (map seen (set places mount new)) me (at_ring mount (calls.Read cursor budget) (answers.Read report) ∷ []))
-    (read_named shape seen places mount d new within (λ s h. report_in s h cursor budget))
-    (went_turn shape alone seen places mount d new me (calls.Read cursor budget)
-    (answers.Read (report_in (shape_of (shape (get_or places mount d))) (seen new) cursor budget)) within heard)
+-- a read of the place is one at its number
+pub read_by_one : {P : Type 0} (shape : P → RingShape) (alone : P → Bool) (seen : P → History RingCall)
+    (places : List P) (d new : P) (me budget : ℕ) (before after : Segment) (frames : List (List ℕ)) (count : ℕ)
+    → before.mount < length places
+    → HasRead (shape_of (shape (get_or places before.mount d))) (alone (get_or places before.mount d))
+    (seen (get_or places before.mount d)) (seen new) me budget before after frames count
+    → HasReadAt (map shape places) (list_all alone places) (map seen places) (map seen (set places before.mount new)) me
+    budget before after frames count
+read_by_one shape alone seen places d new me budget before after frames count within read =
+    let mount : ℕ = before.mount in
+    let cursor : Cursor = before.cursor in
+    let here : Shape = shape_of (shape (get_or places mount d)) in record {
+      went = subst (λ (report : ReadReport). Went (map shape places) (list_all alone places) (map seen places)
+          (map seen (set places mount new)) me (at_ring mount (calls.Read cursor budget) (answers.Read report) ∷ []))
+          (read_named shape seen places mount d new within (λ s h. report_in s h cursor budget))
+          (went_turn shape alone seen places mount d new me (calls.Read cursor budget)
+          (answers.Read (report_in here (seen new) cursor budget)) within read.heard);
+      followed = read.followed
+          ∙ read_named shape seen places mount d new within (λ s h. read_on (report_in s h cursor budget) before);
+      segment = segment_named shape seen places mount d new me after within read.segment;
+      taken = read.taken ∙ read_named shape seen places mount d new within (λ s h. frames_in s h cursor budget);
+      counted = read.counted;
+    }
 
 -- ---- all places
 
 -- a place changes as a turn changes it, and the others do not change
-pub same_by_one : {P : Type 0} (shape : P → RingShape) (speaks : P → ℕ → Bool) (may_lack alone : P → Bool)
-    (home : P → Gv) (places : List P) (mount : ℕ) (d new : P)
-    → (shape new ≡ shape (get_or places mount d)) × (speaks new ≡ speaks (get_or places mount d))
-    × (may_lack new ≡ may_lack (get_or places mount d)) × (alone new ≡ alone (get_or places mount d))
-    × (home new ≡ home (get_or places mount d))
-    → SamePlaces shape speaks may_lack alone home places (set places mount new)
-same_by_one shape speaks may_lack alone home places mount d new same = (
-  kept_by_one shape places mount d new same.0,
-  kept_by_one speaks places mount d new same.1,
-  kept_by_one may_lack places mount d new same.2,
-  kept_by_one alone places mount d new same.3,
-  kept_by_one home places mount d new same.4,
-)
+pub stay_by_one : {P : Type 0} (ring : AtRing P) (places : List P) (mount : ℕ) (d new : P)
+    → SamePlace ring.shape ring.speaks ring.may_lack ring.alone ring.home (get_or places mount d) new
+    → ring.worn (get_or places mount d) ≤ ring.worn new → StayAtRings ring places (set places mount new)
+stay_by_one ring places mount d new same worn = record {
+  same = (
+    kept_by_one ring.shape places mount d new same.0,
+    kept_by_one ring.speaks places mount d new same.1,
+    kept_by_one ring.may_lack places mount d new same.2,
+    kept_by_one ring.alone places mount d new same.3,
+    kept_by_one ring.home places mount d new same.4,
+  );
+  worn = later_by_one ring.worn places mount d new worn;
+}
+
+pub stay_still : {P : Type 0} (ring : AtRing P) (places : List P) → StayAtRings ring places places
+stay_still ring places = record { same = (refl, refl, refl, refl, refl); worn = λ n. omega arith }
 
 -- places that stay what they are, and then again
 pub same_places_both : {P : Type 0} (shape : P → RingShape) (speaks : P → ℕ → Bool) (may_lack alone : P → Bool)
@@ -133,6 +141,13 @@ pub same_places_both : {P : Type 0} (shape : P → RingShape) (speaks : P → �
     → SamePlaces shape speaks may_lack alone home b c → SamePlaces shape speaks may_lack alone home a c
 same_places_both shape speaks may_lack alone home a b c x y =
     (y.0 ∙ x.0, y.1 ∙ x.1, y.2 ∙ x.2, y.3 ∙ x.3, y.4 ∙ x.4)
+
+pub stay_both : {P : Type 0} (ring : AtRing P) (a b c : List P) → StayAtRings ring a b → StayAtRings ring b c
+    → StayAtRings ring a c
+stay_both ring a b c x y = record {
+  same = same_places_both ring.shape ring.speaks ring.may_lack ring.alone ring.home a b c x.same y.same;
+  worn = later_both (map ring.worn a) (map ring.worn b) (map ring.worn c) x.worn y.worn;
+}
 
 -- ---- refusals
 

@@ -21,7 +21,7 @@ use Rattle.session_calls.proofs.PlanLemmas.{begun_longer}
 use Rattle.session_calls.proofs.WentLemmas.{went_none, went_both}
 use Rattle.rover_session.specs.Owed.{Terms, chooses, changed, joins, follows, heeds, looks}
 use Rattle.rover_session.specs.Made.{base_after, bases_joined, mounts_of, present_base, segments_after, IsMadeUntil}
-use Rattle.rover_session.specs.Standing.{looked, AskedEach, AskedFirst, IsResumable, KeepsSegments, frames_sent, Followed}
+use Rattle.rover_session.specs.Standing.{looked, AskedEach, AskedFirst, IsResumable, SentSoFar, KeepsSegments, frames_sent, Followed}
 use Rattle.rover_session.proofs.FollowLemmas.{heeds_begin, heeds_left}
 use Rattle.rover_session.proofs.MadeLemmas.{base-append, segments-append, owed_both, until_both, owed_looked, base_looked, joined_looked, mounts_both, segments_looked, looks_until, looks_cut}
 use Rattle.rover_session.proofs.SegmentLemmas.{went_extends, all_sound, resumable_stays, looks_resume, resumable_joined, sent_later, sent_begun}
@@ -30,19 +30,19 @@ use Rattle.rover_session.proofs.SegmentLemmas.{went_extends, all_sound, resumabl
 pub keeps_both : (shapes : List RingShape) (me : ℕ) (old mid now : List (History RingCall)) (a b c : List Segment)
     → KeepsSegments shapes me old mid a b → KeepsSegments shapes me mid now b c → KeepsSegments shapes me old now a c
 keeps_both shapes me old mid now a b c x y is =
-    let first : IsResumable shapes me mid b × (frames_sent shapes mid b ≡ frames_sent shapes old a) = x is in
-    let second : IsResumable shapes me now c × (frames_sent shapes now c ≡ frames_sent shapes mid b) = y first.0 in
-    (second.0, second.1 ∙ first.1)
+    let first : SentSoFar shapes me mid b (frames_sent shapes old a) = x is in
+    let second : SentSoFar shapes me now c (frames_sent shapes mid b) = y first.resumable in
+    record { resumable = second.resumable; sent = second.sent ∙ first.sent }
 
 -- looks keep them
 keeps_looks : (shapes : List RingShape) (alone : Bool) (old now : List (History RingCall)) (me : ℕ)
     (lives : List (Base × Option ℕ)) (segments : List Segment) → Went shapes alone old now me (looked lives)
     → KeepsSegments shapes me old now segments segments
-keeps_looks shapes alone old now me lives segments went is = (
-  resumable_stays shapes me old now (looks_resume shapes alone old now me lives went) segments is,
-  sent_later shapes old now segments (went_extends shapes alone old now me (looked lives) went)
-      (all_sound shapes me old segments is),
-)
+keeps_looks shapes alone old now me lives segments went is = record {
+  resumable = resumable_stays shapes me old now (looks_resume shapes alone old now me lives went) segments is;
+  sent = sent_later shapes old now segments (went_extends shapes alone old now me (looked lives) went)
+      (all_sound shapes me old segments is);
+}
 
 -- nothing was called
 pub followed_none : (shapes : List RingShape) (alone : Bool) (histories : List (History RingCall)) (me : ℕ)
@@ -56,7 +56,7 @@ followed_none shapes alone histories me plan refused segments made = record {
   base = refl;
   segments = refl;
   mounts = refl;
-  keeps = λ is. (is, refl);
+  keeps = λ is. record { resumable = is; sent = refl };
 }
 
 -- the same of histories and segments that are known by equations
@@ -85,16 +85,16 @@ followed_joined shapes alone old now me mount filter segment before after within
       base = ap Some (sym here) ∙ ap present_base (sym added);
       segments = added ∙ ap (λ (s : Segment). s ∷ before) begins;
       mounts = ap mounts_of added ∙ ap (λ (m : ℕ). m ∷ mounts_of before) here;
-      keeps = λ resumable. (
-        subst (IsResumable shapes me now) (sym added)
+      keeps = λ resumable. record {
+        resumable = subst (IsResumable shapes me now) (sym added)
             (resumable_joined shapes me old now before segment (went_extends shapes alone old now me (step ∷ []) went)
             (subst (λ m. m < length shapes) (sym here) within)
-            (subst (λ m. IsSegment (shape_at shapes m) me (history_at now m) segment) (sym here) is) resumable),
-        ap (frames_sent shapes now) (added ∙ ap (λ (s : Segment). s ∷ before) begins)
+            (subst (λ m. IsSegment (shape_at shapes m) me (history_at now m) segment) (sym here) is) resumable);
+        sent = ap (frames_sent shapes now) (added ∙ ap (λ (s : Segment). s ∷ before) begins)
             ∙ sent_begun shapes now mount segment.cursor before
             ∙ sent_later shapes old now before (went_extends shapes alone old now me (step ∷ []) went)
-            (all_sound shapes me old before resumable),
-      );
+            (all_sound shapes me old before resumable);
+      };
     }
 
 mounts_looked : (lives : List (Base × Option ℕ)) (mounts : List ℕ)

@@ -1,7 +1,8 @@
 -- What a rover's session stands for: the report of its head, the bytes that came since, all that it
 -- called, and what the histories of the mountpoints tell of its segments.
-use Rattle.std.specs.Prelude.{◌≡◌, ℕ, ◌<◌, Bool, List, [], ◌∷◌, ◌++◌, length, map, reverse, Option, None}
+use Rattle.std.specs.Prelude.{◌≡◌, ℕ, ◌<◌, Bool, IsTrue, List, [], ◌∷◌, ◌++◌, length, map, reverse, Option, None}
 use Rattle.std.specs.List.{flat_map, All}
+use Rattle.rtcm_frame.specs.Transport.{is_frame}
 use Rattle.cast_text.specs.Lines.{LineState}
 use Rattle.cast_text.specs.Lines as lines
 use Rattle.ntrip_head.specs.declared.request.Version.{Version}
@@ -9,12 +10,13 @@ use Rattle.turn_log.specs.History.{History}
 use Rattle.gga_read.specs.declared.Position.{Position}
 use Rattle.base_select.specs.declared.Base.{Base}
 use Rattle.mount_ring.specs.declared.call.RingCall.{RingCall}
-use Rattle.mount_ring.specs.declared.call.RingCall.TheVariants.{Look}
-use Rattle.mount_ring.specs.declared.call.RingAnswer.TheVariants.{Looked}
+use Rattle.mount_ring.specs.declared.call.RingCall.TheVariants.{Look, Read}
+use Rattle.mount_ring.specs.declared.call.RingAnswer.TheVariants as answers
 use Rattle.mount_ring.specs.declared.shape.RingShape.{RingShape}
 use Rattle.mount_ring.specs.History.{permits_at}
 use Rattle.rover_cursor.specs.declared.segment.Segment.{Segment}
 use Rattle.rover_cursor.specs.declared.fault.SegFault.{SegFault}
+use Rattle.rover_cursor.specs.Segments.{read_on}
 use Rattle.rover_cursor.specs.Sound.{IsSound, kept}
 use Rattle.mount_ring.specs.declared.cursor.ReadReport.{ReadReport}
 use Rattle.rover_cursor.specs.Told.{IsSegment, published_in, report_in, frames_in}
@@ -22,12 +24,13 @@ use Rattle.session_calls.specs.Steps.{Step, at_ring}
 use Rattle.session_calls.specs.Plans.{Plan, IsMade}
 use Rattle.session_calls.specs.Rings.{history_at, shape_at, Went, WentOn}
 use Rattle.rover_session.specs.declared.admitted.Admitted.{Admitted}
-use Rattle.rover_session.specs.declared.session.RoverSession.{RoverSession}
 use Rattle.rover_session.specs.Owed.{Terms, if_live, rover_plan, reads}
+use Rattle.rover_session.specs.Body.{body_of}
 use Rattle.rover_session.specs.Made.{base_after, bases_joined, segments_after, mounts_of, present_base, owed_among, IsMadeUntil}
 
 -- ---- what a session keeps
 
+-- what a rover was admitted to, as it is kept
 abbrev pub terms_of : Admitted → Terms
 terms_of admitted = record {
   near = admitted.near;
@@ -47,16 +50,6 @@ pub record Rover : Type 0 where
   pub segments : List Segment
   pub halt : Option SegFault
 
-abbrev pub rover_of : RoverSession → Rover
-rover_of session = record {
-  version = session.admitted.version;
-  me = session.admitted.me;
-  terms = terms_of session.admitted;
-  line = session.reports;
-  segments = reverse session.segments.items;
-  halt = session.halt;
-}
-
 -- ---- what it may call
 
 -- the filter of this number is one of each mountpoint's
@@ -71,7 +64,8 @@ AreWithin count bases = All (λ (base : Base). base.mount < count) bases
 
 -- looks on these bases, each with the claim that it was answered
 abbrev pub looked : List (Base × Option ℕ) → List Step
-looked lives = map (λ (live : Base × Option ℕ). at_ring live.0.mount Look (Looked live.1)) lives
+looked lives =
+    map (λ (live : Base × Option ℕ). at_ring live.0.mount Look (answers.Looked live.1)) lives
 
 -- the bases among them that are held
 abbrev pub held_in : List (Base × Option ℕ) → List Base
@@ -131,13 +125,19 @@ frames_sent shapes histories [] = []
 frames_sent shapes histories (segment ∷ older) =
     frames_sent shapes histories older ++ frames_of shapes histories segment
 
+-- The newest of these segments can be read on by this caller, and these are all the frames that
+-- were sent in them.
+pub record SentSoFar (shapes : List RingShape) (me : ℕ) (histories : List (History RingCall))
+    (segments : List Segment) (frames : List (List ℕ)) : Type 0 where
+  pub resumable : IsResumable shapes me histories segments
+  pub sent : frames_sent shapes histories segments ≡ frames
+
 -- Segments that could be read on can be, whatever became of them, and were sent no frame more.
 abbrev pub KeepsSegments : List RingShape → ℕ → List (History RingCall) → List (History RingCall)
     → List Segment → List Segment → Type 0
 KeepsSegments shapes me old now before after =
     IsResumable shapes me old before
-    → IsResumable shapes me now after
-    × (frames_sent shapes now after ≡ frames_sent shapes old before)
+    → SentSoFar shapes me now after (frames_sent shapes old before)
 
 -- what a read from where a segment stands is answered, as the histories after it tell
 abbrev pub report_at : List RingShape → List (History RingCall) → ℕ → Segment → ReadReport
@@ -150,6 +150,21 @@ abbrev pub frames_at : List RingShape → List (History RingCall) → ℕ → Se
 frames_at shapes histories budget segment =
     frames_in (shape_at shapes segment.mount) (history_at histories segment.mount) segment.cursor
     budget
+
+-- A caller read on in a segment at its mountpoint, by this budget. The read took these frames, and
+-- told their number.
+pub record HasReadAt (shapes : List RingShape) (alone : Bool) (old now : List (History RingCall))
+    (me budget : ℕ) (before after : Segment) (frames : List (List ℕ)) (count : ℕ) : Type 0 where
+  -- it was one turn there, a read from where the segment stood, and nothing else was called
+  pub went : Went shapes alone old now me
+      (at_ring before.mount (Read before.cursor budget)
+      (answers.Read (report_at shapes now budget before)) ∷ [])
+  -- the segment goes on by what was answered
+  pub followed : after ≡ read_on (report_at shapes now budget before) before
+  -- and is still what the history of its mountpoint tells of this caller
+  pub segment : IsSegment (shape_at shapes before.mount) me (history_at now before.mount) after
+  pub taken : frames ≡ frames_at shapes now budget before
+  pub counted : count ≡ length frames
 
 -- those that a turn's read of the newest segment takes
 abbrev pub frames_read : List RingShape → List (History RingCall) → ℕ → List Segment
@@ -205,6 +220,23 @@ pub record ReadOn (shapes : List RingShape) (alone : Bool) (old now : List (Hist
   pub read : IsMade (reads budget before) more
   pub stands : Stands rover first bytes (steps ++ more)
 
+-- A turn read on in the newest segment and sent the frames that the read took, which are so many.
+pub record TurnSent (shapes : List RingShape) (alone : Bool) (old now : List (History RingCall))
+    (budget : ℕ) (before after : Rover) (frames : List (List ℕ)) (out_old out_new : List ℕ)
+    (count : ℕ) : Type 0 where
+  -- the session stands with the read for all that it stood for
+  pub read : (first : Option Position) (bytes : List ℕ) (steps : List Step)
+      → Stands before first bytes steps
+      → ReadOn shapes alone old now budget before.segments after first bytes steps
+  -- each is a whole frame with the right checksum
+  pub valid : All (λ frame. IsTrue (is_frame frame)) frames
+  pub counted : count ≡ length frames
+  -- they were sent behind all frames before
+  pub sent : frames_sent shapes now after.segments
+      ≡ frames_sent shapes old before.segments ++ frames
+  -- and their bytes, as the version has them, stand behind all bytes before
+  pub body : out_new ≡ out_old ++ body_of before.version frames
+
 -- What stands between two calls of a session, where nobody else called: its bases are among these
 -- mountpoints, its filter is one of theirs, and its segments are what these histories tell.
 pub record IsServed (shapes : List RingShape) (histories : List (History RingCall)) (rover : Rover)
@@ -217,6 +249,10 @@ pub record IsServed (shapes : List RingShape) (histories : List (History RingCal
 abbrev pub SameAdmission : Rover → Rover → Type 0
 SameAdmission old new =
     (new.version ≡ old.version) × (new.me ≡ old.me) × (new.terms ≡ old.terms)
+
+-- nothing of a session but its segments changed
+abbrev pub SameButSegments : Rover → Rover → Type 0
+SameButSegments old new = new ≡ record old { segments = new.segments }
 
 -- a session before its first call
 abbrev pub IsNew : Rover → Type 0

@@ -7,9 +7,10 @@ ghost use Rattle.gga_read.specs.declared.Position.{Position};
 ghost use Rattle.gga_read.specs.Report.{reports};
 ghost use Rattle.base_select.specs.Measure.{IsOnEarth};
 ghost use Rattle.session_calls.specs.Plans.{done};
-ghost use Rattle.session_calls.specs.Rings.{SamePlaces, AllSpeak, AllLater, all_alone};
+ghost use Rattle.session_calls.specs.Rings.{AllSpeak, all_alone};
 ghost use Rattle.rover_session.specs.Owed.{chooses, changed, joins, follows, heeds};
 ghost use Rattle.rover_session.specs.Made.{present_base, IsRefusedBy};
+ghost use Rattle.rover_session.specs.Places.{StayAtRings};
 ghost use Rattle.rover_session.specs.Standing.{KnowsFilter, AreWithin, KeepsSegments, Followed, terms_of};
 
 use crate::admitted::Admitted;
@@ -33,8 +34,7 @@ pub(crate) fn begin_segment<T: Turns<Ring>>(
     requires within { mount < length places.old }
     requires speaks { AllSpeak T.speaks places.old me }
     requires filter { KnowsFilter (map T.shape places.old) filter }
-    ensures same { SamePlaces T.shape T.speaks T.may_lack T.alone T.home places.old places.new }
-    ensures worn { AllLater (map T.worn places.old) (map T.worn places.new) }
+    ensures stay { StayAtRings T.Turns places.old places.new }
     ensures followed { Followed (map T.shape places.old) (all_alone T.alone places.old)
         (map T.seen places.old) (map T.seen places.new) me (joins filter (Some mount) done)
         (result_err result) (reverse segments.old.items) (reverse segments.new.items) }
@@ -94,8 +94,7 @@ fn follow<T: Turns<Ring>>(
     requires within { AreWithin (length places.old) admitted.now.bases.items }
     requires speaks { AllSpeak T.speaks places.old admitted.now.me }
     requires filter { KnowsFilter (map T.shape places.old) admitted.now.filter }
-    ensures same { SamePlaces T.shape T.speaks T.may_lack T.alone T.home places.old places.new }
-    ensures worn { AllLater (map T.worn places.old) (map T.worn places.new) }
+    ensures stay { StayAtRings T.Turns places.old places.new }
     ensures followed { Followed (map T.shape places.old) (all_alone T.alone places.old)
         (map T.seen places.old) (map T.seen places.new) admitted.now.me
         (follows (terms_of admitted.now) (present_base (reverse segments.old.items)) (rover ∷ []))
@@ -124,8 +123,7 @@ pub(crate) fn heed<T: Turns<Ring>>(
     requires within { AreWithin (length places.old) admitted.now.bases.items }
     requires speaks { AllSpeak T.speaks places.old admitted.now.me }
     requires filter { KnowsFilter (map T.shape places.old) admitted.now.filter }
-    ensures same { SamePlaces T.shape T.speaks T.may_lack T.alone T.home places.old places.new }
-    ensures worn { AllLater (map T.worn places.old) (map T.worn places.new) }
+    ensures stay { StayAtRings T.Turns places.old places.new }
     ensures followed { Followed (map T.shape places.old) (all_alone T.alone places.old)
         (map T.seen places.old) (map T.seen places.new) admitted.now.me
         (heeds admitted.now.near (terms_of admitted.now)
@@ -157,8 +155,7 @@ pub(crate) fn heed_all<T: Turns<Ring>>(
     requires within { AreWithin (length places.old) admitted.now.bases.items }
     requires speaks { AllSpeak T.speaks places.old admitted.now.me }
     requires filter { KnowsFilter (map T.shape places.old) admitted.now.filter }
-    ensures same { SamePlaces T.shape T.speaks T.may_lack T.alone T.home places.old places.new }
-    ensures worn { AllLater (map T.worn places.old) (map T.worn places.new) }
+    ensures stay { StayAtRings T.Turns places.old places.new }
     ensures line { OnOk result ((before : List ℕ) → lines.StandsFor reader.old before
         → lines.StandsFor reader.new (before ++ bytes.now)) }
     ensures followed { (before : List ℕ) → lines.StandsFor reader.old before

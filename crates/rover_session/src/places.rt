@@ -1,14 +1,15 @@
 //! A rover's turns at several mountpoints.
 
-ghost use Rattle.std.specs.Prelude.{◌≡◌, ◌+◌, ◌<◌, ◌≤◌, [], ◌∷◌, ◌++◌, length, map, IfOk, OnOk, IfErr, OnErr, vec_len};
+ghost use Rattle.std.specs.Prelude.{◌≡◌, ◌+◌, ◌<◌, ◌≤◌, [], ◌∷◌, ◌++◌, length, map, IfOk, IfErr, OnErr, vec_len};
 ghost use Rattle.std.specs.Vec.{vec_capacity};
-ghost use Rattle.rover_cursor.specs.Segments.{begun, read_on};
+ghost use Rattle.rover_cursor.specs.Segments.{begun};
 ghost use Rattle.rover_cursor.specs.Told.{IsSegment};
 ghost use Rattle.session_calls.specs.Steps.{at_ring};
-ghost use Rattle.session_calls.specs.Rings.{Went, SamePlaces, AllSpeak, AllLater, all_alone, history_at, shape_at};
+ghost use Rattle.session_calls.specs.Rings.{Went, AllSpeak, all_alone, history_at, shape_at};
 ghost use Rattle.rover_session.specs.Owed.{if_live};
 ghost use Rattle.rover_session.specs.Made.{IsRefusedBy};
-ghost use Rattle.rover_session.specs.Standing.{KnowsFilter, AreWithin, AskedEach, AskedFirst, report_at, frames_at};
+ghost use Rattle.rover_session.specs.Places.{StayAtRings};
+ghost use Rattle.rover_session.specs.Standing.{KnowsFilter, AreWithin, AskedEach, AskedFirst, HasReadAt};
 
 use base_select::Base;
 use mount_ring::{Outbox, Ring, RingAnswer, RingCall};
@@ -28,8 +29,7 @@ pub(crate) fn join_at<T: Turns<Ring>>(
     requires within { mount < length places.old }
     requires speaks { AllSpeak T.speaks places.old me }
     requires filter { KnowsFilter (map T.shape places.old) filter }
-    ensures same { SamePlaces T.shape T.speaks T.may_lack T.alone T.home places.old places.new }
-    ensures worn { AllLater (map T.worn places.old) (map T.worn places.new) }
+    ensures stay { StayAtRings T.Turns places.old places.new }
     ensures went { IfOk result (λ segment.
         Went (map T.shape places.old) (all_alone T.alone places.old)
         (map T.seen places.old) (map T.seen places.new) me
@@ -53,8 +53,7 @@ pub(crate) fn held_among<T: Turns<Ring>>(
 ) -> Result<Vec<Base>, SegFault>
     requires within { AreWithin (length places.old) bases.now }
     requires speaks { AllSpeak T.speaks places.old me }
-    ensures same { SamePlaces T.shape T.speaks T.may_lack T.alone T.home places.old places.new }
-    ensures worn { AllLater (map T.worn places.old) (map T.worn places.new) }
+    ensures stay { StayAtRings T.Turns places.old places.new }
     ensures each { IfOk result (λ held.
         AskedEach (map T.shape places.old) (all_alone T.alone places.old)
         (map T.seen places.old) (map T.seen places.new) me bases.now held.items) }
@@ -97,23 +96,10 @@ pub(crate) fn read_at<T: Turns<Ring>>(
     requires speaks { AllSpeak T.speaks places.old me }
     requires segment { IsSegment (shape_at (map T.shape places.old) segment.old.mount) me
         (history_at (map T.seen places.old) segment.old.mount) segment.old }
-    ensures same { SamePlaces T.shape T.speaks T.may_lack T.alone T.home places.old places.new }
-    ensures worn { AllLater (map T.worn places.old) (map T.worn places.new) }
-    ensures went { OnOk result
-        (Went (map T.shape places.old) (all_alone T.alone places.old)
-        (map T.seen places.old) (map T.seen places.new) me
-        (at_ring segment.old.mount (RingCall.Read segment.old.cursor budget)
-        (RingAnswer.Read (report_at (map T.shape places.old) (map T.seen places.new) budget
-        segment.old)) ∷ [])) }
-    ensures followed { OnOk result (segment.new ≡ read_on
-        (report_at (map T.shape places.old) (map T.seen places.new) budget segment.old)
-        segment.old) }
-    ensures segment { OnOk result
-        (IsSegment (shape_at (map T.shape places.old) segment.old.mount) me
-        (history_at (map T.seen places.new) segment.old.mount) segment.new) }
-    ensures taken { OnOk result (out.new ≡
-        frames_at (map T.shape places.old) (map T.seen places.new) budget segment.old) }
-    ensures count { IfOk result (λ taken. taken ≡ length out.new) }
+    ensures stay { StayAtRings T.Turns places.old places.new }
+    ensures read { IfOk result (HasReadAt (map T.shape places.old) (all_alone T.alone places.old)
+        (map T.seen places.old) (map T.seen places.new) me budget segment.old segment.new
+        out.new) }
     ensures err { OnErr result ((map T.seen places.new ≡ map T.seen places.old)
         × (segment.new ≡ segment.old)) }
     ensures cause { IfErr result (IsRefusedBy (map T.worn places.new)) }

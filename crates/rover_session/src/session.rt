@@ -1,14 +1,13 @@
 //! A rover's session over the mountpoints that it is admitted to.
-ghost use Rattle.std.specs.Prelude.{◌≡◌, ℕ, ◌≤◌, false, List, [], ◌++◌, length, map, reverse, All, OnOk, OnErr, IfOk, IfErr, IfSome, IfNone, IsTrue, Option, Err};
+ghost use Rattle.std.specs.Prelude.{◌≡◌, ℕ, ◌≤◌, false, List, [], ◌++◌, length, map, reverse, All, OnErr, IfOk, IfErr, IfSome, IfNone, Option, Err};
 ghost use Rattle.std.specs.Result.{result_err};
-ghost use Rattle.rtcm_frame.specs.Transport.{is_frame};
 ghost use Rattle.gga_read.specs.declared.Position.{Position};
 ghost use Rattle.base_select.specs.Measure.{IsOnEarth};
 ghost use Rattle.session_calls.specs.Steps.{Step};
-ghost use Rattle.session_calls.specs.Rings.{SamePlaces, AllSpeak, AllLater, all_alone};
+ghost use Rattle.session_calls.specs.Rings.{AllSpeak, all_alone};
 ghost use Rattle.rover_session.specs.Made.{IsRefusedBy, sent_in, overrun_in};
-ghost use Rattle.rover_session.specs.Body.{body_of};
-ghost use Rattle.rover_session.specs.Standing.{rover_of, KnowsFilter, AreWithin, IsResumable, WasResumable, frames_sent, frames_read, Stands, Told, ReadOn, SameAdmission, IsNew};
+ghost use Rattle.rover_session.specs.Places.{StayAtRings};
+ghost use Rattle.rover_session.specs.Standing.{KnowsFilter, AreWithin, IsResumable, WasResumable, SentSoFar, frames_sent, frames_read, Stands, Told, TurnSent, SameAdmission, SameButSegments, IsNew};
 
 use crate::admitted::Admitted;
 use crate::body::{MOST_OF_TURN, append_frames};
@@ -20,6 +19,7 @@ use mount_ring::{Outbox, Ring};
 use ntrip_head::Version;
 use rover_cursor::{SegFault, Segment};
 use std::alloc::{AllocError, Global};
+use std::marker::Model;
 use turn_log::Turns;
 
 /// A rover that was admitted: it joins the bases that its reports select, reads on in the last of
@@ -28,9 +28,9 @@ use turn_log::Turns;
 /// A rover that is not near has one base. A near one takes the nearest of its bases that a source
 /// holds at the time of a report, with hysteresis. Each base that it takes begins a segment.
 ///
-/// `Stands` ties a session to what it was told so far, and to all that it called; each call says
-/// what it makes of that. Once a call of `start` or `feed` was refused the session is halted: it
-/// answers the same from then on, and calls nothing.
+/// Contracts see the `Rover` that it keeps. `Stands` ties a session to what it was told so far, and
+/// to all that it called; each call says what it makes of that. Once a call of `start` or `feed`
+/// was refused the session is halted: it answers the same from then on, and calls nothing.
 #[derive(Debug, Drop)]
 pub struct RoverSession {
     alloc: Global,
@@ -38,6 +38,16 @@ pub struct RoverSession {
     reports: Reports,
     segments: Vec<Segment>,
     halt: Option<SegFault>,
+}
+
+impl Model for RoverSession {
+    ghost use Rattle.rover_session.specs.Standing.{Rover};
+
+    ghost Value = { Rover };
+
+    ghost use Rattle.rover_session.specs.Kept.{rover_in};
+
+    ghost view = { rover_in };
 }
 
 impl RoverSession {
@@ -58,10 +68,10 @@ impl RoverSession {
         requires on_earth { All (λ base. IsOnEarth base.at) bases.items }
         requires percent { h ≤ 50 }
         requires one { near ≡ false → length bases.items ≡ 1 }
-        ensures begins { IfOk result (λ session. IsNew (rover_of session)) }
-        ensures version { IfOk result (λ session. (rover_of session).version ≡ version) }
-        ensures me { IfOk result (λ session. (rover_of session).me ≡ me) }
-        ensures terms { IfOk result (λ session. (rover_of session).terms ≡ record {
+        ensures begins { IfOk result (λ session. IsNew session) }
+        ensures version { IfOk result (λ session. session.version ≡ version) }
+        ensures me { IfOk result (λ session. session.me ≡ me) }
+        ensures terms { IfOk result (λ session. session.terms ≡ record {
           near = near;
           filter = filter;
           hysteresis = h;
@@ -96,21 +106,18 @@ impl RoverSession {
         first: Option<Position>,
         places: &mut [T],
     ) -> Result<(), SegFault>
-        requires new { IsNew (rover_of self.old) }
+        requires new { IsNew self.old }
         requires first { IfSome first IsOnEarth }
-        requires within { AreWithin (length places.old) (rover_of self.old).terms.bases }
-        requires speaks { AllSpeak T.speaks places.old (rover_of self.old).me }
-        requires filter { KnowsFilter (map T.shape places.old) (rover_of self.old).terms.filter }
-        ensures same { SamePlaces T.shape T.speaks T.may_lack T.alone T.home places.old places.new }
-        ensures worn { AllLater (map T.worn places.old) (map T.worn places.new) }
-        ensures admission { SameAdmission (rover_of self.old) (rover_of self.new) }
+        requires within { AreWithin (length places.old) self.old.terms.bases }
+        requires speaks { AllSpeak T.speaks places.old self.old.me }
+        requires filter { KnowsFilter (map T.shape places.old) self.old.terms.filter }
+        ensures stay { StayAtRings T.Turns places.old places.new }
+        ensures admission { SameAdmission self.old self.new }
         ensures told { Told (map T.shape places.old) (all_alone T.alone places.old)
-            (map T.seen places.old) (map T.seen places.new) (rover_of self.new) first [] [] }
-        ensures resumable { IsResumable (map T.shape places.old) (rover_of self.old).me
-            (map T.seen places.new) (rover_of self.new).segments }
-        ensures sent { frames_sent (map T.shape places.old) (map T.seen places.new)
-            (rover_of self.new).segments ≡ [] }
-        ensures halt { (rover_of self.new).halt ≡ result_err result }
+            (map T.seen places.old) (map T.seen places.new) self.new first [] [] }
+        ensures sent { SentSoFar (map T.shape places.old) self.old.me (map T.seen places.new)
+            self.new.segments [] }
+        ensures halt { self.new.halt ≡ result_err result }
         ensures cause { IfErr result (IsRefusedBy (map T.worn places.new)) }
     {
         let begun = if self.admitted.near {
@@ -144,28 +151,25 @@ impl RoverSession {
     /// # Errors
     /// Worn as a place answered it, or Memory. Then the session is halted.
     pub fn feed<T: Turns<Ring>>(&mut self, bytes: &[u8], places: &mut [T]) -> Result<(), SegFault>
-        requires within { AreWithin (length places.old) (rover_of self.old).terms.bases }
-        requires speaks { AllSpeak T.speaks places.old (rover_of self.old).me }
-        requires filter { KnowsFilter (map T.shape places.old) (rover_of self.old).terms.filter }
-        requires resumes { WasResumable (map T.shape places.old) (rover_of self.old).me
-            (map T.seen places.old) (rover_of self.old).segments }
-        ensures same { SamePlaces T.shape T.speaks T.may_lack T.alone T.home places.old places.new }
-        ensures worn { AllLater (map T.worn places.old) (map T.worn places.new) }
-        ensures admission { SameAdmission (rover_of self.old) (rover_of self.new) }
+        requires within { AreWithin (length places.old) self.old.terms.bases }
+        requires speaks { AllSpeak T.speaks places.old self.old.me }
+        requires filter { KnowsFilter (map T.shape places.old) self.old.terms.filter }
+        requires resumes { WasResumable (map T.shape places.old) self.old.me
+            (map T.seen places.old) self.old.segments }
+        ensures stay { StayAtRings T.Turns places.old places.new }
+        ensures admission { SameAdmission self.old self.new }
         ensures told { (first : Option Position) (before : List ℕ) (steps : List Step)
-            → Stands (rover_of self.old) first before steps
+            → Stands self.old first before steps
             → Told (map T.shape places.old) (all_alone T.alone places.old)
-            (map T.seen places.old) (map T.seen places.new) (rover_of self.new) first
+            (map T.seen places.old) (map T.seen places.new) self.new first
             (before ++ bytes.now) steps }
-        ensures resumable { IsResumable (map T.shape places.old) (rover_of self.old).me
-            (map T.seen places.new) (rover_of self.new).segments }
-        ensures sent { frames_sent (map T.shape places.old) (map T.seen places.new)
-            (rover_of self.new).segments ≡ frames_sent (map T.shape places.old)
-            (map T.seen places.old) (rover_of self.old).segments }
-        ensures halt { (rover_of self.new).halt ≡ result_err result }
-        ensures halted { IfSome (rover_of self.old).halt (λ fault. (result ≡ Err fault)
-            × (rover_of self.new ≡ rover_of self.old) × (places.new ≡ places.old)) }
-        ensures cause { IfNone (rover_of self.old).halt
+        ensures sent { SentSoFar (map T.shape places.old) self.old.me (map T.seen places.new)
+            self.new.segments (frames_sent (map T.shape places.old) (map T.seen places.old)
+            self.old.segments) }
+        ensures halt { self.new.halt ≡ result_err result }
+        ensures halted { IfSome self.old.halt (λ fault. (result ≡ Err fault)
+            × (self.new ≡ self.old) × (places.new ≡ places.old)) }
+        ensures cause { IfNone self.old.halt
             (IfErr result (IsRefusedBy (map T.worn places.new))) }
     {
         match self.halt {
@@ -199,39 +203,22 @@ impl RoverSession {
         places: &mut [T],
         out: &mut Vec<u8>,
     ) -> Result<u32, SegFault>
-        requires speaks { AllSpeak T.speaks places.old (rover_of self.old).me }
-        requires resumes { WasResumable (map T.shape places.old) (rover_of self.old).me
-            (map T.seen places.old) (rover_of self.old).segments }
-        ensures same { SamePlaces T.shape T.speaks T.may_lack T.alone T.home places.old places.new }
-        ensures worn { AllLater (map T.worn places.old) (map T.worn places.new) }
-        ensures admission { SameAdmission (rover_of self.old) (rover_of self.new) }
-        ensures halt { (rover_of self.new).halt ≡ (rover_of self.old).halt }
-        ensures read { OnOk result
-            ((first : Option Position) (bytes : List ℕ) (steps : List Step)
-            → Stands (rover_of self.old) first bytes steps
-            → ReadOn (map T.shape places.old) (all_alone T.alone places.old)
-            (map T.seen places.old) (map T.seen places.new) budget (rover_of self.old).segments
-            (rover_of self.new) first bytes steps) }
-        ensures body { OnOk result (out.new.items ≡ out.old.items
-            ++ body_of (rover_of self.old).version (frames_read (map T.shape places.old)
-            (map T.seen places.new) budget (rover_of self.old).segments)) }
-        ensures count { IfOk result (λ taken. taken ≡ length (frames_read (map T.shape places.old)
-            (map T.seen places.new) budget (rover_of self.old).segments)) }
-        ensures resumable { IsResumable (map T.shape places.old) (rover_of self.old).me
-            (map T.seen places.new) (rover_of self.new).segments }
-        ensures sent { OnOk result (frames_sent (map T.shape places.old) (map T.seen places.new)
-            (rover_of self.new).segments ≡ frames_sent (map T.shape places.old)
-            (map T.seen places.old) (rover_of self.old).segments
-            ++ frames_read (map T.shape places.old) (map T.seen places.new) budget
-            (rover_of self.old).segments) }
-        ensures valid { OnOk result (All (λ frame. IsTrue (is_frame frame))
-            (frames_read (map T.shape places.old) (map T.seen places.new) budget
-            (rover_of self.old).segments)) }
-        ensures err { OnErr result ((rover_of self.new ≡ rover_of self.old)
+        requires speaks { AllSpeak T.speaks places.old self.old.me }
+        requires resumes { WasResumable (map T.shape places.old) self.old.me
+            (map T.seen places.old) self.old.segments }
+        ensures stay { StayAtRings T.Turns places.old places.new }
+        ensures same { SameButSegments self.old self.new }
+        ensures turned { IfOk result (TurnSent (map T.shape places.old)
+            (all_alone T.alone places.old) (map T.seen places.old) (map T.seen places.new) budget
+            self.old self.new (frames_read (map T.shape places.old) (map T.seen places.new) budget
+            self.old.segments) out.old.items out.new.items) }
+        ensures resumable { IsResumable (map T.shape places.old) self.old.me
+            (map T.seen places.new) self.new.segments }
+        ensures err { OnErr result ((self.new ≡ self.old)
             × (map T.seen places.new ≡ map T.seen places.old) × (out.new.items ≡ out.old.items)) }
-        ensures halted { IfSome (rover_of self.old).halt (λ fault. (result ≡ Err fault)
+        ensures halted { IfSome self.old.halt (λ fault. (result ≡ Err fault)
             × (places.new ≡ places.old)) }
-        ensures cause { IfNone (rover_of self.old).halt
+        ensures cause { IfNone self.old.halt
             (IfErr result (IsRefusedBy (map T.worn places.new))) }
     {
         if let Some(fault) = self.halt {
@@ -252,28 +239,28 @@ impl RoverSession {
 
     /// The version of NTRIP in which it is served.
     pub fn version(&self) -> Version
-        ensures { result ≡ (rover_of self.now).version }
+        ensures { result ≡ self.now.version }
     {
         self.admitted.version
     }
 
     /// The segments, in the order of their joins.
     pub fn segments(&self) -> &[Segment]
-        ensures { reverse result.now ≡ (rover_of self.now).segments }
+        ensures { reverse result.now ≡ self.now.segments }
     {
         self.segments.as_slice()
     }
 
     /// The segments, in the order of their joins, of a session that is over.
     pub fn into_segments(self) -> Vec<Segment>
-        ensures { reverse result.items ≡ (rover_of self).segments }
+        ensures { reverse result.items ≡ self.segments }
     {
         self.segments
     }
 
     /// The frames sent in all segments; 2^64 - 1 in place of a greater sum.
     pub fn sent(&self) -> u64
-        ensures { result ≡ sent_in (rover_of self.now).segments }
+        ensures { result ≡ sent_in self.now.segments }
     {
         let mut sum: u64 = 0;
         for segment in self.segments.iter() {
@@ -284,7 +271,7 @@ impl RoverSession {
 
     /// The frames counted as overrun in all segments; 2^64 - 1 in place of a greater sum.
     pub fn overrun(&self) -> u64
-        ensures { result ≡ overrun_in (rover_of self.now).segments }
+        ensures { result ≡ overrun_in self.now.segments }
     {
         let mut sum: u64 = 0;
         for segment in self.segments.iter() {

@@ -51,13 +51,13 @@ begin_segment-requires-clause-within g c =
     (asked_such (λ (base : Base). base.mount < count) _ _ _ _ _ _ _ c.in_ok-held.ensures.each
     (subst (AreWithin count) (sym c.as_slice.ensures.value)
     (subst (λ (n : ℕ). AreWithin n c.args.admitted.now.bases.items)
-    (sym (length_same g.T.Turns.shape c.args.places.now c.held_among.new.places c.held_among.ensures.same.0))
+    (sym (length_same g.T.Turns.shape c.args.places.now c.held_among.new.places c.held_among.ensures.stay.same.0))
     c.requires.within))))
 
 pub begin_segment-requires-clause-speaks : goal.begin_segment-requires-clause-speaks
 begin_segment-requires-clause-speaks g c =
     speak_same g.T.Turns.speaks c.args.places.now c.held_among.new.places c.args.admitted.now.me
-    c.held_among.ensures.same.1 c.requires.speaks
+    c.held_among.ensures.stay.same.1 c.requires.speaks
 
 pub returns-in-Some-clause-followed : goal.returns-in-Some-clause-followed
 returns-in-Some-clause-followed g c =
@@ -85,7 +85,7 @@ returns-in-Some-clause-followed g c =
     c.as_slice-3.ensures.value))
     (followed_as shapes (map place.shape mid) alone (all_alone place.alone mid) at_mid now me
     (joins terms.filter (Some c.in-Some.mount) done) (result_err c.begin_segment.result) before after
-    c.held_among.ensures.same.0 (alone_same place.alone old mid c.held_among.ensures.same.3)
+    c.held_among.ensures.stay.same.0 (alone_same place.alone old mid c.held_among.ensures.stay.same.3)
     c.begin_segment.ensures.followed))
 
 pub returns-clause-followed : goal.returns-clause-followed

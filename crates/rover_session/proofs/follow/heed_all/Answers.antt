@@ -1,4 +1,4 @@
-use Rattle.std.proofs.Common.{ℕ, ◌++◌, Bool, List, Option, None, Some, option_to_list, Err, map, take, refl, sym, ap, subst, ◌∙◌, arith}
+use Rattle.std.proofs.Common.{ℕ, ◌++◌, Bool, List, Option, None, Some, option_to_list, Err, map, take, refl, sym, ap, subst, ◌∙◌}
 use Rattle.std.specs.Prelude.{reverse}
 use Rattle.std.proofs.lemmas.Result.{err_from_is_err_and}
 use Rattle.turn_log.specs.History.{History}
@@ -7,11 +7,11 @@ use Rattle.mount_ring.specs.declared.shape.RingShape.{RingShape}
 use Rattle.rover_cursor.specs.declared.segment.Segment.{Segment}
 use Rattle.rover_cursor.specs.declared.fault.SegFault.{SegFault}
 use Rattle.session_calls.specs.Rings.{all_alone}
-use Rattle.session_calls.proofs.PlaceLemmas.{speak_same, alone_same, later_both}
+use Rattle.session_calls.proofs.PlaceLemmas.{speak_same, alone_same}
 use Rattle.rover_session.specs.Owed.{Terms, heeds}
 use Rattle.rover_session.specs.Made.{present_base}
 use Rattle.rover_session.specs.Standing.{terms_of, KnowsFilter}
-use Rattle.rover_session.proofs.AtLemmas.{same_places_both}
+use Rattle.rover_session.proofs.AtLemmas.{stay_still, stay_both}
 use Rattle.rover_session.proofs.FollowedLemmas.{followed_as, keeps_both, err_at}
 use Rattle.rover_session.proofs.HeededLemmas.{HeededUntil, heeded_none, heeded_next, heeded_refused}
 use Rattle.rover_session.proofs.follow.heed_all.Goals as goal
@@ -19,19 +19,18 @@ use Rattle.rover_session.proofs.follow.heed_all.Goals as goal
 pub heed-requires-clause-speaks : goal.heed-requires-clause-speaks
 heed-requires-clause-speaks g c =
     speak_same g.T.Turns.speaks c.args.places.now c.loop-byte.places c.args.admitted.now.me
-    c.loop-byte.invariant.same.1 c.requires.speaks
+    c.loop-byte.invariant.stay.same.1 c.requires.speaks
 
 pub heed-requires-clause-filter : goal.heed-requires-clause-filter
 heed-requires-clause-filter g c =
     subst (λ (shapes : List RingShape). KnowsFilter shapes c.args.admitted.now.filter)
-    (sym c.loop-byte.invariant.same.0) c.requires.filter
+    (sym c.loop-byte.invariant.stay.same.0) c.requires.filter
 
 pub loop-byte-init : goal.loop-byte-init
 loop-byte-init g c =
     let place = g.T.Turns in record {
-      same = (refl, refl, refl, refl, refl);
-      worn = λ n. omega arith;
-      keeps = λ is. (is, refl);
+      stay = stay_still place c.args.places.now;
+      keeps = λ is. record { resumable = is; sent = refl };
       heeded = λ before stands.
           heeded_none (map place.shape c.args.places.now) (all_alone place.alone c.args.places.now)
           (map place.seen c.args.places.now) c.args.admitted.now.me c.args.admitted.now.near
@@ -55,14 +54,11 @@ loop-byte-preserved g c =
     let a : List Segment = reverse c.args.segments.now.items in
     let b : List Segment = reverse c.loop-byte.segments.items in
     let after : List Segment = reverse c.heed.new.segments.items in
-    let same = c.loop-byte.invariant.same in
+    let same = c.loop-byte.invariant.stay.same in
     let followed = followed_as shapes (map place.shape mid) alone (all_alone place.alone mid) at_mid now me
     (heeds near terms (present_base b) (option_to_list c.push-report.result)) None b after same.0
     (alone_same place.alone old mid same.3) c.in_ok-heed.ensures.followed in record {
-      same = same_places_both place.shape place.speaks place.may_lack place.alone place.home old mid new same
-          c.heed.ensures.same;
-      worn = later_both (map place.worn old) (map place.worn mid) (map place.worn new) c.loop-byte.invariant.worn
-          c.heed.ensures.worn;
+      stay = stay_both place old mid new c.loop-byte.invariant.stay c.heed.ensures.stay;
       keeps = keeps_both shapes me at_old at_mid now a b after c.loop-byte.invariant.keeps followed.keeps;
       heeded = λ before stands.
           let x = c.loop-byte.invariant.heeded before stands in
@@ -88,7 +84,7 @@ returns-in_err-heed-clause-followed g c =
     let a : List Segment = reverse c.args.segments.now.items in
     let b : List Segment = reverse c.loop-byte.segments.items in
     let after : List Segment = reverse c.heed.new.segments.items in
-    let same = c.loop-byte.invariant.same in
+    let same = c.loop-byte.invariant.stay.same in
     let fault : SegFault = c.in_err-heed.field-0.0 in
     let followed = followed_as shapes (map place.shape mid) alone (all_alone place.alone mid) at_mid now me
     (heeds near terms (present_base b) (option_to_list c.push-report.result)) (Some fault) b after same.0

@@ -1,14 +1,14 @@
 use Rattle.std.proofs.Common.{map, arith}
 use Rattle.std.proofs.lemmas.Result.{err_from_is_err_and}
 use Rattle.session_calls.specs.Rings.{all_alone}
-use Rattle.session_calls.proofs.PlaceLemmas.{speak_same, alone_same, later_both}
-use Rattle.rover_session.proofs.AtLemmas.{same_places_both, look_refused}
+use Rattle.session_calls.proofs.PlaceLemmas.{speak_same, alone_same}
+use Rattle.rover_session.proofs.AtLemmas.{stay_both, look_refused}
 use Rattle.rover_session.proofs.BaseLemmas.{asked_next, asked_first, went_as}
 use Rattle.rover_session.proofs.places.held_among.Goals as goal
 
 pub look-requires-clause-speaks : goal.look-requires-clause-speaks
 look-requires-clause-speaks g c =
-    speak_same g.T.Turns.speaks c.args.places.now c.loop-base.places c.args.me c.loop-base.invariant.same.1
+    speak_same g.T.Turns.speaks c.args.places.now c.loop-base.places c.args.me c.loop-base.invariant.stay.same.1
     c.requires.speaks
 
 pub returns-in_err-live-clause-first : goal.returns-in_err-live-clause-first
@@ -28,11 +28,9 @@ returns-in_err-live-clause-cause g c =
 pub loop-base-preserved : goal.loop-base-preserved
 loop-base-preserved g c =
     let place = g.T.Turns in
-    let same = c.loop-base.invariant.same in record {
-      same = same_places_both place.shape place.speaks place.may_lack place.alone place.home c.args.places.now
-          c.loop-base.places c.look.new.places same c.look.ensures.same;
-      worn = later_both (map place.worn c.args.places.now) (map place.worn c.loop-base.places)
-          (map place.worn c.look.new.places) c.loop-base.invariant.worn c.look.ensures.worn;
+    let same = c.loop-base.invariant.stay.same in record {
+      stay = stay_both place c.args.places.now c.loop-base.places c.look.new.places c.loop-base.invariant.stay
+          (record { same = c.look.ensures.same; worn = c.look.ensures.worn });
       asked = asked_next (map place.shape c.args.places.now) (all_alone place.alone c.args.places.now)
           (map place.seen c.args.places.now) (map place.seen c.loop-base.places) (map place.seen c.look.new.places)
           c.args.me c.args.bases.now c.loop-base.held.items c.push_live.new.held.items c.loop-base.base-index _

@@ -11,8 +11,8 @@ use Rattle.rover_cursor.specs.declared.segment.Segment.{Segment}
 use Rattle.rover_cursor.specs.Segments.{begun}
 use Rattle.rover_cursor.specs.Told.{IsSegment}
 use Rattle.session_calls.specs.Rings.{shape_at}
-use Rattle.session_calls.proofs.PlaceLemmas.{kept_by_one, later_by_one, went_turn}
-use Rattle.rover_session.proofs.AtLemmas.{history_new, shape_here, filter_here, same_by_one, turn_refused}
+use Rattle.session_calls.proofs.PlaceLemmas.{kept_by_one, went_turn}
+use Rattle.rover_session.proofs.AtLemmas.{history_new, shape_here, filter_here, stay_by_one, turn_refused}
 use Rattle.rover_session.proofs.places.join_at.Goals as goal
 
 pub join-requires-clause-filter : goal.join-requires-clause-filter
@@ -20,15 +20,10 @@ join-requires-clause-filter g c =
     filter_here g.T.Turns.shape (λ (shape : RingShape). c.args.filter < length shape.filters) c.args.places.now
     c.args.mount c.index-places-mount.result c.requires.within c.requires.filter
 
-pub returns-clause-same : goal.returns-clause-same
-returns-clause-same g c =
-    same_by_one g.T.Turns.shape g.T.Turns.speaks g.T.Turns.may_lack g.T.Turns.alone g.T.Turns.home c.args.places.now
-    c.args.mount c.index-places-mount.result c.join.new.place c.join.ensures.same
-
-pub returns-clause-worn : goal.returns-clause-worn
-returns-clause-worn g c =
-    later_by_one g.T.Turns.worn c.args.places.now c.args.mount c.index-places-mount.result c.join.new.place
-    c.join.ensures.worn
+pub returns-clause-stay : goal.returns-clause-stay
+returns-clause-stay g c =
+    stay_by_one g.T.Turns c.args.places.now c.args.mount c.index-places-mount.result c.join.new.place
+    c.join.ensures.same c.join.ensures.worn
 
 pub returns-clause-went : goal.returns-clause-went
 returns-clause-went g c =

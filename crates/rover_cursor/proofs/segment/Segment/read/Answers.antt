@@ -1,13 +1,14 @@
-use Rattle.std.proofs.Common.{◌≡◌, ◌++◌, ◌∙◌, sym, ap, subst}
+use Rattle.std.proofs.Common.{◌≡◌, ◌++◌, ◌∙◌, length, sym, ap, subst}
 use Rattle.std.specs.Prelude.{option_to_list, List}
 use Rattle.mount_ring.specs.declared.Lap.{Lap}
 use Rattle.mount_ring.specs.declared.ReadReport.{ReadReport}
 use Rattle.mount_ring.specs.declared.RingCall.TheVariants as calls
 use Rattle.mount_ring.specs.declared.RingAnswer.TheVariants as answers
 use Rattle.mount_ring.specs.Shapes.{shape_of}
+use Rattle.mount_ring.specs.History.{Shape}
 use Rattle.rover_cursor.specs.declared.segment.Segment.{Segment}
 use Rattle.rover_cursor.specs.Segments.{read_on}
-use Rattle.rover_cursor.specs.Told.{IsSegment, report_in}
+use Rattle.rover_cursor.specs.Told.{IsSegment, report_in, frames_in}
 use Rattle.rover_cursor.proofs.ToldLemmas.{after_read, heard_as, next_fits, noted, sums_after, taken_by}
 use Rattle.rover_cursor.proofs.segment.Segment.read.Goals as goal
 
@@ -56,24 +57,21 @@ kept_is g c =
     ∙ ap (λ (s : Segment). s.laps) c.self.view_is))
     c.move_on.ensures
 
-pub returns-clause-heard : goal.returns-clause-heard
-returns-clause-heard g c =
-    heard_as c.in_ok-report.ensures.ok (calls.Read c.args.self.now.cursor c.args.budget) (answers.Read _)
-    (ap (λ (s : Segment). calls.Read s.cursor c.args.budget) c.self.view_is)
-    (c.in-Read.is ∙ ap answers.Read (read_is g c).1)
-
-pub returns-clause-followed : goal.returns-clause-followed
-returns-clause-followed g c = kept_is g c ∙ ap (λ (r : ReadReport). read_on r c.args.self.now) (read_is g c).1
-
-pub returns-clause-segment : goal.returns-clause-segment
-returns-clause-segment g c =
-    subst (λ (s : Segment). IsSegment (shape_of (g.T.Turns.shape c.args.place.now)) c.args.me
-    (g.T.Turns.seen c.turn.new.self) s)
-    (sym (kept_is g c)) (read_is g c).0
-
-pub returns-clause-taken : goal.returns-clause-taken
-returns-clause-taken g c =
-    taken_by (shape_of (g.T.Turns.shape c.args.place.now)) c.args.me c.args.budget
-    (g.T.Turns.seen c.args.place.now ++ c.in_ok-report.ensures.ok.others)
+pub returns-clause-read : goal.returns-clause-read
+returns-clause-read g c =
+    let shape : Shape = shape_of (g.T.Turns.shape c.args.place.now) in
+    let taken : c.turn.new.room
+    ≡ frames_in shape (g.T.Turns.seen c.turn.new.self) c.args.self.now.cursor c.args.budget =
+    taken_by shape c.args.me c.args.budget (g.T.Turns.seen c.args.place.now ++ c.in_ok-report.ensures.ok.others)
     (g.T.Turns.seen c.turn.new.self) _ c.args.self.now.cursor c.args.out.now c.turn.new.room
-    (ap (λ (s : Segment). s.cursor) c.self.view_is) c.in_ok-report.ensures.ok.seen c.in_ok-report.ensures.ok.room
+    (ap (λ (s : Segment). s.cursor) c.self.view_is) c.in_ok-report.ensures.ok.seen c.in_ok-report.ensures.ok.room in
+    record {
+      heard = heard_as c.in_ok-report.ensures.ok (calls.Read c.args.self.now.cursor c.args.budget) (answers.Read _)
+          (ap (λ (s : Segment). calls.Read s.cursor c.args.budget) c.self.view_is)
+          (c.in-Read.is ∙ ap answers.Read (read_is g c).1);
+      followed = kept_is g c ∙ ap (λ (r : ReadReport). read_on r c.args.self.now) (read_is g c).1;
+      segment = subst (IsSegment shape c.args.me (g.T.Turns.seen c.turn.new.self)) (sym (kept_is g c))
+          (read_is g c).0;
+      taken = taken;
+      counted = ap (λ (r : ReadReport). r.taken) (read_is g c).1 ∙ sym (ap length taken);
+    }

@@ -5,5 +5,5 @@ use Rattle.rover_session.proofs.session.RoverSession.overrun.Given as goal
 
 abbrev pub invariant-loop-segment : goal.invariant-loop-segment
 invariant-loop-segment l =
-    l.sum ≡ min (sum_by (λ (segment : Segment). segment.overrun) (take l.segment-index l.self.segments.items))
+    l.sum ≡ min (sum_by (λ (segment : Segment). segment.overrun) (take l.segment-index l.segment-items))
     (2 ^ 64 - 1)

@@ -5,4 +5,4 @@ use Rattle.rover_session.proofs.session.RoverSession.sent.Given as goal
 
 abbrev pub invariant-loop-segment : goal.invariant-loop-segment
 invariant-loop-segment l =
-    l.sum ≡ min (sum_by (λ (segment : Segment). segment.sent) (take l.segment-index l.self.segments.items)) (2 ^ 64 - 1)
+    l.sum ≡ min (sum_by (λ (segment : Segment). segment.sent) (take l.segment-index l.segment-items)) (2 ^ 64 - 1)
