@@ -1,5 +1,5 @@
 -- Who may enter: the first rule that fails, or what a rover is given.
-use Rattle.std.specs.Prelude.{◌≡◌, ℕ, ◌+◌, ◌-◌, nat_lt, not, Bool, if◌then◌else◌, List, [], ◌∷◌, length, filter, slice_get, Option, Some, None, Result, Ok, Err}
+use Rattle.std.specs.Prelude.{◌≡◌, ⊤, ℕ, ◌+◌, ◌-◌, nat_lt, not, Bool, if◌then◌else◌, List, [], ◌∷◌, length, filter, slice_get, Option, Some, None, Result, Ok, Err}
 use Rattle.std.specs.Str.{bytes_eq}
 use Rattle.ntrip_head.specs.declared.request.Auth.{Auth}
 use Rattle.ntrip_head.specs.declared.request.Auth.TheVariants.{Basic, Unread}
@@ -13,7 +13,9 @@ use Rattle.cast_config.specs.declared.config.Near.{Near}
 use Rattle.cast_config.specs.Names.{heard_names, mount_names, user_names, place_of}
 use Rattle.access_groups.specs.declared.admission.Admission.{Admission}
 use Rattle.access_groups.specs.declared.admission.Denial.{Denial}
-use Rattle.access_groups.specs.declared.admission.Denial.TheVariants.{NoMount, NoAccount, Password, Group as NotListed, Memory}
+use Rattle.access_groups.specs.declared.admission.Denial.TheVariants.{NoMount, NoAccount, Password, Group as NotListed}
+use Rattle.access_groups.specs.declared.admission.AdmissionError.{AdmissionError}
+use Rattle.access_groups.specs.declared.admission.AdmissionError.TheVariants.{Denied, Memory}
 use Rattle.access_groups.specs.declared.admission.SourceDenial.{SourceDenial}
 use Rattle.access_groups.specs.declared.admission.SourceDenial.TheVariants as sources
 use Rattle.access_groups.specs.declared.party.Party.{Party}
@@ -99,13 +101,10 @@ admission c auth name = do
   admission_in c n p
 
 -- a call answered this, unless memory ran out
-abbrev pub Gives : Result Admission Denial → Result Admission Denial → Type 0
+abbrev pub Gives : Result Admission AdmissionError → Result Admission Denial → Type 0
 Gives (Ok a) answer = answer ≡ Ok a
-Gives (Err Memory) answer = Unit {0}
-Gives (Err NoMount) answer = answer ≡ Err NoMount
-Gives (Err NoAccount) answer = answer ≡ Err NoAccount
-Gives (Err (Password account)) answer = answer ≡ Err (Password account)
-Gives (Err (NotListed group)) answer = answer ≡ Err (NotListed group)
+Gives (Err (Denied denial)) answer = answer ≡ Err denial
+Gives (Err Memory) answer = ⊤
 
 -- ---- sources
 

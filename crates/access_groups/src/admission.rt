@@ -1,6 +1,7 @@
 //! Admissions of rovers and sources.
 
 ghost use Rattle.std.specs.Prelude.{◌≡◌, ◌≤◌, ◌+◌, length, filter, IfOk};
+ghost use Rattle.access_groups.specs.declared.admission.AdmissionError.TheVariants.{Denied, Memory};
 ghost use Rattle.access_groups.specs.Admission.{Gives, hears, is_near, bases_of, heard_bases, admission, admission_in, source_admission};
 
 use crate::numbers::Bases;
@@ -27,7 +28,7 @@ pub struct Admission {
     pub bases: Bases,
 }
 
-/// Why a rover is given nothing. The rules are tried in this order, but for `Memory`.
+/// Why a rover is given nothing. The rules are tried in this order.
 #[derive(Clone, Copy, Debug, Error)]
 pub enum Denial {
     /// The name is that of no mountpoint and of no near mountpoint.
@@ -50,9 +51,33 @@ pub enum Denial {
         /// The group's number, from 0.
         group: u32,
     },
-    /// There is no memory for the admission.
+}
+
+/// Why there is no admission.
+#[derive(Clone, Copy, Debug, Error)]
+pub enum AdmissionError {
+    /// The rover is given nothing.
+    #[error("{0}")]
+    Denied(Denial),
+    /// There is no memory for what it is given.
     #[error("out of memory")]
     Memory,
+}
+
+impl From<Denial> for AdmissionError {
+    ghost from_gives = { λ denial e. e ≡ Denied denial };
+
+    fn from(denial: Denial) -> AdmissionError {
+        AdmissionError::Denied(denial)
+    }
+}
+
+impl From<AllocError> for AdmissionError {
+    ghost from_gives = { λ _ e. e ≡ Memory };
+
+    fn from(_e: AllocError) -> AdmissionError {
+        AdmissionError::Memory
+    }
 }
 
 /// Why a source may not feed a mountpoint. The rules are tried in this order.
@@ -116,18 +141,21 @@ fn heard_bases(alloc: Global, config: &Config, group: u32, n: u32) -> Result<Vec
     }
 }
 
-fn admission_in(alloc: Global, config: &Config, n: u32, party: Party) -> Result<Admission, Denial>
+fn admission_in(
+    alloc: Global,
+    config: &Config,
+    n: u32,
+    party: Party,
+) -> Result<Admission, AdmissionError>
     ensures { Gives result (admission_in config.now n party) }
 {
     let group = party.group;
     if !hears(config, group, n) {
-        return Err(Denial::Group { group });
+        return Err(Denial::Group { group }.into());
     }
-    let Ok(bases) = heard_bases(alloc, config, group, n) else {
-        return Err(Denial::Memory);
-    };
+    let bases = heard_bases(alloc, config, group, n)?;
     if bases.is_empty() {
-        return Err(Denial::Group { group });
+        return Err(Denial::Group { group }.into());
     }
     Ok(Admission {
         account: party.account,
@@ -140,22 +168,22 @@ fn admission_in(alloc: Global, config: &Config, n: u32, party: Party) -> Result<
 /// What a rover with these credentials is given that asks for this mountpoint or near mountpoint.
 ///
 /// # Errors
-/// The first of these that holds, exactly: `NoMount`, `NoAccount`, `Password`, `Group`. `Memory` at
-/// any time.
+/// `Denied` with the first of these that holds, exactly: `NoMount`, `NoAccount`, `Password`,
+/// `Group`. `Memory` at any time.
 #[tactic(auto, unfolding(crate::specs::Admission::admission))]
 pub fn admit(
     alloc: Global,
     config: &Config,
     auth: &Auth,
     mount: &MountName,
-) -> Result<Admission, Denial>
+) -> Result<Admission, AdmissionError>
     requires mounts { length config.now.mount + length config.now.near ≤ 64 }
     requires accounts { length config.now.account ≤ 1024 }
     ensures { Gives result (admission config.now auth.now mount.now) }
 {
     let mounts = config.mount.as_slice();
     let Some(place) = place_heard(mounts, config.near.as_slice(), mount.bytes()) else {
-        return Err(Denial::NoMount);
+        return Err(Denial::NoMount.into());
     };
     let party = party_of(config, auth)?;
     admission_in(alloc, config, place as u32, party)

@@ -7,5 +7,5 @@ mod numbers;
 mod party;
 mod password;
 
-pub use admission::{Admission, Denial, SourceDenial, admit, admit_source};
+pub use admission::{Admission, AdmissionError, Denial, SourceDenial, admit, admit_source};
 pub use numbers::Bases;

@@ -3,7 +3,7 @@
 ghost use Rattle.std.specs.Prelude.{◌≤◌, ◌+◌, length};
 
 use crate::values::{push_count, push_last, push_numbers};
-use access_groups::{Admission, Bases, Denial, SourceDenial, admit, admit_source};
+use access_groups::{Admission, AdmissionError, Bases, Denial, SourceDenial, admit, admit_source};
 use cast_config::Config;
 use cast_text::{MountName, Text, push_decimal};
 use ntrip_head::Auth;
@@ -56,7 +56,6 @@ fn push_denial(out: &mut Vec<u8>, denial: Denial) -> Result<(), AllocError> {
         Denial::NoAccount => out.extend_from_slice(b"no account\n"),
         Denial::Password { account } => push_last(out, b"not the password of account ", account),
         Denial::Group { group } => push_last(out, b"not of group ", group),
-        Denial::Memory => Err(AllocError),
     }
 }
 
@@ -78,7 +77,8 @@ pub(crate) fn push_rover(
     };
     match admit(alloc, config, &auth, &mount) {
         Ok(admission) => push_admission(out, admission),
-        Err(denial) => push_denial(out, denial),
+        Err(AdmissionError::Denied(denial)) => push_denial(out, denial),
+        Err(AdmissionError::Memory) => Err(AllocError),
     }
 }
 

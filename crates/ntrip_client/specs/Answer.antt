@@ -32,7 +32,6 @@ said_by_response (Ok upstream) =
 said_by_response (Err faults.Bad) = Err BadHead
 said_by_response (Err faults.Method) = Err BadHead
 said_by_response (Err faults.Coding) = Err Coding
-said_by_response (Err faults.Memory) = Err BadHead
 
 -- the head is its first line and the LF (10) behind it, and the line says this by itself
 pub record IsLineHead (head : List ℕ) (said : Said) : Type 0 where

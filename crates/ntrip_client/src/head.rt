@@ -36,7 +36,6 @@ fn by_response(head: &[u8]) -> Answer
         Err(HeadFault::Bad) => Answer::Refused(Refusal::BadHead),
         Err(HeadFault::Method) => Answer::Refused(Refusal::BadHead),
         Err(HeadFault::Coding) => Answer::Refused(Refusal::Coding),
-        Err(HeadFault::Memory) => Answer::Refused(Refusal::BadHead),
     }
 }
 

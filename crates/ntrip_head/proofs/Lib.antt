@@ -4,6 +4,7 @@ pub mod CredentialLemmas
 pub mod EmptyLineLemmas
 pub mod HeadLemmas
 pub mod OnlyLastLemmas
+pub mod OutcomeLemmas
 pub mod Rows
 pub mod TreeLemmas
 pub mod WholeLemmas

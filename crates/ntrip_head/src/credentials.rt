@@ -7,7 +7,7 @@ ghost use Rattle.base64.specs.GeneralPurpose.{decode_of};
 ghost use Rattle.ntrip_head.specs.Credentials.{is_basic, after_spaces, user_and_password, decoded_pair, credentials, auth_of, password_of};
 ghost use Rattle.ntrip_head.specs.Outcome.{Gives};
 
-use crate::fault::HeadFault;
+use crate::fault::HeadError;
 use crate::fields::is_same;
 use crate::request::Auth;
 use base64::DecodeAllocError;
@@ -16,14 +16,14 @@ use cast_text::{Text, TextFault, place_of};
 use std::alloc::Global;
 
 /// The text of these bytes.
-pub fn text(alloc: Global, bytes: &[u8]) -> Result<Text, HeadFault>
+pub fn text(alloc: Global, bytes: &[u8]) -> Result<Text, HeadError>
     requires { length bytes.now ≤ 8192 }
     ensures { Gives result (Ok bytes.now) }
 {
     match Text::new(alloc, bytes) {
         Ok(text) => Ok(text),
         Err(TextFault::Long(_)) => unreachable!(),
-        Err(TextFault::Memory) => Err(HeadFault::Memory),
+        Err(TextFault::Memory) => Err(HeadError::Memory),
     }
 }
 
@@ -47,7 +47,7 @@ fn after_spaces(text: &[u8]) -> &[u8]
 }
 
 /// The user before the first colon and the password after it, if there is a colon.
-fn user_and_password(alloc: Global, pair: &[u8]) -> Result<Auth, HeadFault>
+fn user_and_password(alloc: Global, pair: &[u8]) -> Result<Auth, HeadError>
     requires { length pair.now ≤ 8192 }
     ensures { Gives result (Ok (user_and_password pair.now)) }
 {
@@ -61,19 +61,19 @@ fn user_and_password(alloc: Global, pair: &[u8]) -> Result<Auth, HeadFault>
 }
 
 /// The credentials of which this is the base64 text.
-fn decode_pair(alloc: Global, encoded: &[u8]) -> Result<Auth, HeadFault>
+fn decode_pair(alloc: Global, encoded: &[u8]) -> Result<Auth, HeadError>
     requires { length encoded.now ≤ 8192 }
     ensures { Gives result (Ok (decoded_pair (decode_of standard encoded.now))) }
 {
     match STANDARD.decode(alloc, encoded) {
         Ok(pair) => user_and_password(alloc, &pair),
         Err(DecodeAllocError::DecodeError(_)) => Ok(Auth::Unread),
-        Err(DecodeAllocError::OutOfMemory) => Err(HeadFault::Memory),
+        Err(DecodeAllocError::OutOfMemory) => Err(HeadError::Memory),
     }
 }
 
 /// The credentials of a request with this `Authorization` header, or without one.
-pub fn auth_of(alloc: Global, value: Option<&[u8]>) -> Result<Auth, HeadFault>
+pub fn auth_of(alloc: Global, value: Option<&[u8]>) -> Result<Auth, HeadError>
     requires { ForSome (option_map (λ v. v.now) value) (λ v. length v ≤ 8192) }
     ensures { Gives result (Ok (auth_of (option_map (λ v. v.now) value.entry))) }
 {
@@ -85,7 +85,7 @@ pub fn auth_of(alloc: Global, value: Option<&[u8]>) -> Result<Auth, HeadFault>
 }
 
 /// The password of Basic credentials, else the empty text.
-pub fn password_of(alloc: Global, auth: Auth) -> Result<Text, HeadFault>
+pub fn password_of(alloc: Global, auth: Auth) -> Result<Text, HeadError>
     ensures { Gives result (Ok (password_of auth)) }
 {
     match auth {

@@ -1,7 +1,7 @@
-//! Why a head is refused.
+//! Why a head is refused, or was not read.
 
 ghost use Rattle.std.specs.Prelude.{◌≡◌};
-ghost use Rattle.ntrip_head.specs.declared.fault.HeadFault.TheVariants.{Memory};
+ghost use Rattle.ntrip_head.specs.declared.fault.HeadError.TheVariants.{Memory};
 
 use std::alloc::AllocError;
 use thiserror::Error;
@@ -18,15 +18,23 @@ pub enum HeadFault {
     /// The body would come in a transfer coding other than `chunked`.
     #[error("transfer coding not implemented")]
     Coding,
-    /// There is no memory for what the head says.
+}
+
+/// Why a head gives no request.
+#[derive(Clone, Copy, Debug, PartialEq, Eq, Error)]
+pub enum HeadError {
+    /// It is refused.
+    #[error("{0}")]
+    Refused(HeadFault),
+    /// There is no memory for what it says.
     #[error("out of memory")]
     Memory,
 }
 
-impl From<AllocError> for HeadFault {
+impl From<AllocError> for HeadError {
     ghost from_gives = { λ _ e. e ≡ Memory };
 
-    fn from(_e: AllocError) -> HeadFault {
-        HeadFault::Memory
+    fn from(_e: AllocError) -> HeadError {
+        HeadError::Memory
     }
 }

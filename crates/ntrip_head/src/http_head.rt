@@ -7,7 +7,7 @@ ghost use Rattle.ntrip_head.specs.Answer.{IsWholeRequest, IsNoRequest, HttpAnswe
 ghost use Rattle.ntrip_head.specs.Answer.{begins_in_line};
 ghost use Rattle.ntrip_head.specs.Outcome.{UnlessMemory};
 
-use crate::fault::HeadFault;
+use crate::fault::{HeadError, HeadFault};
 use crate::judge::request_of;
 use crate::request::Request;
 use httparse::Status;
@@ -48,13 +48,13 @@ fn whole_request(bytes: &[u8], headers: &mut [HeaderSpan]) -> Option<RequestSpan
 }
 
 /// What an HTTP request head asks for.
-pub fn read_http(alloc: Global, bytes: &[u8]) -> Result<Request, HeadFault>
+pub fn read_http(alloc: Global, bytes: &[u8]) -> Result<Request, HeadError>
     requires { length bytes.now ≤ 8192 }
-    ensures { UnlessMemory result (HttpAnswer bytes.now result) }
+    ensures { UnlessMemory result (HttpAnswer bytes.now) }
 {
     let mut headers = [EMPTY_HEADER_SPAN; HEADERS];
     let Some(spans) = whole_request(bytes, &mut headers) else {
-        return Err(HeadFault::Bad);
+        return Err(HeadError::Refused(HeadFault::Bad));
     };
     let method = spans.method.of(bytes);
     let target = spans.path.of(bytes);

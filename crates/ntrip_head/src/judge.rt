@@ -7,7 +7,7 @@ ghost use Rattle.ntrip_head.specs.Fields.{fields_at, AreWithin};
 ghost use Rattle.ntrip_head.specs.Judge.{version_in, auth_in, gga_in, or_bad, mount_in, get_of, source_at, request_of};
 
 use crate::credentials::{auth_of, password_of};
-use crate::fault::HeadFault;
+use crate::fault::{HeadError, HeadFault};
 use crate::fields::{is_other_coding, is_word, value_in};
 use crate::request::{Auth, Request, Version};
 use cast_text::{MountName, NameFault};
@@ -28,7 +28,7 @@ fn version_in(bytes: &[u8], headers: &[HeaderSpan]) -> Version
 }
 
 /// The credentials.
-fn auth_in(alloc: Global, bytes: &[u8], headers: &[HeaderSpan]) -> Result<Auth, HeadFault>
+fn auth_in(alloc: Global, bytes: &[u8], headers: &[HeaderSpan]) -> Result<Auth, HeadError>
     requires headers { AreWithin bytes.now headers.now }
     requires size { length bytes.now ≤ 8192 }
     ensures { Gives result (Ok (auth_in (fields_at bytes.now headers.now))) }
@@ -48,23 +48,23 @@ fn gga_in(bytes: &[u8], headers: &[HeaderSpan]) -> Option<Position>
 }
 
 /// The mountpoint with this name.
-pub fn mount_name(alloc: Global, name: &[u8]) -> Result<MountName, HeadFault>
+pub fn mount_name(alloc: Global, name: &[u8]) -> Result<MountName, HeadError>
     ensures { Gives result (or_bad (name_of name.now)) }
 {
     match MountName::new(alloc, name) {
         Ok(mount) => Ok(mount),
-        Err(NameFault::Memory) => Err(HeadFault::Memory),
-        Err(_) => Err(HeadFault::Bad),
+        Err(NameFault::Memory) => Err(HeadError::Memory),
+        Err(_) => Err(HeadError::Refused(HeadFault::Bad)),
     }
 }
 
 /// The mountpoint that the target names.
-fn mount_in(alloc: Global, target: &[u8]) -> Result<MountName, HeadFault>
+fn mount_in(alloc: Global, target: &[u8]) -> Result<MountName, HeadError>
     ensures { Gives result (mount_in target.now) }
 {
     match target {
         [b'/', name @ ..] => mount_name(alloc, name),
-        _ => Err(HeadFault::Bad),
+        _ => Err(HeadError::Refused(HeadFault::Bad)),
     }
 }
 
@@ -74,7 +74,7 @@ fn get_of(
     target: &[u8],
     bytes: &[u8],
     headers: &[HeaderSpan],
-) -> Result<Request, HeadFault>
+) -> Result<Request, HeadError>
     requires headers { AreWithin bytes.now headers.now }
     requires size { length bytes.now ≤ 8192 }
     ensures { Gives result (get_of target.now (fields_at bytes.now headers.now)) }
@@ -100,7 +100,7 @@ fn post_of(
     target: &[u8],
     bytes: &[u8],
     headers: &[HeaderSpan],
-) -> Result<Request, HeadFault>
+) -> Result<Request, HeadError>
     requires headers { AreWithin bytes.now headers.now }
     requires size { length bytes.now ≤ 8192 }
     ensures { Gives result
@@ -109,7 +109,7 @@ fn post_of(
     let coding = value_in(b"Transfer-Encoding", bytes, headers);
     let mount = mount_in(alloc, target)?;
     if is_other_coding(coding) {
-        return Err(HeadFault::Coding);
+        return Err(HeadError::Refused(HeadFault::Coding));
     }
     let auth = auth_in(alloc, bytes, headers)?;
     let password = password_of(alloc, auth)?;
@@ -128,7 +128,7 @@ pub fn request_of(
     target: &[u8],
     bytes: &[u8],
     headers: &[HeaderSpan],
-) -> Result<Request, HeadFault>
+) -> Result<Request, HeadError>
     requires headers { AreWithin bytes.now headers.now }
     requires size { length bytes.now ≤ 8192 }
     ensures { Gives result
@@ -139,6 +139,6 @@ pub fn request_of(
     } else if method == b"POST".as_slice() {
         post_of(alloc, target, bytes, headers)
     } else {
-        Err(HeadFault::Method)
+        Err(HeadError::Refused(HeadFault::Method))
     }
 }

@@ -16,7 +16,7 @@ mod source_head;
 mod upstream;
 
 pub use buffer::{HeadBuf, HeadStep};
-pub use fault::HeadFault;
+pub use fault::{HeadError, HeadFault};
 pub use reading::read_head;
 pub use request::{Auth, Request, Version};
 pub use upstream::{Upstream, read_upstream};

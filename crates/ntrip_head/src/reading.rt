@@ -4,7 +4,7 @@ ghost use Rattle.std.specs.Prelude.{◌≤◌, length};
 ghost use Rattle.ntrip_head.specs.Answer.{HeadAnswer};
 ghost use Rattle.ntrip_head.specs.Outcome.{UnlessMemory};
 
-use crate::fault::HeadFault;
+use crate::fault::HeadError;
 use crate::http_head::read_http;
 use crate::request::Request;
 use crate::source_head::{is_source, read_source};
@@ -19,9 +19,9 @@ use std::alloc::Global;
 /// most 32 header lines. `Method`: the method of an HTTP request is neither `GET` nor `POST`.
 /// `Bad`: its target is neither `/` of a `GET` nor `/` and the name of a mountpoint. `Coding`: the
 /// `Transfer-Encoding` of a `POST` is not `chunked`. `Memory` comes at any time.
-pub fn read_head(alloc: Global, bytes: &[u8]) -> Result<Request, HeadFault>
+pub fn read_head(alloc: Global, bytes: &[u8]) -> Result<Request, HeadError>
     requires { length bytes.now ≤ 8192 }
-    ensures { UnlessMemory result (HeadAnswer bytes.now result) }
+    ensures { UnlessMemory result (HeadAnswer bytes.now) }
 {
     if is_source(bytes) {
         read_source(alloc, bytes)

@@ -7,7 +7,7 @@ ghost use Rattle.ntrip_head.specs.SourceHead.{is_source, IsHeaderBlock, without_
 
 use crate::credentials::text;
 use crate::cut::cut_by;
-use crate::fault::HeadFault;
+use crate::fault::{HeadError, HeadFault};
 use crate::http_head::HEADERS;
 use crate::judge::mount_name;
 use crate::request::{Request, Version};
@@ -63,7 +63,7 @@ fn after_keyword(line: &[u8]) -> &[u8]
 }
 
 /// The source with this password, if the mountpoint is one.
-fn source_of(alloc: Global, password: &[u8], mount: &[u8]) -> Result<Request, HeadFault>
+fn source_of(alloc: Global, password: &[u8], mount: &[u8]) -> Result<Request, HeadError>
     requires { length password.now ≤ 8192 }
     ensures { Gives result (source_of password.now mount.now) }
 {
@@ -78,7 +78,7 @@ fn source_of(alloc: Global, password: &[u8], mount: &[u8]) -> Result<Request, He
 }
 
 /// What the first line of a source's head says.
-fn source_in(alloc: Global, line: &[u8]) -> Result<Request, HeadFault>
+fn source_in(alloc: Global, line: &[u8]) -> Result<Request, HeadError>
     requires { length line.now ≤ 8192 }
     ensures { Gives result (source_in line.now) }
 {
@@ -87,13 +87,13 @@ fn source_in(alloc: Global, line: &[u8]) -> Result<Request, HeadFault>
 }
 
 /// What the head of a source asks for.
-pub fn read_source(alloc: Global, bytes: &[u8]) -> Result<Request, HeadFault>
+pub fn read_source(alloc: Global, bytes: &[u8]) -> Result<Request, HeadError>
     requires { length bytes.now ≤ 8192 }
-    ensures { UnlessMemory result (SourceAnswer bytes.now result) }
+    ensures { UnlessMemory result (SourceAnswer bytes.now) }
 {
     let (line, fields) = cut_by(b'\n', bytes);
     if !is_header_block(fields) {
-        return Err(HeadFault::Bad);
+        return Err(HeadError::Refused(HeadFault::Bad));
     }
     source_in(alloc, without_return(line))
 }

@@ -4,7 +4,7 @@ ghost use Rattle.ntrip_head.specs.Head.{IsOpen};
 use crate::printing::{put, say, say_kept, show_in_brackets};
 use cast_text::{MountName, Text};
 use gga_read::Position;
-use ntrip_head::{Auth, HeadBuf, HeadStep, Request, Version, read_head, read_upstream};
+use ntrip_head::{Auth, HeadBuf, HeadError, HeadStep, Request, Version, read_head, read_upstream};
 use std::alloc::AllocError;
 
 /// The credentials in words.
@@ -81,7 +81,8 @@ pub fn head(head: &[u8], out: &mut Vec<u8>) -> Result<(), AllocError> {
     }
     match read_head(*out.allocator(), head) {
         Ok(request) => say_request(out, &request),
-        Err(fault) => say(out, &fault),
+        Err(HeadError::Refused(fault)) => say(out, &fault),
+        Err(HeadError::Memory) => Err(AllocError),
     }
 }
 
