@@ -89,14 +89,12 @@ rover_never version first tail all (Err denials.NoMount) terms is = absurd cc
 rover_never version first tail all (Err denials.NoAccount) terms is = absurd cc
 rover_never version first tail all (Err (denials.Password account)) terms is = absurd cc
 rover_never version first tail all (Err (denials.Group group)) terms is = absurd cc
-rover_never version first tail all (Err denials.Memory) terms is = absurd cc
 
 request_before : (c : Config) (body more all : List ℕ) (r : Result Request HeadFault) (terms : SourceTerms)
     → request_judged c (body ++ more) r ≡ source terms all → WasBefore (request_judged c body r) terms all more
 request_before c body more all (Err heads.Bad) terms is = absurd cc
 request_before c body more all (Err heads.Method) terms is = absurd cc
 request_before c body more all (Err heads.Coding) terms is = absurd cc
-request_before c body more all (Err heads.Memory) terms is = absurd cc
 request_before c body more all (Ok (requests.Table version)) terms is = absurd cc
 request_before c body more all (Ok (requests.Rover version mount auth first)) terms is =
     absurd (rover_never (Some version) first (body ++ more) all (admission c auth mount) terms is)

@@ -204,13 +204,11 @@ rover_fed c version first tail (Err denials.NoMount) = tt
 rover_fed c version first tail (Err denials.NoAccount) = tt
 rover_fed c version first tail (Err (denials.Password account)) = tt
 rover_fed c version first tail (Err (denials.Group group)) = tt
-rover_fed c version first tail (Err denials.Memory) = tt
 
 request_fed : (c : Config) (body : List ℕ) (r : Result Request HeadFault) → IsFed c (request_judged c body r)
 request_fed c body (Err heads.Bad) = tt
 request_fed c body (Err heads.Method) = tt
 request_fed c body (Err heads.Coding) = tt
-request_fed c body (Err heads.Memory) = tt
 request_fed c body (Ok (requests.Table version)) = tt
 request_fed c body (Ok (requests.Rover version mount auth first)) =
     rover_fed c (Some version) first body (admission c auth mount)

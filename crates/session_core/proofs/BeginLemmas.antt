@@ -22,7 +22,7 @@ use Rattle.session_model.specs.Judged.{finished, replied}
 use Rattle.session_model.specs.Replies.{replied_text, text_if}
 use Rattle.session_model.specs.Run.{Histories}
 use Rattle.session_core.specs.Standing.{IsMadeBy, IsSentBy, EndsAt, is_refused_at, is_halted, is_halted_uncalled}
-use Rattle.session_core.specs.Begun.{BeginsFor, IsRepliedLast}
+use Rattle.session_core.specs.Begun.{BeginsFor}
 use Rattle.session_core.proofs.CloseLemmas.{called_none}
 
 -- ---- room for a reply
@@ -107,6 +107,12 @@ over_ends stage ended end over is = record {
 
 -- ---- what is finished by what its head says
 
+-- this text was appended, behind which nothing comes, or memory was lacking and nothing was
+abbrev pub IsRepliedLast : Ending → List ℕ → Option Ending → List ℕ → List ℕ → Type 0
+IsRepliedLast end text ended before after =
+    ((ended ≡ Some end) × (after ≡ before ++ text))
+    ⊎ ((ended ≡ Some endings.Memory) × (after ≡ before))
+
 pub begins_finished : (c : Config) (alone : Bool) (h : Histories) (me : ℕ) (reply : Option (Version × Reply))
     (end : Ending) (stage : Stage) (ended : Option Ending) (before after : List ℕ) → stage ≡ Over
     → IsRepliedLast end (replied_text reply (setting.table c)) ended before after
@@ -158,11 +164,6 @@ pub full_untabled : (version : Option Version) (sourcetable : List ℕ)
 full_untabled None sourcetable = refl
 full_untabled (Some One) sourcetable = refl
 full_untabled (Some Two) sourcetable = refl
-
-pub replied_cause : (end : Ending) (text : List ℕ) (ended : Option Ending) (before after : List ℕ)
-    → IsRepliedLast end text ended before after → (ended ≡ Some end) ⊎ (ended ≡ Some endings.Memory)
-replied_cause end text ended before after (inl replied) = inl replied.0
-replied_cause end text ended before after (inr lost) = inr lost.0
 
 -- a reply that has room is not refused
 pub not_refused : {T E : Type 0} (r : Result T E) → is_ok r ≡ true → true ≡ is_err r → ⊥

@@ -1,5 +1,5 @@
 -- The report of a head is a position on the earth.
-use Rattle.std.proofs.Common.{◌≡◌, ◌⊎◌, ◌≤◌, rules, ℕ, zero, suc, Bool, true, false, List, Option, None, Some, Result, Ok, Err, subst, sym, refl, inl, inr}
+use Rattle.std.proofs.Common.{◌≡◌, ◌≤◌, rules, ℕ, zero, suc, Bool, true, false, List, Option, None, Some, Result, Ok, Err, subst, sym, refl, inl, inr}
 use Rattle.std.specs.Prelude.{if◌then◌else◌, ◌&&◌, nat_le, ℤ, pos, neg_ℤ, unsigned_abs, IfSome, IfOk, MatchBool, slice_index, codes}
 use Rattle.std.specs.Option.{option_and_then}
 use Rattle.std.proofs.lemmas.Bool.{and_parts, leb-true}
@@ -11,8 +11,6 @@ use Rattle.std.specs.Str.{bytes_eq}
 use Rattle.cast_text.specs.Name.{name_of}
 use Rattle.ntrip_head.specs.declared.fault.HeadFault.{HeadFault}
 use Rattle.ntrip_head.specs.declared.fault.HeadFault.TheVariants.{Method, Coding}
-use Rattle.ntrip_head.specs.declared.fault.HeadFault.TheVariants as heads
-use Rattle.ntrip_head.specs.Outcome.{UnlessMemory}
 use Rattle.ntrip_head.specs.declared.request.Request.{Request}
 use Rattle.ntrip_head.specs.declared.request.Request.TheVariants.{Table}
 use Rattle.ntrip_head.specs.Fields.{HeadFields, value_in, coding_in, is_other_coding}
@@ -125,11 +123,3 @@ head_on_earth bytes answer is = by_source (is_source bytes) is where
   by_source : (b : Bool) → MatchBool b (SourceAnswer bytes answer) (HttpAnswer bytes answer) → IsAnswer answer
   by_source true is = source_head bytes answer is
   by_source false is = http_head bytes answer is
-
--- a head that could not be read has this fault, or memory was lacking
-pub fault_or_lost : (P : Type 0) (fault : HeadFault) → UnlessMemory {Y = Request} (Err fault) P
-    → P ⊎ (fault ≡ heads.Memory)
-fault_or_lost P heads.Bad is = inl is
-fault_or_lost P heads.Method is = inl is
-fault_or_lost P heads.Coding is = inl is
-fault_or_lost P heads.Memory is = inr refl

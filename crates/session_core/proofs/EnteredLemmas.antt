@@ -35,7 +35,7 @@ use Rattle.rover_session.specs.declared.session.RoverSession.{RoverSession}
 use Rattle.rover_session.specs.Owed.{Terms, looks, joins, joins_each, changed, chooses, follows, plan_by, rover_plan, if_held}
 use Rattle.rover_session.specs.Made.{segments_after, owed_among, IsMadeUntil, IsRefusedBy}
 use Rattle.rover_session.specs.Body.{body_of}
-use Rattle.rover_session.specs.Standing.{Rover, rover_of, Told, IsResumable, frames_of, frames_sent}
+use Rattle.rover_session.specs.Standing.{Rover, Told, IsResumable, frames_of, frames_sent}
 use Rattle.cast_config.specs.declared.config.Config.{Config}
 use Rattle.session_model.specs.declared.ending.Ending.{Ending}
 use Rattle.session_model.specs.declared.ending.Ending.TheVariants as endings
@@ -151,18 +151,18 @@ pub begins_entered : (c : Config) (alone : Bool) (old now : Histories) (me : ℕ
     (session : RoverSession) (before after : List ℕ)
     → Heard alone (book_answer c) old.book now.book me ((Enter terms.admission.account, books.Entered) ∷ [])
     → IsTrue (may_leave (caps c) now.book me terms.admission.account)
-    → Told (shapes c) alone old.rings now.rings (rover_of session) terms.first [] []
-    → (rover_of session).me ≡ me → (rover_of session).terms ≡ terms_of c terms.admission
-    → (rover_of session).version ≡ unwrap_or terms.version One
-    → IsResumable (shapes c) me now.rings (rover_of session).segments
-    → frames_sent (shapes c) now.rings (rover_of session).segments ≡ []
+    → Told (shapes c) alone old.rings now.rings session terms.first [] []
+    → session.me ≡ me → session.terms ≡ terms_of c terms.admission
+    → session.version ≡ unwrap_or terms.version One
+    → IsResumable (shapes c) me now.rings session.segments
+    → frames_sent (shapes c) now.rings session.segments ≡ []
     → after ≡ before ++ text_if terms.version replies.RoverOk []
     → BeginsFor c alone old now me (rover terms []) (stages.Rover terms.admission.account session)
-    (ended_joining (rover_of session).halt) before after
+    (ended_joining session.halt) before after
 begins_entered c alone old now me terms session before after heard inside told is_me admitted version resumes unsent
     out =
     let entry : Step = at_book (Enter terms.admission.account) books.Entered in
-    let halt : Option SegFault = (rover_of session).halt in
+    let halt : Option SegFault = session.halt in
     let made : IsMadeUntil halt (rover_plan (terms_of c terms.admission) terms.first []) told.more =
     subst (λ (l : List Step). IsMadeUntil halt (rover_plan (terms_of c terms.admission) terms.first []) l) told.no_read
     (subst (λ (t : Terms). IsMadeUntil halt (rover_plan t terms.first [])

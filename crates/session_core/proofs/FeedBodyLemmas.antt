@@ -1,6 +1,5 @@
 -- What a call tells of the places that it was given, as a configuration names them.
-use Rattle.std.proofs.Common.{◌≡◌, ◌∙◌, ◌<◌, ℕ, Bool, IsTrue, List, length, map, sym, ap, subst, arith, Option, None, Some, Result, Ok, Err}
-use Rattle.std.specs.Prelude.{IfErr, OnOk}
+use Rattle.std.proofs.Common.{◌≡◌, ◌∙◌, ◌<◌, ℕ, Bool, IsTrue, List, length, map, sym, ap, subst, arith, Option, Result}
 use Rattle.std.specs.Option.{option_map}
 use Rattle.std.specs.Result.{result_err}
 use Rattle.std.proofs.lemmas.List.{length-map}
@@ -10,16 +9,12 @@ use Rattle.mount_ring.specs.declared.shape.RingShape.{RingShape}
 use Rattle.gga_read.specs.declared.Position.{Position}
 use Rattle.rover_cursor.specs.declared.segment.Segment.{Segment}
 use Rattle.session_calls.specs.Steps.{Step}
-use Rattle.source_session.specs.declared.fault.SourceHalt.{SourceHalt}
-use Rattle.upstream_relay.specs.declared.fault.RelayHalt.{RelayHalt}
 use Rattle.upstream_relay.specs.declared.session.RelaySession.{RelaySession}
-use Rattle.upstream_relay.specs.Called.{IsFed}
 use Rattle.rover_session.specs.Standing.{Rover, IsResumable, Told, frames_sent}
 use Rattle.cast_config.specs.declared.config.Config.{Config}
 use Rattle.session_model.specs.declared.ending.Ending.{Ending}
 use Rattle.session_model.specs.Setting.{shapes}
 use Rattle.session_core.proofs.Published.{Published, RelayFed}
-use Rattle.session_core.specs.Feeding.{end_of_relay, end_of_source}
 use Rattle.session_core.proofs.BegunLemmas.{went_as}
 use Rattle.session_core.proofs.HeldLemmas.{length_shapes}
 
@@ -77,26 +72,8 @@ sent_as c given old now before after same is =
 
 -- ---- how it ended
 
-source_halt : (r : Result (Unit {0}) SourceHalt) (halt : Option SourceHalt) → OnOk r (halt ≡ None)
-    → IfErr r (λ why. halt ≡ Some why) → result_err r ≡ halt
-source_halt (Ok x) halt goes halts = sym goes
-source_halt (Err why) halt goes halts = sym halts
-
-pub source_ended : (r : Result (Unit {0}) SourceHalt) (halt : Option SourceHalt) (told claim : ℕ)
-    (ended : Option Ending)
-    → ended ≡ option_map (end_of_source told) (result_err r) → told ≡ claim → OnOk r (halt ≡ None)
-    → IfErr r (λ why. halt ≡ Some why) → ended ≡ option_map (end_of_source claim) halt
-source_ended r halt told claim ended is same goes halts =
-    is ∙ ap (λ (k : ℕ). option_map (end_of_source k) (result_err r)) same
-    ∙ ap (option_map (end_of_source claim)) (source_halt r halt goes halts)
-
-relay_halt : (r : Result (Unit {0}) RelayHalt) (halt : Option RelayHalt) → IsFed halt r → result_err r ≡ halt
-relay_halt (Ok x) halt fed = sym fed
-relay_halt (Err why) halt fed = sym fed
-
-pub relay_ended : (r : Result (Unit {0}) RelayHalt) (halt : Option RelayHalt) (told claim : Option ℕ)
-    (ended : Option Ending) → ended ≡ option_map (end_of_relay told) (result_err r) → told ≡ claim → IsFed halt r
-    → ended ≡ option_map (end_of_relay claim) halt
-relay_ended r halt told claim ended is same fed =
-    is ∙ ap (λ (k : Option ℕ). option_map (end_of_relay k) (result_err r)) same
-    ∙ ap (option_map (end_of_relay claim)) (relay_halt r halt fed)
+pub ended_as : {K H : Type 0} (end : K → H → Ending) (r : Result (Unit {0}) H) (halt : Option H) (told claim : K)
+    (ended : Option Ending) → ended ≡ option_map (end told) (result_err r) → told ≡ claim → halt ≡ result_err r
+    → ended ≡ option_map (end claim) halt
+ended_as {K} end r halt told claim ended is same fed =
+    is ∙ ap (λ (k : K). option_map (end k) (result_err r)) same ∙ ap (option_map (end claim)) (sym fed)

@@ -23,19 +23,20 @@ use Rattle.ntrip_reply.specs.declared.kind.Reply.TheVariants.{BadHead}
 use Rattle.cast_config.specs.declared.config.Config.{Config}
 use Rattle.session_model.specs.declared.ending.Ending.{Ending}
 use Rattle.session_model.specs.declared.ending.Ending.TheVariants.{LongHead}
+use Rattle.session_core.specs.declared.begun.Begun.{Begun}
 use Rattle.session_core.specs.declared.session.Session.{Session}
 use Rattle.session_core.specs.declared.stage.Stage.{Stage}
 use Rattle.session_core.specs.declared.stage.Stage.TheVariants.{Head, Over, Source, Relay, Rover}
 use Rattle.session_model.specs.Setting.{shapes}
 use Rattle.session_model.specs.Headings.{Heading, incomplete, too_long, whole, IsHeading}
 use Rattle.session_model.specs.Judged.{Opening, sends_head, relays, Judged, finished, once, request_judged, heading_judged, judged}
-use Rattle.session_model.specs.Owed.{came_to}
+use Rattle.session_model.specs.Owed.{came_to, plan_of}
 use Rattle.session_model.specs.Replies.{sent_by}
 use Rattle.session_model.specs.Reports.{IsHeadingOf}
 use Rattle.session_model.specs.Run.{Histories}
 use Rattle.session_model.specs.Called.{Called, OthersCalled, alone_at, book_answer}
 use Rattle.session_core.specs.Feeding.{FedOn, HasBegun, HasBegunFor, IsBehindHead}
-use Rattle.session_core.specs.Standing.{Fed, Follows, IsAtStage, IsSentBy, Stands, StandsFor, is_going, is_halted_uncalled}
+use Rattle.session_core.specs.Standing.{EndsAt, Fed, Follows, IsAtStage, IsMadeBy, IsSentBy, Stands, StandsFor, is_going, is_halted, is_halted_uncalled}
 use Rattle.session_core.specs.Begun.{Begins, BeginsFor, IsLostAt, StartsAs}
 use Rattle.session_core.proofs.CloseLemmas.{called_none}
 use Rattle.session_model.proofs.HeadingLemmas.{one_heading}
@@ -135,6 +136,46 @@ is_awaited c session opening text steps h sent head is unended (inl s) =
     awaited_at c session opening text steps h sent head s.heading at.0 at.1 at.2 at.3 s.is_heading
     (subst (λ (e : Option Ending). IsSentBy (is_halted_uncalled e steps) sent (sent_by c h.rings opening
     (came_to (judged c opening s.heading text) steps) (reverse (segments_after [] steps)))) unended s.sent_is)
+
+-- ---- a head that goes on
+
+over_goes : false ≡ true → ⊥
+over_goes e = cc
+
+open_stands : (c : Config) (session : Session) (text : List ℕ) (h : Histories) → session.ended ≡ None
+    → session.stage ≡ Head text → IsOpen text → Stands c session sends_head text [] h []
+open_stands c session text h unended at goes = record {
+  heading = incomplete;
+  is_heading = goes;
+  owes = subst (λ (e : Option Ending). IsMadeBy (is_halted e) (plan_of c (judged c sends_head incomplete text)) [])
+      (sym unended) refl;
+  ends = inr unended;
+  stage = subst (IsAtStage c session.me h sends_head (judged c sends_head incomplete text) text []) (sym at)
+      (refl, refl, refl, goes);
+  halts = subst (λ (stage : Stage). EndsAt stage session.ended) (sym at) (record {
+    goes = λ none. refl;
+    refused = λ short. absurd (over_goes short);
+  });
+  sent_is = subst (λ (e : Option Ending). IsSentBy (is_halted_uncalled e []) [] (sent_by c h.rings sends_head
+      (came_to (judged c sends_head incomplete text) []) (reverse (segments_after [] [])))) (sym unended) refl;
+}
+
+-- more bytes that do not end it come to no call
+pub fed_open : (c : Config) (alone : Bool) (h : Histories) (session : Session) (opening : Opening)
+    (text bytes : List ℕ) (steps : List Step) (sent head new out : List ℕ) → IsAwaited opening text steps sent head
+    → session.ended ≡ None → session.stage ≡ Head new → new ≡ head ++ bytes → IsOpen new
+    → Fed c alone h h session opening (text ++ bytes) steps sent out out
+fed_open c alone h session opening text bytes steps sent head new out is unended at longer goes =
+    let all : new ≡ text ++ bytes = longer ∙ ap (λ (l : List ℕ). l ++ bytes) is.text_is in
+    record {
+      more = [];
+      added = [];
+      out = sym (append-nil out);
+      called = called_none c alone h session.me;
+      no_read = refl;
+      stands = rw is.opens (rw is.uncalled (rw is.unsent
+          (inl (open_stands c session (text ++ bytes) h unended (at ∙ ap Head all) (subst IsOpen all goes)))));
+    }
 
 -- ---- a head that ended
 
@@ -266,6 +307,16 @@ fed_behind c alone old mid_h now me mid new opening text bytes steps sent head b
           (rw (sym (front_and_rest text head bytes count is.text_is)) (inl on.stands))));
     }
 
+-- what became of it by these bytes is what the session is now
+pub begun_as : (c : Config) (alone : Bool) (old now : Histories) (was : Session) (head front : List ℕ) (begun : Begun)
+    (session : Session) (before after : List ℕ) → head ≡ front
+    → session ≡ record { alloc = was.alloc; me = was.me; stage = begun.stage; ended = begun.ended }
+    → HasBegunFor c alone old now was.me head begun.stage begun.ended before after
+    → HasBegunFor c alone old now was.me front session.stage session.ended before after
+begun_as c alone old now was head front begun session before after same is has =
+    subst (λ (s : Session). HasBegunFor c alone old now was.me front s.stage s.ended before after) (sym is)
+    (subst (λ (l : List ℕ). HasBegunFor c alone old now was.me l begun.stage begun.ended before after) same has)
+
 -- ---- a connection that is behind its head
 
 pub fed_on : (c : Config) (alone : Bool) (old now : Histories) (session new : Session) (opening : Opening)
@@ -289,9 +340,6 @@ fed_on c alone old now session new opening text bytes steps histories sent out u
     }
 
 -- ---- by stage
-
-over_goes : false ≡ true → ⊥
-over_goes e = cc
 
 -- and so is one that began and goes on
 pub begun_behind : (c : Config) (alone : Bool) (old now : Histories) (me : ℕ) (front : List ℕ) (stage : Stage)

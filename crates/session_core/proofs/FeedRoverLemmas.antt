@@ -21,7 +21,7 @@ use Rattle.rover_session.specs.declared.session.RoverSession.{RoverSession}
 use Rattle.rover_session.specs.Owed.{Terms, rover_plan}
 use Rattle.rover_session.specs.Made.{segments_after, owed_among, IsMadeUntil}
 use Rattle.rover_session.specs.Body.{body_of}
-use Rattle.rover_session.specs.Standing.{rover_of, Told, IsResumable, SameAdmission, frames_sent}
+use Rattle.rover_session.specs.Standing.{Told, IsResumable, SameAdmission, frames_sent}
 use Rattle.rover_session.specs.Standing as rover_standing
 use Rattle.rover_session.proofs.MadeLemmas.{owed-append}
 use Rattle.rover_session.proofs.SegmentLemmas.{Extends, all_sound, sent_later}
@@ -112,9 +112,9 @@ entering account behind = at_book (Enter account) Entered ∷ behind
 -- it stands as a rover, with more bytes and more steps
 still_rover : (c : Config) (me : ℕ) (old now : Histories) (j later : Judged) (steps more : List Step) (account : ℕ)
     (inner fed : RoverSession) (bytes : List ℕ) (at : IsRover c me old j steps account inner)
-    → later ≡ rover at.terms (at.tail ++ bytes) → SameAdmission (rover_of inner) (rover_of fed)
-    → rover_standing.Stands (rover_of fed) at.terms.first (at.tail ++ bytes) (at.behind ++ more)
-    → IsResumable (shapes c) me now.rings (rover_of fed).segments
+    → later ≡ rover at.terms (at.tail ++ bytes) → SameAdmission inner fed
+    → rover_standing.Stands fed at.terms.first (at.tail ++ bytes) (at.behind ++ more)
+    → IsResumable (shapes c) me now.rings fed.segments
     → IsTrue (may_leave (caps c) now.book me account)
     → IsRover c me now later (steps ++ more) account fed
 still_rover c me old now j later steps more account inner fed bytes at is same stands resumes inside = record {
@@ -171,10 +171,10 @@ text_of c h opening j terms tail account steps behind is are =
     ∙ ap (λ (l : List Step). sent_by c h opening (came_to (rover terms tail) l) (reverse (segments_after [] l))) are
 
 halts_still : (stage : Stage) (account : ℕ) (fed : RoverSession) (ended : Option Ending)
-    → stage ≡ stages.Rover account fed → ended ≡ ended_joining (rover_of fed).halt → EndsAt stage ended
+    → stage ≡ stages.Rover account fed → ended ≡ ended_joining fed.halt → EndsAt stage ended
 halts_still stage account fed ended is by =
     subst (λ (s : Stage). EndsAt s ended) (sym is)
-    (record { goes = λ none. joined_goes (rover_of fed).halt (sym by ∙ none); refused = λ short. absurd cc })
+    (record { goes = λ none. joined_goes fed.halt (sym by ∙ none); refused = λ short. absurd cc })
 
 -- ---- more bytes
 
@@ -182,15 +182,15 @@ pub rover_fed_on : (c : Config) (alone : Bool) (old now histories : Histories) (
     (opening : Opening) (text bytes : List ℕ) (steps : List Step) (sent : List ℕ) (account : ℕ)
     (inner fed : RoverSession)
     → session.stage ≡ stages.Rover account inner → session.ended ≡ None → new.me ≡ session.me
-    → new.stage ≡ stages.Rover account fed → new.ended ≡ ended_joining (rover_of fed).halt
+    → new.stage ≡ stages.Rover account fed → new.ended ≡ ended_joining fed.halt
     → Stands c session opening text steps histories sent → OthersCalled histories old session.me
-    → SameAdmission (rover_of inner) (rover_of fed)
+    → SameAdmission inner fed
     → ((first : Option Position) (before : List ℕ) (ss : List Step)
-    → rover_standing.Stands (rover_of inner) first before ss
-    → Told (shapes c) alone old.rings now.rings (rover_of fed) first (before ++ bytes) ss)
-    → IsResumable (shapes c) (rover_of inner).me now.rings (rover_of fed).segments
-    → frames_sent (shapes c) now.rings (rover_of fed).segments
-    ≡ frames_sent (shapes c) old.rings (rover_of inner).segments
+    → rover_standing.Stands inner first before ss
+    → Told (shapes c) alone old.rings now.rings fed first (before ++ bytes) ss)
+    → IsResumable (shapes c) inner.me now.rings fed.segments
+    → frames_sent (shapes c) now.rings fed.segments
+    ≡ frames_sent (shapes c) old.rings inner.segments
     → now.book ≡ old.book
     → FedOn c alone old now new opening (text ++ bytes) steps sent
 rover_fed_on c alone old now histories session new opening text bytes steps sent account inner fed was going me_is
@@ -200,16 +200,16 @@ rover_fed_on c alone old now histories session new opening text bytes steps sent
     let later : Judged = judged c opening heading (text ++ bytes) in
     let at : IsRover c session.me histories j steps account inner =
     subst (λ (s : Stage). IsAtStage c session.me histories opening j text steps s) was stood.stage in
-    let halt : Option SegFault = (rover_of fed).halt in
+    let halt : Option SegFault = fed.halt in
     let known : j ≢ waiting = is_judged j at.terms at.tail at.judged_is in
     let is : later ≡ rover at.terms (at.tail ++ bytes) =
     judged_more c opening heading text bytes known ∙ ap (λ (x : Judged). with_more x bytes) at.judged_is in
-    let told : Told (shapes c) alone old.rings now.rings (rover_of fed) at.terms.first (at.tail ++ bytes) at.behind =
+    let told : Told (shapes c) alone old.rings now.rings fed at.terms.first (at.tail ++ bytes) at.behind =
     tell at.terms.first at.tail at.behind at.stands in
     let more : List Step = told.more in
     let are : steps ++ more ≡ entering account (at.behind ++ more) =
     ap (λ (l : List Step). l ++ more) at.steps_are in
-    let caller : (rover_of fed).me ≡ session.me = same.1 ∙ at.caller in
+    let caller : fed.me ≡ session.me = same.1 ∙ at.caller in
     let made : IsMadeUntil halt (rover_plan (terms_of c at.terms.admission) at.terms.first (at.tail ++ bytes))
     (owed_among (at.behind ++ more)) =
     subst (λ (t : Terms). IsMadeUntil halt (rover_plan t at.terms.first (at.tail ++ bytes))
@@ -225,10 +225,10 @@ rover_fed_on c alone old now histories session new opening text bytes steps sent
     (inside_on (caps c) histories.book old.book session.me account at.inside others.book) in
     let still : IsRover c session.me now later (steps ++ more) account fed =
     still_rover c session.me histories now j later steps more account inner fed bytes at is same told.stands
-    (subst (λ (m : ℕ). IsResumable (shapes c) m now.rings (rover_of fed).segments) at.caller resumes) inside in
+    (subst (λ (m : ℕ). IsResumable (shapes c) m now.rings fed.segments) at.caller resumes) inside in
     let frames : kept_frames c now.rings (reverse (segments_after [] (at.behind ++ more)))
     ≡ kept_frames c histories.rings (reverse (segments_after [] at.behind)) =
-    sent_still c session.me histories.rings old.rings now.rings (rover_of inner).segments (rover_of fed).segments
+    sent_still c session.me histories.rings old.rings now.rings inner.segments fed.segments
     at.behind (at.behind ++ more) others.rings at.resumes at.stands.segments told.stands.segments unsent in
     let before : sent ≡ sent_by c histories.rings opening (came_to j steps) (reverse (segments_after [] steps)) =
     subst (λ (e : Option Ending). IsSentBy (is_halted_uncalled e steps) sent

@@ -18,7 +18,7 @@ use Rattle.upstream_relay.specs.Called.{IsHeldAt, IsHoldingBy}
 use Rattle.upstream_relay.specs.Standing as relay_standing
 use Rattle.rover_session.specs.declared.session.RoverSession.{RoverSession}
 use Rattle.rover_session.specs.Owed.{Terms}
-use Rattle.rover_session.specs.Standing.{rover_of, AreWithin, KnowsFilter, WasResumable}
+use Rattle.rover_session.specs.Standing.{AreWithin, KnowsFilter, WasResumable}
 use Rattle.ntrip_head.specs.declared.fault.HeadFault.{HeadFault}
 use Rattle.ntrip_head.specs.declared.fault.HeadFault.TheVariants as heads
 use Rattle.ntrip_head.specs.declared.request.Version.{Version}
@@ -96,14 +96,12 @@ rover_short version first tail (Err denials.NoMount) = omega arith
 rover_short version first tail (Err denials.NoAccount) = omega arith
 rover_short version first tail (Err (denials.Password account)) = omega arith
 rover_short version first tail (Err (denials.Group group)) = omega arith
-rover_short version first tail (Err denials.Memory) = omega arith
 
 request_short : (c : Config) (body : List ℕ) (r : Result Request HeadFault)
     → IsShort (body_in (request_judged c body r)) body
 request_short c body (Err heads.Bad) = omega arith
 request_short c body (Err heads.Method) = omega arith
 request_short c body (Err heads.Coding) = omega arith
-request_short c body (Err heads.Memory) = omega arith
 request_short c body (Ok (requests.Table version)) = omega arith
 request_short c body (Ok (requests.Rover version mount auth first)) =
     rover_short (Some version) first body (admission c auth mount)
@@ -165,13 +163,11 @@ rover_in c version first tail name auth (Err denials.NoMount) is = tt
 rover_in c version first tail name auth (Err denials.NoAccount) is = tt
 rover_in c version first tail name auth (Err (denials.Password account)) is = tt
 rover_in c version first tail name auth (Err (denials.Group group)) is = tt
-rover_in c version first tail name auth (Err denials.Memory) is = tt
 
 request_in : (c : Config) (body : List ℕ) (r : Result Request HeadFault) → IsLetIn c (request_judged c body r)
 request_in c body (Err heads.Bad) = tt
 request_in c body (Err heads.Method) = tt
 request_in c body (Err heads.Coding) = tt
-request_in c body (Err heads.Memory) = tt
 request_in c body (Ok (requests.Table version)) = tt
 request_in c body (Ok (requests.Rover version mount auth first)) =
     rover_in c (Some version) first body mount auth (admission c auth mount) refl
@@ -277,10 +273,10 @@ relay_ready c session now more mount inner is unended follows =
     }
 
 pub record IsRoverReady (c : Config) (now : Histories) (inner : RoverSession) : Type 0 where
-  pub within : AreWithin (length c.mount) (rover_of inner).terms.bases
-  pub filter : KnowsFilter (shapes c) (rover_of inner).terms.filter
-  pub resumes : WasResumable (shapes c) (rover_of inner).me now.rings (rover_of inner).segments
-  pub goes : (rover_of inner).halt ≡ None
+  pub within : AreWithin (length c.mount) inner.terms.bases
+  pub filter : KnowsFilter (shapes c) inner.terms.filter
+  pub resumes : WasResumable (shapes c) inner.me now.rings inner.segments
+  pub goes : inner.halt ≡ None
 
 pub rover_ready : (c : Config) (session : Session) (now : Histories) (more account : ℕ) (inner : RoverSession)
     → ((cap : ℕ) × KeepsRules cap c) → session.stage ≡ Rover account inner → session.ended ≡ None
@@ -297,10 +293,10 @@ rover_ready c session now more account inner kept is unended follows =
     record {
       within = subst (λ (t : Terms). AreWithin (length c.mount) t.bases) (sym at.admitted) ready.within;
       filter = subst (λ (t : Terms). KnowsFilter (shapes c) t.filter) (sym at.admitted) ready.filter;
-      resumes = subst (λ (m : ℕ). WasResumable (shapes c) m now.rings (rover_of inner).segments) (sym at.caller) (
+      resumes = subst (λ (m : ℕ). WasResumable (shapes c) m now.rings inner.segments) (sym at.caller) (
         from.histories.rings,
         at.resumes,
         from.others.rings,
       );
-      goes = none_there (rover_of inner).halt (sym (ap is_going is) ∙ from.stands.halts.goes unended);
+      goes = none_there inner.halt (sym (ap is_going is) ∙ from.stands.halts.goes unended);
     }

@@ -13,7 +13,7 @@ use Rattle.upstream_relay.specs.Owed.{after_claim}
 use Rattle.rover_session.specs.declared.session.RoverSession.{RoverSession}
 use Rattle.rover_session.specs.Owed.{rover_plan}
 use Rattle.rover_session.specs.Made.{segments_after, owed_among, IsMadeUntil}
-use Rattle.rover_session.specs.Standing.{rover_of, Rover as RoverValue}
+use Rattle.rover_session.specs.Standing.{Rover as RoverValue}
 use Rattle.rover_session.specs.Standing as rover_standing
 use Rattle.rover_session.proofs.FollowLemmas.{rover_begins}
 use Rattle.cast_config.specs.declared.config.Config.{Config}
@@ -175,7 +175,7 @@ rover_known j terms tail is waits = cc
 rover_more : (c : Config) (session : Session) (opening : Opening) (text rest : List ℕ) (steps : List Step)
     (h : Histories) (sent : List ℕ) (end : Ending) (account : ℕ) (inner : RoverSession)
     → session.stage ≡ Rover account inner → session.ended ≡ Some end
-    → session.ended ≡ ended_joining (rover_of inner).halt → Stands c session opening text steps h sent
+    → session.ended ≡ ended_joining inner.halt → Stands c session opening text steps h sent
     → Stands c session opening (text ++ rest) steps h sent
 rover_more c session opening text rest steps h sent end account inner is ended joined s =
     let j : Judged = judged c opening s.heading text in
@@ -191,7 +191,7 @@ rover_more c session opening text rest steps h sent end account inner is ended j
     sym (ap (λ (x : Judged). came_to x steps) is_later
     ∙ rover_same at.terms at.tail (at.tail ++ rest) (first_answer steps)
     ∙ ap (λ (x : Judged). came_to x steps) (sym at.judged_is)) in
-    let fault = joined_halted (rover_of inner).halt session.ended end joined ended in
+    let fault = joined_halted inner.halt session.ended end joined ended in
     record {
       heading = s.heading;
       is_heading = heading_goes c opening s.heading text rest known s.is_heading;
@@ -209,7 +209,7 @@ rover_more c session opening text rest steps h sent end account inner is ended j
         caller = at.caller;
         admitted = at.admitted;
         version = at.version;
-        stands = halted_stands (rover_of inner) fault.0 at.terms.first at.tail rest at.behind fault.1 at.stands;
+        stands = halted_stands inner fault.0 at.terms.first at.tail rest at.behind fault.1 at.stands;
         resumes = at.resumes;
         inside = at.inside;
       });

@@ -1,10 +1,9 @@
 -- One ring was picked among the places of a connection, and a call was made there.
-use Rattle.std.proofs.Common.{◌≡◌, ◌∙◌, ◌≤◌, ◌<◌, ◌++◌, ℕ, Bool, IsTrue, [], ◌∷◌, List, length, map, get_or, set, refl, sym, ap, subst, arith, Option, None, Some, Result, Ok, Err}
-use Rattle.std.specs.Prelude.{IfErr, IfSome, OnOk}
+use Rattle.std.proofs.Common.{◌≡◌, ◌∙◌, ◌<◌, ◌++◌, ℕ, Bool, IsTrue, [], ◌∷◌, List, length, map, get_or, set, refl, sym, ap, subst, arith, Option, Some, Result, Ok, Err}
+use Rattle.std.specs.Prelude.{IfErr, IfSome}
 use Rattle.std.specs.Option.{option_map}
 use Rattle.std.specs.Result.{result_err}
 use Rattle.std.proofs.lemmas.List.{length-map}
-use Rattle.turn_log.specs.Turn.{SamePlace}
 use Rattle.turn_log.specs.Heard.{Heard}
 use Rattle.turn_log.specs.Faults.{IsFault}
 use Rattle.turn_log.specs.History.{History}
@@ -13,8 +12,9 @@ use Rattle.mount_ring.specs.declared.call.RingCall.{RingCall}
 use Rattle.mount_ring.specs.declared.call.RingAnswer.{RingAnswer}
 use Rattle.session_calls.specs.Steps.{Step, at_ring}
 use Rattle.session_calls.specs.Rings.{AllSpeak, Went, all_alone, history_at}
-use Rattle.session_calls.proofs.PlaceLemmas.{kept_by_one, later_by_one, ring_answer, went_turn}
-use Rattle.source_session.specs.Calls.{HeardAll, HeardUntil, IsHolding, IsUnclaimed, publishes}
+use Rattle.session_calls.proofs.PlaceLemmas.{kept_by_one, ring_answer, went_turn}
+use Rattle.source_session.specs.Calls.{IsHolding, IsUnclaimed}
+use Rattle.source_session.specs.Places.{PublishedBy, Stays}
 use Rattle.source_session.specs.Refusals.{IsClaimFault}
 use Rattle.source_session.specs.Refusals as source_refusals
 use Rattle.source_session.specs.Standing.{is_cut_short}
@@ -28,17 +28,17 @@ use Rattle.upstream_relay.specs.declared.fault.RelayHalt.TheVariants as relays
 use Rattle.upstream_relay.specs.Called.{Adds}
 use Rattle.upstream_relay.specs.Halts as relay_halts
 use Rattle.upstream_relay.specs.Standing as relay_standing
-use Rattle.rover_session.proofs.AtLemmas.{history_here, history_new, same_by_one}
+use Rattle.rover_session.proofs.AtLemmas.{history_here, history_new, stay_by_one}
 use Rattle.session_model.specs.declared.ending.Ending.{Ending}
 use Rattle.session_model.specs.Called.{IsCause}
 use Rattle.session_core.specs.Beginnings.{end_unclaimed}
 use Rattle.session_core.specs.Feeding.{end_of_relay, end_of_source}
-use Rattle.session_core.specs.Places.{AtRing, AtBook, StayAtRings, StaysAtBook}
+use Rattle.session_core.specs.Places.{AtRing, AtBook, StayAtRings}
 use Rattle.session_core.specs.Refusals.{IsTurnRefused}
 use Rattle.session_core.proofs.Published.{Published, RelayFed, steps_unclaimed}
 use Rattle.session_core.proofs.EnteredLemmas.{cause_left}
 use Rattle.session_core.proofs.RelayLemmas.{relay_fed}
-use Rattle.session_core.proofs.SourceLemmas.{published_fed, turn_refused_at, unclaimed_at, worn_there}
+use Rattle.session_core.proofs.SourceLemmas.{published_by, turn_refused_at, unclaimed_at, worn_there}
 
 -- a mountpoint of as many histories as there are places
 pub among_rings : {P : Type 0} (seen : P → History RingCall) (rings : List P) (mount : ℕ)
@@ -47,15 +47,10 @@ among_rings seen rings mount within = omega (arith, within, length-map rings see
 
 -- the place that was picked stayed itself, so all did
 pub stay_picked : {P : Type 0} (ring : AtRing P) (rings : List P) (mount : ℕ) (before new : P)
-    → before ≡ get_or rings mount before
-    → SamePlace ring.shape ring.speaks ring.may_lack ring.alone ring.home before new → ring.worn before ≤ ring.worn new
-    → StayAtRings ring rings (set rings mount new)
-stay_picked {P} ring rings mount before new was same later = record {
-  same = same_by_one ring.shape ring.speaks ring.may_lack ring.alone ring.home rings mount before new
-      (subst (λ (place : P). SamePlace ring.shape ring.speaks ring.may_lack ring.alone ring.home place new) was same);
-  worn = later_by_one ring.worn rings mount before new
-      (subst (λ (place : P). ring.worn place ≤ ring.worn new) was later);
-}
+    → before ≡ get_or rings mount before → Stays ring before new → StayAtRings ring rings (set rings mount new)
+stay_picked {P} ring rings mount before new was stays =
+    let there : Stays ring (get_or rings mount before) new = subst (λ (place : P). Stays ring place new) was stays in
+    stay_by_one ring rings mount before new there.same there.worn
 
 -- it speaks for whom all speak
 pub speaks_picked : {P : Type 0} (ring : AtRing P) (rings : List P) (mount : ℕ) (before : P) (me caller : ℕ)
@@ -65,7 +60,7 @@ speaks_picked {P} ring rings mount before me caller within was same speak =
     subst (λ (m : ℕ). IsTrue (ring.speaks before m)) (sym same)
     (subst (λ (place : P). IsTrue (ring.speaks place me)) (sym was) (speak mount before within))
 
-pub stays_still : {B : Type 0} (book : AtBook B) (place : B) → StaysAtBook book place place
+pub stays_still : {B : Type 0} (book : AtBook B) (place : B) → Stays book place place
 stays_still book place = record {
   same = (refl, refl, refl, refl, refl);
   worn = omega arith;
@@ -124,21 +119,15 @@ history_picked ring rings mount before within was =
     history_here ring.seen rings mount before within ∙ ap ring.seen (sym was)
 
 pub published_picked : {P : Type 0} (ring : AtRing P) (rings : List P) (mount : ℕ) (before new : P) (me claim : ℕ)
-    (frames : List (List ℕ)) (r : Result (Unit {0}) SourceHalt) (halt : Option SourceHalt) → mount < length rings
-    → before ≡ get_or rings mount before
-    → OnOk r (HeardAll (ring.alone before) (ring_answer (ring.shape before)) (ring.seen before) (ring.seen new) me
-    (publishes claim frames))
-    → IfErr r (λ why. HeardUntil why (ring.alone before) (ring_answer (ring.shape before)) (ring.seen before)
-    (ring.seen new) me (publishes claim frames))
-    → OnOk r (halt ≡ None) → IfErr r (λ why. halt ≡ Some why)
+    (frames : List (List ℕ)) (by halt : Option SourceHalt) → mount < length rings → before ≡ get_or rings mount before
+    → PublishedBy ring before new me claim by frames → halt ≡ by
     → Published (map ring.shape rings) (all_alone ring.alone rings) (map ring.seen rings)
     (map ring.seen (set rings mount new)) me mount claim (is_cut_short halt) frames
-published_picked {P} ring rings mount before new me claim frames r halt within was heard until goes halts =
-    published_fed ring.shape ring.alone ring.seen rings mount before new me claim frames r halt within
-    (subst (λ (place : P). OnOk r (HeardAll (ring.alone place) (ring_answer (ring.shape place)) (ring.seen place)
-    (ring.seen new) me (publishes claim frames))) was heard)
-    (subst (λ (place : P). IfErr r (λ why. HeardUntil why (ring.alone place) (ring_answer (ring.shape place))
-    (ring.seen place) (ring.seen new) me (publishes claim frames))) was until) goes halts
+published_picked {P} ring rings mount before new me claim frames by halt within was heard is =
+    subst (λ (h : Option SourceHalt). Published (map ring.shape rings) (all_alone ring.alone rings) (map ring.seen rings)
+    (map ring.seen (set rings mount new)) me mount claim (is_cut_short h) frames) (sym is)
+    (published_by ring.shape ring.alone ring.seen rings mount before new me claim frames by within
+    (subst (λ (place : P). PublishedBy ring place new me claim by frames) was heard))
 
 -- the answer of another caster that was taken there
 pub added_picked : {P : Type 0} (ring : AtRing P) (rings : List P) (mount : ℕ) (before new : P) (me : ℕ)

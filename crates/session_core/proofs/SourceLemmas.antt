@@ -1,6 +1,6 @@
 -- A source at one of several places.
-use Rattle.std.proofs.Common.{◌≡◌, ◌∙◌, ◌<◌, ◌≤◌, ℕ, Bool, true, false, List, [], ◌∷◌, length, map, get_or, set, refl, sym, ap, subst, arith, Result, Ok, Err, Option, None, Some}
-use Rattle.std.specs.Prelude.{Contains, IfErr, OnOk, ◌^◌}
+use Rattle.std.proofs.Common.{◌≡◌, ◌∙◌, ◌<◌, ◌≤◌, ℕ, Bool, true, false, List, [], ◌∷◌, length, map, get_or, set, refl, sym, ap, subst, arith, Option, None, Some}
+use Rattle.std.specs.Prelude.{Contains, ◌^◌}
 use Rattle.std.specs.List.{list_all}
 use Rattle.std.proofs.lemmas.List.{get_or-map, get_or-set_same, length-map, length-set}
 use Rattle.turn_log.specs.History.{History}
@@ -16,7 +16,7 @@ use Rattle.mount_ring.specs.declared.shape.RingShape.{RingShape}
 use Rattle.session_calls.specs.Rings.{Went}
 use Rattle.session_calls.proofs.PlaceLemmas.{kept_by_one, ring_answer, went_turn}
 use Rattle.session_calls.proofs.WentLemmas.{went_none}
-use Rattle.source_session.specs.Calls.{publishes, HeardAll, HeardUntil, IsUnclaimed}
+use Rattle.source_session.specs.Calls.{publishes, HeardAll, HeardBy, IsUnclaimed}
 use Rattle.source_session.specs.Standing.{is_cut_short}
 use Rattle.source_session.specs.declared.fault.ClaimFault.{ClaimFault}
 use Rattle.source_session.specs.declared.fault.ClaimFault.TheVariants as claims
@@ -98,7 +98,7 @@ went_pairs shape alone seen places mount d new me pairs within heard =
     (get_or places mount d)))
     (seen (get_or places mount d)) (seen new) me list) (sym (on_ring_of mount pairs)) heard)
 
-pub published_all : {P : Type 0} (shape : P → RingShape) (alone : P → Bool) (seen : P
+published_all : {P : Type 0} (shape : P → RingShape) (alone : P → Bool) (seen : P
     → History RingCall) (places : List P)
     (mount : ℕ) (d new : P) (me claim : ℕ) (frames : List (List ℕ)) → mount < length places
     → HeardAll (alone (get_or places mount d)) (ring_answer (shape (get_or places mount d)))
@@ -124,42 +124,20 @@ first_published shape alone seen places mount d new me claim frames within heard
   made = pairs_begun mount claim frames heard.pairs heard.unmade heard.split;
 }
 
-pub published_until : {P : Type 0} (shape : P → RingShape) (alone : P → Bool) (seen : P
-    → History RingCall) (places : List P)
-    (mount : ℕ) (d new : P) (me claim : ℕ) (frames : List (List ℕ)) (halt : SourceHalt) → mount < length places
-    → HeardUntil halt (alone (get_or places mount d)) (ring_answer (shape (get_or places mount d)))
-    (seen (get_or places mount d)) (seen new) me (publishes claim frames)
-    → Published (map shape places) (list_all alone places) (map seen places) (map seen
-    (set places mount new)) me mount claim
-    (is_cut_short (Some halt)) frames
-published_until shape alone seen places mount d new me claim frames sources.Done within heard =
-    published_all shape alone seen places mount d new me claim frames within heard
-published_until shape alone seen places mount d new me claim frames (sources.BadChunk place) within heard =
-    published_all shape alone seen places mount d new me claim frames within heard
-published_until shape alone seen places mount d new me claim frames (sources.Worn given) within heard =
-    first_published shape alone seen places mount d new me claim frames within heard
-published_until shape alone seen places mount d new me claim frames sources.Memory within heard =
-    first_published shape alone seen places mount d new me claim frames within heard
-
--- by what a call answered
-pub published_fed : {P : Type 0} (shape : P → RingShape) (alone : P → Bool) (seen : P
-    → History RingCall) (places : List P)
-    (mount : ℕ) (d new : P) (me claim : ℕ) (frames : List (List ℕ)) (r : Result (Unit {0}) SourceHalt)
-    (halt : Option SourceHalt)
+pub published_by : {P : Type 0} (shape : P → RingShape) (alone : P → Bool) (seen : P → History RingCall)
+    (places : List P) (mount : ℕ) (d new : P) (me claim : ℕ) (frames : List (List ℕ)) (halt : Option SourceHalt)
     → mount < length places
-    → OnOk r (HeardAll (alone (get_or places mount d)) (ring_answer (shape (get_or places mount d)))
-    (seen (get_or places mount d)) (seen new) me (publishes claim frames))
-    → IfErr r (λ why. HeardUntil why (alone (get_or places mount d)) (ring_answer (shape (get_or places mount d)))
-    (seen (get_or places mount d)) (seen new) me (publishes claim frames))
-    → OnOk r (halt ≡ None) → IfErr r (λ why. halt ≡ Some why)
-    → Published (map shape places) (list_all alone places) (map seen places) (map seen
-    (set places mount new)) me mount claim
-    (is_cut_short halt) frames
-published_fed shape alone seen places mount d new me claim frames (Ok x) halt within heard until goes halts =
-    subst (λ (h : Option SourceHalt). Published (map shape places) (list_all alone places) (map seen places)
-    (map seen (set places mount new)) me mount claim (is_cut_short h) frames) (sym goes)
-    (published_all shape alone seen places mount d new me claim frames within heard)
-published_fed shape alone seen places mount d new me claim frames (Err why) halt within heard until goes halts =
-    subst (λ (h : Option SourceHalt). Published (map shape places) (list_all alone places) (map seen places)
-    (map seen (set places mount new)) me mount claim (is_cut_short h) frames) (sym halts)
-    (published_until shape alone seen places mount d new me claim frames why within until)
+    → HeardBy halt (alone (get_or places mount d)) (ring_answer (shape (get_or places mount d)))
+    (seen (get_or places mount d)) (seen new) me (publishes claim frames)
+    → Published (map shape places) (list_all alone places) (map seen places) (map seen (set places mount new)) me mount
+    claim (is_cut_short halt) frames
+published_by shape alone seen places mount d new me claim frames None within heard =
+    published_all shape alone seen places mount d new me claim frames within heard
+published_by shape alone seen places mount d new me claim frames (Some sources.Done) within heard =
+    published_all shape alone seen places mount d new me claim frames within heard
+published_by shape alone seen places mount d new me claim frames (Some (sources.BadChunk place)) within heard =
+    published_all shape alone seen places mount d new me claim frames within heard
+published_by shape alone seen places mount d new me claim frames (Some (sources.Worn given)) within heard =
+    first_published shape alone seen places mount d new me claim frames within heard
+published_by shape alone seen places mount d new me claim frames (Some sources.Memory) within heard =
+    first_published shape alone seen places mount d new me claim frames within heard

@@ -1,7 +1,7 @@
 -- A turn of a rover.
 use Rattle.std.proofs.Common.{◌≡◌, ◌∙◌, ◌&&◌, ℕ, Bool, true, false, IsTrue, List, [], ◌∷◌, ◌++◌, map, refl, sym, ap, subst, inl, inr, Option, None, Some, Result, Ok, Err, append_assoc}
 use Rattle.std.specs.Result.{result_err}
-use Rattle.std.specs.Prelude.{OnOk, OnErr, IfErr, IfNone, IfSome, is_none, reverse}
+use Rattle.std.specs.Prelude.{IfOk, OnErr, IfErr, IfNone, IfSome, is_none, reverse}
 use Rattle.std.proofs.lemmas.List.{append-nil}
 use Rattle.turn_log.specs.History.{History, GoesOn}
 use Rattle.gga_read.specs.declared.Position.{Position}
@@ -24,7 +24,7 @@ use Rattle.rover_session.specs.declared.session.RoverSession.{RoverSession}
 use Rattle.rover_session.specs.Owed.{reads}
 use Rattle.rover_session.specs.Made.{segments_after, owed_among, IsRefusedBy}
 use Rattle.rover_session.specs.Body.{body_of}
-use Rattle.rover_session.specs.Standing.{Rover, rover_of, ReadOn, SameAdmission, IsResumable, frames_sent, frames_read}
+use Rattle.rover_session.specs.Standing.{Rover, ReadOn, TurnSent, SameAdmission, SameButSegments, IsResumable, frames_sent, frames_read}
 use Rattle.rover_session.specs.Standing as rover_standing
 use Rattle.rover_session.proofs.LawLemmas.{body-append}
 use Rattle.rover_session.proofs.MadeLemmas.{owed-append}
@@ -44,7 +44,7 @@ use Rattle.session_model.specs.Run.{Histories}
 use Rattle.session_model.specs.Called.{OthersCalled, IsCause, is_halt, seen_at}
 use Rattle.session_core.specs.Beginnings.{ended_joining, histories_of}
 use Rattle.session_core.specs.Standing.{IsRover, IsAtStage, IsMadeBy, IsSentBy, EndsAs, EndsAt, Stands, StandsFor, Follows, is_halted, is_halted_uncalled}
-use Rattle.session_core.specs.Turned.{IsReadBy, ReadAt, RoverTurned, TurnedAt, Turned, is_rover}
+use Rattle.session_core.specs.Turned.{HaltedUnread, IsReadBy, ReadAt, RoverTurned, TurnedAt, Turned, is_rover}
 use Rattle.session_core.proofs.BeginLemmas.{made_by, sent_all}
 use Rattle.session_core.proofs.CloseLemmas.{called_rings}
 use Rattle.session_core.proofs.EnteredLemmas.{sent_kept}
@@ -81,21 +81,20 @@ begun_read budget (segment ∷ older) (step ∷ next ∷ steps) begun = absurd b
 
 -- ---- what halted it
 
-is_halt_of : (r : Result ℕ SegFault) → IfSome (ended_joining (result_err r)) (λ end. IsTrue (is_halt end))
-is_halt_of (Ok count) = tt
-is_halt_of (Err (seg_faults.Worn given)) = refl
-is_halt_of (Err seg_faults.Memory) = refl
+-- it was halted, and what stands where it was refused
+pub halted_of : {H : Type 0} (P : Type 0) (old now : H) (before after : List ℕ) (r : Result ℕ SegFault)
+    (ended : Option Ending) → ended ≡ ended_joining (result_err r) → OnErr r (P × (now ≡ old) × (after ≡ before))
+    → IfSome ended (HaltedUnread old now before after)
+halted_of P old now before after (Ok count) ended is err = rw is tt
+halted_of P old now before after (Err (seg_faults.Worn given)) ended is err =
+    rw is (record { halt = refl; unread = err.1; unsent = err.2 })
+halted_of P old now before after (Err seg_faults.Memory) ended is err =
+    rw is (record { halt = refl; unread = err.1; unsent = err.2 })
 
-pub halts_of : (r : Result ℕ SegFault) (ended : Option Ending) → ended ≡ ended_joining (result_err r)
-    → IfSome ended (λ end. IsTrue (is_halt end))
-halts_of r ended is = rw is (is_halt_of r)
-
--- what stands where it was refused
-pub refused_of : (P Q : Type 0) (r : Result ℕ SegFault) (ended : Option Ending) → ended ≡ ended_joining (result_err r)
-    → (Q → P) → OnErr r Q → IfSome ended (λ end. P)
-refused_of P Q (Ok count) ended is from err = rw is tt
-refused_of P Q (Err (seg_faults.Worn given)) ended is from err = rw is (from err)
-refused_of P Q (Err seg_faults.Memory) ended is from err = rw is (from err)
+pub halts_in : {H : Type 0} (old now : H) (before after : List ℕ) (ended : Option Ending)
+    → IfSome ended (HaltedUnread old now before after) → IfSome ended (λ end. IsTrue (is_halt end))
+halts_in old now before after None halted = tt
+halts_in old now before after (Some end) halted = halted.halt
 
 pub cause_of : (rings : List ℕ) (halt : Option SegFault) (r : Result ℕ SegFault) (ended : Option Ending)
     → ended ≡ ended_joining (result_err r) → halt ≡ None → IfNone halt (IfErr r (IsRefusedBy rings))
@@ -106,24 +105,24 @@ cause_of rings None (Err seg_faults.Memory) ended is going cause = rw is tt
 cause_of rings (Some fault) r ended is going cause = absurd cc
 
 -- as all places have seen it
-pub refused_back : {P B : Type 0} (ring_seen : P → History RingCall) (book_seen : B → History BookCall)
+pub halted_back : {P B : Type 0} (ring_seen : P → History RingCall) (book_seen : B → History BookCall)
     (slice items new : List P) (book : B) (before after : List ℕ) (ended : Option Ending) → slice ≡ items
-    → IfSome ended (λ end. (map ring_seen new ≡ map ring_seen slice) × (after ≡ before))
-    → IfSome ended (λ end. (seen_at ring_seen book_seen new book ≡ seen_at ring_seen book_seen items book)
-    × (after ≡ before))
-refused_back ring_seen book_seen slice items new book before after None there refused = tt
-refused_back {P} {B} ring_seen book_seen slice items new book before after (Some end) there refused = (
-  ap (λ (h : List (History RingCall)). histories_of h (book_seen book))
-      (refused.0 ∙ ap (map ring_seen) there),
-  refused.1,
-)
+    → IfSome ended (HaltedUnread (map ring_seen slice) (map ring_seen new) before after)
+    → IfSome ended (HaltedUnread (seen_at ring_seen book_seen items book) (seen_at ring_seen book_seen new book) before
+    after)
+halted_back ring_seen book_seen slice items new book before after None there halted = tt
+halted_back {P} {B} ring_seen book_seen slice items new book before after (Some end) there halted = record {
+  halt = halted.halt;
+  unread = ap (λ (h : List (History RingCall)). histories_of h (book_seen book))
+      (halted.unread ∙ ap (map ring_seen) there);
+  unsent = halted.unsent;
+}
 
 -- ---- a rover's session
 
-abbrev Reads : List RingShape → Bool → List (History RingCall) → List (History RingCall) → ℕ → Rover → Rover → Type 0
-Reads shapes alone old now budget before after =
-    (first : Option Position) (bytes : List ℕ) (steps : List Step) → rover_standing.Stands before first bytes steps
-    → ReadOn shapes alone old now budget before.segments after first bytes steps
+same_admission : (before after : Rover) → SameButSegments before after → SameAdmission before after
+same_admission before after same =
+    (ap (λ (r : Rover). r.version) same, ap (λ (r : Rover). r.me) same, ap (λ (r : Rover). r.terms) same)
 
 read_at : (shapes : List RingShape) (alone : Bool) (old now : List (History RingCall)) (budget : ℕ)
     (before after : Rover) (first : Option Position) (bytes : List ℕ) (steps : List Step) → after.me ≡ before.me
@@ -137,34 +136,32 @@ read_at shapes alone old now budget before after first bytes steps same read = r
 }
 
 -- it read on
-turned_ok : (shapes : List RingShape) (alone : Bool) (old now : List (History RingCall)) (budget : ℕ)
-    (before after : Rover) (out_before out_after : List ℕ) → SameAdmission before after → after.halt ≡ before.halt
-    → IsResumable shapes before.me now after.segments → Reads shapes alone old now budget before after
-    → out_after ≡ out_before ++ body_of before.version (frames_read shapes now budget before.segments)
-    → frames_sent shapes now after.segments
-    ≡ frames_sent shapes old before.segments ++ frames_read shapes now budget before.segments
+turned_ok : (shapes : List RingShape) (alone : Bool) (old now : List (History RingCall)) (budget count : ℕ)
+    (before after : Rover) (out_before out_after : List ℕ) → SameButSegments before after
+    → IsResumable shapes before.me now after.segments
+    → TurnSent shapes alone old now budget before after (frames_read shapes now budget before.segments) out_before
+    out_after count
     → RoverTurned shapes alone old now budget before after None out_before out_after
-turned_ok shapes alone old now budget before after out_before out_after same halt resumable read out sent = record {
-  admission = same;
-  halt = halt;
+turned_ok shapes alone old now budget count before after out_before out_after same resumable turned = record {
+  same = same;
   resumable = resumable;
   frames = frames_read shapes now budget before.segments;
-  out = out;
-  sent = sent;
+  out = turned.body;
+  sent = turned.sent;
   read = λ first bytes steps stands.
-      read_at shapes alone old now budget before after first bytes steps same.1 (read first bytes steps stands);
+      read_at shapes alone old now budget before after first bytes steps (ap (λ (r : Rover). r.me) same)
+      (turned.read first bytes steps stands);
 }
 
 -- or it was refused
 turned_err : (shapes : List RingShape) (alone : Bool) (old now : List (History RingCall)) (budget : ℕ)
     (before after : Rover) (end : Ending) (out_before out_after : List ℕ) → IsTrue (is_halt end)
-    → SameAdmission before after → after.halt ≡ before.halt → IsResumable shapes before.me now after.segments
+    → SameButSegments before after → IsResumable shapes before.me now after.segments
     → after ≡ before → now ≡ old → out_after ≡ out_before
     → RoverTurned shapes alone old now budget before after (Some end) out_before out_after
-turned_err shapes alone old now budget before after end out_before out_after halts same halt resumable still unseen
-    unsent = record {
-      admission = same;
-      halt = halt;
+turned_err shapes alone old now budget before after end out_before out_after halts same resumable still unseen unsent =
+    record {
+      same = same;
       resumable = resumable;
       frames = [];
       out = unsent ∙ sym (append-nil out_before);
@@ -183,39 +180,34 @@ turned_err shapes alone old now budget before after end out_before out_after hal
     }
 
 turned_as : (shapes : List RingShape) (alone : Bool) (old now : List (History RingCall)) (budget : ℕ)
-    (before after : Rover) (r : Result ℕ SegFault) (out_before out_after : List ℕ) → SameAdmission before after
-    → after.halt ≡ before.halt → IsResumable shapes before.me now after.segments
-    → OnOk r (Reads shapes alone old now budget before after)
-    → OnOk r (out_after ≡ out_before ++ body_of before.version (frames_read shapes now budget before.segments))
-    → OnOk r (frames_sent shapes now after.segments
-    ≡ frames_sent shapes old before.segments ++ frames_read shapes now budget before.segments)
+    (before after : Rover) (r : Result ℕ SegFault) (out_before out_after : List ℕ) → SameButSegments before after
+    → IsResumable shapes before.me now after.segments
+    → IfOk r (TurnSent shapes alone old now budget before after (frames_read shapes now budget before.segments)
+    out_before out_after)
     → OnErr r ((after ≡ before) × (now ≡ old) × (out_after ≡ out_before))
     → RoverTurned shapes alone old now budget before after (ended_joining (result_err r)) out_before out_after
-turned_as shapes alone old now budget before after (Ok count) out_before out_after same halt resumable read out sent
-    err = turned_ok shapes alone old now budget before after out_before out_after same halt resumable read out sent
-turned_as shapes alone old now budget before after (Err (seg_faults.Worn given)) out_before out_after same halt
-    resumable read out sent err =
-    turned_err shapes alone old now budget before after (endings.Worn given) out_before out_after refl same halt
-    resumable err.0 err.1 err.2
-turned_as shapes alone old now budget before after (Err seg_faults.Memory) out_before out_after same halt
-    resumable read out sent err =
-    turned_err shapes alone old now budget before after endings.Memory out_before out_after refl same halt resumable
+turned_as shapes alone old now budget before after (Ok count) out_before out_after same resumable turned err =
+    turned_ok shapes alone old now budget count before after out_before out_after same resumable turned
+turned_as shapes alone old now budget before after (Err (seg_faults.Worn given)) out_before out_after same resumable
+    turned err =
+    turned_err shapes alone old now budget before after (endings.Worn given) out_before out_after refl same resumable
+    err.0 err.1 err.2
+turned_as shapes alone old now budget before after (Err seg_faults.Memory) out_before out_after same resumable
+    turned err =
+    turned_err shapes alone old now budget before after endings.Memory out_before out_after refl same resumable
     err.0 err.1 err.2
 
 pub rover_turned : (shapes : List RingShape) (alone : Bool) (old now : List (History RingCall)) (budget : ℕ)
     (before after : Rover) (r : Result ℕ SegFault) (ended : Option Ending) (out_before out_after : List ℕ)
-    → ended ≡ ended_joining (result_err r) → SameAdmission before after
-    → after.halt ≡ before.halt → IsResumable shapes before.me now after.segments
-    → OnOk r (Reads shapes alone old now budget before after)
-    → OnOk r (out_after ≡ out_before ++ body_of before.version (frames_read shapes now budget before.segments))
-    → OnOk r (frames_sent shapes now after.segments
-    ≡ frames_sent shapes old before.segments ++ frames_read shapes now budget before.segments)
+    → ended ≡ ended_joining (result_err r) → SameButSegments before after
+    → IsResumable shapes before.me now after.segments
+    → IfOk r (TurnSent shapes alone old now budget before after (frames_read shapes now budget before.segments)
+    out_before out_after)
     → OnErr r ((after ≡ before) × (now ≡ old) × (out_after ≡ out_before))
     → RoverTurned shapes alone old now budget before after ended out_before out_after
-rover_turned shapes alone old now budget before after r ended out_before out_after is same halt resumable read out sent
-    err =
+rover_turned shapes alone old now budget before after r ended out_before out_after is same resumable turned err =
     subst (λ (e : Option Ending). RoverTurned shapes alone old now budget before after e out_before out_after) (sym is)
-    (turned_as shapes alone old now budget before after r out_before out_after same halt resumable read out sent err)
+    (turned_as shapes alone old now budget before after r out_before out_after same resumable turned err)
 
 -- ---- what it needs
 
@@ -232,7 +224,7 @@ readable_at c me h now opening j text steps (stages.Source mount session) at hal
 readable_at c me h now opening j text steps (stages.Relay mount session) at halts others = tt
 readable_at c me h now opening j text steps (stages.Rover account session) at halts others = (
   at.caller,
-  is_none_of (rover_of session).halt (halts.goes refl),
+  is_none_of session.halt (halts.goes refl),
   (h.rings, at.resumes, others.rings),
 )
 
@@ -293,7 +285,7 @@ ends_on ended by (inr none) (inl halted) = absurd cc
 ends_on ended by (inr none) (inr is) = inr (none ∙ is)
 
 halts_at : (account : ℕ) (was next : RoverSession) (ended : Option Ending) → EndsAt (stages.Rover account was) None
-    → (rover_of next).halt ≡ (rover_of was).halt → EndsAt (stages.Rover account next) ended
+    → next.halt ≡ was.halt → EndsAt (stages.Rover account next) ended
 halts_at account was next ended halts same = record {
   goes = λ none. ap is_none same ∙ halts.goes refl;
   refused = λ short. absurd cc;
@@ -301,10 +293,10 @@ halts_at account was next ended halts same = record {
 
 rover_on : (c : Config) (me : ℕ) (h now : Histories) (j : Judged) (steps more : List Step) (account : ℕ)
     (was next : RoverSession) (at : IsRover c me h j steps account was)
-    → SameAdmission (rover_of was) (rover_of next)
-    → IsResumable (shapes c) (rover_of was).me now.rings (rover_of next).segments
+    → SameAdmission was next
+    → IsResumable (shapes c) was.me now.rings next.segments
     → GoesOn me h.book now.book
-    → rover_standing.Stands (rover_of next) at.terms.first at.tail (at.behind ++ more)
+    → rover_standing.Stands next at.terms.first at.tail (at.behind ++ more)
     → IsRover c me now j (steps ++ more) account next
 rover_on c me h now j steps more account was next at same resumable goes stands = record {
   terms = at.terms;
@@ -317,7 +309,7 @@ rover_on c me h now j steps more account was next at same resumable goes stands 
   admitted = same.2 ∙ at.admitted;
   version = same.0 ∙ at.version;
   stands = stands;
-  resumes = subst (λ (m : ℕ). IsResumable (shapes c) m now.rings (rover_of next).segments) at.caller resumable;
+  resumes = subst (λ (m : ℕ). IsResumable (shapes c) m now.rings next.segments) at.caller resumable;
   inside = inside_on (caps c) h.book now.book me account at.inside goes;
 }
 
@@ -326,31 +318,31 @@ sent_on : (c : Config) (me : ℕ) (h : Histories) (old now : List (History RingC
     (steps more : List Step) (account : ℕ) (was : RoverSession) (after : List Segment) (frames : List (List ℕ))
     (sent : List ℕ) (at : IsRover c me h j steps account was)
     → ((mount : ℕ) → (later : History RingCall) × (history_at old mount ≡ history_at h.rings mount ++ later))
-    → frames_sent (shapes c) now after ≡ frames_sent (shapes c) old (rover_of was).segments ++ frames
+    → frames_sent (shapes c) now after ≡ frames_sent (shapes c) old was.segments ++ frames
     → after ≡ segments_after [] (at.behind ++ more)
     → sent ≡ sent_by c h.rings o (came_to j steps) (reverse (segments_after [] steps))
-    → sent ++ body_of (rover_of was).version frames
+    → sent ++ body_of was.version frames
     ≡ sent_by c now o (came_to j (steps ++ more)) (reverse (segments_after [] (steps ++ more)))
 sent_on c me h old now o j steps more account was after frames sent at extends kept are is =
-    let version : Version = (rover_of was).version in
+    let version : Version = was.version in
     let named : version_of (came_to j steps) ≡ version =
     ap (λ (k : Judged). version_of (came_to k steps)) at.judged_is
     ∙ ap (λ (l : List Step). version_of (came_to (rover at.terms at.tail) l)) at.steps_are ∙ sym at.version in
-    let segments : segments_after [] steps ≡ (rover_of was).segments =
+    let segments : segments_after [] steps ≡ was.segments =
     segments_behind steps at.behind account at.steps_are ∙ sym at.stands.segments in
     let later : segments_after [] (steps ++ more) ≡ after =
     segments_behind (steps ++ more) (at.behind ++ more) account (ap (λ (l : List Step). l ++ more) at.steps_are)
     ∙ sym are in
     let opening : List ℕ = opening_text c o in
     let reply : List ℕ = reply_of c (came_to j steps) in
-    let begun : sent ≡ opening ++ reply ++ body_of version (kept_frames c h.rings (reverse (rover_of was).segments)) =
+    let begun : sent ≡ opening ++ reply ++ body_of version (kept_frames c h.rings (reverse was.segments)) =
     is ∙ ap (λ (v : Version). opening ++ reply ++ body_of v (kept_frames c h.rings
     (reverse (segments_after [] steps)))) named
     ∙ ap (λ (l : List Segment). opening ++ reply ++ body_of version (kept_frames c h.rings (reverse l))) segments in
-    more_sent opening reply (body_of version (kept_frames c h.rings (reverse (rover_of was).segments)))
+    more_sent opening reply (body_of version (kept_frames c h.rings (reverse was.segments)))
     (body_of version frames) sent begun
     ∙ ap (λ (l : List ℕ). opening ++ reply ++ l)
-    (body_sent c h.rings old now me version (rover_of was).segments after frames at.resumes extends kept)
+    (body_sent c h.rings old now me version was.segments after frames at.resumes extends kept)
     ∙ ap (λ (l : List Segment). opening ++ reply ++ body_of version (kept_frames c now (reverse l))) (sym later)
     ∙ ap (λ (v : Version). opening ++ reply ++ body_of v (kept_frames c now
     (reverse (segments_after [] (steps ++ more))))) (sym named)
@@ -363,26 +355,26 @@ turned_rover : (c : Config) (ring_alone book_alone : Bool) (old now : List (Hist
     → session.ended ≡ None → (stands : Stands c session o text steps h sent)
     → IsRover c session.me h (judged c o stands.heading text) steps account was
     → EndsAt (stages.Rover account was) None → OthersCalled h (record { rings = old; book = book }) session.me
-    → RoverTurned (shapes c) ring_alone old now budget (rover_of was) (rover_of next) ended before after
+    → RoverTurned (shapes c) ring_alone old now budget was next ended before after
     → EndsAs ended None
     → Turned c (ring_alone && book_alone) (record { rings = old; book = book }) (record { rings = now; book = book })
     budget (record session { stage = stages.Rover account next; ended = ended }) o text steps sent before after
 turned_rover c ring_alone book_alone old now book budget session o text steps h sent before after account was next
     ended going stands at halts others turned by =
     let j : Judged = judged c o stands.heading text in
-    let read : ReadAt (shapes c) ring_alone old now budget (rover_of was) (rover_of next) ended at.terms.first at.tail
+    let read : ReadAt (shapes c) ring_alone old now budget was next ended at.terms.first at.tail
     at.behind = turned.read at.terms.first at.tail at.behind at.stands in
     let more : List Step = read.more in
-    let segments : segments_after [] steps ≡ (rover_of was).segments =
+    let segments : segments_after [] steps ≡ was.segments =
     segments_behind steps at.behind account at.steps_are ∙ sym at.stands.segments in
     let none : IsRead more =
-    begun_read budget (rover_of was).segments more
-    (begun_by (is_halted ended) (reads budget (rover_of was).segments) more read.made) in
+    begun_read budget was.segments more
+    (begun_by (is_halted ended) (reads budget was.segments) more read.made) in
     let owed : owed_among (steps ++ more) ≡ owed_among steps =
     owed-append steps more ∙ ap (λ (l : List Step). owed_among steps ++ l) none.1 ∙ append-nil (owed_among steps) in
     record {
       more = more;
-      added = body_of (rover_of was).version turned.frames;
+      added = body_of was.version turned.frames;
       out = turned.out;
       called = called_rings c ring_alone book_alone (shapes c) old now book session.me more refl none.0
           (subst (λ (m : ℕ). Went (shapes c) ring_alone old now m more) at.caller read.went);
@@ -399,10 +391,10 @@ turned_rover c ring_alone book_alone old now book budget session o text steps h 
             (sym (received_on steps at.behind more account at.steps_are))
             (subst (λ (e : Option Ending). EndsAs e (ended_by (came_to j steps))) going stands.ends));
         stage = rover_on c session.me h (record { rings = now; book = book }) j steps more account was next at
-            turned.admission turned.resumable others.book read.stands;
-        halts = halts_at account was next ended halts turned.halt;
+            (same_admission was next turned.same) turned.resumable others.book read.stands;
+        halts = halts_at account was next ended halts (ap (λ (r : Rover). r.halt) turned.same);
         sent_is = sent_all (is_halted_uncalled ended (steps ++ more)) _ _
-            (sent_on c session.me h old now o j steps more account was (rover_of next).segments turned.frames sent at
+            (sent_on c session.me h old now o j steps more account was next.segments turned.frames sent at
             (λ mount. ((others.rings.rings mount).0, (others.rings.rings mount).1)) turned.sent read.stands.segments
             (subst (λ (e : Option Ending). IsSentBy (is_halted_uncalled e steps) sent
             (sent_by c h.rings o (came_to j steps)

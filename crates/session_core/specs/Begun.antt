@@ -3,7 +3,6 @@ use Rattle.std.specs.Prelude.{◌≡◌, ℕ, ◌⊎◌, ⊤, Bool, List, [], �
 use Rattle.session_calls.specs.Steps.{Step}
 use Rattle.rover_session.specs.Made.{segments_after, owed_among}
 use Rattle.rover_session.specs.Body.{body_of}
-use Rattle.rover_session.specs.Standing.{rover_of}
 use Rattle.cast_config.specs.declared.config.Config.{Config}
 use Rattle.session_model.specs.declared.ending.Ending.{Ending}
 use Rattle.session_model.specs.declared.ending.Ending.TheVariants.{Memory}
@@ -44,14 +43,8 @@ pub record Begins (c : Config) (alone : Bool) (old now : Histories) (me : ℕ) (
 -- that was halted as it joined
 abbrev pub StartsAs : Stage → Option Ending → Type 0
 StartsAs Over ended = ⊤
-StartsAs (Rover account session) ended = ended ≡ ended_joining (rover_of session).halt
+StartsAs (Rover account session) ended = ended ≡ ended_joining session.halt
 StartsAs _ ended = ended ≡ None
-
--- this text was appended, behind which nothing comes, or memory was lacking and nothing was
-abbrev pub IsRepliedLast : Ending → List ℕ → Option Ending → List ℕ → List ℕ → Type 0
-IsRepliedLast end text ended before after =
-    ((ended ≡ Some end) × (after ≡ before ++ text))
-    ⊎ ((ended ≡ Some Memory) × (after ≡ before))
 
 -- memory was lacking before anything was called or appended
 pub record IsLostAt (old now : Histories) (stage : Stage) (ended : Option Ending)

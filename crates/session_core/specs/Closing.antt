@@ -16,7 +16,6 @@ use Rattle.upstream_relay.specs.declared.session.RelaySession.{RelaySession}
 use Rattle.upstream_relay.specs.Junk.{IsJunk, IsAtMostJunk}
 use Rattle.upstream_relay.specs.Standing as relay_standing
 use Rattle.rover_session.specs.Made.{sent_in, overrun_in}
-use Rattle.rover_session.specs.Standing.{rover_of}
 use Rattle.cast_config.specs.declared.config.Config.{Config}
 use Rattle.session_core.specs.declared.session.Session.{Session}
 use Rattle.session_core.specs.declared.stage.Stage.{Stage}
@@ -36,8 +35,8 @@ abbrev pub closing_at : Stage → Plan
 closing_at (Source mount session) = releasing mount (Some session.claim)
 closing_at (Relay mount session) = releasing mount (relay_standing.claim_at session.stage)
 closing_at (Rover account session) =
-    asks (to_book (Leave account (sent_in (rover_of session).segments)
-    (overrun_in (rover_of session).segments))) (λ answer. done)
+    asks (to_book (Leave account (sent_in session.segments) (overrun_in session.segments)))
+    (λ answer. done)
 closing_at _ = done
 
 -- what a connection makes when it is closed
@@ -74,7 +73,7 @@ end_at _ = endings.NoHead
 
 -- the segments of a rover, the newest first
 abbrev pub segments_at : Stage → List Segment
-segments_at (Rover account session) = (rover_of session).segments
+segments_at (Rover account session) = session.segments
 segments_at _ = []
 
 -- the bytes of a source's payload that were no part of a frame: exactly so many, unless a turn was

@@ -7,5 +7,6 @@ pub mod Feeding
 pub mod Closing
 pub mod Beginnings
 pub mod Places
+pub mod Setups
 pub mod Turned
 pub mod States

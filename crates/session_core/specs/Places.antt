@@ -1,26 +1,18 @@
 -- What contracts say of the places of a connection: one at the ring of each mountpoint, and one at
 -- the book of accounts. What the places are asked for is given as T.Turns and B.Turns.
-use Rattle.std.specs.Prelude.{◌≤◌, ℕ, Bool, List, map}
-use Rattle.turn_log.specs.Turn.{SamePlace}
+use Rattle.std.specs.Prelude.{ℕ, Bool, List}
 use Rattle.turn_log.specs.declared.place.Turns.{Ghosts}
-use Rattle.mount_ring.specs.declared.ring.Ring.{Ring}
-use Rattle.mount_ring.specs.declared.call.RingCall.{RingCall}
-use Rattle.mount_ring.specs.declared.call.RingAnswer.{RingAnswer}
-use Rattle.mount_ring.specs.declared.outbox.Outbox.{Outbox}
-use Rattle.mount_ring.specs.declared.shape.RingShape.{RingShape}
 use Rattle.caster_accounts.specs.declared.book.Book.{Book}
 use Rattle.caster_accounts.specs.declared.call.BookCall.{BookCall}
 use Rattle.caster_accounts.specs.declared.call.BookAnswer.{BookAnswer}
-use Rattle.session_calls.specs.Rings.{AllLater, SamePlaces}
+use Rattle.source_session.specs.Places.{Stays}
+pub use Rattle.rover_session.specs.Places.{AtRing, StayAtRings}
 use Rattle.session_model.specs.Run.{Histories}
 use Rattle.session_model.specs.Called.{seen_at, alone_at}
 use Rattle.session_core.specs.Beginnings.{lacks_at, worn_at}
 use Rattle.session_core.specs.declared.places.Places.{Places}
 
--- what places of this type tell, at a ring and at the book
-abbrev pub AtRing : Type 0 → Type 1
-AtRing P = Ghosts P Ring RingCall RingAnswer Outbox RingShape
-
+-- what places of this type tell, at the book
 abbrev pub AtBook : Type 0 → Type 1
 AtBook P = Ghosts P Book BookCall BookAnswer (Unit {0}) (List ℕ)
 
@@ -43,15 +35,7 @@ lacks_in ring book places = lacks_at ring.may_lack book.may_lack places.rings.it
 -- ---- places stay themselves: they are at the same objects, speak for the same callers, and may
 -- lack memory and are alone as before. They have seen more at most, and are worn no less.
 
-pub record StayAtRings {P : Type 0} (ring : AtRing P) (old now : List P) : Type 0 where
-  pub same : SamePlaces ring.shape ring.speaks ring.may_lack ring.alone ring.home old now
-  pub worn : AllLater (map ring.worn old) (map ring.worn now)
-
-pub record StaysAtBook {B : Type 0} (book : AtBook B) (old now : B) : Type 0 where
-  pub same : SamePlace book.shape book.speaks book.may_lack book.alone book.home old now
-  pub worn : book.worn old ≤ book.worn now
-
 pub record Stay {P B : Type 0} (ring : AtRing P) (book : AtBook B) (old now : Places P B)
     : Type 0 where
   pub at_rings : StayAtRings ring old.rings.items now.rings.items
-  pub at_book : StaysAtBook book old.book now.book
+  pub at_book : Stays book old.book now.book

@@ -17,7 +17,7 @@ use Rattle.upstream_relay.specs.Owed.{IsDone}
 use Rattle.upstream_relay.specs.Standing as relay_standing
 use Rattle.rover_session.specs.declared.session.RoverSession.{RoverSession}
 use Rattle.rover_session.specs.Made.{segments_after, owed_among}
-use Rattle.rover_session.specs.Standing.{rover_of, IsResumable}
+use Rattle.rover_session.specs.Standing.{IsResumable}
 use Rattle.rover_session.specs.Standing as rover_standing
 use Rattle.ntrip_head.specs.declared.request.Version.TheVariants.{One}
 use Rattle.ntrip_head.specs.Head.{IsOpen}
@@ -128,11 +128,11 @@ pub record IsRover (c : Config) (me : ℕ) (histories : Histories) (judged : Jud
   pub judged_is : judged ≡ rover terms tail
   pub account_is : terms.admission.account ≡ account
   pub steps_are : steps ≡ at_book (Enter account) Entered ∷ behind
-  pub caller : (rover_of session).me ≡ me
-  pub admitted : (rover_of session).terms ≡ terms_of c terms.admission
-  pub version : (rover_of session).version ≡ unwrap_or terms.version One
-  pub stands : rover_standing.Stands (rover_of session) terms.first tail behind
-  pub resumes : IsResumable (shapes c) me histories.rings (rover_of session).segments
+  pub caller : session.me ≡ me
+  pub admitted : session.terms ≡ terms_of c terms.admission
+  pub version : session.version ≡ unwrap_or terms.version One
+  pub stands : rover_standing.Stands session terms.first tail behind
+  pub resumes : IsResumable (shapes c) me histories.rings session.segments
   pub inside : IsTrue (may_leave (caps c) histories.book me account)
 
 abbrev pub IsAtStage : Config → ℕ → Histories → Opening → Judged → List ℕ → List Step → Stage
@@ -154,7 +154,7 @@ is_going (Head head) = true
 is_going Over = false
 is_going (Source mount session) = is_none session.halt
 is_going (Relay mount session) = is_none (relay_standing.halt_at session.stage)
-is_going (Rover account session) = is_none (rover_of session).halt
+is_going (Rover account session) = is_none session.halt
 
 -- a turn of a source or of a relay was refused
 abbrev pub is_refused_at : Stage → Bool

@@ -2,7 +2,7 @@
 use Rattle.std.specs.Prelude.{ℕ, List, [], ◌∷◌, length, Option, None, Some}
 use Rattle.ntrip_head.specs.declared.request.Version.{Version}
 use Rattle.rover_cursor.specs.declared.segment.Segment.{Segment}
-use Rattle.rover_session.specs.Standing.{Rover as RoverValue, rover_of}
+use Rattle.rover_session.specs.Standing.{Rover as RoverValue}
 use Rattle.session_model.specs.declared.ending.Ending.{Ending}
 use Rattle.session_core.specs.declared.rover_state.RoverState.{RoverState}
 use Rattle.session_core.specs.declared.stage.Stage.{Stage}
@@ -24,7 +24,7 @@ state_of rover = state_in rover.version rover.segments
 
 -- of a session that ended so, if it did, at this stage
 abbrev pub state_at : Option Ending → Stage → Option RoverState
-state_at None (Rover account session) = state_of (rover_of session)
+state_at None (Rover account session) = state_of session
 state_at _ _ = None
 
 abbrev pub rover_state : Session → Option RoverState

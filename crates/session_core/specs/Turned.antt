@@ -1,5 +1,5 @@
 -- What a turn makes: a rover that entered its account reads on, and nothing else takes a turn.
-use Rattle.std.specs.Prelude.{◌≡◌, ⊤, Bool, true, false, ℕ, List, [], ◌++◌, Option, None, Some}
+use Rattle.std.specs.Prelude.{◌≡◌, ⊤, Bool, true, false, IsTrue, ℕ, List, [], ◌++◌, Option, None, Some}
 use Rattle.turn_log.specs.History.{History}
 use Rattle.gga_read.specs.declared.Position.{Position}
 use Rattle.mount_ring.specs.declared.call.RingCall.{RingCall}
@@ -9,7 +9,7 @@ use Rattle.session_calls.specs.Rings.{Went}
 use Rattle.rover_session.specs.Owed.{reads}
 use Rattle.rover_session.specs.Made.{segments_after}
 use Rattle.rover_session.specs.Body.{body_of}
-use Rattle.rover_session.specs.Standing.{Rover, rover_of, IsResumable, WasResumable, SameAdmission, frames_sent}
+use Rattle.rover_session.specs.Standing.{Rover, IsResumable, WasResumable, SameButSegments, frames_sent}
 use Rattle.rover_session.specs.Standing as rover_standing
 use Rattle.rover_session.specs.declared.session.RoverSession.{RoverSession}
 use Rattle.cast_config.specs.declared.config.Config.{Config}
@@ -21,7 +21,7 @@ use Rattle.session_core.specs.declared.stage.Stage.TheVariants as stages
 use Rattle.session_core.specs.declared.session.Session.{Session}
 use Rattle.session_model.specs.Judged.{Opening}
 use Rattle.session_model.specs.Run.{Histories}
-use Rattle.session_model.specs.Called.{Called}
+use Rattle.session_model.specs.Called.{Called, is_halt}
 use Rattle.session_core.specs.Standing.{IsMadeBy, StandsFor, is_halted}
 
 -- ---- the answer
@@ -30,6 +30,14 @@ use Rattle.session_core.specs.Standing.{IsMadeBy, StandsFor, is_halted}
 abbrev pub flow_of : Option Ending → Flow
 flow_of None = flows.Open
 flow_of (Some end) = flows.Ended
+
+-- A turn that ended the session halted it by this: a place refused the turn, or memory was lacking.
+-- Nothing was read then, and nothing appended.
+pub record HaltedUnread {H : Type 0} (old now : H) (before after : List ℕ) (end : Ending)
+    : Type 0 where
+  pub halt : IsTrue (is_halt end)
+  pub unread : now ≡ old
+  pub unsent : after ≡ before
 
 -- ---- by stage
 
@@ -41,8 +49,8 @@ is_rover _ = false
 -- a rover was not halted, and its newest segment can be read on by this caller
 abbrev pub IsReadBy : List RingShape → ℕ → List (History RingCall) → Stage → Type 0
 IsReadBy shapes me histories (stages.Rover account session) =
-    ((rover_of session).me ≡ me) × ((rover_of session).halt ≡ None)
-    × WasResumable shapes me histories (rover_of session).segments
+    (session.me ≡ me) × (session.halt ≡ None)
+    × WasResumable shapes me histories session.segments
 IsReadBy shapes me histories _ = ⊤
 
 -- A rover's session made the read of its newest segment, or nothing where it has none, and stands
@@ -59,8 +67,7 @@ pub record ReadAt (shapes : List RingShape) (alone : Bool) (old now : List (Hist
 pub record RoverTurned (shapes : List RingShape) (alone : Bool) (old now : List (History RingCall))
     (budget : ℕ) (before after : Rover) (ended : Option Ending) (out_old out_new : List ℕ)
     : Type 0 where
-  pub admission : SameAdmission before after
-  pub halt : after.halt ≡ before.halt
+  pub same : SameButSegments before after
   pub resumable : IsResumable shapes before.me now after.segments
   -- what the read took
   pub frames : List (List ℕ)
@@ -76,7 +83,7 @@ abbrev pub TurnedAt : List RingShape → Bool → List (History RingCall) → Li
     → Stage → Stage → Option Ending → List ℕ → List ℕ → Type 0
 TurnedAt shapes alone old now budget (stages.Rover account session) after ended out_old out_new =
     (next : RoverSession) × (after ≡ stages.Rover account next)
-    × RoverTurned shapes alone old now budget (rover_of session) (rover_of next) ended out_old
+    × RoverTurned shapes alone old now budget session next ended out_old
     out_new
 TurnedAt shapes alone old now budget _ after ended out_old out_new = ⊤
 

@@ -14,6 +14,7 @@ use crate::ending::Bare;
 use crate::judging::{judge_bare_source, judge_rover};
 use crate::places::Places;
 use crate::session::Session;
+use crate::setup::Setup;
 use cast_config::Config;
 use cast_text::MountName;
 use caster_accounts::Book;
@@ -76,11 +77,15 @@ impl Session {
                 Ok(Session::of(alloc, me, begun))
             }
             Bare::Rover => {
-                let begun = judge_rover(
+                let table = &[];
+                let setup = Setup {
                     alloc,
                     config,
-                    &[],
+                    table,
                     me,
+                };
+                let begun = judge_rover(
+                    &setup,
                     None,
                     mount,
                     &Auth::None,

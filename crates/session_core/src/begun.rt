@@ -2,14 +2,13 @@
 
 ghost use Rattle.std.specs.Prelude.{◌≡◌, ℕ, ◌+◌, ◌≤◌, ◌++◌, ◌⊎◌, Bool, [], vec_len, IfNone, Some};
 ghost use Rattle.std.specs.Vec.{vec_capacity};
-ghost use Rattle.ntrip_reply.specs.Text.{reply_text};
 ghost use Rattle.cast_config.specs.declared.config.Config.{Config as ConfigValue};
 ghost use Rattle.session_model.specs.Setting as setting;
 ghost use Rattle.session_model.specs.Judged.{finished, replied};
 ghost use Rattle.session_core.specs.Beginnings.{IsTableFor};
 ghost use Rattle.session_model.specs.Replies.{text_if};
 ghost use Rattle.session_model.specs.Run.{Histories};
-ghost use Rattle.session_core.specs.Begun.{BeginsFor, IsRepliedLast, StartsAs};
+ghost use Rattle.session_core.specs.Begun.{BeginsFor, StartsAs};
 
 use crate::stage::Stage;
 use ntrip_head::Version;
@@ -41,24 +40,6 @@ impl Begun {
     }
 }
 
-/// Appends a reply, behind which nothing comes.
-fn reply_last(
-    version: Version,
-    with: Reply,
-    ending: Ending,
-    table: &[u8],
-    out: &mut Vec<u8>,
-) -> Begun
-    ensures stage { result.stage ≡ Stage.Over }
-    ensures replied { IsRepliedLast ending (reply_text version with table.now) result.ended
-        out.old.items out.new.items }
-{
-    match reply(version, &with, table, out) {
-        Ok(()) => Begun::over(ending),
-        Err(AllocError) => Begun::over(Ending::Memory),
-    }
-}
-
 /// Refuses a connection with this reply, if it is replied to.
 pub(crate) fn refuse(
     version: Option<Version>,
@@ -77,7 +58,10 @@ pub(crate) fn refuse(
 {
     match version {
         None => Begun::over(ending),
-        Some(version) => reply_last(version, with, ending, table, out),
+        Some(version) => match reply(version, &with, table, out) {
+            Ok(()) => Begun::over(ending),
+            Err(AllocError) => Begun::over(Ending::Memory),
+        },
     }
 }
 
@@ -90,7 +74,10 @@ pub(crate) fn send_table(version: Version, table: &[u8], out: &mut Vec<u8>) -> B
     ensures starts { StartsAs result.stage result.ended }
     ensures cause { (result.ended ≡ Some Ending.TableSent) ⊎ (result.ended ≡ Some Ending.Memory) }
 {
-    reply_last(version, Reply::Table, Ending::TableSent, table, out)
+    match reply(version, &Reply::Table, table, out) {
+        Ok(()) => Begun::over(Ending::TableSent),
+        Err(AllocError) => Begun::over(Ending::Memory),
+    }
 }
 
 /// Appends a reply without a sourcetable, if one is made. Room for it was reserved.

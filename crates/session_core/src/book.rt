@@ -5,7 +5,7 @@ ghost use Rattle.caster_accounts.specs.History.{may_leave};
 ghost use Rattle.turn_log.specs.Faults.{IsFault};
 ghost use Rattle.turn_log.specs.Heard.{Heard};
 ghost use Rattle.session_core.specs.Entries.{answer_of};
-ghost use Rattle.session_core.specs.Places.{StaysAtBook};
+ghost use Rattle.source_session.specs.Places.{Stays};
 
 use caster_accounts::{Book, BookAnswer, BookCall};
 use turn_log::{Played, TurnFault, Turns};
@@ -23,7 +23,7 @@ pub enum Entry {
 pub(crate) fn enter<B: Turns<Book>>(book: &mut B, me: u32, account: u32) -> Result<Entry, TurnFault>
     requires speaks { IsTrue (B.speaks book.old me) }
     requires known { account < length (B.shape book.old) }
-    ensures stay { StaysAtBook B.Turns book.old book.new }
+    ensures stay { Stays B.Turns book.old book.new }
     ensures heard { IfOk result (λ entry.
         Heard (B.alone book.old) (⟦<Book as Played>⟧.answer (B.shape book.old))
         (B.seen book.old) (B.seen book.new) me
@@ -50,7 +50,7 @@ pub(crate) fn leave<B: Turns<Book>>(
 ) -> Result<(), TurnFault>
     requires speaks { IsTrue (B.speaks book.old me) }
     requires inside { IsTrue (may_leave (B.shape book.old) (B.seen book.old) me account) }
-    ensures stay { StaysAtBook B.Turns book.old book.new }
+    ensures stay { Stays B.Turns book.old book.new }
     ensures heard { OnOk result
         (Heard (B.alone book.old) (⟦<Book as Played>⟧.answer (B.shape book.old))
         (B.seen book.old) (B.seen book.new) me

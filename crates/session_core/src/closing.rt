@@ -32,7 +32,7 @@ fn ending_at_end(stage: &Stage) -> Ending
 }
 
 /// How a connection at this stage ends that is closed so.
-pub(crate) fn ending_last(stage: &Stage, last: Last) -> Ending
+fn ending_last(stage: &Stage, last: Last) -> Ending
     ensures { result ≡ ended_last last (end_at stage.now) }
 {
     match last {
@@ -42,15 +42,8 @@ pub(crate) fn ending_last(stage: &Stage, last: Last) -> Ending
     }
 }
 
-/// How a connection at this stage ended: by itself, or else as it is closed.
-fn ending_of(stage: &Stage, ended: Option<Ending>, last: Last) -> Ending
-    ensures { result ≡ unwrap_or ended (ended_last last (end_at stage.now)) }
-{
-    ended.unwrap_or(ending_last(stage, last))
-}
-
 /// How many bytes of a source's payload were no part of a frame.
-pub(crate) fn junk_at(stage: &Stage) -> u64
+fn junk_at(stage: &Stage) -> u64
     ensures { IsJunkAt stage.now result }
 {
     match stage {
@@ -104,7 +97,7 @@ pub(crate) fn receipt_of(
     ensures entered { result.entered ≡ is_rover stage }
     ensures settled { result.settled ≡ settled }
 {
-    let ending = ending_of(&stage, ended, last);
+    let ending = ended.unwrap_or(ending_last(&stage, last));
     let junk = junk_at(&stage);
     match stage {
         Stage::Head(_head) => without_segments(alloc, ending, junk, settled),

@@ -1,9 +1,9 @@
 //! Bytes that come in on a connection.
 
-ghost use Rattle.std.specs.Prelude.{◌≡◌, ◌≤◌, ◌<◌, ◌++◌, ℕ, IsTrue, List, length, map, take, IfNone, IfSome, None, Some};
+ghost use Rattle.std.specs.Prelude.{◌≡◌, ◌≢◌, ◌++◌, ℕ, IsTrue, List, length, map, IfSome, None};
 ghost use Rattle.std.specs.Option.{option_map};
 ghost use Rattle.std.specs.Result.{result_err};
-ghost use Rattle.ntrip_head.specs.Head.{IsOpen};
+ghost use Rattle.ntrip_client.specs.Steps.{IsStep};
 ghost use Rattle.session_calls.specs.Steps.{Step};
 ghost use Rattle.session_calls.specs.Rings.{AllSpeak};
 ghost use Rattle.cast_config.specs.declared.config.Config.{Config as ConfigValue};
@@ -17,6 +17,7 @@ ghost use Rattle.session_model.specs.Setting as setting;
 ghost use Rattle.session_core.specs.Turned.{flow_of};
 ghost use Rattle.session_core.specs.Standing.{Fed, Follows, Stands, StandsFor};
 ghost use Rattle.session_core.specs.Begun.{StartsAs};
+ghost use Rattle.session_core.specs.Setups.{IsSetUp};
 ghost use Rattle.session_core.specs.Places.{Stay, seen_in, alone_in, worn_in};
 
 use crate::begun::{Begun, refuse};
@@ -26,6 +27,7 @@ use crate::judging::begin_head;
 use crate::places::Places;
 use crate::rovers::halted;
 use crate::session::Session;
+use crate::setup::Setup;
 use crate::stage::Stage;
 use crate::turning::flow_after;
 use cast_config::Config;
@@ -35,7 +37,6 @@ use ntrip_head::{HeadBuf, HeadStep, Version};
 use ntrip_reply::Reply;
 use session_model::Ending;
 use source_session::SourceHalt;
-use std::alloc::Global;
 use turn_log::Turns;
 use upstream_relay::RelayHalt;
 
@@ -82,65 +83,34 @@ fn ended_relay(claim: Option<u64>, fed: Result<(), RelayHalt>) -> Option<Ending>
     }
 }
 
-/// What bytes of a head come to.
-#[derive(Drop)]
-struct Heard {
-    /// What became of the connection, unless its head goes on.
-    begun: Option<Begun>,
-    /// How many of the bytes belong to the head.
-    count: usize,
-}
-
-/// Takes more bytes of a head that goes on. Where they end it, the connection begins.
-fn hear_head<T: Turns<Ring>, B: Turns<Book>>(
-    alloc: Global,
-    config: &Config,
-    table: &[u8],
-    me: u32,
-    head: &mut HeadBuf,
-    bytes: &[u8],
+/// What becomes of a connection whose head these bytes end, which are whole or too long.
+fn begin_taken<T: Turns<Ring>, B: Turns<Book>>(
+    setup: &Setup,
+    head: &HeadBuf,
+    step: HeadStep,
     places: &mut Places<T, B>,
     out: &mut Vec<u8>,
-) -> Heard
-    requires open { IsOpen head.old }
-    requires kept { (cap : ℕ) × KeepsRules cap config.now }
-    requires table { table.now ≡ setting.table config.now }
-    requires shapes { map T.shape places.old.rings.items ≡ shapes config.now }
-    requires caps { B.shape places.old.book ≡ caps config.now }
-    requires rings { AllSpeak T.speaks places.old.rings.items me }
-    requires book { IsTrue (B.speaks places.old.book me) }
+) -> Begun
+    requires ready { IsSetUp setup.now }
+    requires step { IsStep head.now step }
+    requires ends { step ≢ HeadStep.More }
+    requires shapes { map T.shape places.old.rings.items ≡ shapes setup.now.config.now }
+    requires caps { B.shape places.old.book ≡ caps setup.now.config.now }
+    requires rings { AllSpeak T.speaks places.old.rings.items setup.now.me }
+    requires book { IsTrue (B.speaks places.old.book setup.now.me) }
     ensures stay { Stay T.Turns B.Turns places.old places.new }
-    ensures within { result.count ≤ length bytes.now }
-    ensures open { IfNone result.begun (IsOpen (head.old ++ bytes.now)) }
-    ensures bytes { IfNone result.begun (head.new ≡ head.old ++ bytes.now) }
-    ensures places { IfNone result.begun (places.new ≡ places.old) }
-    ensures out { IfNone result.begun (out.new ≡ out.old) }
-    ensures begun { IfSome result.begun (λ begun. HasBegunFor config.now
-        (alone_in T.Turns B.Turns places.old) (seen_in T.Turns B.Turns places.old)
-        (seen_in T.Turns B.Turns places.new) me (head.old ++ take result.count bytes.now)
-        begun.stage begun.ended out.old.items out.new.items) }
-    ensures starts { IfSome result.begun (λ begun. StartsAs begun.stage begun.ended) }
-    ensures cause { IfSome result.begun (λ begun. IfSome begun.ended
-        (IsCause (worn_in T.Turns B.Turns places.new))) }
+    ensures begun { HasBegunFor setup.now.config.now (alone_in T.Turns B.Turns places.old)
+        (seen_in T.Turns B.Turns places.old) (seen_in T.Turns B.Turns places.new) setup.now.me
+        head.now result.stage result.ended out.old.items out.new.items }
+    ensures starts { StartsAs result.stage result.ended }
+    ensures cause { IfSome result.ended (IsCause (worn_in T.Turns B.Turns places.new)) }
 {
-    let taken = take_head(head, bytes);
-    let count = taken.count;
-    match taken.step {
-        HeadStep::More => Heard { begun: None, count },
-        HeadStep::Done => {
-            let begun = begin_head(alloc, config, table, me, head.bytes(), places, out);
-            Heard {
-                begun: Some(begun),
-                count,
-            }
-        }
+    match step {
+        HeadStep::More => unreachable!(),
+        HeadStep::Done => begin_head(setup, head.bytes(), places, out),
         HeadStep::Long => {
             let (reply, ending) = (Reply::BadHead, Ending::LongHead);
-            let begun = refuse(Some(Version::One), reply, ending, table, out);
-            Heard {
-                begun: Some(begun),
-                count,
-            }
+            refuse(Some(Version::One), reply, ending, setup.table, out)
         }
     }
 }
@@ -242,12 +212,17 @@ impl Session {
             self.feed_behind(bytes, places);
             return flow_after(self.ended);
         };
-        let Heard { begun, count } = hear_head(
-            self.alloc, config, table, self.me, head, bytes, places, out,
-        );
-        let Some(begun) = begun else {
+        let (count, step) = take_head(head, bytes);
+        if step == HeadStep::More {
             return Flow::Open;
+        }
+        let setup = Setup {
+            alloc: self.alloc,
+            config,
+            table,
+            me: self.me,
         };
+        let begun = begin_taken(&setup, head, step, places, out);
         self.go_on_as(begun);
         if self.ended.is_some() {
             return Flow::Ended;

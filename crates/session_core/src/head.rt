@@ -6,34 +6,20 @@ ghost use Rattle.ntrip_client.specs.Steps.{IsStep};
 
 use ntrip_head::{HeadBuf, HeadStep};
 
-/// The bytes of a head up to the one that ends it, and what they make of it.
-#[derive(Clone, Copy)]
-pub(crate) struct HeadTaken {
-    /// How many bytes were taken.
-    pub(crate) count: usize,
-    /// Whether the head goes on, is whole, or is too long.
-    pub(crate) step: HeadStep,
-}
-
-/// Takes more bytes of a head that goes on, until it is whole or too long.
-pub(crate) fn take_head(head: &mut HeadBuf, bytes: &[u8]) -> HeadTaken
+/// Takes more bytes of a head that goes on, until it is whole or too long. Gives how many were
+/// taken, and whether the head goes on behind them, is whole, or is too long.
+pub(crate) fn take_head(head: &mut HeadBuf, bytes: &[u8]) -> (usize, HeadStep)
     requires open { IsOpen head.old }
-    ensures within { result.count ≤ length bytes.now }
-    ensures bytes { head.new ≡ head.old ++ take result.count bytes.now }
-    ensures step { IsStep head.new result.step }
-    ensures all { result.step ≡ HeadStep.More → result.count ≡ length bytes.now }
+    ensures within { result.0 ≤ length bytes.now }
+    ensures bytes { head.new ≡ head.old ++ take result.0 bytes.now }
+    ensures step { IsStep head.new result.1 }
+    ensures all { result.1 ≡ HeadStep.More → result.0 ≡ length bytes.now }
 {
     for count in 0..bytes.len() {
         let step = head.push(bytes[count]);
         if step != HeadStep::More {
-            return HeadTaken {
-                count: count + 1,
-                step,
-            };
+            return (count + 1, step);
         }
     }
-    HeadTaken {
-        count: bytes.len(),
-        step: HeadStep::More,
-    }
+    (bytes.len(), HeadStep::More)
 }

@@ -15,6 +15,7 @@ mod rover_state;
 mod rovers;
 mod session;
 mod settle;
+mod setup;
 mod stage;
 mod turning;
 
@@ -26,3 +27,4 @@ pub use session_model::{
     Closed, Connection, Connections, Ending, Last, MountTotal, MountTotals, Receipt, Report,
     Segments, Sent, Sums,
 };
+pub use setup::Setup;

@@ -1,7 +1,6 @@
 //! How far a rover is, and at which mountpoint a session is.
 
 ghost use Rattle.std.specs.Prelude.{◌≡◌};
-ghost use Rattle.rover_session.specs.Standing.{rover_of};
 ghost use Rattle.session_core.specs.States.{rover_state, session_mount, state_of};
 
 use crate::session::Session;
@@ -24,7 +23,7 @@ pub struct RoverState {
 
 /// Where a rover's session stands, if it has a segment.
 fn state_of(session: &RoverSession) -> Option<RoverState>
-    ensures { result ≡ state_of (rover_of session.now) }
+    ensures { result ≡ state_of session.now }
 {
     let segments = session.segments();
     let newest = segments.last()?;

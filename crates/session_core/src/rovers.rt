@@ -4,7 +4,7 @@ ghost use Rattle.std.specs.Prelude.{◌≡◌, ℕ, ◌+◌, ◌<◌, ◌≤◌,
 ghost use Rattle.std.specs.Result.{result_err};
 ghost use Rattle.base_select.specs.Measure.{IsOnEarth};
 ghost use Rattle.session_calls.specs.Rings.{AllSpeak};
-ghost use Rattle.rover_session.specs.Standing.{rover_of, IsNew};
+ghost use Rattle.rover_session.specs.Standing.{IsNew};
 ghost use Rattle.ntrip_head.specs.declared.request.Version.TheVariants.{One};
 ghost use Rattle.ntrip_head.specs.declared.request.Auth.{Auth as AuthValue};
 ghost use Rattle.cast_config.specs.Kept.{KeepsRules};
@@ -17,11 +17,13 @@ ghost use Rattle.session_model.specs.Replies.{text_if};
 ghost use Rattle.session_model.specs.Called.{IsCause};
 ghost use Rattle.session_core.specs.Beginnings.{end_unentered, ended_joining};
 ghost use Rattle.session_core.specs.Begun.{BeginsFor, StartsAs};
+ghost use Rattle.session_core.specs.Setups.{IsSetUpFor};
 ghost use Rattle.session_core.specs.Places.{Stay, seen_in, alone_in, worn_in};
 
 use crate::begun::{Begun, REPLY_ROOM, push_reply};
 use crate::book::{Entry, enter};
 use crate::places::Places;
+use crate::setup::Setup;
 use crate::stage::Stage;
 use access_groups::Admission;
 use base_select::Base;
@@ -87,12 +89,12 @@ fn new_session(
     requires kept { (cap : ℕ) × KeepsRules cap config.now }
     requires admitted { (auth : AuthValue) × (name : List ℕ)
         × (admission_of config.now auth name ≡ Ok admission.now) }
-    ensures new { IfOk result (λ session. IsNew (rover_of session)) }
-    ensures me { IfOk result (λ session. (rover_of session).me ≡ me) }
+    ensures new { IfOk result (λ session. IsNew session) }
+    ensures me { IfOk result (λ session. session.me ≡ me) }
     ensures version { IfOk result (λ session.
-        (rover_of session).version ≡ unwrap_or version One) }
+        session.version ≡ unwrap_or version One) }
     ensures terms { IfOk result (λ session.
-        (rover_of session).terms ≡ terms_of config.now admission.now) }
+        session.terms ≡ terms_of config.now admission.now) }
 {
     let bases = bases_of(alloc, config, admission.bases.as_slice())?;
     RoverSession::new(
@@ -140,40 +142,39 @@ fn turn_away(version: Option<Version>, busy: u32, cap: u32, out: &mut Vec<u8>) -
 
 /// Lets a rover in that is admitted: it enters its account, is replied to, and joins.
 pub(crate) fn begin_rover<T: Turns<Ring>, B: Turns<Book>>(
-    alloc: Global,
-    config: &Config,
-    me: u32,
+    setup: &Setup,
     version: Option<Version>,
     admission: &Admission,
     first: Option<Position>,
     places: &mut Places<T, B>,
     out: &mut Vec<u8>,
 ) -> Begun
-    requires kept { (cap : ℕ) × KeepsRules cap config.now }
+    requires ready { IsSetUpFor version setup.now }
     requires admitted { (auth : AuthValue) × (name : List ℕ)
-        × (admission_of config.now auth name ≡ Ok admission.now) }
+        × (admission_of setup.now.config.now auth name ≡ Ok admission.now) }
     requires first { IfSome first IsOnEarth }
-    requires shapes { map T.shape places.old.rings.items ≡ shapes config.now }
-    requires caps { B.shape places.old.book ≡ caps config.now }
-    requires rings { AllSpeak T.speaks places.old.rings.items me }
-    requires book { IsTrue (B.speaks places.old.book me) }
+    requires shapes { map T.shape places.old.rings.items ≡ shapes setup.now.config.now }
+    requires caps { B.shape places.old.book ≡ caps setup.now.config.now }
+    requires rings { AllSpeak T.speaks places.old.rings.items setup.now.me }
+    requires book { IsTrue (B.speaks places.old.book setup.now.me) }
     ensures stay { Stay T.Turns B.Turns places.old places.new }
-    ensures begins { BeginsFor config.now (alone_in T.Turns B.Turns places.old)
-        (seen_in T.Turns B.Turns places.old) (seen_in T.Turns B.Turns places.new) me
+    ensures begins { BeginsFor setup.now.config.now (alone_in T.Turns B.Turns places.old)
+        (seen_in T.Turns B.Turns places.old) (seen_in T.Turns B.Turns places.new) setup.now.me
         (rover_judged version first [] (Ok admission.now)) result.stage result.ended out.old.items
         out.new.items }
     ensures untold { IfNone version (out.new.items ≡ out.old.items) }
     ensures starts { StartsAs result.stage result.ended }
     ensures cause { IfSome result.ended (IsCause (worn_in T.Turns B.Turns places.new)) }
 {
-    let Ok(mut session) = new_session(alloc, config, me, version, admission) else {
+    let Ok(mut session) = new_session(setup.alloc, setup.config, setup.me, version, admission)
+    else {
         return Begun::over(Ending::Memory);
     };
     let Ok(()) = out.reserve(REPLY_ROOM) else {
         return Begun::over(Ending::Memory);
     };
     let account = admission.account;
-    match enter(&mut places.book, me, account) {
+    match enter(&mut places.book, setup.me, account) {
         Ok(Entry::Entered) => {
             push_reply(version, Reply::RoverOk, out);
             let joined = session.start(first, places.rings.as_mut_slice());

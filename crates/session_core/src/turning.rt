@@ -4,12 +4,12 @@ ghost use Rattle.std.specs.Prelude.{◌≡◌, ℕ, List, false, map, IfSome, Is
 ghost use Rattle.session_calls.specs.Steps.{Step};
 ghost use Rattle.session_calls.specs.Rings.{AllSpeak, all_alone};
 ghost use Rattle.cast_config.specs.declared.config.Config.{Config as ConfigValue};
-ghost use Rattle.session_model.specs.Called.{IsCause, OthersCalled, is_halt};
+ghost use Rattle.session_model.specs.Called.{IsCause, OthersCalled};
 ghost use Rattle.session_model.specs.Judged.{Opening};
 ghost use Rattle.session_model.specs.Run.{Histories};
 ghost use Rattle.session_model.specs.Setting.{caps, shapes};
 ghost use Rattle.session_core.specs.Standing.{Follows, StandsFor};
-ghost use Rattle.session_core.specs.Turned.{IsReadBy, Turned, TurnedAt, flow_of, is_rover};
+ghost use Rattle.session_core.specs.Turned.{HaltedUnread, IsReadBy, Turned, TurnedAt, flow_of, is_rover};
 ghost use Rattle.session_core.specs.Places.{Stay, StayAtRings, seen_in, alone_in, worn_in};
 
 use crate::ending::Flow;
@@ -48,9 +48,8 @@ fn turn_at<T: Turns<Ring>>(
     ensures turned { TurnedAt (map T.shape rings.old) (all_alone T.alone rings.old)
         (map T.seen rings.old) (map T.seen rings.new) budget stage.old stage.new result
         out.old.items out.new.items }
-    ensures refused { IfSome result (λ end. (map T.seen rings.new ≡ map T.seen rings.old)
-        × (out.new.items ≡ out.old.items)) }
-    ensures halts { IfSome result (λ end. IsTrue (is_halt end)) }
+    ensures halted { IfSome result (HaltedUnread (map T.seen rings.old) (map T.seen rings.new)
+        out.old.items out.new.items) }
     ensures cause { IfSome result (IsCause (map T.worn rings.new)) }
 {
     match stage {
@@ -92,10 +91,9 @@ impl Session {
         ensures me { self.new.me ≡ self.old.me }
         ensures stay { Stay T.Turns B.Turns places.old places.new }
         ensures flow { result ≡ flow_of self.new.ended }
-        ensures halts { IfSome self.new.ended (λ end. IsTrue (is_halt end)) }
+        ensures halted { IfSome self.new.ended (HaltedUnread (seen_in T.Turns B.Turns places.old)
+            (seen_in T.Turns B.Turns places.new) out.old.items out.new.items) }
         ensures cause { IfSome self.new.ended (IsCause (worn_in T.Turns B.Turns places.new)) }
-        ensures refused { IfSome self.new.ended (λ end. (seen_in T.Turns B.Turns places.new
-            ≡ seen_in T.Turns B.Turns places.old) × (out.new.items ≡ out.old.items)) }
         ensures bystander { is_rover self.old.stage ≡ false → (self.new ≡ self.old)
             × (places.new.rings.items ≡ places.old.rings.items)
             × (places.new.book ≡ places.old.book) × (out.new.items ≡ out.old.items) }

@@ -93,14 +93,12 @@ rover_grows c version first tail more (Err denials.NoMount) = tt
 rover_grows c version first tail more (Err denials.NoAccount) = tt
 rover_grows c version first tail more (Err (denials.Password account)) = tt
 rover_grows c version first tail more (Err (denials.Group group)) = tt
-rover_grows c version first tail more (Err denials.Memory) = tt
 
 request_grows : (c : Config) (body more : List ℕ) (r : Result Request HeadFault)
     → Begins (plan_of c (request_judged c body r)) (plan_of c (request_judged c (body ++ more) r))
 request_grows c body more (Err heads.Bad) = tt
 request_grows c body more (Err heads.Method) = tt
 request_grows c body more (Err heads.Coding) = tt
-request_grows c body more (Err heads.Memory) = tt
 request_grows c body more (Ok (requests.Table version)) = tt
 request_grows c body more (Ok (requests.Rover version mount auth first)) =
     rover_grows c (Some version) first body more (admission c auth mount)

@@ -49,14 +49,12 @@ rover_more version first tail more (Err denials.NoMount) = refl
 rover_more version first tail more (Err denials.NoAccount) = refl
 rover_more version first tail more (Err (denials.Password account)) = refl
 rover_more version first tail more (Err (denials.Group group)) = refl
-rover_more version first tail more (Err denials.Memory) = refl
 
 request_more : (c : Config) (body more : List ℕ) (r : Result Request HeadFault)
     → request_judged c (body ++ more) r ≡ with_more (request_judged c body r) more
 request_more c body more (Err heads.Bad) = refl
 request_more c body more (Err heads.Method) = refl
 request_more c body more (Err heads.Coding) = refl
-request_more c body more (Err heads.Memory) = refl
 request_more c body more (Ok (requests.Table version)) = refl
 request_more c body more (Ok (requests.Rover version mount auth first)) =
     rover_more (Some version) first body more (admission c auth mount)

@@ -83,7 +83,6 @@ rover_judged version first tail (Err (denials.Password account)) =
     finished (replied version replies.Unauthorized) (endings.Password account)
 rover_judged version first tail (Err (denials.Group group)) =
     finished (replied version replies.Denied) (endings.Denied group)
-rover_judged version first tail (Err denials.Memory) = waiting
 
 -- ---- what a head asks for
 
@@ -91,7 +90,6 @@ abbrev pub fault_judged : HeadFault → Judged
 fault_judged heads.Bad = finished (Some (One, replies.BadHead)) endings.BadHead
 fault_judged heads.Method = finished (Some (One, replies.Method)) endings.Method
 fault_judged heads.Coding = finished (Some (One, replies.Coding)) endings.Coding
-fault_judged heads.Memory = waiting
 
 abbrev pub request_judged : Config → List ℕ → Result Request HeadFault → Judged
 request_judged c body (Err fault) = fault_judged fault

@@ -4,7 +4,7 @@ ghost use Rattle.std.specs.Prelude.{◌≡◌, ◌≤◌, false, IsTrue, length,
 ghost use Rattle.turn_log.specs.History.{GoesOn};
 ghost use Rattle.base_select.specs.Measure.{IsOnEarth};
 ghost use Rattle.mount_ring.specs.History.{is_holder, state_of};
-ghost use Rattle.rover_session.specs.Standing.{rover_of, KnowsFilter, AreWithin, IsServed};
+ghost use Rattle.rover_session.specs.Standing.{KnowsFilter, AreWithin, IsServed};
 
 use crate::desks::{FRAME_A, FRAME_B, FRAME_Z, expect_eq, ring_desk};
 use base_select::Base;
@@ -155,12 +155,12 @@ fn happen(
     what: Happening,
     out: &mut Vec<u8>,
 ) -> Result<(), Fail>
-    requires me { (rover_of rover.old).me ≡ ROVER }
+    requires me { rover.old.me ≡ ROVER }
     requires served { IsServed (map ⟦<Desk<Ring> as Turns<Ring>>⟧.shape desks.old)
-        (map ⟦<Desk<Ring> as Turns<Ring>>⟧.seen desks.old) (rover_of rover.old) }
-    ensures me { (rover_of rover.new).me ≡ ROVER }
+        (map ⟦<Desk<Ring> as Turns<Ring>>⟧.seen desks.old) rover.old }
+    ensures me { rover.new.me ≡ ROVER }
     ensures served { OnOk result (IsServed (map ⟦<Desk<Ring> as Turns<Ring>>⟧.shape desks.new)
-        (map ⟦<Desk<Ring> as Turns<Ring>>⟧.seen desks.new) (rover_of rover.new)) }
+        (map ⟦<Desk<Ring> as Turns<Ring>>⟧.seen desks.new) rover.new) }
 {
     match what {
         Happening::Source(mount, act) => {

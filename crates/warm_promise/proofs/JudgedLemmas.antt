@@ -156,14 +156,12 @@ rover_grows c o version first tail more (Err denials.NoMount) = inr (same_self c
 rover_grows c o version first tail more (Err denials.NoAccount) = inr (same_self c o _)
 rover_grows c o version first tail more (Err (denials.Password account)) = inr (same_self c o _)
 rover_grows c o version first tail more (Err (denials.Group group)) = inr (same_self c o _)
-rover_grows c o version first tail more (Err denials.Memory) = inl (refl, all_by o waiting refl)
 
 request_grows : (c : Config) (o : Opening) (body more : List ℕ) (r : Result Request HeadFault)
     → Grows c o (request_judged c body r) (request_judged c (body ++ more) r)
 request_grows c o body more (Err heads.Bad) = inr (same_self c o _)
 request_grows c o body more (Err heads.Method) = inr (same_self c o _)
 request_grows c o body more (Err heads.Coding) = inr (same_self c o _)
-request_grows c o body more (Err heads.Memory) = inl (refl, all_by o waiting refl)
 request_grows c o body more (Ok (requests.Table version)) = inr (same_self c o _)
 request_grows c o body more (Ok (requests.Rover version mount auth first)) =
     rover_grows c o (Some version) first body more (admission c auth mount)

@@ -95,7 +95,6 @@ rover_never c (Err denials.NoMount) is = tt
 rover_never c (Err denials.NoAccount) is = tt
 rover_never c (Err (denials.Password account)) is = tt
 rover_never c (Err (denials.Group group)) is = tt
-rover_never c (Err denials.Memory) is = tt
 
 -- ---- one that opens
 

@@ -18,7 +18,7 @@ use Rattle.session_core.proofs.begin.begin_source.Goals as goal
 pub returns-in-Ok-claim-clause-stay : goal.returns-in-Ok-claim-clause-stay
 returns-in-Ok-claim-clause-stay g c = record {
   at_rings = stay_picked g.T.Turns c.args.places.now.rings.items c.args.mount c.index_mut.result.now c.claim.new.place
-      c.index_mut.ensures.value c.claim.ensures.same c.claim.ensures.worn;
+      c.index_mut.ensures.value c.claim.ensures.stays;
   at_book = stays_still g.B.Turns c.args.places.now.book;
 }
 
@@ -47,13 +47,13 @@ returns-in-Ok-claim-clause-begins g c config same =
     (Given c.in-Ok-claim.session.claim) c.requires.within c.index_mut.ensures.value told.given))
     (holding_picked g.T.Turns rings c.args.mount c.claim.new.place c.args.me c.in-Ok-claim.session.claim
     c.requires.within told.holds)
-    told.begins told.goes_on told.me told.chunked
+    told.begins.stands told.begins.goes_on told.begins.caller told.begins.coded
     (c.push_reply.ensures ∙ ap (λ (l : List ℕ). l ++ text_if c.args.version SourceOk []) c.reserve.ensures.items)
 
 pub returns-in-Err-clause-stay : goal.returns-in-Err-clause-stay
 returns-in-Err-clause-stay g c = record {
   at_rings = stay_picked g.T.Turns c.args.places.now.rings.items c.args.mount c.index_mut.result.now c.claim.new.place
-      c.index_mut.ensures.value c.claim.ensures.same c.claim.ensures.worn;
+      c.index_mut.ensures.value c.claim.ensures.stays;
   at_book = stays_still g.B.Turns c.args.places.now.book;
 }
 

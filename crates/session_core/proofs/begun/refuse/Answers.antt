@@ -1,8 +1,7 @@
-use Rattle.session_core.proofs.BeginLemmas.{refused_untold, refused_told, replied_cause}
-use Rattle.ntrip_reply.specs.Text.{reply_text}
-use Rattle.std.proofs.Common.{inl, subst, Option}
+use Rattle.std.proofs.Common.{inl, inr, subst, Option}
 use Rattle.ntrip_head.specs.declared.request.Version.{Version}
 use Rattle.session_core.specs.Beginnings.{IsTableFor}
+use Rattle.session_core.proofs.BeginLemmas.{refused_untold, refused_told}
 use Rattle.session_core.proofs.begun.refuse.Goals as goal
 
 pub returns-in-None-clause-begins : goal.returns-in-None-clause-begins
@@ -13,14 +12,24 @@ returns-in-None-clause-begins c config alone h me same =
 pub returns-in-None-clause-cause : goal.returns-in-None-clause-cause
 returns-in-None-clause-cause c = inl c.over.ensures.ended
 
-pub returns-in-Some-clause-begins : goal.returns-in-Some-clause-begins
-returns-in-Some-clause-begins c config alone h me same =
+pub returns-in-Ok-clause-begins : goal.returns-in-Ok-clause-begins
+returns-in-Ok-clause-begins c config alone h me same =
+    let over = c.over-in-Ok in
     refused_told config alone h me c.args.version c.in-Some.version c.args.with c.args.ending c.args.table.now
-    c.reply_last.result.stage c.reply_last.result.ended c.args.out.now.items c.reply_last.new.out.items c.in-Some.is
-    c.reply_last.ensures.stage c.reply_last.ensures.replied
+    over.result.stage over.result.ended c.args.out.now.items c.reply.new.out.items c.in-Some.is over.ensures.stage
+    (inl (over.ensures.ended, c.in-Ok.ensures.ok))
     (subst (λ (v : Option Version). IsTableFor v c.args.table.now config) c.in-Some.is same)
 
-pub returns-in-Some-clause-cause : goal.returns-in-Some-clause-cause
-returns-in-Some-clause-cause c =
-    replied_cause c.args.ending (reply_text c.in-Some.version c.args.with c.args.table.now) c.reply_last.result.ended
-    c.args.out.now.items c.reply_last.new.out.items c.reply_last.ensures.replied
+pub returns-in-Ok-clause-cause : goal.returns-in-Ok-clause-cause
+returns-in-Ok-clause-cause c = inl c.over-in-Ok.ensures.ended
+
+pub returns-in-Err-clause-begins : goal.returns-in-Err-clause-begins
+returns-in-Err-clause-begins c config alone h me same =
+    let over = c.over-in-Err in
+    refused_told config alone h me c.args.version c.in-Some.version c.args.with c.args.ending c.args.table.now
+    over.result.stage over.result.ended c.args.out.now.items c.reply.new.out.items c.in-Some.is over.ensures.stage
+    (inr (over.ensures.ended, c.in-Err.ensures.err))
+    (subst (λ (v : Option Version). IsTableFor v c.args.table.now config) c.in-Some.is same)
+
+pub returns-in-Err-clause-cause : goal.returns-in-Err-clause-cause
+returns-in-Err-clause-cause c = inr c.over-in-Err.ensures.ended

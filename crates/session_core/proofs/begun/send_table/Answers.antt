@@ -1,19 +1,28 @@
-use Rattle.std.proofs.Common.{ℕ, List, subst, Some}
+use Rattle.std.proofs.Common.{ℕ, List, inl, inr, subst, Some}
 use Rattle.ntrip_reply.specs.declared.kind.Reply.TheVariants.{Table}
 use Rattle.ntrip_reply.specs.Text.{reply_text}
 use Rattle.session_model.specs.declared.ending.Ending.TheVariants.{TableSent}
-use Rattle.session_core.specs.Begun.{IsRepliedLast}
-use Rattle.session_core.proofs.BeginLemmas.{begins_finished, replied_cause}
+use Rattle.session_core.proofs.BeginLemmas.{IsRepliedLast, begins_finished}
 use Rattle.session_core.proofs.begun.send_table.Goals as goal
 
-pub returns-clause-begins : goal.returns-clause-begins
-returns-clause-begins c config alone h me same =
-    begins_finished config alone h me (Some (c.args.version, Table)) TableSent c.reply_last.result.stage
-    c.reply_last.result.ended c.args.out.now.items c.reply_last.new.out.items c.reply_last.ensures.stage
-    (subst (λ (t : List ℕ). IsRepliedLast TableSent (reply_text c.args.version Table t) c.reply_last.result.ended
-    c.args.out.now.items c.reply_last.new.out.items) same c.reply_last.ensures.replied)
+pub returns-in-Ok-clause-begins : goal.returns-in-Ok-clause-begins
+returns-in-Ok-clause-begins c config alone h me same =
+    let over = c.over in
+    begins_finished config alone h me (Some (c.args.version, Table)) TableSent over.result.stage over.result.ended
+    c.args.out.now.items c.reply.new.out.items over.ensures.stage
+    (subst (λ (t : List ℕ). IsRepliedLast TableSent (reply_text c.args.version Table t) over.result.ended
+    c.args.out.now.items c.reply.new.out.items) same (inl (over.ensures.ended, c.in-Ok.ensures.ok)))
 
-pub returns-clause-cause : goal.returns-clause-cause
-returns-clause-cause c =
-    replied_cause TableSent (reply_text c.args.version Table c.args.table.now) c.reply_last.result.ended
-    c.args.out.now.items c.reply_last.new.out.items c.reply_last.ensures.replied
+pub returns-in-Ok-clause-cause : goal.returns-in-Ok-clause-cause
+returns-in-Ok-clause-cause c = inl c.over.ensures.ended
+
+pub returns-in-Err-clause-begins : goal.returns-in-Err-clause-begins
+returns-in-Err-clause-begins c config alone h me same =
+    let over = c.over-in-Err in
+    begins_finished config alone h me (Some (c.args.version, Table)) TableSent over.result.stage over.result.ended
+    c.args.out.now.items c.reply.new.out.items over.ensures.stage
+    (subst (λ (t : List ℕ). IsRepliedLast TableSent (reply_text c.args.version Table t) over.result.ended
+    c.args.out.now.items c.reply.new.out.items) same (inr (over.ensures.ended, c.in-Err.ensures.err)))
+
+pub returns-in-Err-clause-cause : goal.returns-in-Err-clause-cause
+returns-in-Err-clause-cause c = inr c.over-in-Err.ensures.ended

@@ -8,14 +8,14 @@ use Rattle.session_core.proofs.judging.begin_request.Goals as goal
 
 pub returns-in-Source-clause-begins : goal.returns-in-Source-clause-begins
 returns-in-Source-clause-begins g c =
-    let config = c.args.config.now in
+    let config = c.args.setup.now.config.now in
     let alone = alone_in g.T.Turns g.B.Turns c.args.places.now in
     let old = seen_in g.T.Turns g.B.Turns c.args.places.now in
     let now = seen_in g.T.Turns g.B.Turns c.judge_source.new.places in
-    subst (λ (r : Request). BeginsFor config alone old now c.args.me (request_judged config [] (Ok r))
+    subst (λ (r : Request). BeginsFor config alone old now c.args.setup.now.me (request_judged config [] (Ok r))
     c.judge_source.result.stage c.judge_source.result.ended c.args.out.now.items c.judge_source.new.out.items)
     (sym c.in-Source.is)
-    (subst (λ (p : List ℕ). BeginsFor config alone old now c.args.me
+    (subst (λ (p : List ℕ). BeginsFor config alone old now c.args.setup.now.me
     (source_judged (Some c.in-Source.version) c.in-Source.chunked [] (source_admission config c.in-Source.mount p))
     c.judge_source.result.stage c.judge_source.result.ended c.args.out.now.items c.judge_source.new.out.items)
     c.bytes.ensures.value c.judge_source.ensures.begins)

@@ -12,29 +12,29 @@ pub begin_source-requires-clause-within : goal.begin_source-requires-clause-with
 begin_source-requires-clause-within g c =
     omega (
       arith,
-      source_is c.args.config.now c.args.mount.now c.args.password.now c.in-Ok.mount
+      source_is c.args.setup.now.config.now c.args.mount.now c.args.password.now c.in-Ok.mount
           (sym c.admit_source.ensures ∙ c.in-Ok.is),
       length-map c.args.places.now.rings.items g.T.Turns.shape,
       ap length c.requires.shapes,
-      length_shapes c.args.config.now,
+      length_shapes c.args.setup.now.config.now,
     )
 
 pub returns-in-Ok-clause-begins : goal.returns-in-Ok-clause-begins
 returns-in-Ok-clause-begins g c =
-    subst (λ (answer : Result ℕ SourceDenial). BeginsFor c.args.config.now (alone_in g.T.Turns g.B.Turns c.args.places.now)
-    (seen_in g.T.Turns g.B.Turns c.args.places.now) (seen_in g.T.Turns g.B.Turns c.begin_source.new.places) c.args.me
+    subst (λ (answer : Result ℕ SourceDenial). BeginsFor c.args.setup.now.config.now (alone_in g.T.Turns g.B.Turns c.args.places.now)
+    (seen_in g.T.Turns g.B.Turns c.args.places.now) (seen_in g.T.Turns g.B.Turns c.begin_source.new.places) c.args.setup.now.me
     (source_judged c.args.version c.args.chunked [] answer) c.begin_source.result.stage c.begin_source.result.ended
     c.args.out.now.items c.begin_source.new.out.items) (sym (sym c.admit_source.ensures ∙ c.in-Ok.is))
-    (c.begin_source.ensures.begins c.args.config.now c.requires.shapes)
+    (c.begin_source.ensures.begins c.args.setup.now.config.now c.requires.shapes)
 
 pub returns-in-Err-clause-begins : goal.returns-in-Err-clause-begins
 returns-in-Err-clause-begins g c =
     let alone = alone_in g.T.Turns g.B.Turns c.args.places.now in
     let seen = seen_in g.T.Turns g.B.Turns c.args.places.now in
-    subst (λ (answer : Result ℕ SourceDenial). BeginsFor c.args.config.now alone seen seen c.args.me
+    subst (λ (answer : Result ℕ SourceDenial). BeginsFor c.args.setup.now.config.now alone seen seen c.args.setup.now.me
     (source_judged c.args.version c.args.chunked [] answer) c.deny_source.result.stage c.deny_source.result.ended
     c.args.out.now.items c.deny_source.new.out.items) (sym (sym c.admit_source.ensures ∙ c.in-Err.is))
-    (c.deny_source.ensures.begins c.args.config.now alone seen c.args.me c.args.chunked c.requires.table)
+    (c.deny_source.ensures.begins c.args.setup.now.config.now alone seen c.args.setup.now.me c.args.chunked c.requires.ready.table_is)
 
 pub returns-in-Err-clause-cause : goal.returns-in-Err-clause-cause
 returns-in-Err-clause-cause g c = c.deny_source.ensures.cause (worn_in g.T.Turns g.B.Turns c.args.places.now)

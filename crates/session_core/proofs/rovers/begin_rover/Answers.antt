@@ -10,7 +10,7 @@ use Rattle.session_calls.specs.Rings.{all_alone}
 use Rattle.session_model.specs.Setting.{shapes, bases_at}
 use Rattle.session_model.specs.Replies.{text_if}
 use Rattle.caster_accounts.specs.History.{may_leave}
-use Rattle.rover_session.specs.Standing.{rover_of, IsResumable, frames_sent}
+use Rattle.rover_session.specs.Standing.{IsResumable, frames_sent}
 use Rattle.session_calls.proofs.PlaceLemmas.{length_same}
 use Rattle.session_model.specs.declared.ending.Ending.{Ending}
 use Rattle.session_core.specs.declared.stage.Stage.TheVariants as stages
@@ -26,31 +26,31 @@ use Rattle.session_core.proofs.rovers.begin_rover.Goals as goal
 
 pub enter-requires-clause-known : goal.enter-requires-clause-known
 enter-requires-clause-known g c =
-    let ready : IsReady c.args.config.now c.args.admission.now (bases_at c.args.config.now c.args.admission.now.bases) =
-    is_ready c.args.config.now c.args.admission.now c.requires.kept c.requires.admitted in
+    let ready : IsReady c.args.setup.now.config.now c.args.admission.now (bases_at c.args.setup.now.config.now c.args.admission.now.bases) =
+    is_ready c.args.setup.now.config.now c.args.admission.now c.requires.ready.kept c.requires.admitted in
     subst (λ (l : List ℕ). c.args.admission.now.account < length l) (sym c.requires.caps) ready.account
 
 pub start-joined-requires-clause-within : goal.start-joined-requires-clause-within
 start-joined-requires-clause-within g c =
-    let ready : IsReady c.args.config.now c.args.admission.now (bases_at c.args.config.now c.args.admission.now.bases) =
-    is_ready c.args.config.now c.args.admission.now c.requires.kept c.requires.admitted in
-    let long : length c.args.config.now.mount ≡ length c.as_mut_slice.result.now =
+    let ready : IsReady c.args.setup.now.config.now c.args.admission.now (bases_at c.args.setup.now.config.now c.args.admission.now.bases) =
+    is_ready c.args.setup.now.config.now c.args.admission.now c.requires.ready.kept c.requires.admitted in
+    let long : length c.args.setup.now.config.now.mount ≡ length c.as_mut_slice.result.now =
     omega (
       arith,
-      length_shapes c.args.config.now,
+      length_shapes c.args.setup.now.config.now,
       ap length c.requires.shapes,
       length-map c.args.places.now.rings.items g.T.Turns.shape,
       ap length c.as_mut_slice.ensures.value,
     ) in
     subst (λ (l : List Base). AreWithin (length c.as_mut_slice.result.now) l)
     (sym (ap (λ (t : Terms). t.bases) c.in-Ok.ensures.terms))
-    (subst (λ (n : ℕ). AreWithin n (bases_at c.args.config.now c.args.admission.now.bases)) long ready.within)
+    (subst (λ (n : ℕ). AreWithin n (bases_at c.args.setup.now.config.now c.args.admission.now.bases)) long ready.within)
 
 pub start-joined-requires-clause-filter : goal.start-joined-requires-clause-filter
 start-joined-requires-clause-filter g c =
-    let ready : IsReady c.args.config.now c.args.admission.now (bases_at c.args.config.now c.args.admission.now.bases) =
-    is_ready c.args.config.now c.args.admission.now c.requires.kept c.requires.admitted in
-    let same : shapes c.args.config.now ≡ map g.T.Turns.shape c.as_mut_slice.result.now =
+    let ready : IsReady c.args.setup.now.config.now c.args.admission.now (bases_at c.args.setup.now.config.now c.args.admission.now.bases) =
+    is_ready c.args.setup.now.config.now c.args.admission.now c.requires.ready.kept c.requires.admitted in
+    let same : shapes c.args.setup.now.config.now ≡ map g.T.Turns.shape c.as_mut_slice.result.now =
     sym (ap (map g.T.Turns.shape) c.as_mut_slice.ensures.value ∙ c.requires.shapes) in
     subst (λ (n : ℕ). KnowsFilter (map g.T.Turns.shape c.as_mut_slice.result.now) n)
     (sym (ap (λ (t : Terms). t.filter) c.in-Ok.ensures.terms))
@@ -58,17 +58,17 @@ start-joined-requires-clause-filter g c =
 
 pub returns-in-Ok-Full-clause-begins : goal.returns-in-Ok-Full-clause-begins
 returns-in-Ok-Full-clause-begins g c =
-    begins_full c.args.config.now
+    begins_full c.args.setup.now.config.now
     (alone_at g.T.Turns.alone g.B.Turns.alone c.args.places.now.rings.items c.args.places.now.book)
     (seen_at g.T.Turns.seen g.B.Turns.seen c.args.places.now.rings.items c.args.places.now.book)
-    (seen_at g.T.Turns.seen g.B.Turns.seen c.args.places.now.rings.items c.enter.new.book) c.args.me
+    (seen_at g.T.Turns.seen g.B.Turns.seen c.args.places.now.rings.items c.enter.new.book) c.args.setup.now.me
     (record { version = c.args.version; admission = c.args.admission.now; first = c.args.first })
     c.in-Ok-Full.busy c.in-Ok-Full.cap c.turn_away.result.stage c.turn_away.result.ended
     c.args.out.now.items c.turn_away.new.out.items
-    (heard_as c.args.config.now (g.B.Turns.shape c.args.places.now.book)
+    (heard_as c.args.setup.now.config.now (g.B.Turns.shape c.args.places.now.book)
     (alone_at g.T.Turns.alone g.B.Turns.alone c.args.places.now.rings.items c.args.places.now.book)
     (g.B.Turns.alone c.args.places.now.book) (g.B.Turns.seen c.args.places.now.book)
-    (g.B.Turns.seen c.enter.new.book) c.args.me _ c.requires.caps
+    (g.B.Turns.seen c.enter.new.book) c.args.setup.now.me _ c.requires.caps
     (λ both. (and_parts (all_alone g.T.Turns.alone c.args.places.now.rings.items)
     (g.B.Turns.alone c.args.places.now.book) both).1)
     (rw c.in-Ok-Full.field-0-is at c.in-Ok-Full.ensures.heard))
@@ -85,13 +85,13 @@ returns-in-Err-clause-cause g c =
 pub returns-in-Err-clause-begins : goal.returns-in-Err-clause-begins
 returns-in-Err-clause-begins g c =
     let alone = alone_at g.T.Turns.alone g.B.Turns.alone c.args.places.now.rings.items c.args.places.now.book in
-    begins_unentered c.args.config.now alone
+    begins_unentered c.args.setup.now.config.now alone
     (seen_at g.T.Turns.seen g.B.Turns.seen c.args.places.now.rings.items c.args.places.now.book)
-    (seen_at g.T.Turns.seen g.B.Turns.seen c.args.places.now.rings.items c.enter.new.book) c.args.me
+    (seen_at g.T.Turns.seen g.B.Turns.seen c.args.places.now.rings.items c.enter.new.book) c.args.setup.now.me
     (record { version = c.args.version; admission = c.args.admission.now; first = c.args.first }) c.in-Err.fault
     c.over-in-Err.result.stage c.over-in-Err.result.ended c.args.out.now.items c.reserve.new.self.items
-    (called_none_by c.args.config.now alone (map g.T.Turns.seen c.args.places.now.rings.items)
-    (g.B.Turns.seen c.args.places.now.book) (g.B.Turns.seen c.enter.new.book) c.args.me c.in-Err.ensures.err)
+    (called_none_by c.args.setup.now.config.now alone (map g.T.Turns.seen c.args.places.now.rings.items)
+    (g.B.Turns.seen c.args.places.now.book) (g.B.Turns.seen c.enter.new.book) c.args.setup.now.me c.in-Err.ensures.err)
     c.over-in-Err.ensures.stage (c.over-in-Err.ensures.ended ∙ ap Some c.unentered.ensures) c.reserve.ensures.items
 
 pub returns-in-Ok-Entered-clause-cause : goal.returns-in-Ok-Entered-clause-cause
@@ -99,7 +99,7 @@ returns-in-Ok-Entered-clause-cause g c =
     let items = c.args.places.now.rings.items in
     let new = c.start-joined.new.places in
     let long : length new ≡ length items =
-    length_same g.T.Turns.shape c.as_mut_slice.result.now new c.start-joined.ensures.same.0
+    length_same g.T.Turns.shape c.as_mut_slice.result.now new c.start-joined.ensures.stay.same.0
     ∙ ap length c.as_mut_slice.ensures.value in
     worn_back g.T.Turns.worn g.B.Turns.worn new items c.args.places.now.rings.len c.enter.new.book c.halted.result
     (back_whole new items c.args.places.now.rings.len long (omega (arith, c.args.places.now.rings.ok)))
@@ -111,50 +111,50 @@ returns-in-Ok-Entered-clause-begins g c =
     let items = c.args.places.now.rings.items in
     let new = c.start-joined.new.places in
     let alone = alone_at g.T.Turns.alone g.B.Turns.alone items c.args.places.now.book in
-    let config = c.args.config.now in
+    let config = c.args.setup.now.config.now in
     let session = c.start-joined.new.self in
     let shaped : map g.T.Turns.shape c.as_mut_slice.result.now ≡ shapes config =
     ap (map g.T.Turns.shape) c.as_mut_slice.ensures.value ∙ c.requires.shapes in
     let long : length new ≡ length items =
-    length_same g.T.Turns.shape c.as_mut_slice.result.now new c.start-joined.ensures.same.0
+    length_same g.T.Turns.shape c.as_mut_slice.result.now new c.start-joined.ensures.stay.same.0
     ∙ ap length c.as_mut_slice.ensures.value in
-    let halts : c.halted.result ≡ ended_joining (rover_of session).halt =
+    let halts : c.halted.result ≡ ended_joining session.halt =
     c.halted.ensures ∙ ap ended_joining (sym c.start-joined.ensures.halt) in
     entered_back g.T.Turns.seen g.B.Turns.seen new items c.args.places.now.rings.len c.enter.new.book
     (λ (h : Histories). BeginsFor config alone
-    (seen_at g.T.Turns.seen g.B.Turns.seen items c.args.places.now.book) h c.args.me
+    (seen_at g.T.Turns.seen g.B.Turns.seen items c.args.places.now.book) h c.args.setup.now.me
     (rover (record { version = c.args.version; admission = c.args.admission.now; first = c.args.first }) [])
     (stages.Rover c.args.admission.now.account session) c.halted.result c.args.out.now.items c.push_reply.new.out.items)
     (back_whole new items c.args.places.now.rings.len long (omega (arith, c.args.places.now.rings.ok)))
     (subst (λ (e : Option Ending). BeginsFor config alone
     (seen_at g.T.Turns.seen g.B.Turns.seen items c.args.places.now.book)
-    (seen_at g.T.Turns.seen g.B.Turns.seen new c.enter.new.book) c.args.me
+    (seen_at g.T.Turns.seen g.B.Turns.seen new c.enter.new.book) c.args.setup.now.me
     (rover (record { version = c.args.version; admission = c.args.admission.now; first = c.args.first }) [])
     (stages.Rover c.args.admission.now.account session) e c.args.out.now.items c.push_reply.new.out.items) (sym halts)
     (begins_entered config alone (seen_at g.T.Turns.seen g.B.Turns.seen items c.args.places.now.book)
-    (seen_at g.T.Turns.seen g.B.Turns.seen new c.enter.new.book) c.args.me
+    (seen_at g.T.Turns.seen g.B.Turns.seen new c.enter.new.book) c.args.setup.now.me
     (record { version = c.args.version; admission = c.args.admission.now; first = c.args.first }) session
     c.args.out.now.items c.push_reply.new.out.items
     (heard_as config (g.B.Turns.shape c.args.places.now.book) alone (g.B.Turns.alone c.args.places.now.book)
-    (g.B.Turns.seen c.args.places.now.book) (g.B.Turns.seen c.enter.new.book) c.args.me _ c.requires.caps
+    (g.B.Turns.seen c.args.places.now.book) (g.B.Turns.seen c.enter.new.book) c.args.setup.now.me _ c.requires.caps
     (λ both. (and_parts (all_alone g.T.Turns.alone items) (g.B.Turns.alone c.args.places.now.book) both).1)
     (rw c.in-Ok-Entered.field-0-is at c.in-Ok-Entered.ensures.heard))
-    (subst (λ (l : List ℕ). IsTrue (may_leave l (g.B.Turns.seen c.enter.new.book) c.args.me
+    (subst (λ (l : List ℕ). IsTrue (may_leave l (g.B.Turns.seen c.enter.new.book) c.args.setup.now.me
     c.args.admission.now.account))
     c.requires.caps (c.in-Ok-Entered.ensures.inside c.in-Ok-Entered.field-0-is))
     (told_as g.T.Turns.shape g.T.Turns.alone g.T.Turns.seen config alone c.as_mut_slice.result.now items new
-    (rover_of session) c.args.first c.as_mut_slice.ensures.value c.requires.shapes
+    session c.args.first c.as_mut_slice.ensures.value c.requires.shapes
     (λ both. (and_parts (all_alone g.T.Turns.alone items) (g.B.Turns.alone c.args.places.now.book) both).0)
     c.start-joined.ensures.told)
     (c.start-joined.ensures.admission.1 ∙ c.in-Ok.ensures.me) (c.start-joined.ensures.admission.2 ∙
     c.in-Ok.ensures.terms)
     (c.start-joined.ensures.admission.0 ∙ c.in-Ok.ensures.version)
     (subst (λ (m : ℕ). IsResumable (shapes config) m (map g.T.Turns.seen new)
-    (rover_of session).segments) c.in-Ok.ensures.me
-    (subst (λ (s : List RingShape). IsResumable s (rover_of c.in-Ok.session).me (map g.T.Turns.seen new)
-    (rover_of session).segments)
-    shaped c.start-joined.ensures.resumable))
-    (subst (λ (s : List RingShape). frames_sent s (map g.T.Turns.seen new) (rover_of session).segments ≡ []) shaped
-    c.start-joined.ensures.sent)
+    session.segments) c.in-Ok.ensures.me
+    (subst (λ (s : List RingShape). IsResumable s c.in-Ok.session.me (map g.T.Turns.seen new)
+    session.segments)
+    shaped c.start-joined.ensures.sent.resumable))
+    (subst (λ (s : List RingShape). frames_sent s (map g.T.Turns.seen new) session.segments ≡ []) shaped
+    c.start-joined.ensures.sent.sent)
     (c.push_reply.ensures ∙ ap (λ (l : List ℕ). l ++ text_if c.args.version replies.RoverOk [])
     c.reserve.ensures.items)))

@@ -11,7 +11,6 @@ use Rattle.mount_ring.specs.declared.call.RingAnswer.TheVariants.{Released}
 use Rattle.session_calls.specs.Rings.{all_alone}
 use Rattle.session_calls.proofs.PlaceLemmas.{ring_answer}
 use Rattle.rover_session.specs.Made.{sent_in, overrun_in}
-use Rattle.rover_session.specs.Standing.{rover_of}
 use Rattle.session_core.specs.Places.{alone_in, seen_in}
 use Rattle.session_core.specs.Closing.{IsHeldBy, closing_at, releasing}
 use Rattle.session_core.proofs.CloseLemmas.{makes_none, makes_release, makes_leave}
@@ -34,7 +33,7 @@ returns-in-Over-clause-settled g c = λ config shaped capped.
 pub returns-in-Source-clause-stay : goal.returns-in-Source-clause-stay
 returns-in-Source-clause-stay g c = record {
   at_rings = stay_picked g.T.Turns c.args.places.now.rings.items c.in-Source.mount c.index_mut.result.now
-      c.release.new.place c.index_mut.ensures.value c.release.ensures.same c.release.ensures.worn;
+      c.release.new.place c.index_mut.ensures.value c.release.ensures.stays;
   at_book = stays_still g.B.Turns c.args.places.now.book;
 }
 
@@ -85,8 +84,7 @@ returns-in-None-clause-settled g c = λ config shaped capped.
 pub returns-in-Some-clause-stay : goal.returns-in-Some-clause-stay
 returns-in-Some-clause-stay g c = record {
   at_rings = stay_picked g.T.Turns c.args.places.now.rings.items c.in-Relay.mount c.index_mut-in-Some.result.now
-      c.release-in-Some.new.place c.index_mut-in-Some.ensures.value c.release-in-Some.ensures.same
-      c.release-in-Some.ensures.worn;
+      c.release-in-Some.new.place c.index_mut-in-Some.ensures.value c.release-in-Some.ensures.stays;
   at_book = stays_still g.B.Turns c.args.places.now.book;
 }
 
@@ -143,7 +141,7 @@ returns-in-Rover-clause-settled g c =
     (g.B.Turns.shape c.args.places.now.book) (map g.T.Turns.seen c.args.places.now.rings.items)
     (g.B.Turns.seen c.args.places.now.book)
     (g.B.Turns.seen c.leave.new.book) c.args.me c.in-Rover.account
-    (sent_in (rover_of c.in-Rover.session).segments) (overrun_in (rover_of c.in-Rover.session).segments)
+    (sent_in c.in-Rover.session.segments) (overrun_in c.in-Rover.session.segments)
     (closing_at c.args.stage.now) capped (ap closing_at c.in-Rover.is)
     (rw (sym c.sent-sent.ensures) (rw (sym c.overrun.ensures) heard))) c.leave.ensures.heard
 

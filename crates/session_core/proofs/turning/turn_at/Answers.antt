@@ -1,11 +1,11 @@
 -- By stage.
 use Rattle.std.proofs.Common.{ℕ, map, refl, sym, subst}
 use Rattle.session_calls.specs.Rings.{AllSpeak, all_alone}
-use Rattle.rover_session.specs.Standing.{rover_of, WasResumable}
+use Rattle.rover_session.specs.Standing.{WasResumable}
 use Rattle.session_core.specs.declared.stage.Stage.{Stage}
 use Rattle.session_core.specs.declared.stage.Stage.TheVariants as stages
 use Rattle.session_core.specs.Turned.{IsReadBy, TurnedAt}
-use Rattle.session_core.proofs.TurningLemmas.{rover_turned, halts_of, refused_of, cause_of, no_bystander}
+use Rattle.session_core.proofs.TurningLemmas.{rover_turned, halted_of, cause_of, no_bystander}
 use Rattle.session_core.proofs.turning.turn_at.Goals as goal
 
 pub turn-requires-clause-speaks : goal.turn-requires-clause-speaks
@@ -19,7 +19,7 @@ turn-requires-clause-resumes g c =
     let reads = subst (IsReadBy (map g.T.Turns.shape c.args.rings.now) c.args.me (map g.T.Turns.seen c.args.rings.now))
     c.in-Rover.is c.requires.reads in
     subst (λ (m : ℕ). WasResumable (map g.T.Turns.shape c.args.rings.now) m (map g.T.Turns.seen c.args.rings.now)
-    (rover_of c.in-Rover.session).segments) (sym reads.0) reads.2
+    c.in-Rover.session.segments) (sym reads.0) reads.2
 
 pub returns-in-Rover-clause-bystander : goal.returns-in-Rover-clause-bystander
 returns-in-Rover-clause-bystander g c = λ apart.
@@ -37,20 +37,18 @@ returns-in-Rover-clause-turned g c =
       rover_turned (map g.T.Turns.shape c.args.rings.now)
           (all_alone g.T.Turns.alone c.args.rings.now)
           (map g.T.Turns.seen c.args.rings.now) (map g.T.Turns.seen c.turn.new.places) c.args.budget
-          (rover_of c.in-Rover.session) (rover_of c.turn.new.self) c.turn.result c.halted.result c.args.out.now.items
-          c.turn.new.out.items c.halted.ensures t.admission t.halt t.resumable t.read t.body t.sent t.err,
+          c.in-Rover.session c.turn.new.self c.turn.result c.halted.result c.args.out.now.items
+          c.turn.new.out.items c.halted.ensures t.same t.resumable t.turned t.err,
     )
 
-pub returns-in-Rover-clause-refused : goal.returns-in-Rover-clause-refused
-returns-in-Rover-clause-refused g c =
-    refused_of _ _ c.turn.result c.halted.result c.halted.ensures (λ err. (err.1, err.2)) c.turn.ensures.err
-
-pub returns-in-Rover-clause-halts : goal.returns-in-Rover-clause-halts
-returns-in-Rover-clause-halts g c = halts_of c.turn.result c.halted.result c.halted.ensures
+pub returns-in-Rover-clause-halted : goal.returns-in-Rover-clause-halted
+returns-in-Rover-clause-halted g c =
+    halted_of _ (map g.T.Turns.seen c.args.rings.now) (map g.T.Turns.seen c.turn.new.places) c.args.out.now.items
+    c.turn.new.out.items c.turn.result c.halted.result c.halted.ensures c.turn.ensures.err
 
 pub returns-in-Rover-clause-cause : goal.returns-in-Rover-clause-cause
 returns-in-Rover-clause-cause g c =
     let reads = subst (IsReadBy (map g.T.Turns.shape c.args.rings.now) c.args.me (map g.T.Turns.seen c.args.rings.now))
     c.in-Rover.is c.requires.reads in
-    cause_of (map g.T.Turns.worn c.turn.new.places) (rover_of c.in-Rover.session).halt c.turn.result c.halted.result
+    cause_of (map g.T.Turns.worn c.turn.new.places) c.in-Rover.session.halt c.turn.result c.halted.result
     c.halted.ensures reads.1 c.turn.ensures.cause

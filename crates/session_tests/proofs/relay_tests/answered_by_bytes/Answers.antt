@@ -27,5 +27,5 @@ loop-byte-preserved c =
         next.2,
         omega (arith, length-append so_far.1 (byte ∷ []), so_far.4),
       ),
-      subst (λ (s : RingShape). 0 < length s.filters) (sym fed.same.0) c.loop-byte.invariant.2,
+      subst (λ (s : RingShape). 0 < length s.filters) (sym fed.stays.same.0) c.loop-byte.invariant.2,
     )

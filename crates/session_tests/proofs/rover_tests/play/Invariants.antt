@@ -1,10 +1,10 @@
 use Rattle.std.proofs.Common.{◌≡◌, map}
 use Rattle.turn_log.specs.Desks.{desk_seen, desk_shape}
-use Rattle.rover_session.specs.Standing.{rover_of, IsServed}
+use Rattle.rover_session.specs.Standing.{IsServed}
 use Rattle.session_tests.proofs.rover_tests.play.Given as goal
 
 abbrev pub invariant-loop-what : goal.invariant-loop-what
 invariant-loop-what l = record {
-  me : (rover_of l.rover).me ≡ 3;
-  served : IsServed (map desk_shape l.desks) (map desk_seen l.desks) (rover_of l.rover);
+  me : l.rover.me ≡ 3;
+  served : IsServed (map desk_shape l.desks) (map desk_seen l.desks) l.rover;
 }

@@ -9,8 +9,8 @@ use Rattle.session_tests.proofs.segment_tests.read_rounds.Goals as goal
 
 pub loop-names-preserved : goal.loop-names-preserved
 loop-names-preserved c = (
-  held_read (desk_seen c.publish_all.new.desk) (desk_seen c.read.new.place) _ _ (heard_alone c.in_ok-read.ensures.heard)
+  held_read (desk_seen c.publish_all.new.desk) (desk_seen c.read.new.place) _ _ (heard_alone c.in_ok-read.ensures.read.heard)
       c.in_ok-publish_all.ensures.held,
   subst (λ (s : RingShape). IsSegment (shape_of s) 2 (desk_seen c.read.new.place) c.read.new.self)
-      (sym c.read.ensures.same.0) c.in_ok-read.ensures.segment,
+      (sym c.read.ensures.same.0) c.in_ok-read.ensures.read.segment,
 )

@@ -1,8 +1,8 @@
-use Rattle.std.proofs.Common.{ℕ, refl, subst, sym, Option, None, Some}
-use Rattle.std.specs.Prelude.{IfNone}
+use Rattle.std.proofs.Common.{ℕ, refl, subst, sym}
 use Rattle.turn_log.specs.Desks.{desk_seen}
 use Rattle.source_session.specs.Calls.{IsHolding}
 use Rattle.source_session.proofs.HeldLemmas.{held_here, held_on, holds_fed}
+use Rattle.source_session.proofs.TakenLemmas.{if_none, none_weaker}
 use Rattle.session_tests.proofs.source_tests.sent_in_two.Goals as goal
 
 pub feed-first-requires-clause-held : goal.feed-first-requires-clause-held
@@ -11,11 +11,7 @@ feed-first-requires-clause-held c =
     let given = c.in_ok-session.ensures in
     if_none session.halt
     (held_here session.me session.claim (desk_seen c.claim.new.place)
-    (subst (λ (me : ℕ). IsHolding me session.claim (desk_seen c.claim.new.place)) (sym given.me) given.holds))
-  where
-    if_none : {P : Type 0} {X : Type 0} (halt : Option X) → P → IfNone halt P
-    if_none None x = x
-    if_none (Some halt) x = tt
+    (subst (λ (me : ℕ). IsHolding me session.claim (desk_seen c.claim.new.place)) (sym given.begins.caller) given.holds))
 
 pub feed-ended-requires-clause-held : goal.feed-ended-requires-clause-held
 feed-ended-requires-clause-held c =
@@ -23,5 +19,5 @@ feed-ended-requires-clause-held c =
     let fed = c.feed-first.ensures in
     let now = c.feed-first.new.self in
     held_on now.halt now.me now.claim (desk_seen c.feed-first.new.place)
-    (holds_fed _ session now (desk_seen c.feed-first.new.place) session.halt refl fed.halted fed.holds
-    fed.source.0 fed.source.1)
+    (holds_fed _ session now (desk_seen c.feed-first.new.place) session.halt refl fed.halted
+    (none_weaker session.halt (λ taken. taken.holds) fed.taken) fed.source.0 fed.source.1)

@@ -1,8 +1,8 @@
 -- By stage. The bytes of a source or a relay come to calls at the ring of its mountpoint.
 use Rattle.std.proofs.Common.{◌≡◌, ◌∙◌, ◌++◌, ℕ, IsTrue, List, length, map, set, refl, sym, ap, subst, arith, Option}
 use Rattle.std.specs.Prelude.{IfErr, IfNone}
+use Rattle.std.specs.Result.{result_err}
 use Rattle.std.proofs.lemmas.Bool.{and_parts}
-use Rattle.std.proofs.lemmas.Result.{on_ok_weaker, MatchResult-weaker}
 use Rattle.turn_log.specs.History.{History}
 use Rattle.mount_ring.specs.declared.call.RingCall.{RingCall}
 use Rattle.mount_ring.specs.declared.shape.RingShape.{RingShape}
@@ -11,15 +11,15 @@ use Rattle.session_calls.proofs.PlaceLemmas.{length_same}
 use Rattle.source_session.specs.declared.fault.SourceHalt.{SourceHalt}
 use Rattle.source_session.specs.Body.{completed}
 use Rattle.source_session.specs.Calls.{HeldSince, IsHolding}
-use Rattle.source_session.specs.Refusals as source_refusals
 use Rattle.source_session.specs.Standing.{is_chunked, is_cut_short}
+use Rattle.source_session.specs.Taken.{HasTaken}
 use Rattle.upstream_relay.specs.declared.fault.RelayHalt.{RelayHalt}
 use Rattle.upstream_relay.specs.Called.{IsHeldAt, IsHoldingBy}
 use Rattle.upstream_relay.specs.Halts as relay_halts
 use Rattle.upstream_relay.specs.Standing.{claim_at, halt_at}
 use Rattle.rover_cursor.specs.declared.fault.SegFault.{SegFault}
 use Rattle.rover_session.specs.Made.{IsRefusedBy}
-use Rattle.rover_session.specs.Standing.{rover_of, AreWithin, KnowsFilter, WasResumable}
+use Rattle.rover_session.specs.Standing.{AreWithin, KnowsFilter, WasResumable}
 use Rattle.rover_session.proofs.AtLemmas.{history_new}
 use Rattle.session_model.specs.Run.{Histories}
 use Rattle.session_model.specs.Setting.{shapes}
@@ -27,10 +27,10 @@ use Rattle.session_model.specs.Called.{OthersCalled}
 use Rattle.session_core.specs.declared.session.Session.{Session}
 use Rattle.session_core.specs.declared.stage.Stage.TheVariants as stages
 use Rattle.session_core.specs.Beginnings.{ended_joining, histories_of}
-use Rattle.session_core.specs.Feeding.{FedOn}
+use Rattle.session_core.specs.Feeding.{FedOn, end_of_relay, end_of_source}
 use Rattle.session_core.specs.Places.{alone_in, seen_in}
 use Rattle.session_core.proofs.EnteredLemmas.{back_whole, cause_joined, entered_back, worn_back}
-use Rattle.session_core.proofs.FeedBodyLemmas.{as_many_places, published_as, relay_ended, relay_fed_as, resumes_as, sent_as, source_ended, told_by, within_places}
+use Rattle.session_core.proofs.FeedBodyLemmas.{as_many_places, ended_as, published_as, relay_fed_as, resumes_as, sent_as, told_by, within_places}
 use Rattle.session_core.proofs.FeedRelayLemmas.{relay_fed_on}
 use Rattle.session_core.proofs.FeedRoverLemmas.{rover_fed_on}
 use Rattle.session_core.proofs.FeedSourceLemmas.{source_fed_on}
@@ -81,7 +81,7 @@ feed-fed-requires-clause-few g c =
 pub returns-in-Source-clause-stay : goal.returns-in-Source-clause-stay
 returns-in-Source-clause-stay g c = record {
   at_rings = stay_picked g.T.Turns c.args.places.now.rings.items c.in-Source.mount c.index_mut.result.now
-      c.feed-fed.new.place c.index_mut.ensures.value c.feed-fed.ensures.same c.feed-fed.ensures.worn;
+      c.feed-fed.new.place c.index_mut.ensures.value c.feed-fed.ensures.stays;
   at_book = stays_still g.B.Turns c.args.places.now.book;
 }
 
@@ -106,8 +106,8 @@ returns-in-Source-clause-fed g c = λ config opening text steps histories sent s
       c.requires.goes_on,
       refl,
       refl,
-      source_ended c.feed-fed.result after.halt c.claim_number.result after.claim c.ended_source-self.result
-          c.ended_source-self.ensures c.claim_number.ensures fed.goes_on fed.halts,
+      ended_as end_of_source c.feed-fed.result after.halt c.claim_number.result after.claim c.ended_source-self.result
+          c.ended_source-self.ensures c.claim_number.ensures fed.halt,
       fed.source.0,
       fed.source.1,
       fed.source.2,
@@ -118,13 +118,11 @@ returns-in-Source-clause-fed g c = λ config opening text steps histories sent s
     (completed (is_chunked inner) body c.args.bytes.now) same
     (λ both. (and_parts (all_alone g.T.Turns.alone rings) (g.B.Turns.alone places.book) both).0)
     (published_picked g.T.Turns rings mount c.index_mut.result.now c.feed-fed.new.place inner.me inner.claim
-    (completed (is_chunked inner) body c.args.bytes.now) c.feed-fed.result after.halt within c.index_mut.ensures.value
-    (on_ok_weaker c.feed-fed.result (λ told. told body is) fed.heard)
-    (MatchResult-weaker c.feed-fed.result fed.until (λ x any. any) (λ (why : SourceHalt) told. told body is))
-    fed.goes_on fed.halts))
+    (completed (is_chunked inner) body c.args.bytes.now) (result_err c.feed-fed.result) after.halt within
+    c.index_mut.ensures.value (fed.heard body is) fed.halt))
     (subst (IsHolding inner.me inner.claim) (sym (history_new g.T.Turns.seen rings mount c.feed-fed.new.place within))
-    (subst (λ (halt : Option SourceHalt). IfNone halt (IsHolding inner.me inner.claim (g.T.Turns.seen
-    c.feed-fed.new.place))) ready.goes fed.holds))
+    (subst (λ (halt : Option SourceHalt). IfNone halt (HasTaken g.T.Turns c.index_mut.result.now c.feed-fed.new.place
+    inner after c.args.bytes.now c.feed-fed.result)) ready.goes fed.taken).holds)
     refl
 
 pub returns-in-Source-clause-cause : goal.returns-in-Source-clause-cause
@@ -138,9 +136,9 @@ returns-in-Source-clause-cause g c =
     c.ended_source-self.result
     (within_places g.T.Turns.shape rings follows.0 c.in-Source.mount follows.2 ready.within)
     c.ended_source-self.ensures
-    (subst (λ (halt : Option SourceHalt). IfNone halt (IfErr c.feed-fed.result (source_refusals.IsHaltOf
-    (g.T.Turns.may_lack c.index_mut.result.now) (g.T.Turns.worn c.feed-fed.new.place)))) ready.goes
-    c.feed-fed.ensures.cause)
+    (subst (λ (halt : Option SourceHalt). IfNone halt (HasTaken g.T.Turns c.index_mut.result.now c.feed-fed.new.place
+    c.in-Source.session c.feed-fed.new.self c.args.bytes.now c.feed-fed.result)) ready.goes
+    c.feed-fed.ensures.taken).cause
 
 -- ---- a relay
 
@@ -177,8 +175,7 @@ feed-fed-requires-in-Relay-clause-held g c =
 pub returns-in-Relay-clause-stay : goal.returns-in-Relay-clause-stay
 returns-in-Relay-clause-stay g c = record {
   at_rings = stay_picked g.T.Turns c.args.places.now.rings.items c.in-Relay.mount c.index_mut-in-Relay.result.now
-      c.feed-fed-in-Relay.new.place c.index_mut-in-Relay.ensures.value c.feed-fed-in-Relay.ensures.same
-      c.feed-fed-in-Relay.ensures.worn;
+      c.feed-fed-in-Relay.new.place c.index_mut-in-Relay.ensures.value c.feed-fed-in-Relay.ensures.stays;
   at_book = stays_still g.B.Turns c.args.places.now.book;
 }
 
@@ -200,7 +197,7 @@ returns-in-Relay-clause-fed g c = λ config opening text steps histories sent sa
     let within = within_places g.T.Turns.shape rings follows.0 mount follows.2 ready.within in
     relay_fed_on config alone old (histories_of seen (g.B.Turns.seen places.book)) histories c.args.self.now _ opening
     text c.args.bytes.now steps sent mount inner after c.in-Relay.is c.requires.goes_on refl refl
-    (relay_ended c.feed-fed-in-Relay.result (halt_at after.stage) c.claim_number-in-Relay.result
+    (ended_as end_of_relay c.feed-fed-in-Relay.result (halt_at after.stage) c.claim_number-in-Relay.result
     (claim_at after.stage) c.ended_relay-self.result c.ended_relay-self.ensures c.claim_number-in-Relay.ensures fed.fed)
     stands fed.relay.0
     (λ before ss is. relay_fed_as config (map g.T.Turns.shape rings) alone (all_alone g.T.Turns.alone rings)
@@ -232,7 +229,7 @@ returns-in-Relay-clause-cause g c =
 pub feed-requires-clause-within : goal.feed-requires-clause-within
 feed-requires-clause-within g c =
     let follows = c.requires.follows in
-    subst (λ (n : ℕ). AreWithin n (rover_of c.in-Rover.session).terms.bases)
+    subst (λ (n : ℕ). AreWithin n c.in-Rover.session.terms.bases)
     (as_many_places g.T.Turns.shape c.args.places.now.rings.items follows.0 follows.2
     ∙ sym (ap length c.as_mut_slice.ensures.value))
     (rover_ready follows.0 c.args.self.now (seen_in g.T.Turns g.B.Turns c.args.places.now) (length c.args.bytes.now)
@@ -241,7 +238,7 @@ feed-requires-clause-within g c =
 pub feed-requires-clause-filter : goal.feed-requires-clause-filter
 feed-requires-clause-filter g c =
     let follows = c.requires.follows in
-    subst (λ (s : List RingShape). KnowsFilter s (rover_of c.in-Rover.session).terms.filter)
+    subst (λ (s : List RingShape). KnowsFilter s c.in-Rover.session.terms.filter)
     (sym (ap (map g.T.Turns.shape) c.as_mut_slice.ensures.value ∙ follows.2))
     (rover_ready follows.0 c.args.self.now (seen_in g.T.Turns g.B.Turns c.args.places.now) (length c.args.bytes.now)
     c.in-Rover.account c.in-Rover.session follows.1 c.in-Rover.is c.requires.goes_on follows.3).filter
@@ -250,11 +247,11 @@ pub feed-requires-clause-resumes : goal.feed-requires-clause-resumes
 feed-requires-clause-resumes g c =
     let follows = c.requires.follows in
     let there = c.as_mut_slice.ensures.value in
-    subst (λ (s : List RingShape). WasResumable s (rover_of c.in-Rover.session).me
-    (map g.T.Turns.seen c.as_mut_slice.result.now) (rover_of c.in-Rover.session).segments)
+    subst (λ (s : List RingShape). WasResumable s c.in-Rover.session.me
+    (map g.T.Turns.seen c.as_mut_slice.result.now) c.in-Rover.session.segments)
     (sym (ap (map g.T.Turns.shape) there ∙ follows.2))
-    (subst (λ (h : List (History RingCall)). WasResumable (shapes follows.0) (rover_of c.in-Rover.session).me h
-    (rover_of c.in-Rover.session).segments) (sym (ap (map g.T.Turns.seen) there))
+    (subst (λ (h : List (History RingCall)). WasResumable (shapes follows.0) c.in-Rover.session.me h
+    c.in-Rover.session.segments) (sym (ap (map g.T.Turns.seen) there))
     (rover_ready follows.0 c.args.self.now (seen_in g.T.Turns g.B.Turns c.args.places.now) (length c.args.bytes.now)
     c.in-Rover.account c.in-Rover.session follows.1 c.in-Rover.is c.requires.goes_on follows.3).resumes)
 
@@ -268,7 +265,7 @@ returns-in-Rover-clause-fed g c = λ config opening text steps histories sent sa
     let new = c.feed.new.places in
     let book = g.B.Turns.seen places.book in
     let alone = alone_in g.T.Turns g.B.Turns places in
-    let long : length new ≡ length items = length_same g.T.Turns.shape slice new fed.same.0 ∙ ap length there in
+    let long : length new ≡ length items = length_same g.T.Turns.shape slice new fed.stay.same.0 ∙ ap length there in
     let shaped : map g.T.Turns.shape slice ≡ shapes config = ap (map g.T.Turns.shape) there ∙ same in
     let from = λ (both : IsTrue alone). ap (all_alone g.T.Turns.alone) there
     ∙ (and_parts (all_alone g.T.Turns.alone items) (g.B.Turns.alone places.book) both).0 in
@@ -292,13 +289,13 @@ returns-in-Rover-clause-fed g c = λ config opening text steps histories sent sa
     (subst (λ (h : List (History RingCall)). OthersCalled histories (histories_of h book) c.args.self.now.me)
     (ap (map g.T.Turns.seen) (sym there)) others) fed.admission
     (λ first before ss is. told_by config (map g.T.Turns.shape slice) alone (all_alone g.T.Turns.alone slice)
-    (map g.T.Turns.seen slice) (map g.T.Turns.seen new) (rover_of c.feed.new.self) first _ ss shaped from
+    (map g.T.Turns.seen slice) (map g.T.Turns.seen new) c.feed.new.self first _ ss shaped from
     (fed.told first before ss is))
-    (resumes_as config (map g.T.Turns.shape slice) (rover_of c.in-Rover.session).me
-    (map g.T.Turns.seen new) (rover_of c.feed.new.self).segments shaped fed.resumable)
+    (resumes_as config (map g.T.Turns.shape slice) c.in-Rover.session.me
+    (map g.T.Turns.seen new) c.feed.new.self.segments shaped fed.sent.resumable)
     (sent_as config (map g.T.Turns.shape slice) (map g.T.Turns.seen slice)
-    (map g.T.Turns.seen new) (rover_of c.in-Rover.session).segments
-    (rover_of c.feed.new.self).segments shaped fed.sent)
+    (map g.T.Turns.seen new) c.in-Rover.session.segments
+    c.feed.new.self.segments shaped fed.sent.sent)
     refl))
 
 pub returns-in-Rover-clause-cause : goal.returns-in-Rover-clause-cause
@@ -310,7 +307,7 @@ returns-in-Rover-clause-cause g c =
     (length c.args.bytes.now) c.in-Rover.account c.in-Rover.session follows.1 c.in-Rover.is c.requires.goes_on
     follows.3 in
     let long : length new ≡ length items =
-    length_same g.T.Turns.shape c.as_mut_slice.result.now new c.feed.ensures.same.0
+    length_same g.T.Turns.shape c.as_mut_slice.result.now new c.feed.ensures.stay.same.0
     ∙ ap length c.as_mut_slice.ensures.value in
     worn_back g.T.Turns.worn g.B.Turns.worn new items c.args.places.now.rings.len c.args.places.now.book
     c.halted-self.result

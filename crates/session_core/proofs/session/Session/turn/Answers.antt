@@ -6,7 +6,7 @@ use Rattle.session_calls.proofs.PlaceLemmas.{length_same}
 use Rattle.session_model.specs.Called.{seen_at}
 use Rattle.session_core.specs.Turned.{TurnedAt}
 use Rattle.session_core.proofs.EnteredLemmas.{back_whole, cause_left, worn_back}
-use Rattle.session_core.proofs.TurningLemmas.{readable_by, turned_by, same_session, refused_back}
+use Rattle.session_core.proofs.TurningLemmas.{halted_back, halts_in, readable_by, turned_by, same_session}
 use Rattle.session_core.proofs.session.Session.turn.Goals as goal
 
 pub turn_at-ended-requires-clause-reads : goal.turn_at-ended-requires-clause-reads
@@ -33,7 +33,8 @@ returns-clause-turned g c = λ is config opening text steps histories sent shape
     c.requires.goes_on shaped stands others
     (subst (λ l. TurnedAt (map g.T.Turns.shape l) (all_alone g.T.Turns.alone l) (map g.T.Turns.seen l)
     (map g.T.Turns.seen new) c.args.budget c.args.self.now.stage c.turn_at-ended.new.stage c.turn_at-ended.result
-    c.args.out.now.items c.turn_at-ended.new.out.items) there turned.turned) turned.halts)
+    c.args.out.now.items c.turn_at-ended.new.out.items) there turned.turned)
+    (halts_in _ _ _ _ c.turn_at-ended.result turned.halted))
 
 pub returns-clause-cause : goal.returns-clause-cause
 returns-clause-cause g c =
@@ -49,8 +50,8 @@ returns-clause-cause g c =
     (sym (sym (ap length there) ∙ c.as_mut_slice-rings.ensures.len)))
     (cause_left (map g.T.Turns.worn new) (g.B.Turns.worn c.args.places.now.book) c.turn_at-ended.result turned.cause)
 
-pub returns-clause-refused : goal.returns-clause-refused
-returns-clause-refused g c =
+pub returns-clause-halted : goal.returns-clause-halted
+returns-clause-halted g c =
     let items = c.args.places.now.rings.items in
     let there : c.as_mut_slice-rings.result.now ≡ items = c.as_mut_slice-rings.ensures.value in
     let turned = c.turn_at-ended.ensures in
@@ -59,8 +60,8 @@ returns-clause-refused g c =
     length_same g.T.Turns.shape c.as_mut_slice-rings.result.now new turned.stay.same.0 ∙ ap length there in
     let back = back_whole new items (vec_len c.args.places.now.rings) long
     (sym (sym (ap length there) ∙ c.as_mut_slice-rings.ensures.len)) in
-    rw back (refused_back g.T.Turns.seen g.B.Turns.seen c.as_mut_slice-rings.result.now items new c.args.places.now.book
-    c.args.out.now.items c.turn_at-ended.new.out.items c.turn_at-ended.result there turned.refused)
+    rw back (halted_back g.T.Turns.seen g.B.Turns.seen c.as_mut_slice-rings.result.now items new c.args.places.now.book
+    c.args.out.now.items c.turn_at-ended.new.out.items c.turn_at-ended.result there turned.halted)
 
 pub returns-clause-bystander : goal.returns-clause-bystander
 returns-clause-bystander g c = λ apart.
