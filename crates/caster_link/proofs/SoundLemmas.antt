@@ -16,7 +16,7 @@ use Rattle.session_calls.specs.Steps.{Step}
 use Rattle.session_calls.specs.Rings.{Went, history_at, shape_at}
 use Rattle.rover_session.specs.Made.{segments_after}
 use Rattle.rover_session.specs.Body.{body_of}
-use Rattle.rover_session.specs.Standing.{IsResumable, IsSoundAt, rover_of}
+use Rattle.rover_session.specs.Standing.{IsResumable, IsSoundAt}
 use Rattle.cast_config.specs.declared.config.Config.{Config}
 use Rattle.session_core.specs.declared.session.Session.{Session}
 use Rattle.session_core.specs.declared.stage.Stage.{Stage}
@@ -61,7 +61,7 @@ stage_sound c me h opening j text steps (stages.Relay mount session) at =
 stage_sound c me h opening j text steps (stages.Rover account session) at =
     subst (AllSound c h.rings)
     (at.stands.segments ∙ sym (ap (segments_after []) at.steps_are))
-    (resumable_sound c me h.rings (rover_of session).segments at.resumes)
+    (resumable_sound c me h.rings session.segments at.resumes)
 
 pub stands_sound : (c : Config) (session : Session) (opening : Opening) (text : List ℕ) (steps : List Step)
     (h : Histories) (sent : List ℕ) → StandsFor c session opening text steps h sent

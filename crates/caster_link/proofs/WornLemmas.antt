@@ -22,16 +22,21 @@ use Rattle.session_model.specs.Called.{IsCause}
 use Rattle.session_model.specs.Endings.{ended_by, at_end, ended_last}
 use Rattle.session_model.specs.Judged.{Opening, Judged, judged}
 use Rattle.session_core.specs.Refusals.{IsTurnRefused}
+use Rattle.session_core.specs.Beginnings.{worn_at}
+use Rattle.session_core.specs.Places.{AtBook, AtRing, Stay}
+use Rattle.session_core.specs.declared.places.Places.{Places}
 use Rattle.session_model.specs.Owed as owed
 use Rattle.session_model.specs.Owed.{came_to}
 use Rattle.session_model.specs.Run.{Histories}
 use Rattle.session_core.specs.Standing.{StandsFor, EndsAs, is_halted}
 use Rattle.session_core.specs.Closed.{ending_by}
 use Rattle.session_model.specs.Courses.{steps_of, text_of}
+use Rattle.caster_places.specs.Known.{Known, StayKnown, known_at}
 use Rattle.caster_link.specs.Served.{Came}
 use Rattle.caster_link.specs.Wear.{Wear, IsWorn, IsWornBy, MayRefuse, IsRefusedBy}
 use Rattle.session_core.proofs.ReceiptLemmas.{unended_by}
 use Rattle.caster_link.proofs.ClosedLemmas.{Closes}
+use Rattle.caster_link.proofs.PlaceLemmas.{known_same}
 use Rattle.caster_link.proofs.CalledLemmas.{others_none}
 
 -- ---- places only wear on
@@ -52,7 +57,7 @@ pub same_length : {P : Type 0} (shape : P → RingShape) (worn : P → ℕ) (old
 same_length shape worn old now same =
     omega (arith, length-map now worn, length-map old worn, ap length same, length-map now shape, length-map old shape)
 
-pub worn_later : {P : Type 0} (shape : P → RingShape) (worn : P → ℕ) (old now : List P) (book after : ℕ)
+worn_later : {P : Type 0} (shape : P → RingShape) (worn : P → ℕ) (old now : List P) (book after : ℕ)
     → map shape now ≡ map shape old → AllLater (map worn old) (map worn now) → book ≤ after
     → AllLater (map worn old ++ book ∷ []) (map worn now ++ after ∷ [])
 worn_later shape worn old now book after same rise up =
@@ -61,8 +66,33 @@ worn_later shape worn old now book after same rise up =
 pub later_none : (worn : List ℕ) → AllLater worn worn
 later_none worn k = omega arith
 
-pub later_both : (first second third : List ℕ) → AllLater first second → AllLater second third → AllLater first third
+later_both : (first second third : List ℕ) → AllLater first second → AllLater second third → AllLater first third
 later_both first second third one two k = omega (arith, one k, two k)
+
+-- ---- places stay themselves
+
+pub stay_known : {P B : Type 0} (ring : AtRing P) (book : AtBook B) (old now : Places P B) → Stay ring book old now
+    → StayKnown (known_at ring.shape book.shape ring.speaks book.speaks ring.may_lack book.may_lack ring.alone
+    book.alone ring.home book.home old.rings.items old.book)
+    (known_at ring.shape book.shape ring.speaks book.speaks ring.may_lack book.may_lack ring.alone book.alone ring.home
+    book.home now.rings.items now.book) (worn_at ring.worn book.worn old.rings.items old.book)
+    (worn_at ring.worn book.worn now.rings.items now.book)
+stay_known ring book old now stay = record {
+  known = known_same ring.shape book.shape ring.speaks book.speaks ring.may_lack book.may_lack ring.alone book.alone
+      ring.home book.home old.rings.items now.rings.items old.book now.book stay.at_rings.same stay.at_book.same;
+  later = worn_later ring.shape ring.worn old.rings.items now.rings.items (book.worn old.book) (book.worn now.book)
+      stay.at_rings.same.0 stay.at_rings.worn stay.at_book.worn;
+}
+
+pub stay_none : (known : Known) (worn : List ℕ) → StayKnown known known worn worn
+stay_none known worn = record { known = refl; later = later_none worn }
+
+pub stay_both : (first second third : Known) (one two three : List ℕ) → StayKnown first second one two
+    → StayKnown second third two three → StayKnown first third one three
+stay_both first second third one two three before after = record {
+  known = after.known ∙ before.known;
+  later = later_both one two three before.later after.later;
+}
 
 -- the wear of the same places, later
 pub record WearsOn (old now : Wear) : Type 0 where

@@ -4,4 +4,3 @@ pub mod Served
 pub mod Publishes
 pub mod Resting
 pub mod Wear
-pub mod Setups

@@ -1,7 +1,6 @@
 //! What a session does for a step of its link.
 
 ghost use Rattle.std.specs.Prelude.{◌≡◌, ℕ, List, [], ◌∷◌, length, None, IfSome};
-ghost use Rattle.session_calls.specs.Rings.{AllLater};
 ghost use Rattle.cast_config.specs.declared.config.Config.{Config as ConfigValue};
 ghost use Rattle.cast_config.specs.Kept.{KeepsRules};
 ghost use Rattle.session_model.specs.Called.{IsCause};
@@ -10,7 +9,7 @@ ghost use Rattle.session_model.specs.Owed.{Happening, arrives, takes_turn};
 ghost use Rattle.session_model.specs.Run.{Histories};
 ghost use Rattle.session_model.specs.Setting as setting;
 ghost use Rattle.session_core.specs.Standing.{Follows};
-ghost use Rattle.caster_places.specs.Known.{Fit};
+ghost use Rattle.caster_places.specs.Known.{Fit, StayKnown};
 ghost use Rattle.caster_link.specs.Resting.{is_caught_up, next_of};
 ghost use Rattle.caster_link.specs.Served.{Arrived, Reached};
 
@@ -53,9 +52,9 @@ pub(crate) fn take_turn<T: Turns<Ring>, B: Turns<Book>>(
         × Fit c session.old.me (⟦<Places<T, B> as AllPlaces>⟧.known places.old)
         × Follows c session.old (⟦<Places<T, B> as AllPlaces>⟧.seen places.old) 0 }
     ensures rests { result ≡ is_caught_up session.new (next_of session.old) }
-    ensures known { ⟦<Places<T, B> as AllPlaces>⟧.known places.new
-        ≡ ⟦<Places<T, B> as AllPlaces>⟧.known places.old }
-    ensures later { AllLater (⟦<Places<T, B> as AllPlaces>⟧.worn places.old)
+    ensures stay { StayKnown (⟦<Places<T, B> as AllPlaces>⟧.known places.old)
+        (⟦<Places<T, B> as AllPlaces>⟧.known places.new)
+        (⟦<Places<T, B> as AllPlaces>⟧.worn places.old)
         (⟦<Places<T, B> as AllPlaces>⟧.worn places.new) }
     ensures cause { IfSome session.new.ended
         (IsCause (⟦<Places<T, B> as AllPlaces>⟧.worn places.new)) }
@@ -87,9 +86,9 @@ pub(crate) fn arrive<T: Turns<Ring>, B: Turns<Book>>(
     requires fit { Fit config.now session.old.me (⟦<Places<T, B> as AllPlaces>⟧.known places.old) }
     requires follows { Follows config.now session.old
         (⟦<Places<T, B> as AllPlaces>⟧.seen places.old) (length bytes.now) }
-    ensures known { ⟦<Places<T, B> as AllPlaces>⟧.known places.new
-        ≡ ⟦<Places<T, B> as AllPlaces>⟧.known places.old }
-    ensures later { AllLater (⟦<Places<T, B> as AllPlaces>⟧.worn places.old)
+    ensures stay { StayKnown (⟦<Places<T, B> as AllPlaces>⟧.known places.old)
+        (⟦<Places<T, B> as AllPlaces>⟧.known places.new)
+        (⟦<Places<T, B> as AllPlaces>⟧.worn places.old)
         (⟦<Places<T, B> as AllPlaces>⟧.worn places.new) }
     ensures cause { IfSome session.new.ended
         (IsCause (⟦<Places<T, B> as AllPlaces>⟧.worn places.new)) }

@@ -2,27 +2,25 @@
 
 ghost use Rattle.std.specs.Prelude.{◌≡◌, ◌+◌, ◌^◌, ◌<◌, ℕ, List, [], length, None, Some, IfErr, IfOk, IfSome, IsTrue, OnOk, false, true};
 ghost use Rattle.cast_io.specs.Told.{LinkTold};
-ghost use Rattle.session_calls.specs.Rings.{AllLater};
 ghost use Rattle.session_model.specs.Called.{IsCause};
 ghost use Rattle.session_model.specs.Judged.{Opening, waiting};
 ghost use Rattle.session_model.specs.Run.{Histories};
 ghost use Rattle.session_core.specs.Standing.{StandsFor};
 ghost use Rattle.session_core.specs.Closed.{IsReceipt};
-ghost use Rattle.caster_places.specs.Known.{Fit};
+ghost use Rattle.caster_places.specs.Known.{Fit, StayKnown};
 ghost use Rattle.caster_link.specs.Links.{opening_of};
 ghost use Rattle.caster_link.specs.Served.{Came, ComesTo, IsServedOn, LinkServed, Reached, Serving};
-ghost use Rattle.caster_link.specs.Setups.{IsSetUp};
+ghost use Rattle.session_core.specs.Setups.{IsSetUp};
 ghost use Rattle.caster_link.specs.Wear.{IsWornBy, MayRefuse, wear_of};
 
 use crate::arriving::{arrive, take_turn};
 use crate::role::Role;
 use crate::sending::send;
-use crate::setup::Setup;
 use cast_io::{Got, Link};
 use caster_accounts::Book;
 use caster_places::AllPlaces;
 use mount_ring::Ring;
-use session_core::{Ending, Last, Places, Receipt, Segments, Session};
+use session_core::{Ending, Last, Places, Receipt, Segments, Session, Setup};
 use std::alloc::{AllocError, Global};
 use std::sync::Wait;
 use turn_log::Turns;
@@ -53,11 +51,12 @@ fn hear<T: Turns<Ring>, B: Turns<Book>, L: Link>(
     requires few { given.old < 2 ^ 62 }
     requires served { (opening : Opening) × (me : ℕ) × (start : Histories) × (before : LinkTold)
         × Serving setup.now.config.now opening me start
-        (⟦<Places<T, B> as AllPlaces>⟧.seen places.old) session.old before (L.told link.old) [] given.old }
+        (⟦<Places<T, B> as AllPlaces>⟧.seen places.old) session.old before (L.told link.old) []
+        given.old }
     ensures me { session.new.me ≡ session.old.me }
-    ensures known { ⟦<Places<T, B> as AllPlaces>⟧.known places.new
-        ≡ ⟦<Places<T, B> as AllPlaces>⟧.known places.old }
-    ensures later { AllLater (⟦<Places<T, B> as AllPlaces>⟧.worn places.old)
+    ensures stay { StayKnown (⟦<Places<T, B> as AllPlaces>⟧.known places.old)
+        (⟦<Places<T, B> as AllPlaces>⟧.known places.new)
+        (⟦<Places<T, B> as AllPlaces>⟧.worn places.old)
         (⟦<Places<T, B> as AllPlaces>⟧.worn places.new) }
     ensures cause { IfSome session.new.ended
         (IsCause (⟦<Places<T, B> as AllPlaces>⟧.worn places.new)) }
@@ -111,9 +110,9 @@ fn run<T: Turns<Ring>, B: Turns<Book>, L: Link, R: Wait>(
         (⟦<Places<T, B> as AllPlaces>⟧.seen places.old)
         (⟦<Places<T, B> as AllPlaces>⟧.seen places.old) session.old out.old.items [] }
     ensures me { session.new.me ≡ session.old.me }
-    ensures known { ⟦<Places<T, B> as AllPlaces>⟧.known places.new
-        ≡ ⟦<Places<T, B> as AllPlaces>⟧.known places.old }
-    ensures later { AllLater (⟦<Places<T, B> as AllPlaces>⟧.worn places.old)
+    ensures stay { StayKnown (⟦<Places<T, B> as AllPlaces>⟧.known places.old)
+        (⟦<Places<T, B> as AllPlaces>⟧.known places.new)
+        (⟦<Places<T, B> as AllPlaces>⟧.worn places.old)
         (⟦<Places<T, B> as AllPlaces>⟧.worn places.new) }
     ensures cause { IfSome session.new.ended
         (IsCause (⟦<Places<T, B> as AllPlaces>⟧.worn places.new)) }
@@ -187,14 +186,14 @@ pub fn serve_places<T: Turns<Ring>, B: Turns<Book>, L: Link, R: Wait>(
         (⟦<Places<T, B> as AllPlaces>⟧.known places.old) }
     requires relay { (number : ℕ) → role ≡ Role.Relay number
         → number < length setup.now.config.now.relay }
-    ensures known { ⟦<Places<T, B> as AllPlaces>⟧.known places.new
-        ≡ ⟦<Places<T, B> as AllPlaces>⟧.known places.old }
+    ensures stay { StayKnown (⟦<Places<T, B> as AllPlaces>⟧.known places.old)
+        (⟦<Places<T, B> as AllPlaces>⟧.known places.new)
+        (⟦<Places<T, B> as AllPlaces>⟧.worn places.old)
+        (⟦<Places<T, B> as AllPlaces>⟧.worn places.new) }
     ensures served { LinkServed setup.now.config.now (opening_of role) setup.now.me
         (⟦<Places<T, B> as AllPlaces>⟧.seen places.old)
         (⟦<Places<T, B> as AllPlaces>⟧.seen places.new) (L.told link.old) (L.told link.new)
         result }
-    ensures later { AllLater (⟦<Places<T, B> as AllPlaces>⟧.worn places.old)
-        (⟦<Places<T, B> as AllPlaces>⟧.worn places.new) }
     ensures worn { IsWornBy (⟦<Places<T, B> as AllPlaces>⟧.worn places.new) result.ending }
     ensures unsettled { result.settled ≡ false
         → MayRefuse (wear_of (⟦<Places<T, B> as AllPlaces>⟧.known places.new)

@@ -7,8 +7,6 @@ mod connection;
 pub mod laws;
 mod role;
 mod sending;
-mod setup;
 
 pub use connection::serve_places;
 pub use role::Role;
-pub use setup::Setup;

@@ -3,6 +3,7 @@ use Rattle.std.specs.Prelude.{◌≡◌, ℕ, Bool, IsTrue, List, map}
 use Rattle.std.specs.List.{All}
 use base.Stored.{Gv}
 use Rattle.mount_ring.specs.declared.shape.RingShape.{RingShape}
+use Rattle.session_calls.specs.Rings.{AllLater}
 use Rattle.cast_config.specs.declared.config.Config.{Config}
 use Rattle.session_model.specs.Setting.{shapes, caps}
 
@@ -45,3 +46,8 @@ pub record Fit (c : Config) (me : ℕ) (known : Known) : Type 0 where
   pub caps_fit : known.caps_are ≡ caps c
   pub rings : All (λ (speaks : ℕ → Bool). IsTrue (speaks me)) known.speaks
   pub book : IsTrue (known.book_speaks me)
+
+-- The places are those of which this was known, and none is worn less than before.
+pub record StayKnown (old now : Known) (worn_before worn_after : List ℕ) : Type 0 where
+  pub known : now ≡ old
+  pub later : AllLater worn_before worn_after

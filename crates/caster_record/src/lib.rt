@@ -9,6 +9,7 @@ mod recorder;
 mod recording;
 mod rounds;
 mod serving;
+mod setup;
 mod tape;
 
 pub use fault::RecorderFault;

@@ -9,13 +9,15 @@ ghost use Rattle.caster_record.specs.Recording.{IsNext, Records, events_in, most
 use crate::tape::Tape;
 use cast_config::Config;
 use caster_replay::Run;
+use mount_ring::Ring;
 use session_script::Event;
 use std::alloc::{AllocError, Global};
+use turn_log::Desk;
 
 /// A run of the events that were recorded.
 #[derive(Drop)]
 pub(crate) struct Recorder {
-    pub(crate) run: Run,
+    pub(crate) run: Run<Desk<Ring>>,
     pub(crate) tape: Tape,
 }
 

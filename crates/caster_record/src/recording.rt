@@ -19,6 +19,7 @@ ghost use Rattle.caster_record.specs.Recording.{Records, events_in};
 use crate::fault::RecorderFault;
 use crate::recorder::Recorder;
 use crate::rounds::MOST;
+use crate::setup::RecordSetup;
 use cast_config::Config;
 use cast_io::{Arrived, Door, Link};
 use session_core::Report;
@@ -81,59 +82,56 @@ impl Recorder {
     /// A link came: its connection opens, and no write to it was torn.
     fn open_link<L: Link>(
         &mut self,
-        alloc: Global,
-        config: &Config,
-        limit: u32,
+        setup: &RecordSetup,
         link: L,
         links: &mut Vec<L>,
         torn: &mut Vec<bool>,
     ) -> Result<(), AllocError>
-        requires kept { (cap : ℕ) × KeepsRules cap config.now }
-        requires limit { limit ≤ 256 }
-        requires rests { (before : DoorTold) × (door : DoorTold) × RestsAfter L.told config.now
-            limit before door self.old links.old.items torn.old.items }
+        requires kept { (cap : ℕ) × KeepsRules cap setup.now.config.now }
+        requires limit { setup.now.limit ≤ 256 }
+        requires rests { (before : DoorTold) × (door : DoorTold)
+            × RestsAfter L.told setup.now.config.now setup.now.limit before door self.old
+            links.old.items torn.old.items }
         requires fresh { IsNewLink (L.told link) }
-        requires fewer { length links.old.items < limit }
+        requires fewer { length links.old.items < setup.now.limit }
         requires small { self.old.tape.size ≤ 8370000 }
         requires room { vec_len links.old + 1 ≤ vec_capacity links.old }
         requires mark { vec_len torn.old + 1 ≤ vec_capacity torn.old }
         ensures begins { OnOk result ((before door later : DoorTold)
-            → RestsAfter L.told config.now limit before door self.old links.old.items
-            torn.old.items
-            → HasAccepted L.told door later (Arrived.Link link)
-            → IsWithin L.told config.now limit 0 before later self.new links.new.items
-            torn.new.items) }
+            → RestsAfter L.told setup.now.config.now setup.now.limit before door self.old
+            links.old.items torn.old.items → HasAccepted L.told door later (Arrived.Link link)
+            → IsWithin L.told setup.now.config.now setup.now.limit 0 before later self.new
+            links.new.items torn.new.items) }
         ensures pushed { links.new.items ≡ links.old.items ++ link ∷ [] }
     {
         links.push_reserved(link);
         torn.push_reserved(false);
-        self.play(alloc, config, Event::Open(links.len() as u32))?;
+        self.play(setup.alloc, setup.config, Event::Open(links.len() as u32))?;
         Ok(())
     }
 
     /// Asks the door for a link. Answers whether one came.
     fn ask<D: Door>(
         &mut self,
-        alloc: Global,
-        config: &Config,
-        limit: u32,
+        setup: &RecordSetup,
         door: &mut D,
         links: &mut Vec<D::Link>,
         torn: &mut Vec<bool>,
     ) -> Result<bool, RecorderFault>
-        requires kept { (cap : ℕ) × KeepsRules cap config.now }
-        requires limit { limit ≤ 256 }
-        requires rests { (before : DoorTold) × RestsAfter D.Link.told config.now limit before
-            (D.told door.old) self.old links.old.items torn.old.items }
-        requires fewer { length links.old.items < limit }
+        requires kept { (cap : ℕ) × KeepsRules cap setup.now.config.now }
+        requires limit { setup.now.limit ≤ 256 }
+        requires rests { (before : DoorTold)
+            × RestsAfter D.Link.told setup.now.config.now setup.now.limit before (D.told door.old)
+            self.old links.old.items torn.old.items }
+        requires fewer { length links.old.items < setup.now.limit }
         requires small { self.old.tape.size ≤ 8370000 }
         requires room { vec_len links.old + 1 ≤ vec_capacity links.old }
         requires mark { vec_len torn.old + 1 ≤ vec_capacity torn.old }
         ensures begins { IfOk result (λ came. (before : DoorTold)
-            → RestsAfter D.Link.told config.now limit before (D.told door.old) self.old
-            links.old.items torn.old.items
-            → IsWithin D.Link.told config.now limit 0 before (D.told door.new) self.new
-            links.new.items torn.new.items) }
+            → RestsAfter D.Link.told setup.now.config.now setup.now.limit before (D.told door.old)
+            self.old links.old.items torn.old.items
+            → IsWithin D.Link.told setup.now.config.now setup.now.limit 0 before (D.told door.new)
+            self.new links.new.items torn.new.items) }
         ensures come { HaveCome (D.told door.old) (D.told door.new)
             (map D.Link.told links.old.items) (map D.Link.told links.new.items) }
         ensures network { IsErrOf result RecorderFault.Network
@@ -141,7 +139,7 @@ impl Recorder {
     {
         match door.accept() {
             Arrived::Link(link) => {
-                self.open_link(alloc, config, limit, link, links, torn)?;
+                self.open_link(setup, link, links, torn)?;
                 Ok(true)
             }
             Arrived::Idle => Ok(false),
@@ -152,63 +150,61 @@ impl Recorder {
     /// Asks the door for a link, where one may come. Answers whether one came.
     fn accept<D: Door>(
         &mut self,
-        alloc: Global,
-        config: &Config,
-        limit: u32,
+        setup: &RecordSetup,
         door: &mut D,
         links: &mut Vec<D::Link>,
         torn: &mut Vec<bool>,
     ) -> Result<bool, RecorderFault>
-        requires kept { (cap : ℕ) × KeepsRules cap config.now }
-        requires limit { limit ≤ 256 }
-        requires rests { (before : DoorTold) × RestsAfter D.Link.told config.now limit before
-            (D.told door.old) self.old links.old.items torn.old.items }
+        requires kept { (cap : ℕ) × KeepsRules cap setup.now.config.now }
+        requires limit { setup.now.limit ≤ 256 }
+        requires rests { (before : DoorTold)
+            × RestsAfter D.Link.told setup.now.config.now setup.now.limit before (D.told door.old)
+            self.old links.old.items torn.old.items }
         ensures begins { IfOk result (λ came. (before : DoorTold)
-            → RestsAfter D.Link.told config.now limit before (D.told door.old) self.old
-            links.old.items torn.old.items
-            → IsWithin D.Link.told config.now limit 0 before (D.told door.new) self.new
-            links.new.items torn.new.items) }
+            → RestsAfter D.Link.told setup.now.config.now setup.now.limit before (D.told door.old)
+            self.old links.old.items torn.old.items
+            → IsWithin D.Link.told setup.now.config.now setup.now.limit 0 before (D.told door.new)
+            self.new links.new.items torn.new.items) }
         ensures come { HaveCome (D.told door.old) (D.told door.new)
             (map D.Link.told links.old.items) (map D.Link.told links.new.items) }
         ensures network { IsErrOf result RecorderFault.Network
             → Rose (D.told door.old).faults (D.told door.new).faults }
     {
-        if !self.may_ask(limit, links.len()) {
+        if !self.may_ask(setup.limit, links.len()) {
             return Ok(false);
         }
         links.reserve(1)?;
         torn.reserve(1)?;
-        let came = self.ask(alloc, config, limit, door, links, torn)?;
+        let came = self.ask(setup, door, links, torn)?;
         Ok(came)
     }
 }
 
 /// One round: a link may come, and then all that are due are served.
 fn round<D: Door>(
-    alloc: Global,
-    config: &Config,
-    limit: u32,
+    setup: &RecordSetup,
     door: &mut D,
     recorder: &mut Recorder,
     links: &mut Vec<D::Link>,
     torn: &mut Vec<bool>,
 ) -> Result<(), RecorderFault>
-    requires kept { (cap : ℕ) × KeepsRules cap config.now }
-    requires limit { limit ≤ 256 }
-    requires rests { (before : DoorTold) × RestsAfter D.Link.told config.now limit before
-        (D.told door.old) recorder.old links.old.items torn.old.items }
+    requires kept { (cap : ℕ) × KeepsRules cap setup.now.config.now }
+    requires limit { setup.now.limit ≤ 256 }
+    requires rests { (before : DoorTold)
+        × RestsAfter D.Link.told setup.now.config.now setup.now.limit before (D.told door.old)
+        recorder.old links.old.items torn.old.items }
     ensures rests { OnOk result ((before : DoorTold)
-        → RestsAfter D.Link.told config.now limit before (D.told door.old) recorder.old
-        links.old.items torn.old.items
-        → RestsAfter D.Link.told config.now limit before (D.told door.new) recorder.new
-        links.new.items torn.new.items) }
+        → RestsAfter D.Link.told setup.now.config.now setup.now.limit before (D.told door.old)
+        recorder.old links.old.items torn.old.items
+        → RestsAfter D.Link.told setup.now.config.now setup.now.limit before (D.told door.new)
+        recorder.new links.new.items torn.new.items) }
     ensures come { HaveCome (D.told door.old) (D.told door.new)
         (map D.Link.told links.old.items) (map D.Link.told links.new.items) }
     ensures network { IsErrOf result RecorderFault.Network
         → Rose (D.told door.old).faults (D.told door.new).faults }
 {
-    let came = recorder.accept(alloc, config, limit, door, links, torn)?;
-    let busy = recorder.serve_all(alloc, config, limit, links, torn)?;
+    let came = recorder.accept(setup, door, links, torn)?;
+    let busy = recorder.serve_all(setup, links, torn)?;
     if came || busy {
         return Ok(());
     }
@@ -219,32 +215,30 @@ fn round<D: Door>(
 /// Rounds, until the recording is at its end.
 fn run<D: Door, R: Wait>(
     rt: &R,
-    alloc: Global,
-    config: &Config,
-    limit: u32,
+    setup: &RecordSetup,
     door: &mut D,
     recorder: &mut Recorder,
     links: &mut Vec<D::Link>,
     torn: &mut Vec<bool>,
 ) -> Result<(), RecorderFault>
-    requires kept { (cap : ℕ) × KeepsRules cap config.now }
-    requires limit { limit ≤ 256 }
-    requires rests { RestsAfter D.Link.told config.now limit (D.told door.old) (D.told door.old)
-        recorder.old links.old.items torn.old.items }
-    ensures rests { OnOk result (RestsAfter D.Link.told config.now limit (D.told door.old)
-        (D.told door.new) recorder.new links.new.items torn.new.items) }
-    ensures ended { OnOk result
-        (IsAtEnd config.now limit (events_in recorder.new) (length links.new.items)) }
+    requires kept { (cap : ℕ) × KeepsRules cap setup.now.config.now }
+    requires limit { setup.now.limit ≤ 256 }
+    requires rests { RestsAfter D.Link.told setup.now.config.now setup.now.limit (D.told door.old)
+        (D.told door.old) recorder.old links.old.items torn.old.items }
+    ensures rests { OnOk result (RestsAfter D.Link.told setup.now.config.now setup.now.limit
+        (D.told door.old) (D.told door.new) recorder.new links.new.items torn.new.items) }
+    ensures ended { OnOk result (IsAtEnd setup.now.config.now setup.now.limit
+        (events_in recorder.new) (length links.new.items)) }
     ensures come { HaveCome (D.told door.old) (D.told door.new)
         (map D.Link.told links.old.items) (map D.Link.told links.new.items) }
     ensures network { IsErrOf result RecorderFault.Network
         → Rose (D.told door.old).faults (D.told door.new).faults }
 {
     for _ in rt.forever() {
-        if recorder.is_at_end(config, limit, links.len()) {
+        if recorder.is_at_end(setup.config, setup.limit, links.len()) {
             return Ok(());
         }
-        round(alloc, config, limit, door, recorder, links, torn)?;
+        round(setup, door, recorder, links, torn)?;
     }
     unreachable!()
 }
@@ -290,16 +284,12 @@ fn session<D: Door, R: Wait>(
 {
     let mut recorder = Recorder::new(alloc, config)?;
     let mut torn = Vec::new(alloc);
-    run(
-        rt,
+    let setup = RecordSetup {
         alloc,
         config,
         limit,
-        door,
-        &mut recorder,
-        links,
-        &mut torn,
-    )?;
+    };
+    run(rt, &setup, door, &mut recorder, links, &mut torn)?;
     let told = finished(alloc, config, recorder)?;
     Ok(told)
 }

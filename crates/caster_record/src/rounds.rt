@@ -12,9 +12,10 @@ ghost use Rattle.caster_record.specs.Recording.{Records, events_in};
 ghost use Rattle.caster_record.specs.Rounds.{IsPassed};
 
 use crate::recorder::Recorder;
+use crate::setup::RecordSetup;
 use cast_config::Config;
 use cast_io::Link;
-use std::alloc::{AllocError, Global};
+use std::alloc::AllocError;
 
 /// So many bytes the lines of the events have at most before one more link or one more step.
 pub(crate) const MOST: u64 = 8_370_000;
@@ -38,32 +39,30 @@ impl Recorder {
     /// written.
     fn serve_at<L: Link>(
         &mut self,
-        alloc: Global,
-        config: &Config,
-        limit: u32,
+        setup: &RecordSetup,
         links: &mut Vec<L>,
         torn: &mut Vec<bool>,
         at: usize,
     ) -> Result<bool, AllocError>
-        requires kept { (cap : ℕ) × KeepsRules cap config.now }
+        requires kept { (cap : ℕ) × KeepsRules cap setup.now.config.now }
         requires place { (before : DoorTold) × (door : DoorTold)
-            × IsWithin L.told config.now limit at before door self.old links.old.items
-            torn.old.items }
+            × IsWithin L.told setup.now.config.now setup.now.limit at before door self.old
+            links.old.items torn.old.items }
         requires within { at < length links.old.items }
         ensures place { IfOk result (λ busy. (before door : DoorTold)
-            → IsWithin L.told config.now limit at before door self.old links.old.items
-            torn.old.items
-            → IsWithin L.told config.now limit (at + 1) before door self.new links.new.items
-            torn.new.items) }
+            → IsWithin L.told setup.now.config.now setup.now.limit at before door self.old
+            links.old.items torn.old.items
+            → IsWithin L.told setup.now.config.now setup.now.limit (at + 1) before door self.new
+            links.new.items torn.new.items) }
         ensures given { given_in (map L.told links.new.items)
             ≡ given_in (map L.told links.old.items) }
         ensures count { length links.new.items ≡ length links.old.items }
     {
         let number = at as u32 + 1;
-        if !self.is_due(config, number, torn[at]) {
+        if !self.is_due(setup.config, number, torn[at]) {
             return Ok(false);
         }
-        let outcome = self.serve(alloc, config, number, &mut links[at])?;
+        let outcome = self.serve(setup.alloc, setup.config, number, &mut links[at])?;
         torn[at] = outcome.torn;
         Ok(outcome.busy)
     }
@@ -71,27 +70,25 @@ impl Recorder {
     /// Serves each link that is due, in order. Answers whether anything was read or written.
     pub(crate) fn serve_all<L: Link>(
         &mut self,
-        alloc: Global,
-        config: &Config,
-        limit: u32,
+        setup: &RecordSetup,
         links: &mut Vec<L>,
         torn: &mut Vec<bool>,
     ) -> Result<bool, AllocError>
-        requires kept { (cap : ℕ) × KeepsRules cap config.now }
+        requires kept { (cap : ℕ) × KeepsRules cap setup.now.config.now }
         requires begins { (before : DoorTold) × (door : DoorTold)
-            × IsWithin L.told config.now limit 0 before door self.old links.old.items
-            torn.old.items }
+            × IsWithin L.told setup.now.config.now setup.now.limit 0 before door self.old
+            links.old.items torn.old.items }
         ensures rests { IfOk result (λ busy. (before door : DoorTold)
-            → IsWithin L.told config.now limit 0 before door self.old links.old.items
-            torn.old.items
-            → RestsAfter L.told config.now limit before door self.new links.new.items
-            torn.new.items) }
+            → IsWithin L.told setup.now.config.now setup.now.limit 0 before door self.old
+            links.old.items torn.old.items
+            → RestsAfter L.told setup.now.config.now setup.now.limit before door self.new
+            links.new.items torn.new.items) }
         ensures given { given_in (map L.told links.new.items)
             ≡ given_in (map L.told links.old.items) }
     {
         let mut busy = false;
         for at in 0..links.len() {
-            busy = self.serve_at(alloc, config, limit, links, torn, at)? || busy;
+            busy = self.serve_at(setup, links, torn, at)? || busy;
         }
         Ok(busy)
     }

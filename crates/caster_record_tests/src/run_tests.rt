@@ -6,7 +6,7 @@ ghost use Rattle.session_script.specs.declared.Event.{Event as EventValue};
 ghost use Rattle.caster_replay.specs.Kept.{StandsFor};
 
 use cast_config::Config;
-use caster_replay::{Run, played};
+use caster_replay::{RingPlace, Run, played};
 use session_script::{ScriptKind, parse};
 use std::alloc::Global;
 use std::test::Fail;
@@ -21,7 +21,7 @@ const LATER: &[u8] = b"source 1 A\nrover 2 A\nin 1 d300034cb0280e65e1\nturn 2 16
 const FRAME: &[u8] = b"\xD3\x00\x03\x4C\xB0\x28\x0E\x65\xE1";
 
 /// Whether the connection of this number is behind and goes on, and whether it was sent this.
-fn stands(run: &Run, number: u32, sent: &[u8]) -> [bool; 3]
+fn stands<P: RingPlace>(run: &Run<P>, number: u32, sent: &[u8]) -> [bool; 3]
     requires { (c : ConfigValue) × (script : List EventValue) × StandsFor c script run.now }
 {
     let was_sent = run.sent(number) == sent;

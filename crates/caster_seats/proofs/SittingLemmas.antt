@@ -1,5 +1,7 @@
 -- Callers that sit down at the locks of a caster, and leave them.
 use Rattle.std.proofs.Common.{◌≡◌, ◌∙◌, ◌+◌, ◌≤◌, ◌++◌, ℕ, List, [], ◌∷◌, length, map, refl, sym, ap, subst, arith, append_assoc, append-nil, length-append}
+use Rattle.std.specs.Prelude.{vec_len, vec_capacity, Vec}
+use Rattle.std.specs.Global.{Global}
 use Rattle.std.specs.List.{All}
 use Rattle.std.proofs.lemmas.List.{map-append, length-map}
 use Rattle.std.proofs.lemmas.List.Elements.{All-nil, All-cons}
@@ -21,7 +23,7 @@ use Rattle.caster_seats.specs.declared.shared.Shared.{Shared}
 use Rattle.caster_seats.specs.declared.shared.Passes.{Passes}
 use Rattle.caster_seats.specs.Sharing.{AreNewPasses, ArePassesOf, IsNewPass, IsReady, seen_by}
 use Rattle.caster_seats.specs.Hands.{HandTold}
-use Rattle.caster_seats.specs.Seated.{AreSeated, IsSeated, AreAllAt, AreBelow, AreLegal, HaveLeft, HavePlaces, rows_of}
+use Rattle.caster_seats.specs.Seated.{AreSeated, IsSeated, AreAllAt, AreBelow, AreLegal, HaveLeft, HavePlaces, TookWork, rows_of, works_of}
 use Rattle.session_core.proofs.HeldLemmas.{length_shapes}
 use Rattle.caster_places.proofs.ListLemmas.{at_front, at_back}
 use Rattle.caster_seats.proofs.SharingLemmas.{matched-weaker}
@@ -226,3 +228,26 @@ less_room more less piles fewer room = record {
 pub one_longer : {X : Type 0} (hands front : List X) (last : X) → hands ≡ front ++ last ∷ []
     → length hands ≡ length front + 1
 one_longer hands front last is = ap length is ∙ length-append front (last ∷ [])
+
+-- ---- work that is taken in
+
+pub work_none : {X Y : Type 0} (told : Y → HandTold X) (hands : List Y) (list : Vec X Global) → length hands ≡ 0
+    → TookWork told hands list list
+work_none told [] list none = record {
+  works = sym (append-nil list.items);
+  count = omega arith;
+  capacity = omega arith;
+}
+work_none told (hand ∷ hands) list none = absurd (omega (arith, none))
+
+pub work_more : {X Y : Type 0} (told : Y → HandTold X) (hands front : List Y) (last : Y) (old mid new : Vec X Global)
+    → hands ≡ front ++ last ∷ [] → TookWork told front old mid → new.items ≡ mid.items ++ (told last).work ∷ []
+    → vec_len new ≡ vec_len mid + 1 → vec_capacity new ≡ vec_capacity mid → TookWork told hands old new
+work_more {X} told hands front last old mid new is before pushed longer same = record {
+  works = pushed ∙ ap (λ l. l ++ (told last).work ∷ []) before.works
+      ∙ append_assoc old.items (works_of (map told front)) ((told last).work ∷ [])
+      ∙ ap (λ l. old.items ++ l) (sym (ap works_of (ap (map told) is ∙ map-append told front (last ∷ []))
+      ∙ map-append (λ (hand : HandTold X). hand.work) (map told front) (told last ∷ [])));
+  count = omega (arith, longer, before.count, one_longer hands front last is);
+  capacity = omega (arith, same, before.capacity);
+}

@@ -1,9 +1,10 @@
 -- Callers at the seats of a caster's locks, in the order of their numbers, whatever they do there.
-use Rattle.std.specs.Prelude.{◌≡◌, false, ℕ, ◌+◌, ⊤, List, [], ◌∷◌, ◌++◌, length, map}
+use Rattle.std.specs.Prelude.{◌≡◌, false, ℕ, ◌+◌, ◌≤◌, ⊤, List, [], ◌∷◌, ◌++◌, length, map, vec_len, vec_capacity, Vec}
+use Rattle.std.specs.Global.{Global}
 use Rattle.turn_log.specs.History.{IsLegal}
 use Rattle.caster_accounts.specs.History.{fits}
 use Rattle.caster_places.specs.Known.{Fit}
-use Rattle.caster_places.specs.Rows.{AreAt, ArePiles, RingLocks, BookLock}
+use Rattle.caster_places.specs.Rows.{AreAt, ArePiles, AreWornWithin, HaveRoom, RingLocks, BookLock}
 use Rattle.caster_places.specs.declared.piles.Piles.{Piles}
 use Rattle.session_calls.specs.Rings.{AllLater}
 use Rattle.session_model.specs.Run.{Histories, nothing_called}
@@ -69,3 +70,22 @@ AreLegal (hand ∷ hands) = IsLegal (fits hand.known.caps_are) hand.seen.book ×
 abbrev pub AreBelow : {X : Type 0} → List ℕ → List (HandTold X) → Type 0
 AreBelow worn [] = ⊤
 AreBelow worn (hand ∷ hands) = AllLater hand.worn worn × AreBelow worn hands
+
+-- A list took the work of these callers behind its own, in the room that it had.
+pub record TookWork {X Y : Type 0} (told : Y → HandTold X) (hands : List Y) (old new : Vec X Global)
+    : Type 0 where
+  pub works : new.items ≡ old.items ++ works_of (map told hands)
+  pub count : vec_len new ≡ vec_len old + length hands
+  pub capacity : vec_capacity old ≤ vec_capacity new
+
+-- The piles took a pass of each lock from each of these callers, in the room that they had.
+pub record TookPasses {X Y : Type 0} (told : Y → HandTold X) (hands : List Y) (old new : Piles)
+    : Type 0 where
+  -- they are of as many mountpoints as before
+  pub mounts : length new.rings.items ≡ length old.rings.items
+  pub passes : length new.book.items ≡ length old.book.items + length hands
+  pub space : (callers : ℕ) → HaveRoom (callers + length hands) old → HaveRoom callers new
+  -- where no pass of the piles met its lock worn by more turns than these, no place of the callers
+  -- was worn by more
+  pub worn : (mounts : List ℕ) (book : ℕ) → AreWornWithin mounts book new
+      → AreWornWithin mounts book old × AreBelow (mounts ++ book ∷ []) (map told hands)

@@ -3,8 +3,8 @@
 ghost use Rattle.std.specs.Prelude.{◌≡◌, ◌≤◌, ◌+◌, ◌<◌, ◌^◌, ℕ, [], ◌∷◌, ◌++◌, List, length, map, vec_len, vec_capacity, IfOk, OnErr, OnOk};
 ghost use mathlib.Core.Option.{some};
 ghost use lib.ListN.{get_elem?};
-ghost use Rattle.caster_places.specs.Rows.{AreWornWithin, HaveRoom};
-ghost use Rattle.caster_seats.specs.Seated.{AreBelow, AreLegal, AreSeated, HaveLeft, HavePlaces, works_of};
+ghost use Rattle.caster_places.specs.Rows.{HaveRoom};
+ghost use Rattle.caster_seats.specs.Seated.{AreLegal, AreSeated, HaveLeft, HavePlaces, TookPasses, TookWork};
 ghost use Rattle.caster_seats.specs.Sharing.{AreNewPasses, IsReady};
 
 use crate::shared::{Passes, Shared};
@@ -133,22 +133,13 @@ pub fn leave_all<'a, W, R: Wait + Sync>(
     requires spare { HaveRoom (length hands.items) piles.old }
     requires places { HavePlaces (length piles.old.rings.items)
         (map ⟦<Hand<'a, W, R> as AtPlaces<W>>⟧.told hands.items) }
-    ensures works { works.new.items ≡ works.old.items
-        ++ works_of (map ⟦<Hand<'a, W, R> as AtPlaces<W>>⟧.told hands.entry.items) }
+    ensures works { TookWork ⟦<Hand<'a, W, R> as AtPlaces<W>>⟧.told hands.entry.items
+        works.old works.new }
+    ensures piles { TookPasses ⟦<Hand<'a, W, R> as AtPlaces<W>>⟧.told hands.entry.items
+        piles.old piles.new }
     ensures left { HaveLeft (map ⟦<Hand<'a, W, R> as AtPlaces<W>>⟧.told hands.entry.items)
         piles.old piles.new }
     ensures legal { AreLegal (map ⟦<Hand<'a, W, R> as AtPlaces<W>>⟧.told hands.entry.items) }
-    ensures worn { (mounts : List ℕ) (book : ℕ) → AreWornWithin mounts book piles.new
-        → AreWornWithin mounts book piles.old
-        × AreBelow (mounts ++ book ∷ [])
-        (map ⟦<Hand<'a, W, R> as AtPlaces<W>>⟧.told hands.entry.items) }
-    ensures mounts { length piles.new.rings.items ≡ length piles.old.rings.items }
-    ensures space { (callers : ℕ) → HaveRoom (callers + length hands.entry.items) piles.old
-        → HaveRoom callers piles.new }
-    ensures count { vec_len works.new ≡ vec_len works.old + length hands.entry.items }
-    ensures capacity { vec_capacity works.old ≤ vec_capacity works.new }
-    ensures passes { length piles.new.book.items
-        ≡ length piles.old.book.items + length hands.entry.items }
 {
     let Some(last) = hands.pop() else {
         hands.destroy_empty();

@@ -2,20 +2,19 @@
 
 ghost use Rattle.std.specs.Prelude.{◌≡◌, ◌+◌, ◌^◌, ◌<◌, ◌≤◌, ℕ};
 ghost use Rattle.session_model.specs.Judged.{sends_head};
-ghost use Rattle.caster_places.specs.Known.{Fit};
+ghost use Rattle.caster_places.specs.Known.{Fit, StayKnown};
 ghost use Rattle.cast_io.specs.Links.{IsNewLink};
-ghost use Rattle.session_calls.specs.Rings.{AllLater};
-ghost use Rattle.caster_link.specs.Setups.{IsSetUp};
+ghost use Rattle.session_core.specs.Setups.{IsSetUp};
 ghost use Rattle.caster_link.specs.Wear.{wear_of};
 ghost use Rattle.caster_serve.specs.Works.{IsWithin, OneServed, Worked};
 
 use crate::tally::{Tally, count};
 use cast_io::{Arrived, Door, Link};
 use caster_accounts::Book;
-use caster_link::{Role, Setup, serve_places};
+use caster_link::{Role, serve_places};
 use caster_places::AllPlaces;
 use mount_ring::Ring;
-use session_core::Places;
+use session_core::{Places, Setup};
 use std::sync::Wait;
 use turn_log::Turns;
 
@@ -34,12 +33,12 @@ fn serve_one<T: Turns<Ring>, B: Turns<Book>, D: Door, R: Wait>(
     requires fresh { IsNewLink (D.Link.told link) }
     requires room { tally.old.sessions + 1 < 2 ^ 64 }
     requires within { IsWithin tally.old }
-    ensures known { ⟦<Places<T, B> as AllPlaces>⟧.known places.new
-        ≡ ⟦<Places<T, B> as AllPlaces>⟧.known places.old }
+    ensures stay { StayKnown (⟦<Places<T, B> as AllPlaces>⟧.known places.old)
+        (⟦<Places<T, B> as AllPlaces>⟧.known places.new)
+        (⟦<Places<T, B> as AllPlaces>⟧.worn places.old)
+        (⟦<Places<T, B> as AllPlaces>⟧.worn places.new) }
     ensures sessions { tally.new.sessions ≤ tally.old.sessions + 1 }
     ensures within { IsWithin tally.new }
-    ensures later { AllLater (⟦<Places<T, B> as AllPlaces>⟧.worn places.old)
-        (⟦<Places<T, B> as AllPlaces>⟧.worn places.new) }
     ensures one { OneServed setup.now.config.now setup.now.me
         (wear_of (⟦<Places<T, B> as AllPlaces>⟧.known places.new)
         (⟦<Places<T, B> as AllPlaces>⟧.worn places.new))
@@ -67,11 +66,11 @@ pub fn work_places<T: Turns<Ring>, B: Turns<Book>, D: Door, R: Wait>(
         (⟦<Places<T, B> as AllPlaces>⟧.known places.old) }
     requires room { tally.old.sessions + limit < 2 ^ 64 }
     requires within { IsWithin tally.old }
-    ensures known { ⟦<Places<T, B> as AllPlaces>⟧.known places.new
-        ≡ ⟦<Places<T, B> as AllPlaces>⟧.known places.old }
-    ensures within { IsWithin tally.new }
-    ensures later { AllLater (⟦<Places<T, B> as AllPlaces>⟧.worn places.old)
+    ensures stay { StayKnown (⟦<Places<T, B> as AllPlaces>⟧.known places.old)
+        (⟦<Places<T, B> as AllPlaces>⟧.known places.new)
+        (⟦<Places<T, B> as AllPlaces>⟧.worn places.old)
         (⟦<Places<T, B> as AllPlaces>⟧.worn places.new) }
+    ensures within { IsWithin tally.new }
     ensures worked { Worked setup.now.config.now setup.now.me
         (wear_of (⟦<Places<T, B> as AllPlaces>⟧.known places.new)
         (⟦<Places<T, B> as AllPlaces>⟧.worn places.new))

@@ -1,8 +1,7 @@
 //! A connection at the locks of a caster.
 
 ghost use Rattle.std.specs.Prelude.{◌≡◌, ◌<◌, ℕ, false, length};
-ghost use Rattle.session_calls.specs.Rings.{AllLater};
-ghost use Rattle.caster_places.specs.Known.{Fit};
+ghost use Rattle.caster_places.specs.Known.{Fit, StayKnown};
 ghost use Rattle.caster_link.specs.Links.{opening_of};
 ghost use Rattle.caster_link.specs.Served.{LinkServed};
 ghost use Rattle.caster_seats.specs.Sharing.{IsReady};
@@ -37,15 +36,15 @@ pub fn serve_link<'a, L: Link, R: Wait + Sync>(
         (⟦<Places<Seat<'a, Ring, R>, Seat<'a, Book, R>> as AllPlaces>⟧.known places.old) }
     requires relay { (number : ℕ) → role ≡ Role.Relay number
         → number < length shared.now.config.now.relay }
-    ensures known { ⟦<Places<Seat<'a, Ring, R>, Seat<'a, Book, R>> as AllPlaces>⟧.known places.new
-        ≡ ⟦<Places<Seat<'a, Ring, R>, Seat<'a, Book, R>> as AllPlaces>⟧.known places.old }
+    ensures stay { StayKnown
+        (⟦<Places<Seat<'a, Ring, R>, Seat<'a, Book, R>> as AllPlaces>⟧.known places.old)
+        (⟦<Places<Seat<'a, Ring, R>, Seat<'a, Book, R>> as AllPlaces>⟧.known places.new)
+        (⟦<Places<Seat<'a, Ring, R>, Seat<'a, Book, R>> as AllPlaces>⟧.worn places.old)
+        (⟦<Places<Seat<'a, Ring, R>, Seat<'a, Book, R>> as AllPlaces>⟧.worn places.new) }
     ensures served { LinkServed shared.now.config.now (opening_of role) me
         (⟦<Places<Seat<'a, Ring, R>, Seat<'a, Book, R>> as AllPlaces>⟧.seen places.old)
         (⟦<Places<Seat<'a, Ring, R>, Seat<'a, Book, R>> as AllPlaces>⟧.seen places.new)
         (L.told link.old) (L.told link.new) result }
-    ensures later { AllLater
-        (⟦<Places<Seat<'a, Ring, R>, Seat<'a, Book, R>> as AllPlaces>⟧.worn places.old)
-        (⟦<Places<Seat<'a, Ring, R>, Seat<'a, Book, R>> as AllPlaces>⟧.worn places.new) }
     ensures worn { IsWornBy
         (⟦<Places<Seat<'a, Ring, R>, Seat<'a, Book, R>> as AllPlaces>⟧.worn places.new)
         result.ending }

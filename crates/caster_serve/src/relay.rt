@@ -5,17 +5,17 @@ ghost use Rattle.cast_io.specs.Links.{IsNewLink};
 ghost use Rattle.session_model.specs.Judged.{relays};
 ghost use Rattle.caster_places.specs.Known.{Fit};
 ghost use Rattle.caster_places.specs.Leaves.{Leaves};
-ghost use Rattle.caster_link.specs.Setups.{IsSetUp};
+ghost use Rattle.session_core.specs.Setups.{IsSetUp};
 ghost use Rattle.caster_link.specs.Wear.{wear_of};
 ghost use Rattle.caster_serve.specs.Works.{IsWithin, RelayGoes};
 
 use crate::tally::{Tally, count};
 use cast_io::Link;
 use caster_accounts::Book;
-use caster_link::{Role, Setup, serve_places};
+use caster_link::{Role, serve_places};
 use caster_places::AllPlaces;
 use mount_ring::Ring;
-use session_core::Places;
+use session_core::{Places, Setup};
 use std::sync::Wait;
 use turn_log::Turns;
 

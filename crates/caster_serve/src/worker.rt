@@ -2,9 +2,8 @@
 
 ghost use Rattle.std.specs.Prelude.{◌≡◌, ◌+◌, ◌*◌, ◌^◌, ◌<◌, ◌≤◌, ℕ};
 ghost use Rattle.caster_accounts.specs.Sums.{nothing};
-ghost use Rattle.caster_places.specs.Known.{Fit};
+ghost use Rattle.caster_places.specs.Known.{Fit, StayKnown};
 ghost use Rattle.caster_seats.specs.Sharing.{IsReady};
-ghost use Rattle.session_calls.specs.Rings.{AllLater};
 ghost use Rattle.caster_link.specs.Wear.{only_worn};
 ghost use Rattle.caster_serve.specs.Works.{Worked};
 
@@ -87,13 +86,14 @@ pub fn work<'a, D: Door, R: Wait + Sync>(
         (⟦<Places<Seat<'a, Ring, R>, Seat<'a, Book, R>> as AllPlaces>⟧.known worker.old.places) }
     requires room { worker.old.tally.sessions + limit < 2 ^ 64 }
     ensures number { worker.new.number ≡ worker.old.number }
-    ensures known { ⟦<Places<Seat<'a, Ring, R>, Seat<'a, Book, R>> as AllPlaces>⟧.known worker.new.places
-        ≡ ⟦<Places<Seat<'a, Ring, R>, Seat<'a, Book, R>> as AllPlaces>⟧.known worker.old.places }
-    ensures later { AllLater
+    ensures stay { StayKnown
+        (⟦<Places<Seat<'a, Ring, R>, Seat<'a, Book, R>> as AllPlaces>⟧.known worker.old.places)
+        (⟦<Places<Seat<'a, Ring, R>, Seat<'a, Book, R>> as AllPlaces>⟧.known worker.new.places)
         (⟦<Places<Seat<'a, Ring, R>, Seat<'a, Book, R>> as AllPlaces>⟧.worn worker.old.places)
         (⟦<Places<Seat<'a, Ring, R>, Seat<'a, Book, R>> as AllPlaces>⟧.worn worker.new.places) }
     ensures worked { (count : ℕ) × Worked shared.now.config.now worker.old.number
-        (only_worn (⟦<Places<Seat<'a, Ring, R>, Seat<'a, Book, R>> as AllPlaces>⟧.worn worker.new.places))
+        (only_worn
+        (⟦<Places<Seat<'a, Ring, R>, Seat<'a, Book, R>> as AllPlaces>⟧.worn worker.new.places))
         (⟦<Places<Seat<'a, Ring, R>, Seat<'a, Book, R>> as AllPlaces>⟧.seen worker.old.places)
         (⟦<Places<Seat<'a, Ring, R>, Seat<'a, Book, R>> as AllPlaces>⟧.seen worker.new.places)
         (D.told worker.old.door) (D.told worker.new.door) worker.old.tally worker.new.tally

@@ -1,12 +1,12 @@
 -- Bytes are fed, and unless they ended the connection a turn follows.
-use Rattle.std.proofs.Common.{◌∙◌, [], ◌∷◌, ◌++◌, sym}
+use Rattle.std.proofs.Common.{[], ◌∷◌, ◌++◌, sym}
 use Rattle.session_model.specs.Called.{alone_at, seen_at}
 use Rattle.session_model.specs.Owed.{arrives}
 use Rattle.session_model.specs.Courses.{steps_of, text_of}
 use Rattle.caster_link.proofs.CalledLemmas.{others_none}
-use Rattle.caster_link.proofs.PlaceLemmas.{fit_kept, known_same, speak_by}
+use Rattle.caster_link.proofs.PlaceLemmas.{fit_kept, speak_by}
 use Rattle.caster_link.proofs.ReachLemmas.{bytes_ended, bytes_turned, ended_flow, follows_fed, reach_bytes}
-use Rattle.caster_link.proofs.WornLemmas.{later_both, worn_later}
+use Rattle.caster_link.proofs.WornLemmas.{stay_both, stay_known}
 use Rattle.caster_link.proofs.arriving.arrive.Goals as goal
 
 pub feed-requires-clause-rings : goal.feed-requires-clause-rings
@@ -21,39 +21,21 @@ take_turn-requires-clause-ready g c =
     let new = c.feed.new.places in (
       c.args.config.now,
       fit_kept c.args.config.now c.args.session.now.me c.feed.new.self.me _ _ c.feed.ensures.me
-          (known_same t.shape b.shape t.speaks b.speaks t.may_lack b.may_lack t.alone b.alone t.home b.home items
-          new.rings.items book new.book c.feed.ensures.stay.at_rings.same c.feed.ensures.stay.at_book.same)
+          (stay_known t b c.args.places.now new c.feed.ensures.stay).known
           c.requires.fit,
       follows_fed c.args.config.now (alone_at t.alone b.alone items book) (seen_at t.seen b.seen items book)
           (seen_at t.seen b.seen new.rings.items new.book) c.args.session.now c.feed.new.self c.args.out.now.items
           c.feed.new.out.items c.args.bytes.now c.requires.follows c.feed.ensures.fed,
     )
 
-pub returns-in-Ended-clause-known : goal.returns-in-Ended-clause-known
-returns-in-Ended-clause-known g c =
-    let t = g.T.Turns in let b = g.B.Turns in
-    known_same t.shape b.shape t.speaks b.speaks t.may_lack b.may_lack t.alone b.alone t.home b.home
-    c.args.places.now.rings.items c.feed.new.places.rings.items c.args.places.now.book c.feed.new.places.book
-    c.feed.ensures.stay.at_rings.same c.feed.ensures.stay.at_book.same
+pub returns-in-Ended-clause-stay : goal.returns-in-Ended-clause-stay
+returns-in-Ended-clause-stay g c =
+    stay_known g.T.Turns g.B.Turns c.args.places.now c.feed.new.places c.feed.ensures.stay
 
-pub returns-in-Open-clause-known : goal.returns-in-Open-clause-known
-returns-in-Open-clause-known g c =
-    let t = g.T.Turns in let b = g.B.Turns in
-    c.take_turn.ensures.known
-    ∙ known_same t.shape b.shape t.speaks b.speaks t.may_lack b.may_lack t.alone b.alone t.home b.home
-    c.args.places.now.rings.items c.feed.new.places.rings.items c.args.places.now.book c.feed.new.places.book
-    c.feed.ensures.stay.at_rings.same c.feed.ensures.stay.at_book.same
-
-pub returns-in-Ended-clause-later : goal.returns-in-Ended-clause-later
-returns-in-Ended-clause-later g c =
-    worn_later g.T.Turns.shape g.T.Turns.worn c.args.places.now.rings.items c.feed.new.places.rings.items _ _
-    c.feed.ensures.stay.at_rings.same.0 c.feed.ensures.stay.at_rings.worn c.feed.ensures.stay.at_book.worn
-
-pub returns-in-Open-clause-later : goal.returns-in-Open-clause-later
-returns-in-Open-clause-later g c =
-    later_both _ _ _
-    (worn_later g.T.Turns.shape g.T.Turns.worn c.args.places.now.rings.items c.feed.new.places.rings.items _ _
-    c.feed.ensures.stay.at_rings.same.0 c.feed.ensures.stay.at_rings.worn c.feed.ensures.stay.at_book.worn) c.take_turn.ensures.later
+pub returns-in-Open-clause-stay : goal.returns-in-Open-clause-stay
+returns-in-Open-clause-stay g c =
+    stay_both _ _ _ _ _ _ (stay_known g.T.Turns g.B.Turns c.args.places.now c.feed.new.places c.feed.ensures.stay)
+    c.take_turn.ensures.stay
 
 pub returns-in-Ended-clause-arrived : goal.returns-in-Ended-clause-arrived
 returns-in-Ended-clause-arrived g c = λ opening me start sent whats reached.
@@ -92,6 +74,4 @@ returns-in-Open-clause-arrived g c = λ opening me start sent whats reached.
     (c.take_turn.ensures.turned c.args.config.now opening me start (sent ++ fed.added)
     (whats ++ arrives c.args.bytes.now ∷ [])
     (fit_kept c.args.config.now c.args.session.now.me me _ _ (sym reached.caller)
-    (known_same t.shape b.shape t.speaks b.speaks t.may_lack b.may_lack t.alone b.alone t.home b.home items
-    new.rings.items book new.book c.feed.ensures.stay.at_rings.same c.feed.ensures.stay.at_book.same)
-    c.requires.fit) reached_on)
+    (stay_known t b c.args.places.now new c.feed.ensures.stay).known c.requires.fit) reached_on)

@@ -3,9 +3,9 @@ use Rattle.std.proofs.Common.{◌∙◌, ap}
 use Rattle.session_model.specs.Called.{alone_at, seen_at}
 use Rattle.session_model.specs.Courses.{steps_of, text_of}
 use Rattle.caster_link.proofs.CalledLemmas.{others_none}
-use Rattle.caster_link.proofs.PlaceLemmas.{known_same, speak_by}
+use Rattle.caster_link.proofs.PlaceLemmas.{speak_by}
 use Rattle.caster_link.proofs.ReachLemmas.{turned_arrived}
-use Rattle.caster_link.proofs.WornLemmas.{worn_later}
+use Rattle.caster_link.proofs.WornLemmas.{stay_known}
 use Rattle.caster_link.proofs.arriving.take_turn.Goals as goal
 
 pub turn-requires-clause-rings : goal.turn-requires-clause-rings
@@ -16,17 +16,9 @@ pub turn-requires-clause-follows : goal.turn-requires-clause-follows
 turn-requires-clause-follows g c =
     let ready = c.requires.ready in (ready.0, ready.1.shapes_fit, ready.1.caps_fit, ready.2)
 
-pub returns-clause-known : goal.returns-clause-known
-returns-clause-known g c =
-    let t = g.T.Turns in let b = g.B.Turns in
-    known_same t.shape b.shape t.speaks b.speaks t.may_lack b.may_lack t.alone b.alone t.home b.home
-    c.args.places.now.rings.items c.turn.new.places.rings.items c.args.places.now.book c.turn.new.places.book
-    c.turn.ensures.stay.at_rings.same c.turn.ensures.stay.at_book.same
-
-pub returns-clause-later : goal.returns-clause-later
-returns-clause-later g c =
-    worn_later g.T.Turns.shape g.T.Turns.worn c.args.places.now.rings.items c.turn.new.places.rings.items _ _
-    c.turn.ensures.stay.at_rings.same.0 c.turn.ensures.stay.at_rings.worn c.turn.ensures.stay.at_book.worn
+pub returns-clause-stay : goal.returns-clause-stay
+returns-clause-stay g c =
+    stay_known g.T.Turns g.B.Turns c.args.places.now c.turn.new.places c.turn.ensures.stay
 
 pub returns-clause-turned : goal.returns-clause-turned
 returns-clause-turned g c = λ config opening me start sent whats fit reached.

@@ -4,7 +4,7 @@ use Rattle.cast_io.specs.declared.link.Got.TheVariants as got
 use Rattle.session_model.specs.Courses.{text_of}
 use Rattle.caster_link.proofs.PlaceLemmas.{fit_kept}
 use Rattle.caster_link.proofs.ServingLemmas.{still, ends_so, fails_so, goes_on_by, long_bytes, long_idle, follows_serving}
-use Rattle.caster_link.proofs.WornLemmas.{later_none, not_ended}
+use Rattle.caster_link.proofs.WornLemmas.{not_ended, stay_none}
 use Rattle.caster_link.proofs.connection.hear.Goals as goal
 
 pub arrive-requires-clause-follows : goal.arrive-requires-clause-follows
@@ -77,8 +77,8 @@ pub returns-in-Failed-clause-closes : goal.returns-in-Failed-clause-closes
 returns-in-Failed-clause-closes g c = λ opening me start before serving.
     fails_so _ _ _ _ _ _ _ _ _ _ _ (omega (arith, c.requires.few)) serving c.in-Failed.ensures.read
 
-pub returns-in-End-clause-later : goal.returns-in-End-clause-later
-returns-in-End-clause-later g c = later_none _
+pub returns-in-End-clause-stay : goal.returns-in-End-clause-stay
+returns-in-End-clause-stay g c = stay_none _ _
 
-pub returns-in-Failed-clause-later : goal.returns-in-Failed-clause-later
-returns-in-Failed-clause-later g c = later_none _
+pub returns-in-Failed-clause-stay : goal.returns-in-Failed-clause-stay
+returns-in-Failed-clause-stay g c = stay_none _ _

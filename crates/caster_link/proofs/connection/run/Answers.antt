@@ -4,7 +4,7 @@ use Rattle.session_model.specs.Called.{seen_at}
 use Rattle.caster_link.specs.Links.{opening_of}
 use Rattle.caster_link.proofs.PlaceLemmas.{fit_kept}
 use Rattle.caster_link.proofs.ServingLemmas.{begins_serving, sent_on, torn, stops, going_by}
-use Rattle.caster_link.proofs.WornLemmas.{later_both, later_none, not_ended}
+use Rattle.caster_link.proofs.WornLemmas.{not_ended, stay_both, stay_none}
 use Rattle.caster_link.proofs.connection.run.Goals.{then-ended-via-then-ended, then-ended-via-else-ended+then-given-ge-MOST}
 use Rattle.caster_link.proofs.connection.run.Goals as goal
 
@@ -14,8 +14,7 @@ loop-init g c =
       can = tt;
       finite = tt;
       me = refl;
-      known = refl;
-      later = later_none _;
+      stay = stay_none _ _;
       cause = not_ended _ c.args.session.now.ended c.requires.goes_on;
       size = refl;
       few = omega arith;
@@ -38,7 +37,7 @@ returns-then-ended-clause-came g c =
 
 pub hear-heard-requires-clause-fit : goal.hear-heard-requires-clause-fit
 hear-heard-requires-clause-fit g c =
-    fit_kept _ _ _ _ _ c.loop.invariant.me c.loop.invariant.known c.requires.fit
+    fit_kept _ _ _ _ _ c.loop.invariant.me c.loop.invariant.stay.known c.requires.fit
 
 pub hear-heard-requires-clause-goes_on : goal.hear-heard-requires-clause-goes_on
 hear-heard-requires-clause-goes_on g c = going_by _ _ c.if-ended.false c.ended.ensures
@@ -60,6 +59,9 @@ returns-in-Err-clause-came g c =
     (seen_at t.seen b.seen c.args.places.now.rings.items c.args.places.now.book) (g.L.Link.told c.args.link.now)
     (sent_on _ _ _ _ _ _ _ _ _ _ _ c.loop.invariant.serving c.in-Ok.ensures.ok)
 
+pub returns-in-Err-clause-stay : goal.returns-in-Err-clause-stay
+returns-in-Err-clause-stay g c = stay_both _ _ _ _ _ _ c.loop.invariant.stay c.hear-heard.ensures.stay
+
 pub loop-preserved : goal.loop-preserved
 loop-preserved g c =
     let t = g.T.Turns in let b = g.B.Turns in
@@ -67,8 +69,7 @@ loop-preserved g c =
       can = tt;
       finite = tt;
       me = c.hear-heard.ensures.me ∙ c.loop.invariant.me;
-      known = c.hear-heard.ensures.known ∙ c.loop.invariant.known;
-      later = later_both _ _ _ c.loop.invariant.later c.hear-heard.ensures.later;
+      stay = stay_both _ _ _ _ _ _ c.loop.invariant.stay c.hear-heard.ensures.stay;
       cause = c.hear-heard.ensures.cause;
       size = c.hear-heard.auto.piece ∙ c.loop.invariant.size;
       few = c.hear-heard.ensures.few;

@@ -1,10 +1,9 @@
 -- All that the link's steps gave happened, and what was made for it was written or is pending.
 use Rattle.std.proofs.Common.{◌≡◌, ◌+◌, ◌^◌, ◌<◌, length}
 use Rattle.std.specs.Prelude.{IfSome}
-use Rattle.session_calls.specs.Rings.{AllLater}
 use Rattle.session_core.specs.Beginnings.{worn_at}
 use Rattle.session_model.specs.Called.{IsCause, seen_at}
-use Rattle.caster_places.specs.Known.{known_at}
+use Rattle.caster_places.specs.Known.{StayKnown, known_at}
 use Rattle.caster_link.specs.Links.{opening_of}
 use Rattle.caster_link.specs.Served.{Serving}
 use Rattle.caster_link.proofs.connection.run.Given as goal
@@ -14,11 +13,10 @@ invariant-loop g l = let t = g.T.Turns in let b = g.B.Turns in record {
   can : (goal.iterator-loop g).can_next l.iterator';
   finite : (goal.iterator-loop g).is_finite l.iterator';
   me : l.session.me ≡ l.fn.session.me;
-  known : known_at t.shape b.shape t.speaks b.speaks t.may_lack b.may_lack t.alone b.alone t.home b.home
-      l.places.rings.items l.places.book
-      ≡ known_at t.shape b.shape t.speaks b.speaks t.may_lack b.may_lack t.alone b.alone t.home b.home
-      l.fn.places.rings.items l.fn.places.book;
-  later : AllLater (worn_at t.worn b.worn l.fn.places.rings.items l.fn.places.book)
+  stay : StayKnown (known_at t.shape b.shape t.speaks b.speaks t.may_lack b.may_lack t.alone b.alone t.home b.home
+      l.fn.places.rings.items l.fn.places.book)
+      (known_at t.shape b.shape t.speaks b.speaks t.may_lack b.may_lack t.alone b.alone t.home b.home
+      l.places.rings.items l.places.book) (worn_at t.worn b.worn l.fn.places.rings.items l.fn.places.book)
       (worn_at t.worn b.worn l.places.rings.items l.places.book);
   cause : IfSome l.session.ended (IsCause (worn_at t.worn b.worn l.places.rings.items l.places.book));
   size : length l.piece ≡ 4096;

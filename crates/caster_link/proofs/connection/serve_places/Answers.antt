@@ -8,11 +8,11 @@ use Rattle.session_core.specs.Beginnings.{worn_at}
 use Rattle.session_model.specs.Called.{alone_at, seen_at}
 use Rattle.caster_link.specs.Wear.{MayRefuse, lacks_in}
 use Rattle.caster_link.specs.Links.{opening_of}
-use Rattle.caster_link.proofs.PlaceLemmas.{fit_kept, known_same, speak_by}
+use Rattle.caster_link.proofs.PlaceLemmas.{fit_kept, speak_by}
 use Rattle.caster_link.proofs.ReachLemmas.{follows_reached}
 use Rattle.caster_link.proofs.ServingLemmas.{begins}
 use Rattle.caster_link.proofs.ClosedLemmas.{came_closed, unopened}
-use Rattle.caster_link.proofs.WornLemmas.{ending_is, later_both, later_none, may_by, same_length, worn_later, worn_still}
+use Rattle.caster_link.proofs.WornLemmas.{ending_is, may_by, same_length, stay_both, stay_known, stay_none, worn_still}
 use Rattle.caster_link.proofs.connection.serve_places.Goals as goal
 
 pub returns-in_default-clause-served : goal.returns-in_default-clause-served
@@ -30,15 +30,15 @@ run-last-requires-clause-begun g c =
 pub close-requires-clause-rings : goal.close-requires-clause-rings
 close-requires-clause-rings g c =
     speak_by g.T.Turns.speaks c.run-last.new.places.rings.items c.run-last.new.session.me
-    (fit_kept _ _ _ _ _ (c.run-last.ensures.me ∙ c.in-Ok.ensures.me) c.run-last.ensures.known c.requires.fit).rings
+    (fit_kept _ _ _ _ _ (c.run-last.ensures.me ∙ c.in-Ok.ensures.me) c.run-last.ensures.stay.known c.requires.fit).rings
 
 pub close-requires-clause-book : goal.close-requires-clause-book
 close-requires-clause-book g c =
-    (fit_kept _ _ _ _ _ (c.run-last.ensures.me ∙ c.in-Ok.ensures.me) c.run-last.ensures.known c.requires.fit).book
+    (fit_kept _ _ _ _ _ (c.run-last.ensures.me ∙ c.in-Ok.ensures.me) c.run-last.ensures.stay.known c.requires.fit).book
 
 pub close-requires-clause-follows : goal.close-requires-clause-follows
 close-requires-clause-follows g c =
-    let fit = fit_kept _ _ _ _ _ (c.run-last.ensures.me ∙ c.in-Ok.ensures.me) c.run-last.ensures.known
+    let fit = fit_kept _ _ _ _ _ (c.run-last.ensures.me ∙ c.in-Ok.ensures.me) c.run-last.ensures.stay.known
     c.requires.fit in
     let came = c.run-last.ensures.came in (
       c.args.setup.now.config.now,
@@ -47,18 +47,10 @@ close-requires-clause-follows g c =
       follows_reached _ _ _ _ _ _ _ _ _ came.reached (omega (arith, came.few)),
     )
 
-pub returns-clause-known : goal.returns-clause-known
-returns-clause-known g c =
-    let t = g.T.Turns in let b = g.B.Turns in
-    known_same t.shape b.shape t.speaks b.speaks t.may_lack b.may_lack t.alone b.alone t.home b.home
-    c.run-last.new.places.rings.items c.close.new.places.rings.items c.run-last.new.places.book
-    c.close.new.places.book c.close.ensures.stay.at_rings.same c.close.ensures.stay.at_book.same
-    ∙ c.run-last.ensures.known
-
 pub returns-clause-served : goal.returns-clause-served
 returns-clause-served g c =
     let t = g.T.Turns in let b = g.B.Turns in
-    let fit = fit_kept _ _ _ _ _ (c.run-last.ensures.me ∙ c.in-Ok.ensures.me) c.run-last.ensures.known
+    let fit = fit_kept _ _ _ _ _ (c.run-last.ensures.me ∙ c.in-Ok.ensures.me) c.run-last.ensures.stay.known
     c.requires.fit in
     let mid = c.run-last.new.places in
     let start = seen_at t.seen b.seen c.args.places.now.rings.items c.args.places.now.book in
@@ -76,7 +68,7 @@ returns-clause-served g c =
 pub returns-clause-worn : goal.returns-clause-worn
 returns-clause-worn g c =
     let t = g.T.Turns in let b = g.B.Turns in
-    let fit = fit_kept _ _ _ _ _ (c.run-last.ensures.me ∙ c.in-Ok.ensures.me) c.run-last.ensures.known
+    let fit = fit_kept _ _ _ _ _ (c.run-last.ensures.me ∙ c.in-Ok.ensures.me) c.run-last.ensures.stay.known
     c.requires.fit in
     let mid = c.run-last.new.places in
     let start = seen_at t.seen b.seen c.args.places.now.rings.items c.args.places.now.book in
@@ -93,18 +85,17 @@ returns-clause-worn g c =
     c.close.ensures.closed c.args.setup.now.config.now (opening_of c.args.role) heading text steps histories sent
     fit.shapes_fit fit.caps_fit is stands others))
 
-pub returns-in_default-clause-later : goal.returns-in_default-clause-later
-returns-in_default-clause-later g c = later_none _
+pub returns-in_default-clause-stay : goal.returns-in_default-clause-stay
+returns-in_default-clause-stay g c = stay_none _ _
 
 pub returns-in_default-clause-unsettled : goal.returns-in_default-clause-unsettled
 returns-in_default-clause-unsettled g c = λ is.
     absurd (let clash : true ≡ false = sym c.not_opened.ensures.settled ∙ is in cc)
 
-pub returns-clause-later : goal.returns-clause-later
-returns-clause-later g c =
-    later_both _ _ _ c.run-last.ensures.later
-    (worn_later g.T.Turns.shape g.T.Turns.worn c.run-last.new.places.rings.items c.close.new.places.rings.items _ _
-    c.close.ensures.stay.at_rings.same.0 c.close.ensures.stay.at_rings.worn c.close.ensures.stay.at_book.worn)
+pub returns-clause-stay : goal.returns-clause-stay
+returns-clause-stay g c =
+    stay_both _ _ _ _ _ _ c.run-last.ensures.stay
+    (stay_known g.T.Turns g.B.Turns c.run-last.new.places c.close.new.places c.close.ensures.stay)
 
 pub returns-clause-unsettled : goal.returns-clause-unsettled
 returns-clause-unsettled g c = λ is.
@@ -112,8 +103,7 @@ returns-clause-unsettled g c = λ is.
     let mid = c.run-last.new.places in
     let new = c.close.new.places in
     let may = c.close.ensures.unsettled is in
-    let same = known_same t.shape b.shape t.speaks b.speaks t.may_lack b.may_lack t.alone b.alone t.home b.home
-    mid.rings.items new.rings.items mid.book new.book c.close.ensures.stay.at_rings.same c.close.ensures.stay.at_book.same in
+    let same = (stay_known t b mid new c.close.ensures.stay).known in
     subst (λ (lacks : Bool). MayRefuse (record {
       may_lack = lacks;
       turns = worn_at t.worn b.worn new.rings.items new.book;

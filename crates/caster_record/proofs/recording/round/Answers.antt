@@ -46,6 +46,6 @@ returns-then-came-clause-rests g c =
 pub returns-clause-rests : goal.returns-clause-rests
 returns-clause-rests g c =
     λ before rests.
-    subst (λ rested. RestsAfter g.D.Link.Link.told c.args.config.now c.args.limit before rested
+    subst (λ rested. RestsAfter g.D.Link.Link.told c.args.setup.now.config.now c.args.setup.now.limit before rested
     c.serve_all.new.self c.serve_all.new.links.items c.serve_all.new.torn.items) (sym c.rest.ensures)
     (c.in_ok-busy.ensures.rests before (g.D.Door.told c.accept.new.door) (c.in_ok-came.ensures.begins before rests))

@@ -8,7 +8,7 @@ abbrev pub invariant-loop : goal.invariant-loop
 invariant-loop g l = record {
   can : (goal.iterator-loop g).can_next l.iterator';
   finite : (goal.iterator-loop g).is_finite l.iterator';
-  rests : RestsAfter g.D.Link.Link.told l.config l.limit (g.D.Door.told l.fn.door) (g.D.Door.told l.door) l.recorder
+  rests : RestsAfter g.D.Link.Link.told l.setup.config.now l.setup.limit (g.D.Door.told l.fn.door) (g.D.Door.told l.door) l.recorder
       l.links.items l.torn.items;
   come : HaveCome (g.D.Door.told l.fn.door) (g.D.Door.told l.door) (map g.D.Link.Link.told l.fn.links.items)
       (map g.D.Link.Link.told l.links.items);

@@ -1,16 +1,15 @@
 -- A link more, or none yet.
-use Rattle.std.proofs.Common.{◌∙◌, ◌+◌, refl, ap, arith}
+use Rattle.std.proofs.Common.{◌+◌, refl, ap, arith}
 use Rattle.caster_link.specs.Wear.{lacks_in}
 use Rattle.caster_serve.proofs.WorkLemmas.{works_none, works_more, works_idle, worked_all, worked_failed, visited_none, visited_link, visited_idle}
-use Rattle.caster_link.proofs.WornLemmas.{later_none, later_both}
+use Rattle.caster_link.proofs.WornLemmas.{stay_both, stay_none}
 use Rattle.caster_serve.proofs.accept_loop.work_places.Goals as goal
 
 pub loop-init : goal.loop-init
 loop-init g c = record {
   can = tt;
   finite = tt;
-  known = refl;
-  later = later_none _;
+  stay = stay_none _ _;
   room = c.requires.room;
   within = c.requires.within;
   count = 0;
@@ -38,14 +37,13 @@ loop-preserved-in-Link g c =
     record {
       can = tt;
       finite = tt;
-      known = one.known ∙ kept.known;
-      later = later_both _ _ _ kept.later one.later;
+      stay = stay_both _ _ _ _ _ _ kept.stay one.stay;
       room = omega (arith, one.sessions, kept.room, c.if-left-eq0.false);
       within = one.within;
       count = kept.count + 1;
       so_many = omega (arith, kept.so_many, c.if-left-eq0.false);
       works = works_more g.D.Link.Link.told c.in-Link.link _ _ _ _ _ _ _ _ _ _ _ _ _ _ kept.count
-          (record { same = ap lacks_in one.known; later = one.later }) kept.works c.in-Link.ensures.accepted one.one;
+          (record { same = ap lacks_in one.stay.known; later = one.stay.later }) kept.works c.in-Link.ensures.accepted one.one;
       visited = visited_link g.D.Link.Link.told c.in-Link.link _ _ _ _ _ _ _ _ _ _ _ kept.visited
           c.in-Link.ensures.accepted one.one;
     }
@@ -57,8 +55,7 @@ loop-preserved g c =
     record {
       can = tt;
       finite = tt;
-      known = kept.known;
-      later = kept.later;
+      stay = kept.stay;
       room = kept.room;
       within = kept.within;
       count = kept.count;

@@ -1,9 +1,8 @@
 -- So many links came back, and as many are left to be served.
 use Rattle.std.proofs.Common.{◌≡◌, ◌+◌, ◌^◌, ◌<◌, ℕ}
-use Rattle.session_calls.specs.Rings.{AllLater}
 use Rattle.session_core.specs.Beginnings.{worn_at}
 use Rattle.session_model.specs.Called.{seen_at}
-use Rattle.caster_places.specs.Known.{known_at}
+use Rattle.caster_places.specs.Known.{StayKnown, known_at}
 use Rattle.caster_link.specs.Wear.{wear_of}
 use Rattle.caster_serve.specs.Works.{IsWithin, Works}
 use Rattle.caster_serve.proofs.WorkLemmas.{Visited}
@@ -13,11 +12,10 @@ abbrev pub invariant-loop : goal.invariant-loop
 invariant-loop g l = let t = g.T.Turns in let b = g.B.Turns in record {
   can : (goal.iterator-loop g).can_next l.iterator';
   finite : (goal.iterator-loop g).is_finite l.iterator';
-  known : known_at t.shape b.shape t.speaks b.speaks t.may_lack b.may_lack t.alone b.alone t.home b.home
-      l.places.rings.items l.places.book
-      ≡ known_at t.shape b.shape t.speaks b.speaks t.may_lack b.may_lack t.alone b.alone t.home b.home
-      l.fn.places.rings.items l.fn.places.book;
-  later : AllLater (worn_at t.worn b.worn l.fn.places.rings.items l.fn.places.book)
+  stay : StayKnown (known_at t.shape b.shape t.speaks b.speaks t.may_lack b.may_lack t.alone b.alone t.home b.home
+      l.fn.places.rings.items l.fn.places.book)
+      (known_at t.shape b.shape t.speaks b.speaks t.may_lack b.may_lack t.alone b.alone t.home b.home
+      l.places.rings.items l.places.book) (worn_at t.worn b.worn l.fn.places.rings.items l.fn.places.book)
       (worn_at t.worn b.worn l.places.rings.items l.places.book);
   room : l.tally.sessions + l.left < 2 ^ 64;
   within : IsWithin l.tally;

@@ -52,6 +52,6 @@ returns-clause-called g c =
     have_called (task_told g.D.Door.told g.L.Link.told) _ shared c.args.limit
     (map (end_told g.D.Door.told g.L.Link.told) c.args.tasks.now.items) c.sit_all.new.works.items _
     c.serve_hands.new.hands.items c.args.piles.now _ _ c.requires.ready c.in_ok-hands.ensures.taken c.requires.kinds
-    served c.leave_all.ensures.works (c.are_whole-is_whole.ensures ∙ ap (list_all _) c.deref.ensures.value)
-    c.leave_all.ensures.left c.leave_all.ensures.worn c.leave_all.ensures.legal c.requires.empty c.requires.none
-    c.leave_all.ensures.passes
+    served c.leave_all.ensures.works.works (c.are_whole-is_whole.ensures ∙ ap (list_all _) c.deref.ensures.value)
+    c.leave_all.ensures.left c.leave_all.ensures.piles.worn c.leave_all.ensures.legal c.requires.empty c.requires.none
+    c.leave_all.ensures.piles.passes

@@ -8,7 +8,7 @@ use Rattle.caster_record.proofs.recorder.Recorder.accept.Goals as goal
 pub returns-then-not-may_ask-clause-begins : goal.returns-then-not-may_ask-clause-begins
 returns-then-not-may_ask-clause-begins g c =
     λ before rests.
-    begins_full g.D.Link.Link.told c.args.config.now c.args.limit before (g.D.Door.told c.args.door.now)
+    begins_full g.D.Link.Link.told c.args.setup.now.config.now c.args.setup.now.limit before (g.D.Door.told c.args.door.now)
     c.args.self.now c.args.links.now.items c.args.torn.now.items
     c.len.result (omega (arith, c.len.ensures, c.args.links.now.ok)) (c.if-not-may_ask.ensures.full refl) rests
 
@@ -25,7 +25,7 @@ returns-in_err-reserve-2-clause-come g c =
 pub ask-requires-clause-rests : goal.ask-requires-clause-rests
 ask-requires-clause-rests g c = (
   c.requires.rests.0,
-  rests_same g.D.Link.Link.told c.args.config.now c.args.limit c.requires.rests.0 (g.D.Door.told c.args.door.now)
+  rests_same g.D.Link.Link.told c.args.setup.now.config.now c.args.setup.now.limit c.requires.rests.0 (g.D.Door.told c.args.door.now)
       c.args.self.now c.args.links.now.items c.reserve.new.self.items c.args.torn.now.items
       c.reserve-2.new.self.items c.reserve.ensures.items c.reserve-2.ensures.items c.requires.rests.1,
 )
@@ -51,6 +51,6 @@ pub returns-clause-begins : goal.returns-clause-begins
 returns-clause-begins g c =
     λ before rests.
     c.in_ok-came.ensures.begins before
-    (rests_same g.D.Link.Link.told c.args.config.now c.args.limit before (g.D.Door.told c.args.door.now)
+    (rests_same g.D.Link.Link.told c.args.setup.now.config.now c.args.setup.now.limit before (g.D.Door.told c.args.door.now)
     c.args.self.now c.args.links.now.items c.reserve.new.self.items c.args.torn.now.items
     c.reserve-2.new.self.items c.reserve.ensures.items c.reserve-2.ensures.items rests)

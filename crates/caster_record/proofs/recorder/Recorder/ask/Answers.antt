@@ -35,7 +35,7 @@ returns-in-Idle-clause-come g c =
 pub returns-in-Idle-clause-begins : goal.returns-in-Idle-clause-begins
 returns-in-Idle-clause-begins g c =
     λ before rests.
-    begins_without g.D.Link.Link.told c.args.config.now c.args.limit before (g.D.Door.told c.args.door.now)
+    begins_without g.D.Link.Link.told c.args.setup.now.config.now c.args.setup.now.limit before (g.D.Door.told c.args.door.now)
     (g.D.Door.told c.accept.new.self) c.args.self.now c.args.links.now.items c.args.torn.now.items
     c.requires.fewer c.requires.small c.in-Idle.ensures.accepted rests
 

@@ -22,6 +22,6 @@ loop-at-preserved g c = record {
 pub returns-clause-rests : goal.returns-clause-rests
 returns-clause-rests g c =
     λ before door w.
-    rests_again g.L.Link.told c.args.config.now c.args.limit c.loop-at.at before door c.loop-at.self
+    rests_again g.L.Link.told c.args.setup.now.config.now c.args.setup.now.limit c.loop-at.at before door c.loop-at.self
     c.loop-at.links.items c.loop-at.torn.items (c.loop-at.invariant.place before door w)
     (omega (arith, c.loop-at-test.false, c.loop-at.auto.at-end, c.loop-at.invariant.all))

@@ -10,7 +10,7 @@ pub returns-then-not-is_due-clause-place : goal.returns-then-not-is_due-clause-p
 returns-then-not-is_due-clause-place g c =
     λ before door w.
     let torn = c.args.torn.now.items in
-    within_passed g.L.Link.told c.args.config.now c.args.limit c.args.at (c.args.at + 1) before door c.args.self.now
+    within_passed g.L.Link.told c.args.setup.now.config.now c.args.setup.now.limit c.args.at (c.args.at + 1) before door c.args.self.now
     c.args.links.now.items torn w refl c.requires.within
     (λ earlier mark.
     c.if-not-is_due.ensures.passed refl earlier
@@ -27,7 +27,7 @@ returns-clause-place g c =
     λ before door w.
     let torn = c.args.torn.now.items in
     let room = c.if-not-is_due.ensures.room refl in
-    within_served g.L.Link.told c.args.config.now c.args.limit c.args.at (c.args.at + 1) before door c.args.self.now
+    within_served g.L.Link.told c.args.setup.now.config.now c.args.setup.now.limit c.args.at (c.args.at + 1) before door c.args.self.now
     c.serve.new.self c.args.links.now.items torn c.index_mut.result.now c.serve.new.link
     c.in_ok-outcome.outcome.torn w refl c.requires.within c.index_mut.ensures.value
     (mark_is torn c.args.at c.index.result.now (omega (arith, c.requires.within, w.keeps.size)) c.index.ensures
