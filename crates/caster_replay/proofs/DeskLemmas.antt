@@ -1,12 +1,12 @@
 -- Desks speak for everybody, and nobody else calls at them.
 use Rattle.std.proofs.Common.{◌≡◌, ◌∙◌, ◌&&◌, ◌++◌, ◌+◌, ◌<◌, ℕ, zero, suc, Bool, true, false, List, [], ◌∷◌, length, map, take, get_or, refl, sym, ap, subst, Result, Some, arith}
-use Rattle.std.specs.Prelude.{IfOk}
+use Rattle.std.specs.Prelude.{IfOk, IsTrue}
 use Rattle.std.specs.declared.alloc.AllocError.{AllocError}
 use Rattle.turn_log.specs.History.{History}
 use Rattle.mount_ring.specs.declared.call.RingCall.{RingCall}
 use Rattle.mount_ring.specs.declared.shape.RingShape.{RingShape}
 use Rattle.caster_accounts.specs.declared.call.BookCall.{BookCall}
-use Rattle.session_calls.specs.Rings.{all_alone}
+use Rattle.session_calls.specs.Rings.{AllSpeak, all_alone}
 use Rattle.session_calls.specs.Steps.{Step}
 use Rattle.cast_config.specs.declared.config.Config.{Config}
 use Rattle.cast_config.specs.declared.config.Group.{Group}
@@ -37,6 +37,10 @@ pub alone_here : {P B : Type 0} (alone : P → Bool) (book_alone : B → Bool) (
     → ((place : P) → alone place ≡ true) → book_alone book ≡ true → alone_at alone book_alone places book ≡ true
 alone_here {P} {B} alone book_alone places book each at_book =
     ap (λ (b : Bool). b && book_alone book) (alone_all alone places each) ∙ at_book
+
+pub speak_here : {P : Type 0} (speaks : P → ℕ → Bool) (places : List P) (me : ℕ)
+    → ((place : P) (caller : ℕ) → IsTrue (speaks place caller)) → AllSpeak speaks places me
+speak_here speaks places me each k d within = each (get_or places k d) me
 
 -- ---- what a session ensures over places, said of desks that have seen the same
 

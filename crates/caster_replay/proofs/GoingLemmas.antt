@@ -9,7 +9,6 @@ use Rattle.mount_ring.specs.declared.call.RingCall.{RingCall}
 use Rattle.ntrip_head.specs.declared.request.Version.{Version}
 use Rattle.rover_cursor.specs.declared.segment.Segment.{Segment}
 use Rattle.rover_session.specs.Made.{segments_after}
-use Rattle.rover_session.specs.Standing.{rover_of}
 use Rattle.session_calls.specs.Steps.{Step}
 use Rattle.session_script.specs.declared.Event.{Event}
 use Rattle.session_script.specs.declared.Event.TheVariants as events
@@ -81,7 +80,7 @@ stage_frames rings c me h o j text steps stages.Over s = ap (has_frames rings) (
 stage_frames rings c me h o j text steps (stages.Source mount session) s = ap (has_frames rings) (sym s.segments)
 stage_frames rings c me h o j text steps (stages.Relay mount session) s = ap (has_frames rings) (sym s.segments)
 stage_frames rings c me h o j text steps (stages.Rover account session) s =
-    state_frames rings (rover_of session).version (rover_of session).segments
+    state_frames rings session.version session.segments
     ∙ ap (has_frames rings) s.stands.segments
     ∙ ap (λ (l : List Step). has_frames rings (segments_after [] l)) (sym s.steps_are)
 

@@ -12,7 +12,6 @@ pub mod WorldReportLemmas
 pub mod WorldSessionLemmas
 pub mod PlayLemmas
 pub mod EntryLemmas
-pub mod PlaceLemmas
 pub mod DeskLemmas
 pub mod SumLemmas
 pub mod ReplayLemmas

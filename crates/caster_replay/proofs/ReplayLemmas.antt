@@ -1,6 +1,6 @@
 -- What the loops of a recorded run keep: over its events, over the connections that are closed at its
 -- end, and over what is told of them.
-use Rattle.std.proofs.Common.{◌≡◌, ◌∙◌, ◌<◌, ◌++◌, ◌+◌, ℕ, zero, suc, List, [], ◌∷◌, length, map, take, drop, get_or, set, sym, ap, subst, arith}
+use Rattle.std.proofs.Common.{◌≡◌, ◌∙◌, ◌<◌, ◌++◌, ◌+◌, ℕ, zero, suc, List, [], ◌∷◌, length, map, take, drop, get_or, set, refl, sym, ap, subst, arith}
 use Rattle.std.proofs.lemmas.List.{take_more_set, get_or-map, length-map, length-set, map-append}
 use Rattle.std.proofs.lemmas.List.Elements.{All-nil, All-cons, All-head, All-tail, All-append}
 use Rattle.std.proofs.lemmas.List.Sums.{sum_by-append, sum_by-cons}
@@ -26,6 +26,16 @@ use Rattle.caster_replay.proofs.WorldReportLemmas.{run_report, ends_next}
 use Rattle.caster_replay.proofs.PlayLemmas.{run_of, may_close, play_closed}
 
 -- ---- the same places
+
+pub same_places : (desks : DesksValue) → SamePlaces desks desks
+same_places desks = record { rings = refl; book = refl; homes = refl }
+
+pub same_twice : (old mid now : DesksValue) → SamePlaces old mid → SamePlaces mid now → SamePlaces old now
+same_twice old mid now first second = record {
+  rings = second.rings ∙ first.rings;
+  book = second.book ∙ first.book;
+  homes = second.homes ∙ first.homes;
+}
 
 pub places_stay : (c : Config) (old now : DesksValue) → SamePlaces old now → ArePlaces c old → ArePlaces c now
 places_stay c old now same places = record {

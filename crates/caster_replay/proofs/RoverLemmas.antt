@@ -5,7 +5,6 @@ use Rattle.ntrip_head.specs.declared.request.Version.{Version}
 use Rattle.ntrip_head.specs.declared.request.Version.TheVariants.{One}
 use Rattle.rover_cursor.specs.declared.segment.Segment.{Segment}
 use Rattle.rover_session.specs.Made.{segments_after}
-use Rattle.rover_session.specs.Standing.{rover_of as session_rover}
 use Rattle.session_calls.specs.Steps.{Step}
 use Rattle.session_script.specs.declared.Event.{Event}
 use Rattle.cast_config.specs.declared.config.Config.{Config}
@@ -83,7 +82,7 @@ stage_rover c me h o j text steps (stages.Source mount session) s =
 stage_rover c me h o j text steps (stages.Relay mount session) s =
     no_rover (version_of (came_to j steps)) (segments_after [] steps) s.segments
 stage_rover c me h o j text steps (stages.Rover account session) s =
-    ap (λ (v : Version). state_in v (session_rover session).segments) s.version
+    ap (λ (v : Version). state_in v session.segments) s.version
     ∙ ap (state_in (unwrap_or s.terms.version One)) s.stands.segments
     ∙ ap (λ (l : List Step). state_in (unwrap_or s.terms.version One) (segments_after [] l)) (sym s.steps_are)
     ∙ ap (λ (x : Came). state_in (version_of x) (segments_after [] steps))

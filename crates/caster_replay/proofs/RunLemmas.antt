@@ -30,7 +30,7 @@ use Rattle.caster_replay.proofs.SendsLemmas.{sent_here, sent_absent}
 pub runs_new : (c : Config) → Runs c [] [] (nothing_called c)
 runs_new c = runs_of c [] [] (nothing_called c) (run_new c)
 
-pub plays_of : (c : Config) (script : List Event) (event : Event) (run : Run) → StandsFor c script run
+pub plays_of : {P : Type 0} (c : Config) (script : List Event) (event : Event) (run : Run P) → StandsFor c script run
     → MayCome c script event → Plays c script event run.entries.items run.desks
 plays_of c script event run stands comes = record {
   later = comes.0;
@@ -44,19 +44,19 @@ pub comes_next : (c : Config) (list : List Event) (i : ℕ) (event : Event) → 
 comes_next c list i event script within is =
     (drop (suc i) list, subst (IsScriptFor c) (sym (split_at list i event within is)) script)
 
-pub stands_next : (c : Config) (list : List Event) (i : ℕ) (event : Event) (run : Run) → i < length list
+pub stands_next : {P : Type 0} (c : Config) (list : List Event) (i : ℕ) (event : Event) (run : Run P) → i < length list
     → event ≡ get_or list i event → StandsFor c (take i list ++ event ∷ []) run → StandsFor c (take (i + 1) list) run
 stands_next c list i event run within is stands =
     subst (λ (l : List Event). StandsFor c l run)
     (ap (λ (e : Event). take i list ++ e ∷ []) is ∙ sym (take_more list i event within)) stands
 
-pub stands_whole : (c : Config) (list : List Event) (i : ℕ) (run : Run) → length list ≤ i
+pub stands_whole : {P : Type 0} (c : Config) (list : List Event) (i : ℕ) (run : Run P) → length list ≤ i
     → StandsFor c (take i list) run → StandsFor c list run
 stands_whole c list i run over stands = subst (λ (l : List Event). StandsFor c l run) (take_all i list over) stands
 
 -- ---- what is found
 
-pub run_order : (c : Config) (script : List Event) (run : Run) (slice : List Entry) → StandsFor c script run
+pub run_order : {P : Type 0} (c : Config) (script : List Event) (run : Run P) (slice : List Entry) → StandsFor c script run
     → slice ≡ run.entries.items → IsNonDecreasingBy (λ (entry : Entry). entry.number) slice
 run_order c script run slice stands same =
     in_order c script run.entries.items slice run.desks.seen stands.stands.runs same
@@ -83,7 +83,7 @@ module _ (entries : List Entry) (number : ℕ) where
 
 -- ---- what is answered
 
-module _ (c : Config) (script : List Event) (run : Run) (number : ℕ) (stands : StandsFor c script run) where
+module _ {P : Type 0} (c : Config) (script : List Event) (run : Run P) (number : ℕ) (stands : StandsFor c script run) where
   pub missing_goes : IsMissing run.entries.items number → (answer : Bool) → answer ≡ false
       → GoesOn c script number answer
   missing_goes missing answer none headings are =

@@ -1,21 +1,19 @@
 -- What contracts see of the desks of a run: one at the ring of each mountpoint, and one at the
 -- book of accounts.
-use Rattle.std.specs.Prelude.{◌≡◌, ℕ, List, get_or, Option, Some}
+use Rattle.std.specs.Prelude.{◌≡◌, ℕ, List, map}
+use base.Stored.{Gv}
 use Rattle.mount_ring.specs.declared.shape.RingShape.{RingShape}
 use Rattle.cast_config.specs.declared.config.Config.{Config}
-use Rattle.last_frames.specs.Greeted.{Greeting}
-use Rattle.session_calls.specs.Rings.{history_at, shape_at}
+use Rattle.session_core.specs.Places.{AtRing}
 use Rattle.session_model.specs.Run.{Histories}
 use Rattle.session_model.specs.Setting.{shapes, caps}
-use Rattle.caster_replay.specs.Places.{greeting_since}
 
 -- what no call changes of the rings and of the book, and all calls so far
 pub record DesksValue : Type 0 where
   pub rings : List RingShape
   pub book : List ℕ
-  -- how many calls there were at each mountpoint when its greeting was cleared, if it keeps
-  -- greetings
-  pub cleared : List (Option ℕ)
+  -- which object each place at a ring is at
+  pub homes : List Gv
   pub seen : Histories
 
 -- they are the places of a caster with this configuration
@@ -27,10 +25,16 @@ pub record ArePlaces (c : Config) (desks : DesksValue) : Type 0 where
 pub record SamePlaces (old now : DesksValue) : Type 0 where
   pub rings : now.rings ≡ old.rings
   pub book : now.book ≡ old.book
-  pub cleared : now.cleared ≡ old.cleared
+  pub homes : now.homes ≡ old.homes
 
--- the greeting that is kept at this mountpoint
-abbrev pub greeting_at : DesksValue → ℕ → Greeting
-greeting_at desks mount =
-    greeting_since (get_or desks.cleared mount (Some 0)) (shape_at desks.rings mount)
-    (history_at desks.seen.rings mount)
+-- these are the places at the rings, in the order of their mountpoints
+pub record AreRings {P : Type 0} (ring : AtRing P) (desks : DesksValue) (places : List P)
+    : Type 0 where
+  pub shapes_are : map ring.shape places ≡ desks.rings
+  pub homes_are : map ring.home places ≡ desks.homes
+  pub seen_are : map ring.seen places ≡ desks.seen.rings
+
+-- nothing but the places at the rings changed
+pub record SameBook (old now : DesksValue) : Type 0 where
+  pub book : now.book ≡ old.book
+  pub seen : now.seen.book ≡ old.seen.book

@@ -7,4 +7,3 @@ pub mod Scripts
 pub mod Sends
 pub mod Going
 pub mod Kept
-pub mod Places

@@ -1,6 +1,6 @@
 //! The desks of a run: nobody but its connections calls at them.
 
-ghost use Rattle.std.specs.Prelude.{◌≡◌, ◌<◌, ◌++◌, ℕ, [], ◌∷◌, length, get_or, IfOk, OnOk, IfNone, IfSome, IsTrue, None, Some, false, if◌then◌else◌};
+ghost use Rattle.std.specs.Prelude.{◌≡◌, ◌<◌, ◌++◌, ℕ, [], ◌∷◌, length, get_or, IfOk, OnOk, IfSome, IsTrue, None};
 ghost use Rattle.cast_config.specs.declared.config.Config.{Config as ConfigValue};
 ghost use Rattle.mount_ring.specs.declared.shape.RingShape.{RingShape};
 ghost use Rattle.mount_ring.specs.History.{state_of};
@@ -14,76 +14,64 @@ ghost use Rattle.session_model.specs.Setting as setting;
 ghost use Rattle.session_core.specs.Standing.{Follows};
 ghost use Rattle.session_core.specs.Turned.{flow_of};
 ghost use Rattle.caster_replay.specs.Calls.{Closes, Feeds, Opens, TakesTurn};
-ghost use Rattle.caster_replay.specs.Caster.{ArePlaces, SamePlaces, greeting_at};
-ghost use Rattle.caster_replay.specs.Places.{AllGreet, NoneGreets, cleared_at};
+ghost use Rattle.caster_replay.specs.Caster.{ArePlaces, AreRings, SameBook, SamePlaces};
 
-use crate::rings::{caps_of, open_place};
-use crate::run_place::{RunPlace, clear_all};
+use crate::caps::caps_of;
+use crate::ring_place::RingPlace;
 use cast_config::Config;
 use cast_text::MountName;
 use caster_accounts::Book;
 use mount_ring::Ring;
-use rtcm_frame::Frame;
 use session_core::{Bare, Flow, Last, Places, Receipt, Session};
 use std::alloc::{AllocError, Global};
 use std::marker::Model;
+use std::mem;
 use turn_log::{Desk, Turns};
 
-/// One desk at the ring of each mountpoint, in the order of their numbers, and one at the book.
+/// One place at the ring of each mountpoint, in the order of their numbers, and a desk at the book.
 ///
 /// Contracts see what no call changes of them, and all calls so far.
 #[derive(Drop)]
-pub(crate) struct Desks {
-    pub(crate) places: Places<RunPlace, Desk<Book>>,
+pub(crate) struct Desks<P: Turns<Ring>> {
+    pub(crate) places: Places<P, Desk<Book>>,
 }
 
-impl Model for Desks {
+impl<P: Turns<Ring>> Model for Desks<P> {
     ghost use Rattle.std.specs.Prelude.{map};
     ghost use Rattle.session_model.specs.Called.{seen_at};
     ghost use Rattle.caster_replay.specs.Caster.{DesksValue};
-    ghost use Rattle.caster_replay.specs.Places.{place_cleared};
 
     ghost Value = { DesksValue };
 
     ghost view = { λ d. record {
-      rings = map (⟦<RunPlace as Turns<Ring>>⟧.shape) d.places.rings.items;
+      rings = map P.shape d.places.rings.items;
       book = ⟦<Desk<Book> as Turns<Book>>⟧.shape d.places.book;
-      cleared = map place_cleared d.places.rings.items;
-      seen = seen_at (⟦<RunPlace as Turns<Ring>>⟧.seen) (⟦<Desk<Book> as Turns<Book>>⟧.seen)
-          d.places.rings.items d.places.book;
+      homes = map P.home d.places.rings.items;
+      seen = seen_at P.seen (⟦<Desk<Book> as Turns<Book>>⟧.seen) d.places.rings.items
+          d.places.book;
     } };
 }
 
-impl Desks {
-    /// One more desk, at the ring of the mountpoint of this number, or at its station.
-    fn add_ring(
-        &mut self,
-        alloc: Global,
-        config: &Config,
-        number: u32,
-        greets: bool,
-    ) -> Result<(), AllocError>
+impl<P: RingPlace> Desks<P> {
+    /// One more place, at a new ring of the mountpoint of this number.
+    fn add_ring(&mut self, alloc: Global, config: &Config, number: u32) -> Result<(), AllocError>
         requires kept { (cap : ℕ) × KeepsRules cap config.now }
         requires there { number < length config.now.mount }
         ensures ring { (d : RingShape) → OnOk result (self.new.rings
             ≡ self.old.rings ++ get_or (shapes config.now) number d ∷ []) }
         ensures uncalled { OnOk result
             (self.new.seen.rings ≡ self.old.seen.rings ++ [] ∷ []) }
-        ensures cleared { OnOk result (self.new.cleared
-            ≡ self.old.cleared ++ (if greets then Some 0 else None) ∷ []) }
-        ensures book { self.new.book ≡ self.old.book }
-        ensures book_seen { self.new.seen.book ≡ self.old.seen.book }
+        ensures book { SameBook self.old self.new }
     {
-        let place = open_place(alloc, config, number, greets)?;
+        let place = P::open(alloc, config, number)?;
         self.places.rings.push(place)?;
         Ok(())
     }
 
-    /// The desk at a new book of the accounts, and none at a ring yet.
-    fn at_book(alloc: Global, config: &Config) -> Result<Desks, AllocError>
+    /// The desk at a new book of the accounts, and no place at a ring yet.
+    fn at_book(alloc: Global, config: &Config) -> Result<Desks<P>, AllocError>
         ensures rings { IfOk result (λ desks. desks.rings ≡ []) }
         ensures book { IfOk result (λ desks. desks.book ≡ caps config.now) }
-        ensures cleared { IfOk result (λ desks. desks.cleared ≡ []) }
         ensures seen { IfOk result (λ desks. desks.seen ≡ record { rings = []; book = [] }) }
     {
         let caps = caps_of(alloc, config)?;
@@ -94,20 +82,15 @@ impl Desks {
         })
     }
 
-    /// The desks of a caster with this configuration, at which nothing was called, with greetings
-    /// or without.
-    pub(crate) fn new(alloc: Global, config: &Config, greets: bool) -> Result<Desks, AllocError>
+    /// The desks of a caster with this configuration, at which nothing was called.
+    pub(crate) fn new(alloc: Global, config: &Config) -> Result<Desks<P>, AllocError>
         requires kept { (cap : ℕ) × KeepsRules cap config.now }
         ensures places { IfOk result (λ desks. ArePlaces config.now desks) }
         ensures uncalled { IfOk result (λ desks. desks.seen ≡ nothing_called config.now) }
-        ensures greet { IsTrue greets → IfOk result (λ desks. AllGreet desks.cleared) }
-        ensures counted { IsTrue greets → IfOk result (λ desks.
-            desks.cleared ≡ cleared_at desks.seen.rings) }
-        ensures none { greets ≡ false → IfOk result (λ desks. NoneGreets desks.cleared) }
     {
         let mut desks = Desks::at_book(alloc, config)?;
         for number in 0..config.mount.as_slice().len() {
-            desks.add_ring(alloc, config, number as u32, greets)?;
+            desks.add_ring(alloc, config, number as u32)?;
         }
         Ok(desks)
     }
@@ -122,27 +105,20 @@ impl Desks {
         }
     }
 
-    /// The frames that the last one was greeted by who joined this mountpoint since the desks were
-    /// made or cleared, if somebody did and greetings are kept.
-    pub(crate) fn greeting(&self, mount: u32) -> Option<&[Frame]>
-        ensures none { IfNone result (greeting_at self.now mount ≡ None) }
-        ensures some { IfSome result (λ frames. greeting_at self.now mount ≡ Some frames.now) }
+    /// The places at the rings.
+    pub(crate) fn rings(&self) -> &[P]
+        ensures { AreRings P.Turns self.now result.now }
     {
-        match self.places.rings.as_slice().get(mount as usize) {
-            Some(place) => place.greeting(),
-            None => None,
-        }
+        self.places.rings.as_slice()
     }
 
-    /// From now on nobody joined anywhere.
-    pub(crate) fn clear(&mut self)
-        ensures rings { self.new.rings ≡ self.old.rings }
-        ensures book { self.new.book ≡ self.old.book }
-        ensures seen { self.new.seen ≡ self.old.seen }
-        ensures cleared { AllGreet self.old.cleared
-            → self.new.cleared ≡ cleared_at self.old.seen.rings }
+    /// Takes these places at the rings, and gives those that there were.
+    pub(crate) fn replace_rings(&mut self, rings: Vec<P>) -> Vec<P>
+        ensures gives { AreRings P.Turns self.old result.items }
+        ensures takes { AreRings P.Turns self.new rings.items }
+        ensures book { SameBook self.old self.new }
     {
-        clear_all(&mut self.places.rings);
+        mem::replace(&mut self.places.rings, rings)
     }
 
     /// Bytes come in on a session that goes on; its reply is appended.

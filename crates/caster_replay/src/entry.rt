@@ -9,6 +9,7 @@ ghost use Rattle.caster_replay.specs.Caster.{ArePlaces, SamePlaces};
 ghost use Rattle.caster_replay.specs.Entries.{ClosedAt, FedAt, MayBeClosed, MayGoOn, TurnedAt, is_behind_at, is_ended_at, is_open_at, rover_at};
 
 use crate::desks::Desks;
+use crate::ring_place::RingPlace;
 use cast_config::Config;
 use session_core::{Ending, Flow, Last, Receipt, RoverState, Segments, Session};
 use std::alloc::{AllocError, Global};
@@ -49,7 +50,7 @@ fn is_halt(ending: Ending) -> bool
 ///
 /// # Errors
 /// Where it was halted, or the turn that closes it was refused.
-fn closed(state: State, desks: &mut Desks, last: Last) -> Result<State, AllocError>
+fn closed<P: RingPlace>(state: State, desks: &mut Desks<P>, last: Last) -> Result<State, AllocError>
     requires may { (c : ConfigValue) × ArePlaces c desks.old × MayBeClosed c desks.old.seen state }
     ensures same { SamePlaces desks.old desks.new }
     ensures closed { (c : ConfigValue) → ArePlaces c desks.old
@@ -112,7 +113,7 @@ impl Entry {
     }
 
     /// Whether it is a rover that goes on and has frames to read.
-    pub(crate) fn is_behind(&self, desks: &Desks) -> bool
+    pub(crate) fn is_behind<P: RingPlace>(&self, desks: &Desks<P>) -> bool
         ensures { result ≡ is_behind_at desks.now.seen.rings self.now.state }
     {
         let State::Open(session) = &self.state else {
@@ -125,11 +126,11 @@ impl Entry {
     }
 
     /// Bytes come in on it.
-    pub(crate) fn feed(
+    pub(crate) fn feed<P: RingPlace>(
         &mut self,
         config: &Config,
         table: &[u8],
-        desks: &mut Desks,
+        desks: &mut Desks<P>,
         bytes: &[u8],
     ) -> Flow
         requires kept { (cap : ℕ) × KeepsRules cap config.now }
@@ -148,7 +149,7 @@ impl Entry {
     }
 
     /// It takes a turn. Answers that it ended where it was halted.
-    pub(crate) fn turn(&mut self, desks: &mut Desks, budget: u32) -> Flow
+    pub(crate) fn turn<P: RingPlace>(&mut self, desks: &mut Desks<P>, budget: u32) -> Flow
         requires may { (c : ConfigValue) × ArePlaces c desks.old
             × MayGoOn c desks.old.seen 0 self.old.state }
         ensures same { SamePlaces desks.old desks.new }
@@ -168,7 +169,11 @@ impl Entry {
     /// # Errors
     /// Where its session was halted, or the turn that closes it was refused. Then the run is of no
     /// further use.
-    pub(crate) fn close(&mut self, desks: &mut Desks, last: Last) -> Result<(), AllocError>
+    pub(crate) fn close<P: RingPlace>(
+        &mut self,
+        desks: &mut Desks<P>,
+        last: Last,
+    ) -> Result<(), AllocError>
         requires may { (c : ConfigValue) × ArePlaces c desks.old
             × MayBeClosed c desks.old.seen self.old.state }
         ensures same { SamePlaces desks.old desks.new }

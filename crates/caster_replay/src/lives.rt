@@ -17,6 +17,7 @@ ghost use Rattle.caster_replay.specs.Sends.{IsSilent, Sends, SendsTo};
 use crate::desks::Desks;
 use crate::entry::Entry;
 use crate::opening::{Way, opened};
+use crate::ring_place::RingPlace;
 use cast_config::Config;
 use session_core::{Flow, Last};
 use std::alloc::{AllocError, Global};
@@ -50,9 +51,9 @@ pub(crate) fn find(entries: &[Entry], number: u32) -> Option<&Entry>
 }
 
 /// Closes the connection at this place, unless it is over already.
-fn close_at(
+fn close_at<P: RingPlace>(
     entries: &mut Vec<Entry>,
-    desks: &mut Desks,
+    desks: &mut Desks<P>,
     place: usize,
     last: Last,
 ) -> Result<(), AllocError>
@@ -69,11 +70,11 @@ fn close_at(
 
 /// Bytes arrive on the connection of this number, if there is one. Where they end it, it is closed
 /// at once.
-pub(crate) fn feed(
+pub(crate) fn feed<P: RingPlace>(
     config: &Config,
     table: &[u8],
     entries: &mut Vec<Entry>,
-    desks: &mut Desks,
+    desks: &mut Desks<P>,
     number: u32,
     bytes: &[u8],
 ) -> Result<(), AllocError>
@@ -87,7 +88,7 @@ pub(crate) fn feed(
         entries.new.items desks.new) }
     ensures sends { OnOk result
         (SendsTo number (lives_in entries.old.items) (lives_in entries.new.items)) }
-    ensures cleared { desks.new.cleared ≡ desks.old.cleared }
+    ensures same { SamePlaces desks.old desks.new }
 {
     let place = place_of(entries, number);
     if !stands_at(entries, place, number) {
@@ -100,9 +101,9 @@ pub(crate) fn feed(
 }
 
 /// The connection of this number takes a turn, if there is one.
-pub(crate) fn turn(
+pub(crate) fn turn<P: RingPlace>(
     entries: &mut Vec<Entry>,
-    desks: &mut Desks,
+    desks: &mut Desks<P>,
     number: u32,
     budget: u32,
 ) -> Result<(), AllocError>
@@ -114,7 +115,7 @@ pub(crate) fn turn(
         desks.new) }
     ensures sends { OnOk result
         (SendsTo number (lives_in entries.old.items) (lives_in entries.new.items)) }
-    ensures cleared { desks.new.cleared ≡ desks.old.cleared }
+    ensures same { SamePlaces desks.old desks.new }
 {
     let place = place_of(entries, number);
     if !stands_at(entries, place, number) {
@@ -127,9 +128,9 @@ pub(crate) fn turn(
 }
 
 /// The connection of this number is closed, if there is one.
-pub(crate) fn close(
+pub(crate) fn close<P: RingPlace>(
     entries: &mut Vec<Entry>,
-    desks: &mut Desks,
+    desks: &mut Desks<P>,
     number: u32,
     last: Last,
 ) -> Result<(), AllocError>
@@ -140,7 +141,7 @@ pub(crate) fn close(
         → OnOk result (Stands c (script ++ event ∷ []) entries.new.items desks.new) }
     ensures silent { OnOk result
         (IsSilent (lives_in entries.old.items) (lives_in entries.new.items)) }
-    ensures cleared { desks.new.cleared ≡ desks.old.cleared }
+    ensures same { SamePlaces desks.old desks.new }
 {
     let place = place_of(entries, number);
     if !stands_at(entries, place, number) {
@@ -150,7 +151,10 @@ pub(crate) fn close(
 }
 
 /// Closes each connection that goes on, as its end, in increasing order of number.
-pub(crate) fn close_all(entries: &mut Vec<Entry>, desks: &mut Desks) -> Result<(), AllocError>
+pub(crate) fn close_all<P: RingPlace>(
+    entries: &mut Vec<Entry>,
+    desks: &mut Desks<P>,
+) -> Result<(), AllocError>
     requires run { (c : ConfigValue) × (script : List Event)
         × IsShort script × Stands c script entries.old.items desks.old }
     ensures ok { (c : ConfigValue) (script : List Event) → IsShort script
@@ -167,7 +171,7 @@ pub(crate) fn close_all(entries: &mut Vec<Entry>, desks: &mut Desks) -> Result<(
 }
 
 /// A connection that ended by itself as it opened is closed at once.
-fn settled(mut entry: Entry, desks: &mut Desks) -> Result<Entry, AllocError>
+fn settled<P: RingPlace>(mut entry: Entry, desks: &mut Desks<P>) -> Result<Entry, AllocError>
     requires may { (c : ConfigValue) × ArePlaces c desks.old
         × MayBeClosed c desks.old.seen entry.state }
     ensures same { SamePlaces desks.old desks.new }
@@ -184,11 +188,11 @@ fn settled(mut entry: Entry, desks: &mut Desks) -> Result<Entry, AllocError>
 }
 
 /// A connection opens, unless its number was opened before.
-pub(crate) fn open(
+pub(crate) fn open<P: RingPlace>(
     alloc: Global,
     config: &Config,
     entries: &mut Vec<Entry>,
-    desks: &mut Desks,
+    desks: &mut Desks<P>,
     number: u32,
     way: Way<'_>,
 ) -> Result<(), AllocError>
@@ -200,7 +204,7 @@ pub(crate) fn open(
         → OnOk result (Stands config.now (script ++ event ∷ []) entries.new.items desks.new) }
     ensures sends { (event : Event) → Begins event number (opening_of way.entry) → OnOk result
         (Sends event (lives_in entries.old.items) (lives_in entries.new.items)) }
-    ensures cleared { desks.new.cleared ≡ desks.old.cleared }
+    ensures same { SamePlaces desks.old desks.new }
 {
     let place = place_of(entries, number);
     if stands_at(entries, place, number) {

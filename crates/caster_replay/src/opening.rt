@@ -11,6 +11,7 @@ ghost use Rattle.caster_replay.specs.Entries.{HasOpened, IsUnsent, NamesRelay, o
 
 use crate::desks::Desks;
 use crate::entry::{Entry, State};
+use crate::ring_place::RingPlace;
 use cast_config::Config;
 use cast_text::MountName;
 use session_core::{Bare, Session};
@@ -65,10 +66,10 @@ fn relay_opened(
 }
 
 /// A connection without head and reply.
-fn bare_opened(
+fn bare_opened<P: RingPlace>(
     alloc: Global,
     config: &Config,
-    desks: &mut Desks,
+    desks: &mut Desks<P>,
     number: u32,
     role: Bare,
     mount: &MountName,
@@ -90,10 +91,10 @@ fn bare_opened(
 }
 
 /// A connection opens under a number that no other has.
-pub(crate) fn opened(
+pub(crate) fn opened<P: RingPlace>(
     alloc: Global,
     config: &Config,
-    desks: &mut Desks,
+    desks: &mut Desks<P>,
     number: u32,
     way: Way<'_>,
 ) -> Result<Entry, AllocError>

@@ -8,9 +8,11 @@ ghost use Rattle.caster_replay.specs.Scripts.{IsScriptFor};
 
 use crate::run::Run;
 use cast_config::Config;
+use mount_ring::Ring;
 use session_core::Report;
 use session_script::Event;
 use std::alloc::{AllocError, Global};
+use turn_log::Desk;
 
 /// The run of the events of a script, which are played one after the other over the same desks as
 /// by `replay`. The connections that are still open then stay open.
@@ -19,7 +21,11 @@ use std::alloc::{AllocError, Global};
 ///
 /// # Errors
 /// For want of memory, also where a session or a turn was halted by it.
-pub fn played(alloc: Global, config: &Config, events: &[Event]) -> Result<Run, AllocError>
+pub fn played(
+    alloc: Global,
+    config: &Config,
+    events: &[Event],
+) -> Result<Run<Desk<Ring>>, AllocError>
     requires kept { (cap : ℕ) × KeepsRules cap config.now }
     requires script { IsScriptFor config.now events.now }
     ensures { IfOk result (λ run. StandsFor config.now events.now run) }

@@ -1,6 +1,6 @@
 //! A run that is played event by event.
 
-ghost use Rattle.std.specs.Prelude.{◌≡◌, ℕ, ◌≤◌, ◌+◌, [], ◌∷◌, ◌++◌, List, length, IsTrue, IfOk, OnOk, IfNone, IfSome, None, Some};
+ghost use Rattle.std.specs.Prelude.{◌≡◌, ℕ, ◌≤◌, ◌+◌, [], ◌∷◌, ◌++◌, List, length, IsTrue, IfOk, OnOk};
 ghost use Rattle.cast_config.specs.declared.config.Config.{Config as ConfigValue};
 ghost use Rattle.cast_config.specs.Kept.{KeepsRules};
 ghost use Rattle.session_model.specs.Reports.{IsReport};
@@ -8,8 +8,7 @@ ghost use Rattle.session_model.specs.Setting as setting;
 ghost use Rattle.session_script.specs.declared.Event.{Event as EventValue};
 ghost use Rattle.caster_replay.specs.Entries.{AreOver, IsOverAt};
 ghost use Rattle.caster_replay.specs.Going.{GoesOn, IsBehind, IsRover, MaySpeak};
-ghost use Rattle.caster_replay.specs.Kept.{Greets, KeepsNoGreetings, MayCome, StandsFor, cleared_of, greeting_of, lives_of, seen_of, sent_by_run};
-ghost use Rattle.caster_replay.specs.Places.{cleared_at};
+ghost use Rattle.caster_replay.specs.Kept.{HasRings, MayCome, SameButRings, StandsFor, homes_of, lives_of, sent_by_run};
 ghost use Rattle.caster_replay.specs.Lives.{AreTold, IsToldBy, lives_in};
 ghost use Rattle.caster_replay.specs.Scripts.{IsShort};
 ghost use Rattle.caster_replay.specs.Sends.{Sends, told_sent};
@@ -18,22 +17,24 @@ use crate::desks::Desks;
 use crate::entry::{Entry, State};
 use crate::event::play;
 use crate::lives::{close_all, find};
+use crate::ring_place::RingPlace;
 use crate::totals::totals;
 use cast_config::Config;
 use config_table::table_of;
-use rtcm_frame::Frame;
+use mount_ring::Ring;
 use session_core::{Closed, Connection, Connections, Report, RoverState, Sent};
 use session_script::Event;
 use sourcetable::write_table;
 use std::alloc::{AllocError, Global};
+use turn_log::Turns;
 
-/// The connections of a recorded run, the desks that they call at, and the sourcetable that
+/// The connections of a recorded run, the places that they call at, and the sourcetable that
 /// clients are sent.
 #[derive(Drop)]
-pub struct Run {
+pub struct Run<P: Turns<Ring>> {
     table: Vec<u8>,
     entries: Vec<Entry>,
-    desks: Desks,
+    desks: Desks<P>,
 }
 
 /// The sourcetable that clients are sent.
@@ -79,37 +80,16 @@ fn told_all(alloc: Global, entries: Vec<Entry>) -> Result<Vec<Connection>, Alloc
     Ok(list)
 }
 
-impl Run {
-    /// The run of no events yet, over one desk a mountpoint, made as the configuration says, and
-    /// one of the book of accounts. It keeps no greetings.
-    pub fn new(alloc: Global, config: &Config) -> Result<Run, AllocError>
+impl<P: RingPlace> Run<P> {
+    /// The run of no events yet, over one place a mountpoint, made as the configuration says, and
+    /// one desk of the book of accounts.
+    pub fn new(alloc: Global, config: &Config) -> Result<Run<P>, AllocError>
         requires kept { (cap : ℕ) × KeepsRules cap config.now }
         ensures stands { IfOk result (λ run. StandsFor config.now [] run) }
         ensures unsent { (n : ℕ) → IfOk result (λ run. sent_by_run run n ≡ []) }
-        ensures plain { IfOk result (λ run. KeepsNoGreetings run) }
     {
         let table = table_text(alloc, config)?;
-        let desks = Desks::new(alloc, config, false)?;
-        let entries = Vec::new(alloc);
-        Ok(Run {
-            table,
-            entries,
-            desks,
-        })
-    }
-
-    /// The same, and each mountpoint keeps the greeting of who joined last.
-    pub fn with_greetings(alloc: Global, config: &Config) -> Result<Run, AllocError>
-        requires kept { (cap : ℕ) × KeepsRules cap config.now }
-        ensures stands { IfOk result (λ run. StandsFor config.now [] run) }
-        ensures unsent { (n : ℕ) → IfOk result (λ run. sent_by_run run n ≡ []) }
-        ensures greets { IfOk result (λ run. Greets run) }
-
-        // Greetings count from here on, as after `clear`.
-        ensures cleared { IfOk result (λ run. cleared_of run ≡ cleared_at (seen_of run).rings) }
-    {
-        let table = table_text(alloc, config)?;
-        let desks = Desks::new(alloc, config, true)?;
+        let desks = Desks::new(alloc, config)?;
         let entries = Vec::new(alloc);
         Ok(Run {
             table,
@@ -133,7 +113,7 @@ impl Run {
 
         // Nobody else than the event's own connection is sent more.
         ensures sends { OnOk result (Sends event.now (lives_of self.old) (lives_of self.new)) }
-        ensures cleared { cleared_of self.new ≡ cleared_of self.old }
+        ensures homes { homes_of self.new ≡ homes_of self.old }
     {
         play(
             alloc,
@@ -200,25 +180,20 @@ impl Run {
         }
     }
 
-    /// The frames that the last one is to be greeted by who joined this mountpoint since the run
-    /// began or was cleared, if somebody did and greetings are kept.
-    pub fn greeting(&self, mount: u32) -> Option<&[Frame]>
-        ensures none { IfNone result (greeting_of self.now mount ≡ None) }
-        ensures some { IfSome result (λ frames. greeting_of self.now mount ≡ Some frames.now) }
+    /// The places at the rings, in the order of their mountpoints.
+    pub fn rings(&self) -> &[P]
+        ensures { HasRings P.Turns self.now result.now }
     {
-        self.desks.greeting(mount)
+        self.desks.rings()
     }
 
-    /// From now on nobody joined anywhere, and nothing else changes.
-    pub fn clear(&mut self)
-        ensures stands { (c : ConfigValue) (script : List EventValue)
-            → StandsFor c script self.old → StandsFor c script self.new }
-        ensures lives { lives_of self.new ≡ lives_of self.old }
-        ensures seen { seen_of self.new ≡ seen_of self.old }
-        ensures cleared { Greets self.old
-            → cleared_of self.new ≡ cleared_at (seen_of self.old).rings }
+    /// Takes these places at the rings, and gives those that there were. Nothing else changes.
+    pub fn replace_rings(&mut self, rings: Vec<P>) -> Vec<P>
+        ensures gives { HasRings P.Turns self.old result.items }
+        ensures takes { HasRings P.Turns self.new rings.items }
+        ensures rest { SameButRings self.old self.new }
     {
-        self.desks.clear();
+        self.desks.replace_rings(rings)
     }
 
     /// Closes the connections that go on, each as its end, in increasing order of number, and

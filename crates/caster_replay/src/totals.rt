@@ -7,13 +7,14 @@ ghost use Rattle.session_model.specs.Reports.{closed_of, mount_total, sums_from}
 ghost use Rattle.caster_replay.specs.Caster.{ArePlaces};
 
 use crate::desks::Desks;
+use crate::ring_place::RingPlace;
 use cast_config::Config;
 use caster_accounts::Sum;
 use session_core::{Closed, MountTotal, MountTotals, Sums};
 use std::alloc::{AllocError, Global};
 
 /// What the mountpoints came to.
-fn mounts(alloc: Global, desks: &Desks) -> Result<Vec<MountTotal>, AllocError>
+fn mounts<P: RingPlace>(alloc: Global, desks: &Desks<P>) -> Result<Vec<MountTotal>, AllocError>
     ensures { IfOk result (λ totals. totals.items ≡ map mount_total desks.now.seen.rings) }
 {
     let mut totals = Vec::new(alloc);
@@ -28,7 +29,11 @@ fn mounts(alloc: Global, desks: &Desks) -> Result<Vec<MountTotal>, AllocError>
 }
 
 /// What the named accounts came to, which are numbered from 1.
-fn accounts(alloc: Global, config: &Config, desks: &Desks) -> Result<Vec<Sum>, AllocError>
+fn accounts<P: RingPlace>(
+    alloc: Global,
+    config: &Config,
+    desks: &Desks<P>,
+) -> Result<Vec<Sum>, AllocError>
     requires places { ArePlaces config.now desks.now }
     requires few { length config.now.account < 2 ^ 31 }
     ensures { IfOk result (λ sums.
@@ -43,7 +48,7 @@ fn accounts(alloc: Global, config: &Config, desks: &Desks) -> Result<Vec<Sum>, A
 }
 
 /// What all accounts came to, with that of rovers without credentials.
-fn total(desks: &Desks) -> Sum
+fn total<P: RingPlace>(desks: &Desks<P>) -> Sum
     ensures { (c : ConfigValue) → ArePlaces c desks.now
         → result ≡ (closed_of c desks.now.seen).total }
 {
@@ -51,7 +56,11 @@ fn total(desks: &Desks) -> Sum
 }
 
 /// What a caster came to.
-pub(crate) fn totals(alloc: Global, config: &Config, desks: &Desks) -> Result<Closed, AllocError>
+pub(crate) fn totals<P: RingPlace>(
+    alloc: Global,
+    config: &Config,
+    desks: &Desks<P>,
+) -> Result<Closed, AllocError>
     requires places { ArePlaces config.now desks.now }
     requires few { length config.now.account < 2 ^ 31 }
     ensures { IfOk result (λ closed. closed ≡ closed_of config.now desks.now.seen) }

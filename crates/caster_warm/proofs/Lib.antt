@@ -1,3 +1,4 @@
 pub mod GreetingLemmas
+pub mod PlaceLemmas
 pub mod PartLemmas
 pub mod SentLemmas

@@ -1,12 +1,9 @@
 -- What an event sends its connection, and what the others are sent by it.
 use Rattle.std.proofs.Common.{◌≡◌, ◌≢◌, ◌∙◌, ◌++◌, ◌≤◌, ◌<◌, ◌+◌, ℕ, suc, get_or, Bool, true, false, IsTrue, Option, Some, List, [], ◌∷◌, length, map, take, drop, fold, refl, sym, ap, subst, inl, inr, arith, length-append, append_assoc}
-use Rattle.std.specs.Prelude.{◌==◌, ◌&&◌, nat_lt, if◌then◌else◌, is_some}
+use Rattle.std.specs.Prelude.{◌==◌, ◌&&◌, nat_lt, if◌then◌else◌}
 use Rattle.std.proofs.lemmas.Bool.{cases_Bool, eq-eqb, eqb-true, eqb-false, ne_eqb}
 use Rattle.std.proofs.lemmas.List.{append-nil, take_more}
-use Rattle.std.proofs.lemmas.List.Elements.{All-map}
 use Rattle.std.proofs.Math.Seq.{drop-length}
-use Rattle.turn_log.specs.History.{History}
-use Rattle.mount_ring.specs.declared.call.RingCall.{RingCall}
 use Rattle.session_script.specs.declared.Event.{Event}
 use Rattle.session_script.specs.declared.Event.TheVariants as events
 use Rattle.cast_config.specs.declared.config.Config.{Config}
@@ -20,17 +17,18 @@ use Rattle.caster_replay.specs.declared.entry.State.{State}
 use Rattle.caster_replay.specs.declared.entry.State.TheVariants.{Open, Closed}
 use Rattle.caster_replay.specs.declared.run.Run.{Run}
 use Rattle.caster_replay.specs.Going.{rover_among}
-use Rattle.caster_replay.specs.Kept.{StandsFor, cleared_of, seen_of, lives_of, sent_by_run}
+use Rattle.caster_replay.specs.Kept.{StandsFor, homes_of, seen_of, lives_of, sent_by_run}
 use Rattle.caster_replay.specs.Lives.{IsKept, IsLive, Live, sent_to}
-use Rattle.caster_replay.specs.Places.{AllGreet, cleared_at}
 use Rattle.caster_replay.specs.Runs.{Pairs}
 use Rattle.caster_replay.specs.Sends.{sent_in, told_sent, Sends}
 use Rattle.caster_replay.proofs.ReplayLemmas.{split_at}
 use Rattle.caster_replay.proofs.WorldReportLemmas.{report_with}
 use Rattle.caster_replay.proofs.WorldRunnerLemmas.{after_one}
 use Rattle.caster_warm.specs.declared.parts.Part.{Part}
+use Rattle.caster_warm.specs.declared.place.GreetingPlace.{GreetingPlace}
 use Rattle.caster_warm.specs.Numbers.{number_of, brings_bytes}
 use Rattle.caster_warm.specs.Parts.{part_to}
+use Rattle.caster_warm.specs.Places.{WasClearedAt, homes_at}
 use Rattle.caster_warm.specs.Warm.{greeting_for, greeting_by, sent_so_far, sent_by_event, sent_by_events, told_with, IsWarmReport}
 
 abbrev told_as : Connection → List ℕ → Connection
@@ -59,7 +57,7 @@ told_lives c headings now n (d ∷ ds) (live ∷ lives) pairs =
     (kept_bytes c (headings d.number) now d live.state live.bytes pairs.0.1)
     ∙ ap (first_sent n live.number live.bytes) (told_lives c headings now n ds lives pairs.1)
 
-pub sent_told : (c : Config) (script later : List Event) (headings : ℕ → Heading) (run : Run) (n : ℕ)
+pub sent_told : {P : Type 0} (c : Config) (script later : List Event) (headings : ℕ → Heading) (run : Run P) (n : ℕ)
     → StandsFor c script run → AreHeadings (script ++ later) headings
     → sent_so_far c headings (after_events c headings script) n ≡ sent_by_run run n
 sent_told c script later headings run n stands are =
@@ -173,7 +171,8 @@ module _ (c : Config) (headings : ℕ → Heading) (w : World) (event : Event) (
       ]
 
 -- the same of runs: one that stands for the script, then cleared, and then with the event
-module _ (c : Config) (script later : List Event) (event : Event) (headings : ℕ → Heading) (run mid next : Run)
+module _ (c : Config) (script later : List Event) (event : Event) (headings : ℕ → Heading)
+    (run mid next : Run GreetingPlace)
     (stands : StandsFor c script run) (stands_next : StandsFor c (script ++ event ∷ []) next)
     (are : AreHeadings (script ++ event ∷ later) headings) where
   abbrev w : World
@@ -189,11 +188,11 @@ module _ (c : Config) (script later : List Event) (event : Event) (headings : �
       ∙ sent_told c (script ++ event ∷ []) later headings next n stands_next are_next
 
   -- the histories at which it was cleared
-  pub cleared_before : cleared_of mid ≡ cleared_at (seen_of run).rings → cleared_of next ≡ cleared_of mid
-      → cleared_of next ≡ cleared_at w.histories.rings
+  pub cleared_before : WasClearedAt (seen_of run) mid → homes_of next ≡ homes_of mid
+      → WasClearedAt w.histories next
   cleared_before cleared same =
       same ∙ cleared
-      ∙ ap (λ (h : Histories). cleared_at h.rings) (sym (stands.stands.runs.stands (event ∷ later) headings are).histories)
+      ∙ ap (λ (h : Histories). homes_at h.rings) (sym (stands.stands.runs.stands (event ∷ later) headings are).histories)
 
   pub part_here : (part : Part) → lives_of mid ≡ lives_of run → Sends event (lives_of mid) (lives_of next)
       → part.number ≡ number_of event
@@ -207,7 +206,7 @@ module _ (c : Config) (script later : List Event) (event : Event) (headings : �
       (bytes ∙ ap (λ (v : World). behind (sent_by_run run (number_of event)) (sent_by_run next (number_of event))
       (greeting_by c headings w event v (number_of event))) (after_one c headings script event)) n
 
-module _ (run mid next : Run) (event : Event) (number before : ℕ) (lives : lives_of mid ≡ lives_of run)
+module _ (run mid next : Run GreetingPlace) (event : Event) (number before : ℕ) (lives : lives_of mid ≡ lives_of run)
     (sends : Sends event (lives_of mid) (lives_of next)) (mine : number ≡ number_of event)
     (was : before ≡ length (sent_by_run run number)) where
   was_sent : before ≡ length (sent_by_run run (number_of event))
@@ -229,13 +228,6 @@ module _ (run mid next : Run) (event : Event) (number before : ℕ) (lives : liv
       ∙ ap (λ (l : List ℕ). l ++ greeting) (is
       ∙ ap (λ (k : ℕ). drop before (sent_by_run next k)) mine
       ∙ ap (λ (k : ℕ). drop k (sent_by_run next (number_of event))) was_sent)
-
--- a run that was cleared just now keeps greetings
-pub still_greets : (now : List (Option ℕ)) (rings : List (History RingCall)) → now ≡ cleared_at rings → AllGreet now
-still_greets now rings is =
-    subst AllGreet (sym is)
-    (All-map (λ (count : Option ℕ). IsTrue (is_some count)) (λ (h : History RingCall). Some (length h)) rings
-    (λ k d within. refl))
 
 -- ---- all events
 

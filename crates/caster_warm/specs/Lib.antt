@@ -1,3 +1,4 @@
 pub mod Numbers
 pub mod Warm
 pub mod Parts
+pub mod Places

@@ -8,11 +8,11 @@ ghost use Rattle.session_model.specs.Reports.{AreHeadings};
 ghost use Rattle.session_model.specs.Run.{Histories, after_events};
 ghost use Rattle.session_script.specs.declared.Event.{Event as EventValue};
 ghost use Rattle.caster_replay.specs.Going.{rover_among};
-ghost use Rattle.caster_replay.specs.Kept.{StandsFor, cleared_of, greeting_of};
-ghost use Rattle.caster_replay.specs.Places.{cleared_at};
+ghost use Rattle.caster_replay.specs.Kept.{StandsFor};
+ghost use Rattle.caster_warm.specs.Places.{WasClearedAt, greeting_since};
 ghost use Rattle.caster_warm.specs.Warm.{greeting_for, greeting_text};
 
-use caster_replay::Run;
+use crate::clearing::{WarmRun, kept_greeting};
 use chunk_body::chunk;
 use ntrip_head::Version;
 use rtcm_frame::Frame;
@@ -44,11 +44,12 @@ fn append_frames(version: Version, frames: &[Frame], out: &mut Vec<u8>) -> Resul
 
 /// Appends the greeting that the run keeps at the mountpoint of a rover that stands so, if it keeps
 /// one.
-fn append_kept(run: &Run, rover: RoverState, out: &mut Vec<u8>) -> Result<(), AllocError>
-    ensures { OnOk result (out.new.items ≡ out.old.items
-        ++ greeting_text rover.version (greeting_of run.now rover.mount)) }
+fn append_kept(run: &WarmRun, rover: RoverState, out: &mut Vec<u8>) -> Result<(), AllocError>
+    ensures { (old : Histories) → WasClearedAt old run.now
+        → OnOk result (out.new.items ≡ out.old.items
+        ++ greeting_text rover.version (greeting_since old run.now rover.mount)) }
 {
-    match run.greeting(rover.mount) {
+    match kept_greeting(run, rover.mount) {
         Some(frames) => append_frames(rover.version, frames, out),
         None => Ok(()),
     }
@@ -56,11 +57,15 @@ fn append_kept(run: &Run, rover: RoverState, out: &mut Vec<u8>) -> Result<(), Al
 
 /// Appends the greeting of the connection of this number, if it is a rover and its newest segment
 /// began since the run was cleared.
-pub(crate) fn append_greeting(run: &Run, number: u32, out: &mut Vec<u8>) -> Result<(), AllocError>
+pub(crate) fn append_greeting(
+    run: &WarmRun,
+    number: u32,
+    out: &mut Vec<u8>,
+) -> Result<(), AllocError>
     requires run { (c : ConfigValue) × (script : List EventValue) × StandsFor c script run.now }
     ensures { (c : ConfigValue) (script later : List EventValue) (headings : ℕ → Heading)
         (old : Histories) → StandsFor c script run.now → AreHeadings (script ++ later) headings
-        → cleared_of run.now ≡ cleared_at old.rings
+        → WasClearedAt old run.now
         → OnOk result (out.new.items ≡ out.old.items ++ greeting_for c old
         (after_events c headings script).histories
         (rover_among c headings number (after_events c headings script).connections)) }

@@ -2,9 +2,11 @@
 //! ones of the messages that it needs for the others.
 #![tactic(auto)]
 
+mod clearing;
 mod events;
 mod greeting;
 mod parts;
+mod place;
 mod sent;
 mod warming;
 

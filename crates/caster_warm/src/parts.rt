@@ -7,16 +7,16 @@ ghost use Rattle.session_model.specs.Headings.{Heading};
 ghost use Rattle.session_model.specs.Reports.{AreHeadings};
 ghost use Rattle.session_model.specs.Run.{World, after_events};
 ghost use Rattle.session_script.specs.declared.Event.{Event as EventValue};
-ghost use Rattle.caster_replay.specs.Kept.{Greets, MayCome, StandsFor, cleared_of, sent_by_run};
-ghost use Rattle.caster_replay.specs.Places.{cleared_at};
+ghost use Rattle.caster_replay.specs.Kept.{MayCome, StandsFor, sent_by_run};
 ghost use Rattle.caster_warm.specs.Numbers as numbers;
 ghost use Rattle.caster_warm.specs.Parts as told;
+ghost use Rattle.caster_warm.specs.Places.{WasClearedAt};
 ghost use Rattle.caster_warm.specs.Warm.{greeting_by, sent_by_event};
 
+use crate::clearing::{WarmRun, clear};
 use crate::events::{brings_bytes, number_of};
 use crate::greeting::append_greeting;
 use cast_config::Config;
-use caster_replay::Run;
 use session_script::Event;
 use std::alloc::{AllocError, Global};
 
@@ -28,7 +28,7 @@ pub(crate) struct Part {
 }
 
 /// How many bytes the connection of this number was sent so far.
-fn sent_len(run: &Run, number: u32) -> usize
+fn sent_len(run: &WarmRun, number: u32) -> usize
     requires run { (c : ConfigValue) × (script : List EventValue) × StandsFor c script run.now }
     ensures { result ≡ length (sent_by_run run.now number) }
 {
@@ -36,7 +36,12 @@ fn sent_len(run: &Run, number: u32) -> usize
 }
 
 /// What it was sent behind the first so many bytes.
-fn sent_behind(alloc: Global, run: &Run, number: u32, before: usize) -> Result<Vec<u8>, AllocError>
+fn sent_behind(
+    alloc: Global,
+    run: &WarmRun,
+    number: u32,
+    before: usize,
+) -> Result<Vec<u8>, AllocError>
     requires run { (c : ConfigValue) × (script : List EventValue) × StandsFor c script run.now }
     requires within { before ≤ length (sent_by_run run.now number) }
     ensures { IfOk result (λ bytes. bytes.items ≡ drop before (sent_by_run run.now number)) }
@@ -48,11 +53,11 @@ fn sent_behind(alloc: Global, run: &Run, number: u32, before: usize) -> Result<V
 
 /// Appends the greeting of the event's connection, if bytes came in by it. It was played just now,
 /// and the run was cleared before it.
-fn append_greeting_by(run: &Run, event: &Event, out: &mut Vec<u8>) -> Result<(), AllocError>
+fn append_greeting_by(run: &WarmRun, event: &Event, out: &mut Vec<u8>) -> Result<(), AllocError>
     requires run { (c : ConfigValue) × (script : List EventValue) × StandsFor c script run.now }
     ensures { (c : ConfigValue) (script later : List EventValue) (headings : ℕ → Heading)
         (before : World) → StandsFor c script run.now → AreHeadings (script ++ later) headings
-        → cleared_of run.now ≡ cleared_at before.histories.rings
+        → WasClearedAt before.histories run.now
         → OnOk result (out.new.items ≡ out.old.items ++ greeting_by c headings before event.now
         (after_events c headings script) (numbers.number_of event.now)) }
 {
@@ -63,7 +68,7 @@ fn append_greeting_by(run: &Run, event: &Event, out: &mut Vec<u8>) -> Result<(),
     }
 }
 
-/// Plays one event more of a run that keeps greetings, and notes what its connection is sent.
+/// Plays one event more of a run with greetings, and notes what its connection is sent.
 ///
 /// # Errors
 /// For want of memory, also where a session or a turn was halted by it. Then the run is of no
@@ -71,17 +76,15 @@ fn append_greeting_by(run: &Run, event: &Event, out: &mut Vec<u8>) -> Result<(),
 pub(crate) fn play_part(
     alloc: Global,
     config: &Config,
-    run: &mut Run,
+    run: &mut WarmRun,
     event: &Event,
 ) -> Result<Part, AllocError>
     requires kept { (cap : ℕ) × KeepsRules cap config.now }
     requires run { (script : List EventValue) × StandsFor config.now script run.old
         × MayCome config.now script event.now }
-    requires greets { Greets run.old }
     ensures played { (script : List EventValue) → StandsFor config.now script run.old
         → MayCome config.now script event.now
         → OnOk result (StandsFor config.now (script ++ event.now ∷ []) run.new) }
-    ensures greets { OnOk result (Greets run.new) }
     ensures part { (script later : List EventValue) (headings : ℕ → Heading) (n : ℕ)
         → StandsFor config.now script run.old → MayCome config.now script event.now
         → AreHeadings (script ++ event.now ∷ later) headings
@@ -91,7 +94,7 @@ pub(crate) fn play_part(
 {
     let number = number_of(event);
     let before = sent_len(run, number);
-    run.clear();
+    clear(alloc, run);
     run.play(alloc, config, event)?;
     let mut bytes = sent_behind(alloc, run, number, before)?;
     append_greeting_by(run, event, &mut bytes)?;

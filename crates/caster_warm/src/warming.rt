@@ -10,6 +10,7 @@ ghost use Rattle.caster_replay.specs.Scripts.{IsScriptFor};
 ghost use Rattle.caster_warm.specs.Parts.{sent_to};
 ghost use Rattle.caster_warm.specs.Warm.{IsWarmReport, sent_by_events, told_with};
 
+use crate::clearing::WarmRun;
 use crate::parts::play_part;
 use crate::sent::{AllSent, add_part, bytes_to};
 use cast_config::Config;
@@ -20,7 +21,11 @@ use std::alloc::{AllocError, Global};
 use std::collections::BTreeMap;
 
 /// Plays the events of a script, and notes what they send each connection, with its greetings.
-fn played(alloc: Global, config: &Config, events: &[Event]) -> Result<(Run, AllSent), AllocError>
+fn played(
+    alloc: Global,
+    config: &Config,
+    events: &[Event],
+) -> Result<(WarmRun, AllSent), AllocError>
     requires kept { (cap : ℕ) × KeepsRules cap config.now }
     requires script { IsScriptFor config.now events.now }
     ensures stands { IfOk result (λ played. StandsFor config.now events.now played.0) }
@@ -28,7 +33,7 @@ fn played(alloc: Global, config: &Config, events: &[Event]) -> Result<(Run, AllS
         → IfOk result (λ played. sent_to n played.1 ≡ sent_by_events config.now headings
         (after_events config.now headings []) events.now n) }
 {
-    let mut run = Run::with_greetings(alloc, config)?;
+    let mut run = Run::new(alloc, config)?;
     let mut sent = BTreeMap::new(alloc);
     for event in events {
         let part = play_part(alloc, config, &mut run, event)?;

@@ -10,7 +10,7 @@ settled_so true same = refl
 settled_so false same = absurd cc
 
 pub returns-else-is_halt-clause-closed : goal.returns-else-is_halt-clause-closed
-returns-else-is_halt-clause-closed c = λ config places.
+returns-else-is_halt-clause-closed g c = λ config places.
     subst (λ (s : State). ClosedAt config c.args.desks.now.seen c.close-receipt.new.self.seen c.args.last s
     (Closed c.close-receipt.result)) (sym c.in-Open.is) (
       c.close-receipt.result,

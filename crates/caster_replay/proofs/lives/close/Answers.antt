@@ -2,14 +2,14 @@ use Rattle.std.proofs.Common.{ℕ, List, refl}
 use Rattle.std.proofs.lemmas.Result.{on_ok_weaker}
 use Rattle.caster_replay.specs.declared.entry.Entry.{Entry}
 use Rattle.caster_replay.proofs.EntryLemmas.{room_so_far, about_of}
-use Rattle.caster_replay.proofs.ReplayLemmas.{entry_at, places_stay, may_close_at}
+use Rattle.caster_replay.proofs.ReplayLemmas.{entry_at, places_stay, may_close_at, same_places}
 use Rattle.caster_replay.proofs.LivesLemmas.{in_order, looked, silent_closed, stands_absent, runs_closed}
 use Rattle.session_model.specs.Owed.{ends}
 use Rattle.caster_replay.proofs.lives.close.Goals as goal
 
 pub returns-then-not-stands_at : goal.returns-then-not-stands_at
-returns-then-not-stands_at c = record {
-  cleared = refl;
+returns-then-not-stands_at g c = record {
+  same = same_places c.args.desks.now;
   ok = λ config script event over plays.
       stands_absent config script event c.args.entries.now.items c.args.desks.now c.args.number (ends c.args.last)
       (about_of event c.args.number c.args.last over) plays
@@ -20,7 +20,7 @@ returns-then-not-stands_at c = record {
 }
 
 pub close_at-requires-clause-may : goal.close_at-requires-clause-may
-close_at-requires-clause-may c =
+close_at-requires-clause-may g c =
     let config = c.requires.run.0 in
     let script = c.requires.run.1 in
     let event = c.requires.run.2 in
@@ -37,8 +37,8 @@ close_at-requires-clause-may c =
     )
 
 pub returns : goal.returns
-returns c = record {
-  cleared = c.close_at.ensures.same.cleared;
+returns g c = record {
+  same = c.close_at.ensures.same;
   ok = λ config script event over plays.
       let entries : List Entry = c.args.entries.now.items in
       let place : ℕ = c.place_of-place.result in
@@ -68,7 +68,7 @@ returns c = record {
 }
 
 pub place_of-place-requires : goal.place_of-place-requires
-place_of-place-requires c = record {
+place_of-place-requires g c = record {
   order = in_order c.requires.run.0 c.requires.run.1 c.args.entries.now.items c.deref.result.now c.args.desks.now.seen
       c.requires.run.4.runs
       c.deref.ensures.value;

@@ -10,7 +10,7 @@ use Rattle.caster_replay.proofs.ReplayLemmas.{entry_at, closes_next, may_close_a
 use Rattle.caster_replay.proofs.lives.close_all.Goals as goal
 
 pub close_at-requires-clause-may : goal.close_at-requires-clause-may
-close_at-requires-clause-may c =
+close_at-requires-clause-may g c =
     let config = c.requires.run.0 in
     let entries : List Entry = c.loop-place.entries.items in
     let so_far = c.loop-place.invariant.closes config c.requires.run.1 c.requires.run.2 c.requires.run.3 in
@@ -23,7 +23,7 @@ close_at-requires-clause-may c =
     )
 
 pub loop-place-preserved : goal.loop-place-preserved
-loop-place-preserved c =
+loop-place-preserved g c =
     let config = c.requires.run.0 in
     let entries : List Entry = c.loop-place.entries.items in
     let so_far = c.loop-place.invariant.closes config c.requires.run.1 c.requires.run.2 c.requires.run.3 in
@@ -47,7 +47,7 @@ loop-place-preserved c =
     }
 
 pub returns-clause-ok : goal.returns-clause-ok
-returns-clause-ok c = λ config script short stands.
+returns-clause-ok g c = λ config script short stands.
     subst (λ (l : List Live). Stands config (script ++ map end_of l) c.loop-place.entries.items c.loop-place.desks)
     (take_all c.loop-place.place (lives_in c.loop-place.entries.items)
     (omega (
@@ -60,7 +60,7 @@ returns-clause-ok c = λ config script short stands.
     (c.loop-place.invariant.closes config script short stands).stands
 
 pub returns-clause-over : goal.returns-clause-over
-returns-clause-over c =
+returns-clause-over g c =
     subst AreOver
     (take_all c.loop-place.place (lives_in c.loop-place.entries.items)
     (omega (
@@ -73,4 +73,4 @@ returns-clause-over c =
     c.loop-place.invariant.over
 
 pub returns-clause-silent : goal.returns-clause-silent
-returns-clause-silent c = c.loop-place.invariant.silent
+returns-clause-silent g c = c.loop-place.invariant.silent

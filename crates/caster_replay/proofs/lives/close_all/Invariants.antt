@@ -10,7 +10,7 @@ use Rattle.caster_replay.proofs.ReplayLemmas.{Closes}
 use Rattle.caster_replay.proofs.lives.close_all.Given as goal
 
 abbrev pub invariant-loop-place : goal.invariant-loop-place
-invariant-loop-place l = record {
+invariant-loop-place g l = record {
   count : length l.entries.items ≡ length l.fn.entries.items;
   over : AreOver (take l.place (lives_in l.entries.items));
   closes : (c : Config) (script : List Event) → IsShort script → Stands c script l.fn.entries.items l.fn.desks

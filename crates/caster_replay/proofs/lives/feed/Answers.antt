@@ -11,14 +11,14 @@ use Rattle.caster_replay.specs.Runs.{Runs}
 use Rattle.caster_replay.proofs.WorldRunnerLemmas.{about_in}
 use Rattle.caster_replay.proofs.EntryLemmas.{lives_set, within_lives, here_at, room_for}
 use Rattle.caster_replay.proofs.PlayLemmas.{may_go_on, may_close_fed, play_fed, fed_more, play_fed_over}
-use Rattle.caster_replay.proofs.ReplayLemmas.{places_stay}
+use Rattle.caster_replay.proofs.ReplayLemmas.{places_stay, same_places, same_twice}
 use Rattle.caster_replay.proofs.SendsLemmas.{sends_nothing}
 use Rattle.caster_replay.proofs.LivesLemmas.{in_order, looked, sends_at, stands_absent, runs_put, lives_closed}
 use Rattle.caster_replay.proofs.lives.feed.Goals as goal
 
 pub returns-then-not-stands_at : goal.returns-then-not-stands_at
-returns-then-not-stands_at c = record {
-  cleared = refl;
+returns-then-not-stands_at g c = record {
+  same = same_places c.args.desks.now;
   ok = λ script plays.
       stands_absent c.args.config.now script (events.In c.args.number c.args.bytes.now) c.args.entries.now.items
       c.args.desks.now c.args.number (arrives c.args.bytes.now) (about_in c.args.number c.args.bytes.now) plays
@@ -29,7 +29,7 @@ returns-then-not-stands_at c = record {
 }
 
 pub feed-requires-clause-may : goal.feed-requires-clause-may
-feed-requires-clause-may c =
+feed-requires-clause-may g c =
     let plays = c.requires.run.1 in
     let entry : Entry = c.index_mut.result.now in
     let there = (looked c.deref.result.now c.deref-2.result.now c.args.entries.now.items c.args.number
@@ -44,7 +44,7 @@ feed-requires-clause-may c =
     c.args.desks.now plays)
 
 pub close_at-requires-clause-may : goal.close_at-requires-clause-may
-close_at-requires-clause-may c =
+close_at-requires-clause-may g c =
     let plays = c.requires.run.1 in
     let entry : Entry = c.index_mut.result.now in
     let entries : List Entry = c.args.entries.now.items in
@@ -66,8 +66,8 @@ close_at-requires-clause-may c =
     )
 
 pub returns-in-Open : goal.returns-in-Open
-returns-in-Open c = record {
-  cleared = c.feed.ensures.same.cleared;
+returns-in-Open g c = record {
+  same = c.feed.ensures.same;
   ok = λ script plays.
       let entry : Entry = c.index_mut.result.now in
       let entries : List Entry = c.args.entries.now.items in
@@ -107,8 +107,8 @@ returns-in-Open c = record {
 }
 
 pub returns-in-Ended : goal.returns-in-Ended
-returns-in-Ended c = record {
-  cleared = c.close_at.ensures.same.cleared ∙ c.feed.ensures.same.cleared;
+returns-in-Ended g c = record {
+  same = same_twice c.args.desks.now c.feed.new.desks c.close_at.new.desks c.feed.ensures.same c.close_at.ensures.same;
   ok = λ script plays.
       let entry : Entry = c.index_mut.result.now in
       let new : Entry = c.feed.new.self in
@@ -158,7 +158,7 @@ returns-in-Ended c = record {
 }
 
 pub place_of-place-requires : goal.place_of-place-requires
-place_of-place-requires c = record {
+place_of-place-requires g c = record {
   order = in_order c.args.config.now c.requires.run.0 c.args.entries.now.items c.deref.result.now c.args.desks.now.seen
       c.requires.run.1.runs
       c.deref.ensures.value;

@@ -6,14 +6,14 @@ use Rattle.caster_replay.specs.Scripts.{Stands}
 use Rattle.caster_replay.specs.Sends.{Sends}
 use Rattle.caster_replay.proofs.EntryLemmas.{names_relay}
 use Rattle.caster_replay.proofs.PlayLemmas.{may_close_opened}
-use Rattle.caster_replay.proofs.ReplayLemmas.{places_stay}
+use Rattle.caster_replay.proofs.ReplayLemmas.{places_stay, same_places, same_twice}
 use Rattle.caster_replay.proofs.SendsLemmas.{sends_none}
 use Rattle.caster_replay.proofs.LivesLemmas.{in_order, looked, sends_placed, stands_again, stands_opened}
 use Rattle.caster_replay.proofs.lives.open.Goals as goal
 
 pub returns-then-stands_at : goal.returns-then-stands_at
-returns-then-stands_at c = record {
-  cleared = refl;
+returns-then-stands_at g c = record {
+  same = same_places c.args.desks.now;
   ok = λ script event begins plays.
       stands_again c.args.config.now script event c.args.entries.now.items c.args.desks.now c.args.number
       c.place_of-place.result (opening_of c.args.way) begins plays
@@ -24,12 +24,12 @@ returns-then-stands_at c = record {
 }
 
 pub opened-requires-clause-relay : goal.opened-requires-clause-relay
-opened-requires-clause-relay c =
+opened-requires-clause-relay g c =
     names_relay c.args.config.now c.requires.run.0 c.requires.run.1 c.requires.run.3.later c.args.number
     (opening_of c.args.way) c.requires.run.3.script_is c.requires.run.2
 
 pub settled-requires : goal.settled-requires
-settled-requires c =
+settled-requires g c =
     let plays = c.requires.run.3 in
     record {
       may = (
@@ -42,8 +42,8 @@ settled-requires c =
     }
 
 pub returns : goal.returns
-returns c = record {
-  cleared = c.settled.ensures.same.cleared ∙ c.opened.ensures.same.cleared;
+returns g c = record {
+  same = same_twice c.args.desks.now c.opened.new.desks c.settled.new.desks c.opened.ensures.same c.settled.ensures.same;
   ok = λ script event begins plays.
       let config = c.args.config.now in
       let entries : List Entry = c.args.entries.now.items in
@@ -74,7 +74,7 @@ returns c = record {
 }
 
 pub place_of-place-requires : goal.place_of-place-requires
-place_of-place-requires c = record {
+place_of-place-requires g c = record {
   order = in_order c.args.config.now c.requires.run.0 c.args.entries.now.items c.deref.result.now c.args.desks.now.seen
       c.requires.run.3.runs
       c.deref.ensures.value;

@@ -6,14 +6,14 @@ use Rattle.caster_replay.specs.Lives.{live_in, lives_in}
 use Rattle.caster_replay.proofs.WorldRunnerLemmas.{about_turn}
 use Rattle.caster_replay.proofs.EntryLemmas.{lives_set, within_lives, here_at, room_so_far}
 use Rattle.caster_replay.proofs.PlayLemmas.{may_go_on, play_turned, turned_more}
-use Rattle.caster_replay.proofs.ReplayLemmas.{places_stay}
+use Rattle.caster_replay.proofs.ReplayLemmas.{places_stay, same_places}
 use Rattle.caster_replay.proofs.SendsLemmas.{sends_nothing}
 use Rattle.caster_replay.proofs.LivesLemmas.{in_order, looked, sends_at, stands_absent, runs_put}
 use Rattle.caster_replay.proofs.lives.turn.Goals as goal
 
 pub returns-then-not-stands_at : goal.returns-then-not-stands_at
-returns-then-not-stands_at c = record {
-  cleared = refl;
+returns-then-not-stands_at g c = record {
+  same = same_places c.args.desks.now;
   ok = λ config script plays.
       stands_absent config script (events.Turn c.args.number c.args.budget) c.args.entries.now.items c.args.desks.now
       c.args.number (takes_turn c.args.budget) (about_turn c.args.number c.args.budget) plays
@@ -24,7 +24,7 @@ returns-then-not-stands_at c = record {
 }
 
 pub turn-requires : goal.turn-requires
-turn-requires c =
+turn-requires g c =
     let plays = c.requires.run.2 in
     let entry : Entry = c.index_mut.result.now in
     let there = (looked c.deref.result.now c.deref-2.result.now c.args.entries.now.items c.args.number
@@ -46,8 +46,8 @@ turn-requires c =
     }
 
 pub returns-in-Open : goal.returns-in-Open
-returns-in-Open c = record {
-  cleared = c.turn.ensures.same.cleared;
+returns-in-Open g c = record {
+  same = c.turn.ensures.same;
   ok = λ config script plays.
       let entry : Entry = c.index_mut.result.now in
       let entries : List Entry = c.args.entries.now.items in
@@ -88,7 +88,7 @@ returns-in-Open c = record {
 }
 
 pub place_of-place-requires : goal.place_of-place-requires
-place_of-place-requires c = record {
+place_of-place-requires g c = record {
   order = in_order c.requires.run.0 c.requires.run.1 c.args.entries.now.items c.deref.result.now c.args.desks.now.seen
       c.requires.run.2.runs
       c.deref.ensures.value;

@@ -7,7 +7,7 @@ use Rattle.session_model.proofs.ReportSums.{sums_more}
 use Rattle.caster_replay.proofs.totals.accounts.Goals as goal
 
 pub loop-number-preserved : goal.loop-number-preserved
-loop-number-preserved c =
+loop-number-preserved g c =
     let seen = c.args.desks.now.seen in
     let accounts = c.args.config.now.account in
     let within : c.loop-number.number < length accounts =

@@ -10,7 +10,7 @@ use Rattle.caster_replay.proofs.SumLemmas.{total_is}
 use Rattle.caster_replay.proofs.totals.total.Goals as goal
 
 pub returns : goal.returns
-returns c = λ config places.
+returns g c = λ config places.
     let same = c.desks.view_is in
     c.total_of_all.ensures c.args.desks.now.seen.book
     (subst (λ (v : DesksValue). Keeps c.value.result.now v.seen.book) same c.value.ensures.stands)

@@ -12,13 +12,13 @@ returns-in-Some c = λ config script later headings old stands are cleared.
     on_ok_weaker c.append_kept.result (λ appended.
     appended
     ∙ ap (λ (l : List ℕ). c.args.out.now.items ++ l)
-    (greets_rover config script later headings c.args.run.now old stands are cleared c.in-Some.rover _
+    (greets_rover config script later headings c.args.run.now old stands are c.in-Some.rover _
     (sym c.in-Some.is ∙ c.rover.ensures config script stands later headings are)))
-    c.append_kept.ensures
+    (c.append_kept.ensures old cleared)
 
 pub returns-in-None : goal.returns-in-None
 returns-in-None c = λ config script later headings old stands are cleared.
     sym (append-nil c.args.out.now.items)
     ∙ ap (λ (l : List ℕ). c.args.out.now.items ++ l)
-    (greets_none config script later headings c.args.run.now old stands are cleared _
+    (greets_none config script later headings c.args.run.now old stands are _
     (sym c.in-None.is ∙ c.rover.ensures config script stands later headings are))

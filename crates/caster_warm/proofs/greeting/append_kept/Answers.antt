@@ -6,13 +6,13 @@ use Rattle.caster_warm.specs.Warm.{greeting_text}
 use Rattle.caster_warm.proofs.greeting.append_kept.Goals as goal
 
 pub returns-in-Some : goal.returns-in-Some
-returns-in-Some c =
+returns-in-Some c = λ old cleared.
     on_ok_weaker c.append_frames.result (λ appended.
     appended
-    ∙ ap (λ (g : Greeting). c.args.out.now.items ++ greeting_text c.args.rover.version g) (sym c.in-Some.ensures.some))
+    ∙ ap (λ (g : Greeting). c.args.out.now.items ++ greeting_text c.args.rover.version g) (sym (c.in-Some.ensures.some old cleared)))
     c.append_frames.ensures
 
 pub returns-in-None : goal.returns-in-None
-returns-in-None c =
+returns-in-None c = λ old cleared.
     sym (append-nil c.args.out.now.items)
-    ∙ ap (λ (g : Greeting). c.args.out.now.items ++ greeting_text c.args.rover.version g) (sym c.in-None.ensures.none)
+    ∙ ap (λ (g : Greeting). c.args.out.now.items ++ greeting_text c.args.rover.version g) (sym (c.in-None.ensures.none old cleared))

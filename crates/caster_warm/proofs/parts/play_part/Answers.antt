@@ -1,8 +1,7 @@
 use Rattle.std.proofs.Common.{◌∙◌, ◌++◌, [], ◌∷◌}
 use Rattle.session_script.specs.declared.Event.{Event}
 use Rattle.session_model.specs.Run.{after_events}
-use Rattle.caster_replay.specs.Kept.{seen_of}
-use Rattle.caster_warm.proofs.PartLemmas.{are_next, bytes_here, cleared_before, part_here, sent_within, still_greets}
+use Rattle.caster_warm.proofs.PartLemmas.{are_next, bytes_here, cleared_before, part_here, sent_within}
 use Rattle.caster_warm.proofs.parts.play_part.Goals as goal
 
 pub sent_len-before-requires : goal.sent_len-before-requires
@@ -23,7 +22,7 @@ sent_behind-requires c = record {
     c.in_ok-play.ensures.played c.requires.run.0
         (c.clear.ensures.stands c.args.config.now c.requires.run.0 c.requires.run.1) c.requires.run.2,
   );
-  within = sent_within c.args.run.now c.clear.new.self c.play.new.self c.args.event.now c.number_of-number.result
+  within = sent_within c.args.run.now c.clear.new.run c.play.new.self c.args.event.now c.number_of-number.result
       c.sent_len-before.result c.clear.ensures.lives c.in_ok-play.ensures.sends c.number_of-number.ensures
       c.sent_len-before.ensures;
 }
@@ -42,16 +41,12 @@ pub returns-clause-played : goal.returns-clause-played
 returns-clause-played c = λ script stands comes.
     c.in_ok-play.ensures.played script (c.clear.ensures.stands c.args.config.now script stands) comes
 
-pub returns-clause-greets : goal.returns-clause-greets
-returns-clause-greets c =
-    still_greets _ (seen_of c.args.run.now).rings (c.play.ensures.cleared ∙ c.clear.ensures.cleared c.requires.greets)
-
 pub returns-clause-part : goal.returns-clause-part
 returns-clause-part c = λ script later headings n stands comes are.
     let config = c.args.config.now in
     let event : Event = c.args.event.now in
     let run = c.args.run.now in
-    let mid = c.clear.new.self in
+    let mid = c.clear.new.run in
     let next = c.play.new.self in
     let stands_next = c.in_ok-play.ensures.played script (c.clear.ensures.stands config script stands) comes in
     part_here config script later event headings run mid next stands stands_next are
@@ -63,4 +58,4 @@ returns-clause-part c = λ script later headings n stands comes are.
     (c.in_ok-append_greeting_by.ensures config (script ++ event ∷ []) later headings (after_events config headings script)
     stands_next (are_next config script later event headings run mid next stands stands_next are)
     (cleared_before config script later event headings run mid next stands stands_next are
-    (c.clear.ensures.cleared c.requires.greets) c.play.ensures.cleared))) n
+    c.clear.ensures.cleared c.play.ensures.homes))) n

@@ -28,7 +28,6 @@ loop-event-preserved c =
     record {
       stands = stands_next config events i event c.play_part.new.run c.loop-event-test.true c.event-item.is
           (c.in_ok-part.ensures.played (take i events) before.stands comes);
-      greets = c.in_ok-part.ensures.greets;
       sent = λ headings n are.
           c.in_ok-add_part.ensures n
           ∙ ap (λ (l : List ℕ). l ++ part_to n c.in_ok-part.part) (before.sent headings n are)

@@ -3,11 +3,10 @@ use Rattle.std.proofs.lemmas.List.{take_all, take_more}
 use Rattle.mount_ring.specs.declared.shape.RingShape.{RingShape}
 use Rattle.session_model.specs.Setting.{shapes}
 use Rattle.caster_replay.proofs.DeskLemmas.{no_shape, shapes_count, uncalled_next}
-use Rattle.caster_replay.proofs.PlaceLemmas.{greet_more, counted_more, none_more}
 use Rattle.caster_replay.proofs.desks.Desks.new.Goals as goal
 
 pub loop-number-preserved : goal.loop-number-preserved
-loop-number-preserved c =
+loop-number-preserved g c =
     let config = c.args.config.now in
     let within : c.loop-number.number < length config.mount =
     omega (arith, c.loop-number-test.true, ap length c.as_slice-number-end.ensures) in
@@ -20,22 +19,12 @@ loop-number-preserved c =
       uncalled = c.in_ok-add_ring.ensures.uncalled
           ∙ ap (λ l. l ++ [] ∷ []) c.loop-number.invariant.uncalled
           ∙ sym (uncalled_next config.mount c.loop-number.number within);
-      book = c.in_ok-add_ring.ensures.book ∙ c.loop-number.invariant.book;
-      book_uncalled = c.in_ok-add_ring.ensures.book_seen ∙ c.loop-number.invariant.book_uncalled;
-      greet = λ greets.
-          greet_more c.args.greets c.loop-number.desks.cleared c.add_ring.new.self.cleared greets
-          c.in_ok-add_ring.ensures.cleared (c.loop-number.invariant.greet greets);
-      counted = λ greets.
-          counted_more c.args.greets c.loop-number.desks.cleared c.add_ring.new.self.cleared
-          c.loop-number.desks.seen.rings c.add_ring.new.self.seen.rings greets c.in_ok-add_ring.ensures.cleared
-          c.in_ok-add_ring.ensures.uncalled (c.loop-number.invariant.counted greets);
-      none = λ plain.
-          none_more c.args.greets c.loop-number.desks.cleared c.add_ring.new.self.cleared plain
-          c.in_ok-add_ring.ensures.cleared (c.loop-number.invariant.none plain);
+      book = c.in_ok-add_ring.ensures.book.book ∙ c.loop-number.invariant.book;
+      book_uncalled = c.in_ok-add_ring.ensures.book.seen ∙ c.loop-number.invariant.book_uncalled;
     }
 
 pub returns-clause-places : goal.returns-clause-places
-returns-clause-places c =
+returns-clause-places g c =
     let config = c.args.config.now in
     record {
       rings = c.loop-number.invariant.rings

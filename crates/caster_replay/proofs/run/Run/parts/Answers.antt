@@ -7,7 +7,7 @@ use Rattle.caster_replay.proofs.SendsLemmas.{told_sends}
 use Rattle.caster_replay.proofs.run.Run.parts.Goals as goal
 
 pub returns-clause-report : goal.returns-clause-report
-returns-clause-report c = λ script short stands.
+returns-clause-report g c = λ script short stands.
     let config = c.args.config.now in
     let closed = c.in_ok-close_all.ensures.ok config script short stands.stands in
     subst (λ (x : totals.Closed). IsReport config script
@@ -16,7 +16,7 @@ returns-clause-report c = λ script short stands.
     c.in_ok-connections.connections.items closed c.in_ok-connections.ensures)
 
 pub returns-clause-sent : goal.returns-clause-sent
-returns-clause-sent c = λ n.
+returns-clause-sent g c = λ n.
     told_sends n (lives_in c.close_all.new.entries.items) c.in_ok-connections.connections.items
     c.in_ok-connections.ensures
     ∙ c.in_ok-close_all.ensures.silent n

@@ -5,19 +5,19 @@ use Rattle.caster_replay.proofs.RunLemmas.{run_order, found_sent, missing_sent}
 use Rattle.caster_replay.proofs.run.Run.sent.Goals as goal
 
 pub find-requires : goal.find-requires
-find-requires c = record {
+find-requires g c = record {
   order = run_order c.requires.run.0 c.requires.run.1 c.args.self.now c.deref.result.now c.requires.run.2
       c.deref.ensures.value;
 }
 
 pub returns-in-Some : goal.returns-in-Some
-returns-in-Some c =
+returns-in-Some g c =
     c.deref-in-Some.ensures.value
     ∙ sym (found_sent c.args.self.now.entries.items c.args.number c.in-Some.entry.now
     (subst (λ (l : List Entry). IsFoundAt l c.args.number c.in-Some.entry.now) c.deref.ensures.value
     c.in-Some.ensures.found))
 
 pub returns-in-None : goal.returns-in-None
-returns-in-None c =
+returns-in-None g c =
     sym (missing_sent c.args.self.now.entries.items c.args.number
     (subst (λ (l : List Entry). IsMissing l c.args.number) c.deref.ensures.value c.in-None.ensures.none))

@@ -2,7 +2,7 @@
 use Rattle.std.proofs.Common.{◌≡◌, ◌∷◌, map, take}
 use Rattle.cast_config.specs.declared.config.Account.{Account}
 use Rattle.session_model.specs.Setting.{anonymous_cap}
-use Rattle.caster_replay.proofs.rings.caps_of.Given as goal
+use Rattle.caster_replay.proofs.caps.caps_of.Given as goal
 
 abbrev pub invariant-loop-account : goal.invariant-loop-account
 invariant-loop-account l =

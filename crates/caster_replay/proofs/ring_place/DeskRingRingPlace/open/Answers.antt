@@ -1,14 +1,12 @@
 use Rattle.std.proofs.Common.{◌∙◌, List, get_or, sym, ap}
-use Rattle.mount_ring.specs.Kept.{ring_shape}
 use Rattle.cast_config.specs.declared.config.Mount.{Mount}
 use Rattle.type_filter.specs.Permitted.{FilterValue}
 use Rattle.caster_replay.proofs.DeskLemmas.{shape_at, shape_of}
-use Rattle.caster_replay.proofs.rings.open_station.Goals as goal
+use Rattle.caster_replay.proofs.ring_place.DeskRingRingPlace.open.Goals as goal
 
 pub returns-clause-shape : goal.returns-clause-shape
 returns-clause-shape c = λ d.
-    ap (λ desk. ring_shape desk.value.ring) c.new-3.ensures.inner
-    ∙ c.new-2.ensures.shape ∙ c.in_ok-station.ensures.shape
+    c.new-2.ensures.shape ∙ c.in_ok-ring.ensures.shape
     ∙ ap (λ (m : Mount). shape_of m.ring c.filters.result.now) (sym c.index-as_slice-number.is)
     ∙ ap (λ (f : List FilterValue). shape_of c.index-as_slice-number.result.ring f) c.filters.ensures
     ∙ shape_at c.args.config.now.group c.args.number c.args.config.now.mount c.index-as_slice-number.result d
