@@ -1,7 +1,7 @@
 -- What contracts see of a store in memory.
 use Rattle.std.specs.Prelude.{ℕ, ◌≡◌, ◌||◌, not, List, [], Bool, Option, None, Some, is_some, unwrap_or, option_map, slice_get}
 use Rattle.cast_io.specs.Causes.{next_count}
-use Rattle.cast_io.specs.Fakes.{fails_next}
+use Rattle.cast_io.specs.Fakes.{SourceState, fails_next}
 use Rattle.cast_io.specs.Told.{StoreTold}
 use Rattle.cast_io.specs.Stores.{content_of}
 
@@ -20,6 +20,15 @@ pub record StoreState : Type 0 where
 -- a store in memory tells all that a store can tell
 abbrev pub store_told : StoreState → StoreTold
 store_told store = record { asked = store.asked; files = Some store.files }
+
+-- the file that is open, as a source of its own
+abbrev pub open_file : StoreState → SourceState
+open_file store = record {
+  left = store.left;
+  fails = store.fails;
+  calls = store.calls;
+  faults = store.faults;
+}
 
 -- what the file at this place holds; nothing where none is open
 abbrev pub content_at : List (List ℕ × List ℕ) → Option ℕ → List ℕ

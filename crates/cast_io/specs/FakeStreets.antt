@@ -1,5 +1,5 @@
 -- What contracts see of a street in memory.
-use Rattle.std.specs.Prelude.{ℕ, ◌≡◌, ◌||◌, nat_lt, if◌then◌else◌, List, [], length, map, Bool, Option, Some, option_map, Result, Ok, Err}
+use Rattle.std.specs.Prelude.{ℕ, ◌≡◌, ◌||◌, ◌+◌, ◌↔◌, nat_lt, if◌then◌else◌, List, [], length, map, drop, Bool, Option, Some, option_map, Result, Ok, Err, IsErrOf, IsSome, IsTrue}
 use Rattle.cast_io.specs.declared.steps.Asked.{Asked}
 use Rattle.cast_io.specs.declared.street.StreetFault.{StreetFault}
 use Rattle.cast_io.specs.declared.street.StreetFault.TheVariants as refusals
@@ -73,6 +73,13 @@ faults_after_ask (Ok given) faults = faults
 faults_after_ask (Err refusals.Failed) faults = next_count faults
 faults_after_ask (Err refusals.Memory) faults = faults
 
+-- A call of the street fails where it is to fail, and a failure is counted, as far as what was
+-- asked is told.
+pub record IsStreetCall {X : Type 0} (fails : Bool) (old new : StreetState)
+    (result : Result X StreetFault) : Type 0 where
+  pub exact : IsErrOf result refusals.Failed ↔ IsTrue fails
+  pub unharmed : IsSome new.asked → new.faults ≡ faults_after_ask result old.faults
+
 -- one more call was counted, and nothing changed that neither an open nor a dial changes
 pub record IsAskOf (old new : StreetState) : Type 0 where
   pub doors_back : new.doors_back ≡ old.doors_back
@@ -81,3 +88,19 @@ pub record IsAskOf (old new : StreetState) : Type 0 where
   pub calls : new.calls ≡ next_count old.calls
   pub link_faults : new.link_faults ≡ old.link_faults
   pub yard : new.yard ≡ old.yard
+
+-- an open that was answered gave so many of the doors to come; nothing else changed
+pub record GaveDoors (ok : Bool) (count : ℕ) (old new : StreetState) : Type 0 where
+  pub doors : new.doors ≡ (if ok then drop count old.doors else old.doors)
+  pub owed : new.doors_owed ≡ (if ok then old.doors_owed + count else old.doors_owed)
+  pub links : new.links ≡ old.links
+  pub links_owed : new.links_owed ≡ old.links_owed
+  pub same : IsAskOf old new
+
+-- a dial that was answered gave the next link; nothing else changed
+pub record GaveLink (ok : Bool) (old new : StreetState) : Type 0 where
+  pub links : new.links ≡ (if ok then drop 1 old.links else old.links)
+  pub owed : new.links_owed ≡ (if ok then old.links_owed + 1 else old.links_owed)
+  pub doors : new.doors ≡ old.doors
+  pub doors_owed : new.doors_owed ≡ old.doors_owed
+  pub same : IsAskOf old new

@@ -1,5 +1,7 @@
 -- What contracts see of the gates and the notes of a street in memory.
-use Rattle.std.specs.Prelude.{ℕ, ◌≡◌, ◌==◌, ◌||◌, ◌&&◌, ◌+◌, nat_lt, if◌then◌else◌, List, [], length, map, drop, Bool, Option, Some, is_some, option_map}
+use Rattle.std.specs.Prelude.{ℕ, ◌≡◌, ◌==◌, ◌||◌, ◌&&◌, ◌+◌, ◌↔◌, nat_lt, if◌then◌else◌, List, [], length, map, drop, Bool, Option, Some, is_some, option_map, Result, IsErr, IsErrOf, IsTrue}
+use Rattle.cast_io.specs.declared.street.StreetFault.{StreetFault}
+use Rattle.cast_io.specs.declared.street.StreetFault.TheVariants.{Failed}
 use Rattle.cast_io.specs.declared.yard_asked.YardAsked.{YardAsked}
 use Rattle.cast_io.specs.Causes.{next_count}
 use Rattle.cast_io.specs.Fakes.{SinkState, fails_next}
@@ -69,6 +71,19 @@ notes_fail yard = fails_next yard.calls yard.fails || nat_lt (length yard.notes)
 abbrev pub HasCounted : Bool → YardState → YardState → Type 0
 HasCounted failed old new = is_some new.asked ≡ is_some old.asked
     → new.faults ≡ (if failed then next_count old.faults else old.faults)
+
+-- A call of the yard fails where it is to fail, and a failure is counted.
+pub record IsYardCall {X : Type 0} (fails : Bool) (old new : YardState)
+    (result : Result X StreetFault) : Type 0 where
+  pub exact : IsErrOf result Failed ↔ IsTrue fails
+  pub counted : HasCounted fails old new
+
+-- The same of a call that fails in no other way.
+pub record IsSureYardCall {X : Type 0} (fails : Bool) (old new : YardState)
+    (result : Result X StreetFault) : Type 0 where
+  pub exact : IsErrOf result Failed ↔ IsTrue fails
+  pub err : IsErr result → IsErrOf result Failed
+  pub counted : HasCounted fails old new
 
 -- one more call was counted, and what it asked; where it was answered, it gave so many of the gates
 -- to come; nothing else changed

@@ -1,6 +1,7 @@
 -- What contracts see of the source and the sink in memory.
-use Rattle.std.specs.Prelude.{ℕ, ◌≡◌, ◌==◌, ◌||◌, List, [], take, Bool, Option, None, Some, is_some, if◌then◌else◌, option_map}
+use Rattle.std.specs.Prelude.{ℕ, ◌≡◌, ◌==◌, ◌||◌, ◌+◌, ◌≤◌, ◌⊎◌, ◌↔◌, min, List, [], ◌++◌, length, take, Bool, false, Option, None, Some, is_some, if◌then◌else◌, option_map, Result, IsTrue, IsErr, IfOk, OnOk, OnErr}
 use Rattle.std.specs.List.{list_any, find}
+use Rattle.cast_io.specs.declared.fault.Failed.{Failed}
 use Rattle.cast_io.specs.Causes.{next_count}
 
 -- a source in memory: the bytes left to read, the numbers of the calls that are to fail,
@@ -26,6 +27,15 @@ pub record SinkState : Type 0 where
 abbrev pub fails_next : ℕ → List ℕ → Bool
 fails_next calls fails = list_any (λ n. n == next_count calls) fails
 
+-- What a read of a source in memory comes to, into a buffer of this size: it fails where it is to
+-- fail, and else gives what is left and fits. One more call was counted.
+pub record IsFakeRead (old new : SourceState) (size : ℕ) (result : Result ℕ Failed) : Type 0 where
+  pub exact : IsErr result ↔ IsTrue (fails_next old.calls old.fails)
+  pub full : IfOk result (λ n. n ≡ min (length old.left) size)
+  pub fails : new.fails ≡ old.fails
+  pub calls : new.calls ≡ next_count old.calls
+  pub unharmed : OnOk result (new.faults ≡ old.faults)
+
 -- how many bytes the write of this number takes before it fails; of two pairs the first counts
 abbrev pub torn_at : ℕ → List (ℕ × ℕ) → Option ℕ
 torn_at number torn = option_map (λ pair. pair.1) (find (λ pair. pair.0 == number) torn)
@@ -44,6 +54,20 @@ write_fails calls writes fails torn = fails_next calls fails
 abbrev pub write_takes : ℕ → ℕ → List ℕ → List (ℕ × ℕ) → List ℕ → List ℕ
 write_takes calls writes fails torn piece =
     if fails_next calls fails then [] else front_at (torn_at (next_count writes) torn) piece
+
+-- What a write comes to that is to fail, or is not, and is to take this of its piece, where there
+-- is room for so many bytes: these bytes were taken before, and those stand now.
+pub record IsFakeWrite {X : Type 0} (fails : Bool) (torn : List (ℕ × ℕ)) (takes piece : List ℕ)
+    (room : ℕ) (old new : List ℕ) (result : Result X Failed) : Type 0 where
+  pub told : IsTrue fails → IsErr result
+  -- with room for the whole piece it fails exactly where it is to
+  pub exact : length old + length piece ≤ room → (IsErr result ↔ IsTrue fails)
+  pub takes_it : length old + length piece ≤ room → new ≡ old ++ takes
+  -- a failed write takes what is listed for it, or nothing: where none is listed, where it is not
+  -- to fail, and where there was no memory
+  pub listed : OnErr result ((new ≡ old) ⊎ (new ≡ old ++ takes))
+  pub unlisted : torn ≡ [] → OnErr result (new ≡ old)
+  pub untold : fails ≡ false → OnErr result (new ≡ old)
 
 -- the next write of the sink is to fail
 abbrev pub sink_fails : SinkState → Bool

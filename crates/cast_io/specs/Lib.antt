@@ -12,6 +12,7 @@ pub mod FakeStreets
 pub mod Stores
 pub mod FakeStores
 pub mod Logs
+pub mod ReadAll
 pub mod Logged
 pub mod Peers
 pub mod Yards

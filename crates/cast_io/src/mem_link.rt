@@ -137,10 +137,9 @@ impl MemLink {
         ensures left { TakesStep result buf.new (steps_left self.old) (steps_left self.new) }
         ensures exact { has_failed result ≡ fails_next self.old.calls self.old.fails }
         ensures faults { self.new.faults ≡ faults_after result self.old.faults }
-        ensures later { self.old.faults ≤ self.new.faults }
-        ensures rose { IsTrue (has_failed result) → Rose self.old.faults self.new.faults }
-        ensures taken { self.new.taken ≡ self.old.taken }
-        ensures same { IsReadOf self.old self.new }
+        ensures rises { (self.old.faults ≤ self.new.faults)
+            × (IsTrue (has_failed result) → Rose self.old.faults self.new.faults) }
+        ensures same { IsReadOf self.old self.new × (self.new.taken ≡ self.old.taken) }
     {
         self.calls = self.calls.saturating_add(1);
         if is_told(&self.fails, self.calls) {
@@ -259,6 +258,7 @@ impl MemLink {
 }
 
 impl Link for MemLink {
+    ghost use Rattle.cast_io.specs.Fakes.{IsFakeWrite};
     ghost use Rattle.cast_io.specs.FakeLinks.{IsReadOf, IsWriteOf, link_fails, link_takes};
     ghost use Rattle.cast_io.specs.Links.{IsGot, HasRead, HasWritten};
 
@@ -280,19 +280,9 @@ impl Link for MemLink {
 
     fn write(&mut self, piece: &[u8]) -> Result<(), Failed>
         ensures written { HasWritten (link_told self.old) (link_told self.new) result piece.now }
-        ensures told { IsTrue (link_fails self.old) → IsErr result }
-        ensures exact { length self.old.bytes + length piece.now ≤ self.old.room
-            → (IsErr result ↔ IsTrue (link_fails self.old)) }
-        ensures takes { length self.old.bytes + length piece.now ≤ self.old.room
-            → self.new.bytes ≡ self.old.bytes ++ link_takes self.old piece.now }
-
-        // A failed write takes what is listed for it, or nothing: where none is listed, where it is
-        // not to fail, and where there was no memory.
-        ensures listed { OnErr result ((self.new.bytes ≡ self.old.bytes)
-            ⊎ (self.new.bytes ≡ self.old.bytes ++ link_takes self.old piece.now)) }
-        ensures unlisted { self.old.torn ≡ [] → OnErr result (self.new.bytes ≡ self.old.bytes) }
-        ensures untold { link_fails self.old ≡ false
-            → OnErr result (self.new.bytes ≡ self.old.bytes) }
+        ensures fake { IsFakeWrite (link_fails self.old) self.old.torn
+            (link_takes self.old piece.now) piece.now self.old.room self.old.bytes self.new.bytes
+            result }
         ensures same { IsWriteOf self.old self.new }
     {
         if let Some(front) = torn_front(&self.fails, &self.torn, self.calls, self.writes, piece) {

@@ -2,7 +2,7 @@
 ghost use Rattle.std.specs.Prelude.{◌≡◌, ◌≤◌, ◌+◌, ◌++◌, ◌↔◌, ◌⊎◌, [], length, Some, false, IsTrue, IsOk, IsErr, OnOk, OnErr};
 ghost use Rattle.cast_io.specs.Causes.{HasCause, Rose, next_count};
 ghost use Rattle.cast_io.specs.Pieces.{AppendsPrefix};
-ghost use Rattle.cast_io.specs.Fakes.{sink_fails, sink_takes};
+ghost use Rattle.cast_io.specs.Fakes.{IsFakeWrite, sink_fails, sink_takes};
 
 use crate::calls::torn_front;
 use crate::fault::Failed;
@@ -139,20 +139,10 @@ impl Sink for MemSink {
         ensures whole { OnOk result (self.new.bytes ≡ self.old.bytes ++ piece.now) }
         ensures torn { OnErr result
             (AppendsPrefix (Some self.old.bytes) (Some self.new.bytes) piece.now) }
-
-        // A failed write takes what is listed for it, or nothing: where none is listed, where it is
-        // not to fail, and where there was no memory.
-        ensures listed { OnErr result ((self.new.bytes ≡ self.old.bytes)
-            ⊎ (self.new.bytes ≡ self.old.bytes ++ sink_takes self.old piece.now)) }
-        ensures unlisted { self.old.torn ≡ [] → OnErr result (self.new.bytes ≡ self.old.bytes) }
-        ensures untold { sink_fails self.old ≡ false
-            → OnErr result (self.new.bytes ≡ self.old.bytes) }
-        ensures takes { length self.old.bytes + length piece.now ≤ self.old.room
-            → self.new.bytes ≡ self.old.bytes ++ sink_takes self.old piece.now }
         ensures cause { HasCause self.old.faults self.new.faults result }
-        ensures told { IsTrue (sink_fails self.old) → IsErr result }
-        ensures exact { length self.old.bytes + length piece.now ≤ self.old.room
-            → (IsErr result ↔ IsTrue (sink_fails self.old)) }
+        ensures fake { IsFakeWrite (sink_fails self.old) self.old.torn
+            (sink_takes self.old piece.now) piece.now self.old.room self.old.bytes self.new.bytes
+            result }
         ensures fails { (self.new.fails ≡ self.old.fails) × (self.new.torn ≡ self.old.torn) }
         ensures calls { self.new.calls ≡ next_count self.old.calls }
         ensures unharmed { OnOk result (self.new.faults ≡ self.old.faults) }

@@ -1,9 +1,9 @@
 //! A source in memory that fails at the calls that it is told to.
-ghost use Rattle.std.specs.Prelude.{◌≡◌, ◌<◌, ◌↔◌, length, min, Some, IsTrue, IsErr, IfOk, OnOk};
+ghost use Rattle.std.specs.Prelude.{◌≡◌, ◌<◌, length, Some};
 ghost use Rattle.std.specs.Io.{ReadsAtMost};
 ghost use Rattle.std.specs.Io.KnownBytes.{ReadConsumes};
 ghost use Rattle.cast_io.specs.Causes.{HasCause, next_count};
-ghost use Rattle.cast_io.specs.Fakes.{fails_next};
+ghost use Rattle.cast_io.specs.Fakes.{IsFakeRead};
 
 use crate::calls::{copy_front, is_told};
 use crate::fault::Failed;
@@ -66,10 +66,7 @@ impl Source for MemSource {
         ensures bytes { ReadConsumes (Some self.old.left) (Some self.new.left) result buf.new }
         ensures cause { HasCause self.old.faults self.new.faults result }
         ensures counted { self.new.calls ≡ next_count self.old.calls }
-        ensures exact { IsErr result ↔ IsTrue (fails_next self.old.calls self.old.fails) }
-        ensures full { IfOk result (λ n. n ≡ min (length self.old.left) (length buf.old)) }
-        ensures fails { self.new.fails ≡ self.old.fails }
-        ensures unharmed { OnOk result (self.new.faults ≡ self.old.faults) }
+        ensures fake { IsFakeRead self.old self.new (length buf.old) result }
     {
         self.calls = self.calls.saturating_add(1);
         if is_told(&self.fails, self.calls) {

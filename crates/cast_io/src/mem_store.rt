@@ -4,9 +4,9 @@ ghost use Rattle.std.specs.Str.{bytes_eq};
 ghost use Rattle.std.specs.Io.{ReadsAtMost};
 ghost use Rattle.std.specs.Io.KnownBytes.{ReadConsumes};
 ghost use Rattle.cast_io.specs.Causes.{HasCause, next_count};
-ghost use Rattle.cast_io.specs.Fakes.{fails_next};
+ghost use Rattle.cast_io.specs.Fakes.{IsFakeRead};
 ghost use Rattle.cast_io.specs.Stores.{HasOpened, content_of};
-ghost use Rattle.cast_io.specs.FakeStores.{store_told, content_at, open_is_refused};
+ghost use Rattle.cast_io.specs.FakeStores.{store_told, content_at, open_file, open_is_refused};
 
 use crate::bytes::ByteString;
 use crate::calls::{copy_from, is_told};
@@ -146,11 +146,8 @@ impl Source for MemStore {
         ensures cause { HasCause self.old.faults self.new.faults result }
         ensures counted { self.new.reads ≡ next_count self.old.reads }
         ensures kept { store_told self.new ≡ store_told self.old }
-        ensures exact { IsErr result ↔ IsTrue (fails_next self.old.calls self.old.fails) }
-        ensures full { IfOk result (λ n. n ≡ min (length self.old.left) (length buf.old)) }
-        ensures fails { self.new.fails ≡ self.old.fails }
-        ensures calls { self.new.calls ≡ next_count self.old.calls }
-        ensures unharmed { OnOk result (self.new.faults ≡ self.old.faults) }
+        ensures fake { IsFakeRead (open_file self.old) (open_file self.new) (length buf.old)
+            result }
     {
         self.calls = self.calls.saturating_add(1);
         self.reads = self.reads.saturating_add(1);

@@ -265,7 +265,7 @@ impl MemStreet {
 }
 
 impl Street for MemStreet {
-    ghost use Rattle.cast_io.specs.FakeStreets.{IsAskOf};
+    ghost use Rattle.cast_io.specs.FakeStreets.{GaveDoors, GaveLink, IsStreetCall};
     ghost use Rattle.cast_io.specs.Streets.{HasAsked, HasLeft, HasShut};
     ghost use Rattle.cast_io.specs.Links.{IsNewLink};
     ghost use Rattle.cast_io.specs.Doors.{IsNewDoor};
@@ -283,17 +283,9 @@ impl Street for MemStreet {
         ensures count { IfOk result (λ given. vec_len given ≡ doors) }
         ensures each { IfOk result (λ given. All (λ door. IsNewDoor (door_told door)) given.items) }
         ensures cause { IsErrOf result StreetFault.Failed → Rose self.old.faults self.new.faults }
-        ensures exact { IsErrOf result StreetFault.Failed ↔ IsTrue (open_fails self.old doors) }
+        ensures fake { IsStreetCall (open_fails self.old doors) self.old self.new result }
         ensures given { IfOk result (λ given. given.items ≡ take doors self.old.doors) }
-        ensures doors { self.new.doors
-            ≡ (if is_ok result then drop doors self.old.doors else self.old.doors) }
-        ensures owed { self.new.doors_owed
-            ≡ (if is_ok result then self.old.doors_owed + doors else self.old.doors_owed) }
-        ensures links { (self.new.links ≡ self.old.links)
-            × (self.new.links_owed ≡ self.old.links_owed) }
-        ensures unharmed { IsSome self.new.asked
-            → self.new.faults ≡ faults_after_ask result self.old.faults }
-        ensures same { IsAskOf self.old self.new }
+        ensures gave { GaveDoors (is_ok result) doors self.old self.new }
     {
         self.note(an_open(self.alloc, addr, doors));
         if self.count_call() {
@@ -308,17 +300,10 @@ impl Street for MemStreet {
             (street_told self.old) (street_told self.new) }
         ensures each { IfOk result (λ link. IsNewLink (link_told link)) }
         ensures cause { IsErrOf result StreetFault.Failed → Rose self.old.faults self.new.faults }
-        ensures exact { IsErr result ↔ IsTrue (dial_fails self.old) }
+        ensures fake { IsStreetCall (dial_fails self.old) self.old self.new result }
         ensures err { IsErr result → IsErrOf result StreetFault.Failed }
         ensures given { IfOk result (λ link. self.old.links ≡ link ∷ self.new.links) }
-        ensures links { IsErr result → self.new.links ≡ self.old.links }
-        ensures owed { self.new.links_owed
-            ≡ (if is_ok result then self.old.links_owed + 1 else self.old.links_owed) }
-        ensures doors { (self.new.doors ≡ self.old.doors)
-            × (self.new.doors_owed ≡ self.old.doors_owed) }
-        ensures unharmed { IsSome self.new.asked
-            → self.new.faults ≡ faults_after_ask result self.old.faults }
-        ensures same { IsAskOf self.old self.new }
+        ensures gave { GaveLink (is_ok result) self.old self.new }
     {
         self.note(a_dial(self.alloc, addr));
         if self.count_call() {
@@ -362,7 +347,7 @@ impl Yard for MemStreet {
     ghost use Rattle.cast_io.specs.Doors.{IsNewDoor};
     ghost use Rattle.cast_io.specs.Yards.{AreNewNotes, HasAnswered, HasBeenAsked, HasShutGate, HasTakenNotes};
     ghost use Rattle.cast_io.specs.FakeGates.{gate_told};
-    ghost use Rattle.cast_io.specs.FakeYards.{GaveGates, GaveNotes, HasCounted, gates_fail, notes_fail, notes_told, yard_told};
+    ghost use Rattle.cast_io.specs.FakeYards.{GaveGates, GaveNotes, IsSureYardCall, IsYardCall, gates_fail, notes_fail, notes_told, yard_told};
     ghost use Rattle.cast_io.specs.declared.yard_asked.YardAsked.TheVariants as asked;
 
     type Gate = MemGate;
@@ -384,11 +369,10 @@ impl Yard for MemStreet {
             (λ given. All (λ gate. IsNewDoor (door_told gate.door)) given.items) }
         ensures answered { HasAnswered result
             (yard_told self.old.yard) (yard_told self.new.yard) }
-        ensures exact { IsErrOf result StreetFault.Failed
-            ↔ IsTrue (gates_fail self.old.yard gates) }
-        ensures given { IfOk result (λ given. given.items ≡ take gates self.old.yard.gates) }
-        ensures counted { HasCounted (gates_fail self.old.yard gates) self.old.yard self.new.yard }
-        ensures gave { GaveGates (is_ok result) gates self.old.yard self.new.yard }
+        ensures fake { IsYardCall (gates_fail self.old.yard gates) self.old.yard self.new.yard
+            result }
+        ensures gave { IfOk result (λ given. given.items ≡ take gates self.old.yard.gates)
+            × GaveGates (is_ok result) gates self.old.yard self.new.yard }
         ensures same { self.new ≡ record self.old { yard = self.new.yard } }
     {
         self.yard.open_gates(addr, gates, quiet)
@@ -400,10 +384,9 @@ impl Yard for MemStreet {
         ensures each { IfOk result (λ gate. IsNewDoor (door_told gate.door)) }
         ensures answered { HasAnswered result
             (yard_told self.old.yard) (yard_told self.new.yard) }
-        ensures err { IsErr result → IsErrOf result StreetFault.Failed }
-        ensures exact { IsErrOf result StreetFault.Failed ↔ IsTrue (gates_fail self.old.yard 1) }
+        ensures fake { IsSureYardCall (gates_fail self.old.yard 1) self.old.yard self.new.yard
+            result }
         ensures given { IfOk result (λ gate. self.old.yard.gates ≡ gate ∷ self.new.yard.gates) }
-        ensures counted { HasCounted (gates_fail self.old.yard 1) self.old.yard self.new.yard }
         ensures gave { GaveGates (is_ok result) 1 self.old.yard self.new.yard }
         ensures same { self.new ≡ record self.old { yard = self.new.yard } }
     {
@@ -416,10 +399,9 @@ impl Yard for MemStreet {
         ensures each { IfOk result (λ notes. AreNewNotes (notes_told notes)) }
         ensures answered { HasAnswered result
             (yard_told self.old.yard) (yard_told self.new.yard) }
-        ensures err { IsErr result → IsErrOf result StreetFault.Failed }
-        ensures exact { IsErrOf result StreetFault.Failed ↔ IsTrue (notes_fail self.old.yard) }
+        ensures fake { IsSureYardCall (notes_fail self.old.yard) self.old.yard self.new.yard
+            result }
         ensures given { IfOk result (λ notes. self.old.yard.notes ≡ notes ∷ self.new.yard.notes) }
-        ensures counted { HasCounted (notes_fail self.old.yard) self.old.yard self.new.yard }
         ensures gave { GaveNotes (is_ok result) self.old.yard self.new.yard }
         ensures same { self.new ≡ record self.old { yard = self.new.yard } }
     {

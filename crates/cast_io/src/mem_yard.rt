@@ -139,7 +139,7 @@ impl MemYard {
     ghost use Rattle.cast_io.specs.Told.{Grew};
     ghost use Rattle.cast_io.specs.Yards.{AreNewNotes, HasAnswered, HasBeenAsked};
     ghost use Rattle.cast_io.specs.FakeGates.{is_new_gate};
-    ghost use Rattle.cast_io.specs.FakeYards.{GaveGates, GaveNotes, HasCounted, are_new_notes, gates_fail, notes_fail, notes_told, yard_told};
+    ghost use Rattle.cast_io.specs.FakeYards.{GaveGates, GaveNotes, HasCounted, IsSureYardCall, IsYardCall, are_new_notes, gates_fail, notes_fail, notes_told, yard_told};
     ghost use Rattle.cast_io.specs.declared.yard_asked.YardAsked.{YardAsked};
     ghost use Rattle.cast_io.specs.declared.yard_asked.YardAsked.TheVariants as asked;
 
@@ -258,9 +258,8 @@ impl MemYard {
         ensures each { IfOk result
             (λ given. All (λ gate. IsNewDoor (door_told gate.door)) given.items) }
         ensures answered { HasAnswered result (yard_told self.old) (yard_told self.new) }
-        ensures exact { IsErrOf result StreetFault.Failed ↔ IsTrue (gates_fail self.old gates) }
+        ensures fake { IsYardCall (gates_fail self.old gates) self.old self.new result }
         ensures given { IfOk result (λ given. given.items ≡ take gates self.old.gates) }
-        ensures counted { HasCounted (gates_fail self.old gates) self.old self.new }
         ensures gave { GaveGates (is_ok result) gates self.old self.new }
     {
         self.note(an_open(self.alloc, addr, gates, quiet));
@@ -276,10 +275,8 @@ impl MemYard {
             (yard_told self.old) (yard_told self.new) }
         ensures each { IfOk result (λ gate. IsNewDoor (door_told gate.door)) }
         ensures answered { HasAnswered result (yard_told self.old) (yard_told self.new) }
-        ensures err { IsErr result → IsErrOf result StreetFault.Failed }
-        ensures exact { IsErrOf result StreetFault.Failed ↔ IsTrue (gates_fail self.old 1) }
+        ensures fake { IsSureYardCall (gates_fail self.old 1) self.old self.new result }
         ensures given { IfOk result (λ gate. self.old.gates ≡ gate ∷ self.new.gates) }
-        ensures counted { HasCounted (gates_fail self.old 1) self.old self.new }
         ensures gave { GaveGates (is_ok result) 1 self.old self.new }
     {
         self.note(a_reach(self.alloc, addr, quiet));
@@ -294,10 +291,8 @@ impl MemYard {
         ensures wanted { HasBeenAsked asked.Notes (yard_told self.old) (yard_told self.new) }
         ensures each { IfOk result (λ notes. AreNewNotes (notes_told notes)) }
         ensures answered { HasAnswered result (yard_told self.old) (yard_told self.new) }
-        ensures err { IsErr result → IsErrOf result StreetFault.Failed }
-        ensures exact { IsErrOf result StreetFault.Failed ↔ IsTrue (notes_fail self.old) }
+        ensures fake { IsSureYardCall (notes_fail self.old) self.old self.new result }
         ensures given { IfOk result (λ notes. self.old.notes ≡ notes ∷ self.new.notes) }
-        ensures counted { HasCounted (notes_fail self.old) self.old self.new }
         ensures gave { GaveNotes (is_ok result) self.old self.new }
     {
         self.note(Ok(YardAsked::Notes));

@@ -1,10 +1,9 @@
 //! Reading a source to its end.
-ghost use Rattle.std.specs.Prelude.{◌≡◌, ◌<◌, ◌≤◌, ◌+◌, ℕ, List, [], ◌∷◌, length, vec_len, IfOk, IsErrOf};
-ghost use Rattle.std.specs.Io.KnownBytes.{Consumes, IsAtEnd};
+ghost use Rattle.std.specs.Prelude.{◌≡◌, ◌≤◌, ◌+◌, length, IfOk, IfErr, IsErrOf};
 ghost use Rattle.cast_io.specs.Causes.{Rose};
-ghost use Rattle.cast_io.specs.Logs.{GaveAll, GaveFirst, GaveThen, GoesOn};
+ghost use Rattle.cast_io.specs.Logs.{GoesOn};
 ghost use Rattle.cast_io.specs.Pieces.{Loses};
-ghost use Rattle.cast_io.specs.declared.steps.SourceStep.TheVariants as steps;
+ghost use Rattle.cast_io.specs.ReadAll.{HasLost, IsReadWhole};
 
 use crate::source::Source;
 use std::alloc::Global;
@@ -37,13 +36,10 @@ pub fn read_all<S: Source>(
     source: &mut S,
     limit: usize,
 ) -> Result<Vec<u8>, ReadAllFault>
-    ensures whole { IfOk result (λ v. Consumes (S.left source.old) (S.left source.new) v.items) }
-    ensures ended { IfOk result (λ v. IsAtEnd (S.left source.new)) }
-    ensures within { IfOk result (λ v. vec_len v ≤ limit) }
-    ensures long { IsErrOf result ReadAllFault.Long
-        → Loses (λ came. limit < length came) (S.left source.old) (S.left source.new) }
-    ensures failed { IsErrOf result ReadAllFault.Failed
-        → Loses (λ came. length came ≤ limit) (S.left source.old) (S.left source.new) }
+    ensures whole { IfOk result (λ v. IsReadWhole limit (S.left source.old) (S.left source.new)
+        (S.log source.old) (S.log source.new) v.items) }
+    ensures lost { IfErr result (λ fault. HasLost fault limit (S.left source.old)
+        (S.left source.new) (S.log source.old) (S.log source.new)) }
     ensures cause { IsErrOf result ReadAllFault.Failed
         → Rose (S.faults source.old) (S.faults source.new) }
     ensures later { S.faults source.old ≤ S.faults source.new }
@@ -51,20 +47,8 @@ pub fn read_all<S: Source>(
 
     // Each read but the last gave a byte, and after a read that ended or failed comes none.
     ensures reads { Loses (λ came. S.reads source.new ≤ S.reads source.old + length came + 1)
-        (S.left source.old) (S.left source.new) }
-    ensures few { S.reads source.new ≤ S.reads source.old + limit + 2 }
-
-    // The steps that the source took for it: reads that gave these bytes, and then the end, the
-    // failure, or nothing more.
-    ensures gave { IfOk result (λ v. GaveAll (S.log source.old) (S.log source.new) v.items) }
-    ensures gave_long { IsErrOf result ReadAllFault.Long → (came : List ℕ)
-        × (limit < length came) × Consumes (S.left source.old) (S.left source.new) came
-        × GaveFirst (S.log source.old) (S.log source.new) came }
-    ensures gave_failed { IsErrOf result ReadAllFault.Failed → (came : List ℕ)
-        × (length came ≤ limit)
-        × GaveThen (S.log source.old) (S.log source.new) came (steps.Failed ∷ []) }
-    ensures gave_first { IsErrOf result ReadAllFault.Memory → (came : List ℕ)
-        × (length came ≤ limit) × GaveFirst (S.log source.old) (S.log source.new) came }
+        (S.left source.old) (S.left source.new)
+        × (S.reads source.new ≤ S.reads source.old + limit + 2) }
     ensures on { GoesOn (S.log source.old) (S.log source.new) }
 {
     let mut all = Vec::new(alloc);

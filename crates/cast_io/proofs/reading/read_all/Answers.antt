@@ -4,19 +4,6 @@ use Rattle.cast_io.proofs.LogLemmas.{gave_on, gave_read}
 use Rattle.cast_io.proofs.PieceLemmas.{Consumes-append}
 use Rattle.cast_io.proofs.reading.read_all.Goals as goal
 
-pub returns-then-count-limit-clause-long : goal.returns-then-count-limit-clause-long
-returns-then-count-limit-clause-long g c _ =
-    let lost = c.loop-count.all.items ++ take c.in-Ok.count c.read.new.buf in
-    let more : c.args.limit < length lost =
-    omega (
-      arith,
-      length-append c.loop-count.all.items
-          (take c.in-Ok.count c.read.new.buf),
-      c.in-Ok.ensures.bound.1,
-      c.loop-count.all.ok,
-    ) in
-    (lost, more, Consumes-append _ _ _ _ _ c.loop-count.invariant.bytes c.in-Ok.ensures.bytes.0)
-
 pub returns-then-count-limit-clause-reads : goal.returns-then-count-limit-clause-reads
 returns-then-count-limit-clause-reads g c =
     let lost = c.loop-count.all.items ++ take c.in-Ok.count c.read.new.buf in
@@ -29,7 +16,14 @@ returns-then-count-limit-clause-reads g c =
       c.loop-count.invariant.reads,
       c.in-Ok.ensures.counted,
     ) in
-    (lost, few, Consumes-append _ _ _ _ _ c.loop-count.invariant.bytes c.in-Ok.ensures.bytes.0)
+    let few_reads : g.S.Source.reads c.read.new.self ≤ g.S.Source.reads c.args.source.now + c.args.limit + 2 =
+    omega (
+      arith,
+      c.loop-count.invariant.within,
+      c.loop-count.invariant.reads,
+      c.in-Ok.ensures.counted,
+    ) in
+    ((lost, few, Consumes-append _ _ _ _ _ c.loop-count.invariant.bytes c.in-Ok.ensures.bytes.0), few_reads)
 
 pub returns-in_default-extend_from_slice-clause-reads :
     goal.returns-in_default-extend_from_slice-clause-reads
@@ -44,7 +38,14 @@ returns-in_default-extend_from_slice-clause-reads g c =
       c.loop-count.invariant.reads,
       c.in-Ok.ensures.counted,
     ) in
-    (lost, few, Consumes-append _ _ _ _ _ c.loop-count.invariant.bytes c.in-Ok.ensures.bytes.0)
+    let few_reads : g.S.Source.reads c.read.new.self ≤ g.S.Source.reads c.args.source.now + c.args.limit + 2 =
+    omega (
+      arith,
+      c.loop-count.invariant.within,
+      c.loop-count.invariant.reads,
+      c.in-Ok.ensures.counted,
+    ) in
+    ((lost, few, Consumes-append _ _ _ _ _ c.loop-count.invariant.bytes c.in-Ok.ensures.bytes.0), few_reads)
 
 pub returns-in_default-clause-on : goal.returns-in_default-clause-on
 returns-in_default-clause-on g c =
@@ -63,8 +64,8 @@ pub returns-in_default-extend_from_slice-clause-on :
 returns-in_default-extend_from_slice-clause-on g c =
     gave_on _ _ _ _ _ c.loop-count.invariant.gave c.in-Ok.ensures.logged
 
-pub returns-then-count-limit-clause-gave_long : goal.returns-then-count-limit-clause-gave_long
-returns-then-count-limit-clause-gave_long g c _ =
+pub returns-then-count-limit-clause-lost : goal.returns-then-count-limit-clause-lost
+returns-then-count-limit-clause-lost g c =
     let lost = c.loop-count.all.items ++ take c.in-Ok.count c.read.new.buf in
     let more : c.args.limit < length lost =
     omega (
@@ -81,9 +82,8 @@ returns-then-count-limit-clause-gave_long g c _ =
           c.in-Ok.ensures.logged,
     )
 
-pub returns-in_default-extend_from_slice-clause-gave_first :
-    goal.returns-in_default-extend_from_slice-clause-gave_first
-returns-in_default-extend_from_slice-clause-gave_first g c _ =
+pub returns-in_default-extend_from_slice-clause-lost : goal.returns-in_default-extend_from_slice-clause-lost
+returns-in_default-extend_from_slice-clause-lost g c =
     let came = c.loop-count.all.items ++ take c.in-Ok.count c.read.new.buf in
     let few : length came ≤ c.args.limit =
     omega (
@@ -97,6 +97,7 @@ returns-in_default-extend_from_slice-clause-gave_first g c _ =
     ) in (
       came,
       few,
+      Consumes-append _ _ _ _ _ c.loop-count.invariant.bytes c.in-Ok.ensures.bytes.0,
       gave_read _ _ _ _ _ _ c.loop-count.invariant.gave (omega (arith, c.if-count-eq0.false))
           c.in-Ok.ensures.logged,
     )
