@@ -5,7 +5,9 @@ use Rattle.std.specs.List.{concat}
 use Rattle.std.specs.Io.KnownBytes.{Consumes, IsAtEnd}
 use Rattle.cast_io.specs.declared.steps.SourceStep.{SourceStep}
 use Rattle.cast_io.specs.declared.steps.SourceStep.TheVariants as steps
-use Rattle.cast_io.specs.Logs.{Log, GaveAll, GaveFirst, GoesOn, pieces_given}
+use Rattle.cast_io.specs.Logs.{Log, GaveFirst, GoesOn, pieces_given}
+use Rattle.cast_io.specs.ReadAll.{HasLost, IsReadWhole}
+use Rattle.cast_io.specs.declared.reading.ReadAllFault.TheVariants as reads
 use Rattle.cast_io.specs.Stores.{IsOpen}
 use Rattle.cast_io.specs.Told.{Grew}
 use Rattle.cast_io.proofs.LogLemmas.{gave_file, gave_file_before, gave_file_later}
@@ -36,13 +38,13 @@ pub told_only : (left : Option (List ℕ)) (bytes : List ℕ) → left ≡ Some 
 told_only left bytes is came tells = told_bytes left came bytes tells is
 
 -- all of it was read
-pub input_all : (left new : Option (List ℕ)) (a b : Log) (bytes : List ℕ) → Consumes left new bytes → IsAtEnd new
-    → GaveAll a b bytes → InputCame left a b bytes
-input_all left new a b bytes consumed ended gave = (read_is_told left new bytes consumed ended, inl gave)
+pub input_all : (limit : ℕ) (left new : Option (List ℕ)) (a b : Log) (bytes : List ℕ)
+    → IsReadWhole limit left new a b bytes → InputCame left a b bytes
+input_all limit left new a b bytes read = (read_is_told left new bytes read.whole read.ended, inl read.gave)
 
 -- and too much
 pub input_long : (left new : Option (List ℕ)) (a b : Log)
-    → (came : List ℕ) × (8388608 < length came) × Consumes left new came × GaveFirst a b came
+    → HasLost reads.Long 8388608 left new a b
     → (bytes : List ℕ) × InputCame left a b bytes × (8388608 < length bytes)
 input_long None new a b (came, long, consumed, gave) =
     (came, (tt, inr (came, (long, [], sym (append-nil came)), gave)), long)
@@ -61,20 +63,22 @@ file_read path (Some list) left new bytes open_ consumed ended =
     found.1 ∙ ap Some (told_bytes left bytes found.0 (read_is_told left new bytes consumed ended) found.2)
 
 -- all of it was read
-file_all : (path : List ℕ) (files : FilesTold) (left new : Option (List ℕ)) (a b c : Log) (bytes : List ℕ)
-    → IsOpen path files left → Consumes left new bytes → IsAtEnd new → Grew a b (steps.Opened path ∷ [])
-    → GaveAll b c bytes → FileCame files a c path bytes
-file_all path files left new a b c bytes open_ consumed ended opened gave =
-    (file_read path files left new bytes open_ consumed ended, inl (gave_file path a b c bytes opened gave))
+file_all : (path : List ℕ) (files : FilesTold) (limit : ℕ) (left new : Option (List ℕ)) (a b c : Log)
+    (bytes : List ℕ) → IsOpen path files left → Grew a b (steps.Opened path ∷ [])
+    → IsReadWhole limit left new b c bytes → FileCame files a c path bytes
+file_all path files limit left new a b c bytes open_ opened read = (
+  file_read path files left new bytes open_ read.whole read.ended,
+  inl (gave_file path a b c bytes opened read.gave),
+)
 
 -- and so it is where that was an answer
 pub file_whole : {T E : Type 0} (items : T → List ℕ) (result : Result T E) (path : List ℕ) (files : FilesTold)
-    (left new : Option (List ℕ)) (a b c : Log) → IsOpen path files left → Grew a b (steps.Opened path ∷ [])
-    → IfOk result (λ v. Consumes left new (items v)) → IfOk result (λ v. IsAtEnd new)
-    → IfOk result (λ v. GaveAll b c (items v)) → IfOk result (λ v. FileCame files a c path (items v))
-file_whole items (Ok v) path files left new a b c open_ opened consumed ended gave =
-    file_all path files left new a b c (items v) open_ consumed ended opened gave
-file_whole items (Err fault) path files left new a b c open_ opened consumed ended gave = tt
+    (limit : ℕ) (left new : Option (List ℕ)) (a b c : Log) → IsOpen path files left
+    → Grew a b (steps.Opened path ∷ []) → IfOk result (λ v. IsReadWhole limit left new b c (items v))
+    → IfOk result (λ v. FileCame files a c path (items v))
+file_whole items (Ok v) path files limit left new a b c open_ opened read =
+    file_all path files limit left new a b c (items v) open_ opened read
+file_whole items (Err fault) path files limit left new a b c open_ opened read = tt
 
 -- the bytes of a file that is longer than these
 long_bytes : (path : List ℕ) (files : FilesTold) (left new : Option (List ℕ)) (came : List ℕ) → IsOpen path files left
@@ -107,7 +111,7 @@ too_much path a b c came rest long opened gave = (
 -- and too much
 pub file_long : (path : List ℕ) (files : FilesTold) (left new : Option (List ℕ)) (a b c : Log)
     → IsOpen path files left → Grew a b (steps.Opened path ∷ [])
-    → (came : List ℕ) × (8388608 < length came) × Consumes left new came × GaveFirst b c came
+    → HasLost reads.Long 8388608 left new b c
     → (bytes : List ℕ) × FileCame files a c path bytes × (8388608 < length bytes)
 file_long path files left new a b c open_ opened (came, long, consumed, gave) =
     let whole = long_bytes path files left new came open_ long consumed in

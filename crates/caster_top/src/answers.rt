@@ -128,16 +128,7 @@ where
     match command_of(words) {
         None => Answer::Usage,
         Some(Command::Offline(command)) => answer_offline(alloc, command, store, input),
-        Some(Command::Cast(cast)) => answer_to_cast(
-            rt,
-            alloc,
-            cast.task,
-            cast.config,
-            cast.addr,
-            cast.limit,
-            store,
-            street,
-        ),
+        Some(Command::Cast(casting)) => answer_to_cast(rt, alloc, casting, store, street),
     }
 }
 

@@ -16,7 +16,7 @@ ghost use Rattle.caster_top.specs.Kept.{KeepsFiles};
 ghost use Rattle.caster_top.specs.Casting.{CameTo, GivesCame, GivesServed, HasCast, IsCastingAnswer};
 
 use crate::answers::Answer;
-use crate::command::Task;
+use crate::command::{Casting, Task};
 use crate::config_answers::config_at;
 use crate::recording::record_at;
 use cast_config::Config;
@@ -30,30 +30,35 @@ use std::alloc::{AllocError, Global};
 use std::sync::Wait;
 use std::thread::Threads;
 
-/// The answer to a caster of this task over the configuration in the file of this path. The store
-/// is asked for that file once, and the street only where it holds a configuration.
+/// The answer to a caster over the configuration in a file. The store is asked for that file once,
+/// and the street only where it holds a configuration.
 pub fn answer_to_cast<R: Threads + Wait + Sync, S: Store, N: Street>(
     rt: &R,
     alloc: Global,
-    task: Task,
-    config: &str,
-    addr: &str,
-    limit: u32,
+    casting: Casting<'_>,
     store: &mut S,
     street: &mut N,
 ) -> Answer
 where
     N::Door: Send,
     N::Link: Send,
-    requires limit { (1 ≤ limit) × (limit ≤ most_of task) }
-    ensures casting { IsCastingAnswer task
+    requires limit { (1 ≤ casting.limit) × (casting.limit ≤ most_of casting.task) }
+    ensures casting { IsCastingAnswer casting.entry.task
         (FileCame (S.store store.old).files (S.log store.old) (S.log store.new))
-        config.now addr.now limit (N.told street.old) (N.told street.new)
+        casting.entry.config.now casting.entry.addr.now casting.entry.limit
+        (N.told street.old) (N.told street.new)
         (Rose (S.faults store.old) (S.faults store.new)) result }
-    ensures asked { Grew (S.store store.old).asked (S.store store.new).asked (config.now ∷ []) }
+    ensures asked { Grew (S.store store.old).asked (S.store store.new).asked
+        (casting.entry.config.now ∷ []) }
     ensures kept { KeepsFiles S.store S.faults S.reads 8388610 store.old store.new }
     ensures street_later { (N.told street.old).faults ≤ (N.told street.new).faults }
 {
+    let Casting {
+        task,
+        config,
+        addr,
+        limit,
+    } = casting;
     match config_at(alloc, config, store) {
         Ok(config) => answer_to_task(rt, alloc, task, &config, addr, limit, street),
         Err(answer) => answer,

@@ -65,8 +65,8 @@ returns-in-Some-Cast-clause-answer g c =
 
 pub returns-in-Some-Cast-clause-asked : goal.returns-in-Some-Cast-clause-asked
 returns-in-Some-Cast-clause-asked g c =
-    casting_asked (texts c.args.words.now) c.in-Some-Cast.cast.task c.in-Some-Cast.cast.config.now
-    c.in-Some-Cast.cast.addr.now c.in-Some-Cast.cast.limit (g.S.Source.store c.args.store.now).files _ _
+    casting_asked (texts c.args.words.now) c.in-Some-Cast.casting.task c.in-Some-Cast.casting.config.now
+    c.in-Some-Cast.casting.addr.now c.in-Some-Cast.casting.limit (g.S.Source.store c.args.store.now).files _ _
     (sym (rw c.in-Some-Cast.field-0-is at c.in-Some-Cast.ensures.command)) c.answer_to_cast.ensures.asked
 
 pub returns-in-Some-Cast-clause-kept_store : goal.returns-in-Some-Cast-clause-kept_store

@@ -7,13 +7,13 @@ use Rattle.caster_top.proofs.config_answers.read_file.Goals as goal
 
 pub returns-clause-whole : goal.returns-clause-whole
 returns-clause-whole g c =
-    file_whole (λ v. v.items) c.read_all.result c.args.path.now _ _ _ _ _ _ c.in-Ok.ensures.opened.ok
-    c.in-Ok.ensures.logged c.read_all.ensures.whole c.read_all.ensures.ended c.read_all.ensures.gave
+    file_whole (λ v. v.items) c.read_all.result c.args.path.now _ _ _ _ _ _ _ c.in-Ok.ensures.opened.ok
+    c.in-Ok.ensures.logged c.read_all.ensures.whole
 
 pub returns-clause-long : goal.returns-clause-long
 returns-clause-long g c is =
     file_long c.args.path.now _ _ _ _ _ _ c.in-Ok.ensures.opened.ok c.in-Ok.ensures.logged
-    (c.read_all.ensures.gave_long is)
+    (rw is at c.read_all.ensures.lost)
 
 pub returns-clause-on : goal.returns-clause-on
 returns-clause-on g c = goes_both _ _ _ (_ ∷ [], c.in-Ok.ensures.logged) c.read_all.ensures.on

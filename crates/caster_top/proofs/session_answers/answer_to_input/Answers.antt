@@ -10,7 +10,7 @@ returns-in-Ok-clause-answer g c =
     let source = g.I.Source in
     script_answer (InputCame (source.left c.args.input.now) (source.log c.args.input.now)
     (source.log c.read_all.new.source)) _ c.in-Ok.bytes.items _ _
-    (input_all _ _ _ _ _ c.in-Ok.ensures.whole c.in-Ok.ensures.ended c.in-Ok.ensures.gave)
+    (input_all _ _ _ _ _ _ c.in-Ok.ensures.whole)
     (rw c.deref.ensures.value at c.answer_to_bare.ensures)
 
 pub returns-in-Err-clause-answer : goal.returns-in-Err-clause-answer
@@ -18,5 +18,5 @@ returns-in-Err-clause-answer g c =
     let source = g.I.Source in
     rw c.unread.ensures (unread_input (InputCame (source.left c.args.input.now) (source.log c.args.input.now)
     (source.log c.read_all.new.source)) _ (Rose (source.faults c.args.input.now)
-    (source.faults c.read_all.new.source)) c.in-Err.fault (λ e. input_long _ _ _ _ (c.in-Err.ensures.gave_long (cc)))
+    (source.faults c.read_all.new.source)) c.in-Err.fault (λ e. input_long _ _ _ _ (rw e at c.in-Err.ensures.lost))
     (λ e. c.in-Err.ensures.cause (cc)))
