@@ -48,16 +48,13 @@ account_party place password (Some a) =
     if bytes_eq a.password password then Ok (party (place + 1) a.group)
     else Err (Password (place + 1))
 
-abbrev pub named_party : List Account → List ℕ → List ℕ → Result Party Denial
-named_party accounts user password =
-    given NoAccount (place_of (user_names accounts) user)
-    >>= (λ place. account_party place password (slice_get accounts place))
-
 -- credentials that cannot be read name no account
 abbrev pub party_of : Config → Auth → Result Party Denial
 party_of c Unread = Err NoAccount
 party_of c auths.None = anonymous_party c.anonymous
-party_of c (Basic user password) = named_party c.account user password
+party_of c (Basic user password) =
+    given NoAccount (place_of (user_names c.account) user)
+    >>= (λ place. account_party place password (slice_get c.account place))
 
 -- ---- what a group may hear
 

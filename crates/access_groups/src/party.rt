@@ -1,11 +1,11 @@
 //! Who a rover is, by its credentials.
 
 ghost use Rattle.std.specs.Prelude.{◌≡◌, ◌≤◌, length};
-ghost use Rattle.access_groups.specs.Admission.{anonymous_party, named_party, party_of};
+ghost use Rattle.access_groups.specs.Admission.{anonymous_party, party_of};
 
 use crate::admission::Denial;
 use crate::password::is_password;
-use cast_config::{Account, Anonymous, Config, place_named};
+use cast_config::{Anonymous, Config, place_named};
 use ntrip_head::Auth;
 
 /// An account and its group, by their numbers. Named accounts are numbered from 1; 0 is the account
@@ -28,27 +28,6 @@ fn anonymous_party(anonymous: Option<Anonymous>) -> Result<Party, Denial>
     }
 }
 
-fn named_party(accounts: &[Account], user: &[u8], password: &[u8]) -> Result<Party, Denial>
-    requires { length accounts.now ≤ 1024 }
-    ensures { result ≡ named_party accounts.now user.now password.now }
-{
-    match place_named(accounts, user) {
-        None => Err(Denial::NoAccount),
-        Some(place) => {
-            let number = place as u32 + 1;
-            let account = &accounts[place];
-            if is_password(account.password.bytes(), password) {
-                Ok(Party {
-                    account: number,
-                    group: account.group,
-                })
-            } else {
-                Err(Denial::Password { account: number })
-            }
-        }
-    }
-}
-
 /// Who it is, or why it is nobody.
 pub(crate) fn party_of(config: &Config, auth: &Auth) -> Result<Party, Denial>
     requires { length config.now.account ≤ 1024 }
@@ -58,7 +37,20 @@ pub(crate) fn party_of(config: &Config, auth: &Auth) -> Result<Party, Denial>
         Auth::Unread => Err(Denial::NoAccount),
         Auth::None => anonymous_party(config.anonymous),
         Auth::Basic { user, password } => {
-            named_party(config.account.as_slice(), user.bytes(), password.bytes())
+            let accounts = config.account.as_slice();
+            let Some(place) = place_named(accounts, user.bytes()) else {
+                return Err(Denial::NoAccount);
+            };
+            let number = place as u32 + 1;
+            let account = &accounts[place];
+            if is_password(account.password.bytes(), password.bytes()) {
+                Ok(Party {
+                    account: number,
+                    group: account.group,
+                })
+            } else {
+                Err(Denial::Password { account: number })
+            }
         }
     }
 }

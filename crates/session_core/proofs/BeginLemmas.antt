@@ -22,7 +22,7 @@ use Rattle.session_model.specs.Judged.{finished, replied}
 use Rattle.session_model.specs.Replies.{replied_text, text_if}
 use Rattle.session_model.specs.Run.{Histories}
 use Rattle.session_core.specs.Standing.{IsMadeBy, IsSentBy, EndsAt, is_refused_at, is_halted, is_halted_uncalled}
-use Rattle.session_core.specs.Begun.{BeginsFor}
+use Rattle.session_core.specs.Begun.{BeginsFor, StartsAs}
 use Rattle.session_core.proofs.CloseLemmas.{called_none}
 
 -- ---- room for a reply
@@ -105,6 +105,10 @@ over_ends stage ended end over is = record {
   not_true : false ≡ true → ⊥
   not_true e = cc
 
+-- and its beginning says nothing of how it ended
+pub over_starts : (stage : Stage) (ended : Option Ending) → stage ≡ Over → StartsAs stage ended
+over_starts stage ended over = rw over tt
+
 -- ---- what is finished by what its head says
 
 -- this text was appended, behind which nothing comes, or memory was lacking and nothing was
@@ -127,6 +131,7 @@ begins_finished c alone h me reply end stage ended before after over (inl told) 
   ends = inr told.0;
   stage_is = λ opening text. rw over (record { known = λ e. cc; free = tt; segments = refl; no_read = refl });
   halts = over_ends stage ended end over told.0;
+  starts = over_starts stage ended over;
   sent_is = sent_all (is_halted_uncalled ended []) _ _ (sym (append-nil (replied_text reply (setting.table c))));
 })
 begins_finished c alone h me reply end stage ended before after over (inr lost) =

@@ -1,8 +1,15 @@
 -- How a source begins.
-use Rattle.std.proofs.Common.{◌≡◌, ◌∙◌, ◌<◌, ℕ, Bool, true, false, IsTrue, List, [], ◌∷◌, ◌++◌, length, refl, sym, ap, subst, inl, inr, Option, None, Some}
+use Rattle.std.proofs.Common.{◌≡◌, ◌∙◌, ◌<◌, ℕ, Bool, true, false, IsTrue, List, [], ◌∷◌, ◌++◌, length, refl, sym, ap, subst, inl, inr, Option, None, Some, Err}
 use Rattle.std.specs.Prelude.{is_none}
 use Rattle.std.proofs.lemmas.List.{append-nil}
+use Rattle.access_groups.specs.declared.admission.Denial.{Denial}
+use Rattle.access_groups.specs.declared.admission.Denial.TheVariants as denials
+use Rattle.access_groups.specs.declared.admission.SourceDenial.{SourceDenial}
+use Rattle.access_groups.specs.declared.admission.SourceDenial.TheVariants as sources
+use Rattle.ntrip_head.specs.declared.fault.HeadFault.{HeadFault}
+use Rattle.ntrip_head.specs.declared.fault.HeadFault.TheVariants as heads
 use Rattle.ntrip_head.specs.declared.request.Version.{Version}
+use Rattle.ntrip_reply.specs.declared.kind.Reply.{Reply}
 use Rattle.ntrip_reply.specs.declared.kind.Reply.TheVariants as replies
 use Rattle.turn_log.specs.History.{History}
 use Rattle.turn_log.proofs.HeardLaws.{heard_none}
@@ -23,8 +30,9 @@ use Rattle.source_session.specs.Body.{frames_of}
 use Rattle.source_session.specs.Standing as source_standing
 use Rattle.upstream_relay.specs.Owed.{publishing}
 use Rattle.cast_config.specs.declared.config.Config.{Config}
-use Rattle.session_core.proofs.BeginLemmas.{over_ends, taken_untabled}
+use Rattle.session_core.proofs.BeginLemmas.{over_ends, over_starts, taken_untabled}
 use Rattle.session_model.specs.declared.ending.Ending.{Ending}
+use Rattle.session_model.specs.declared.ending.Ending.TheVariants as endings
 use Rattle.session_core.specs.declared.stage.Stage.{Stage}
 use Rattle.session_core.specs.declared.stage.Stage.TheVariants.{Over, Source}
 use Rattle.session_model.specs.Setting.{shapes}
@@ -33,10 +41,10 @@ use Rattle.rtcm_frame.specs.Cut as frames
 use Rattle.chunk_body.specs.Answer as bodies
 use Rattle.chunk_body.specs.Machine as machine
 use Rattle.session_model.specs.Endings.{claimed_ending}
-use Rattle.session_model.specs.Judged.{SourceTerms, source}
+use Rattle.session_model.specs.Judged.{SourceTerms, source, finished, rover_judged, source_judged, fault_judged}
 use Rattle.session_model.specs.Replies.{text_if}
 use Rattle.session_core.proofs.Published.{steps_unclaimed}
-use Rattle.session_model.specs.Called.{book_answer}
+use Rattle.session_model.specs.Called.{book_answer, IsCause}
 use Rattle.session_core.specs.Beginnings.{histories_of, end_unclaimed, text_unclaimed}
 use Rattle.session_core.specs.Begun.{BeginsFor}
 
@@ -106,6 +114,7 @@ begins_claimed c alone old now book me mount version chunked session before afte
         goes = λ none. ap is_none going;
         refused = λ short. absurd (not_true (sym (ap source_standing.is_cut_short going) ∙ short));
       };
+      starts = refl;
       sent_is = sym (append-nil (text_if version replies.SourceOk []));
     })
 
@@ -132,6 +141,7 @@ begins_unclaimed c alone old now book me mount version chunked (claims.Taken cal
       stage_is = λ opening text.
           rw over (record { known = λ e. cc; free = tt; segments = refl; no_read = refl });
       halts = over_ends stage _ _ over refl;
+      starts = over_starts stage _ over;
       sent_is = taken_untabled version (setting.table c) ∙ sym (append-nil (text_if version replies.Taken (setting.table c)));
     }))
 begins_unclaimed c alone old now book me mount version chunked (claims.Worn given) stage ended before after went over
@@ -147,6 +157,7 @@ begins_unclaimed c alone old now book me mount version chunked (claims.Worn give
       stage_is = λ opening text.
           rw over (record { known = λ e. cc; free = tt; segments = refl; no_read = refl });
       halts = over_ends stage _ _ over refl;
+      starts = over_starts stage _ over;
       sent_is = ([], refl);
     }))
 begins_unclaimed c alone old now book me mount version chunked claims.Memory stage ended before after went over end
@@ -162,7 +173,26 @@ begins_unclaimed c alone old now book me mount version chunked claims.Memory sta
       stage_is = λ opening text.
           rw over (record { known = λ e. cc; free = tt; segments = refl; no_read = refl });
       halts = over_ends stage _ _ over refl;
+      starts = over_starts stage _ over;
       sent_is = ([], refl);
     }))
 
--- ---- causes
+-- ---- who is denied, or refused by its head, is not ended by a place
+
+pub denied_cause : (worn : List ℕ) (denial : Denial) (reply : Option (Version × Reply)) (end : Ending)
+    → finished reply end ≡ rover_judged None None [] (Err denial) → IsCause worn end
+denied_cause worn denials.NoMount reply end is = let e : end ≡ endings.NoMount = cc in rw e tt
+denied_cause worn denials.NoAccount reply end is = let e : end ≡ endings.NoAccount = cc in rw e tt
+denied_cause worn (denials.Password account) reply end is = let e : end ≡ endings.Password account = cc in rw e tt
+denied_cause worn (denials.Group group) reply end is = let e : end ≡ endings.Denied group = cc in rw e tt
+
+pub denied_source_cause : (worn : List ℕ) (denial : SourceDenial) (reply : Option (Version × Reply)) (end : Ending)
+    → finished reply end ≡ source_judged None false [] (Err denial) → IsCause worn end
+denied_source_cause worn sources.NoMount reply end is = let e : end ≡ endings.NoMount = cc in rw e tt
+denied_source_cause worn sources.Password reply end is = let e : end ≡ endings.SourcePassword = cc in rw e tt
+
+pub refused_head_cause : (worn : List ℕ) (fault : HeadFault) (reply : Option (Version × Reply)) (end : Ending)
+    → finished reply end ≡ fault_judged fault → IsCause worn end
+refused_head_cause worn heads.Bad reply end is = let e : end ≡ endings.BadHead = cc in rw e tt
+refused_head_cause worn heads.Method reply end is = let e : end ≡ endings.Method = cc in rw e tt
+refused_head_cause worn heads.Coding reply end is = let e : end ≡ endings.Coding = cc in rw e tt

@@ -51,7 +51,7 @@ use Rattle.session_model.specs.Called.{Called, book_answer, IsCause, seen_at}
 use Rattle.session_core.specs.Beginnings.{histories_of, worn_at, end_unentered, ended_joining}
 use Rattle.session_core.specs.Standing.{IsMadeBy, is_halted, is_halted_uncalled, EndsAs}
 use Rattle.session_core.specs.Begun.{BeginsFor}
-use Rattle.session_core.proofs.BeginLemmas.{over_ends, sent_all, full_untabled}
+use Rattle.session_core.proofs.BeginLemmas.{over_ends, over_starts, sent_all, full_untabled}
 use Rattle.session_core.proofs.BegunLemmas.{went_as}
 
 -- ---- a rover's plan has no call at the book
@@ -204,6 +204,7 @@ begins_entered c alone old now me terms session before after heard inside told i
         inside = inside;
       };
       halts = record { goes = joined_goes halt; refused = λ short. absurd cc };
+      starts = refl;
       sent_is = sent_all (is_halted_uncalled (ended_joining halt) (entry ∷ told.more)) _ _
           (sym (ap (λ (l : List (List ℕ)). text_if terms.version replies.RoverOk [] ++ body_of
           (unwrap_or terms.version One) l) none
@@ -237,6 +238,7 @@ begins_full c alone old now me terms busy cap stage ended before after heard sam
       stage_is = λ opening text.
           rw over (record { known = λ e. cc; free = tt; segments = refl; no_read = refl });
       halts = over_ends stage _ _ over refl;
+      starts = over_starts stage _ over;
       sent_is = full_untabled terms.version (setting.table c)
           ∙ sym (append-nil (text_if terms.version replies.Full (setting.table c)));
     }))
@@ -260,6 +262,7 @@ begins_unentered c alone old now me terms (turn_faults.Worn given) stage ended b
       stage_is = λ opening text.
           rw over (record { known = λ e. cc; free = tt; segments = refl; no_read = refl });
       halts = over_ends stage _ _ over refl;
+      starts = over_starts stage _ over;
       sent_is = ([], refl);
     }))
 begins_unentered c alone old now me terms turn_faults.Memory stage ended before after called over end out =
@@ -274,6 +277,7 @@ begins_unentered c alone old now me terms turn_faults.Memory stage ended before 
       stage_is = λ opening text.
           rw over (record { known = λ e. cc; free = tt; segments = refl; no_read = refl });
       halts = over_ends stage _ _ over refl;
+      starts = over_starts stage _ over;
       sent_is = ([], refl);
     }))
 
@@ -292,13 +296,12 @@ contains_last [] n = (zero, omega arith, refl)
 contains_last (x ∷ xs) n =
     let rest : Contains (xs ++ n ∷ []) n = contains_last xs n in (suc rest.0, omega (arith, rest.1), rest.2)
 
--- of a rover that joined: one of the rings is worn
-pub cause_joined : (rings : List ℕ) (book : ℕ) (r : Result (Unit {0}) SegFault) (ended : Option Ending)
-    → ended ≡ ended_joining (result_err r) → IfErr r (IsRefusedBy rings) → IfSome ended (IsCause (rings ++ book ∷ []))
-cause_joined rings book (Ok x) ended is refused = rw is tt
-cause_joined rings book (Err (seg_faults.Worn given)) ended is refused =
-    rw is (contains_left rings (book ∷ []) given refused.0, refused.1)
-cause_joined rings book (Err seg_faults.Memory) ended is refused = rw is tt
+-- of a rover that was halted: one of the rings is worn
+pub cause_halted : (rings : List ℕ) (r : Result (Unit {0}) SegFault) (ended : Option Ending)
+    → ended ≡ ended_joining (result_err r) → IfErr r (IsRefusedBy rings) → IfSome ended (IsCause rings)
+cause_halted rings (Ok x) ended is refused = rw is tt
+cause_halted rings (Err (seg_faults.Worn given)) ended is refused = rw is refused
+cause_halted rings (Err seg_faults.Memory) ended is refused = rw is tt
 
 -- of one whose entry was refused: the book is worn
 pub cause_unentered : (may_lack : Bool) (rings : List ℕ) (book : ℕ) (fault : TurnFault) (ended : Option Ending)
@@ -390,3 +393,7 @@ cause_left rings book (Some (endings.Upstream status)) cause = tt
 cause_left rings book (Some endings.ReadFault) cause = tt
 cause_left rings book (Some endings.WriteFault) cause = tt
 cause_left rings book (Some endings.Memory) cause = tt
+
+pub cause_joined : (rings : List ℕ) (book : ℕ) (r : Result (Unit {0}) SegFault) (ended : Option Ending)
+    → ended ≡ ended_joining (result_err r) → IfErr r (IsRefusedBy rings) → IfSome ended (IsCause (rings ++ book ∷ []))
+cause_joined rings book r ended is refused = cause_left rings book ended (cause_halted rings r ended is refused)

@@ -1,5 +1,5 @@
 -- A head that goes on, and one that ends: what becomes of its connection with the bytes behind it.
-use Rattle.std.proofs.Common.{◌&&◌, ◌≡◌, ◌∙◌, ◌+◌, ◌-◌, ◌<◌, ◌≤◌, ◌⊎◌, ℕ, Bool, true, false, IsTrue, List, [], ◌++◌, length, map, take, drop, reverse, length-append, refl, sym, ap, subst, inl, inr, arith, Option, None, Some, Result, append_assoc}
+use Rattle.std.proofs.Common.{◌&&◌, ◌≡◌, ◌∙◌, ◌+◌, ◌-◌, ◌<◌, ◌≤◌, ℕ, Bool, true, false, IsTrue, List, [], ◌++◌, length, map, take, drop, reverse, length-append, refl, sym, ap, subst, inl, inr, arith, Option, None, Some, Result, append_assoc}
 use Rattle.std.specs.Prelude.{◌^◌, is_some}
 use Rattle.std.proofs.lemmas.Bool.{le-leb}
 use Rattle.std.proofs.lemmas.List.{append-nil, drop_all, length-drop, take_all, take-append-drop}
@@ -37,7 +37,7 @@ use Rattle.session_model.specs.Run.{Histories}
 use Rattle.session_model.specs.Called.{Called, OthersCalled, alone_at, book_answer}
 use Rattle.session_core.specs.Feeding.{FedOn, HasBegun, HasBegunFor, IsBehindHead}
 use Rattle.session_core.specs.Standing.{EndsAt, Fed, Follows, IsAtStage, IsMadeBy, IsSentBy, Stands, StandsFor, is_going, is_halted, is_halted_uncalled}
-use Rattle.session_core.specs.Begun.{Begins, BeginsFor, IsLostAt, StartsAs}
+use Rattle.session_core.specs.Begun.{Begins, BeginsFor}
 use Rattle.session_core.proofs.CloseLemmas.{called_none}
 use Rattle.session_model.proofs.HeadingLemmas.{one_heading}
 use Rattle.session_core.proofs.OverLemmas.{ended_more}
@@ -51,15 +51,13 @@ whole_judged c front answer =
     (le-leb (length front) (length front) (omega arith))
     ∙ ap (λ (body : List ℕ). request_judged c body answer) (drop_all (length front) front (omega arith))
 
-pub whole_begun : (c : Config) (alone : Bool) (old now : Histories) (me : ℕ) (front told : List ℕ) (stage : Stage)
-    (ended : Option Ending) (before after : List ℕ) → IsHead front → told ≡ front
-    → ((answer : Result Request HeadFault) × HeadAnswer told answer
-    × BeginsFor c alone old now me (request_judged c [] answer) stage ended before after)
-    ⊎ IsLostAt old now stage ended before after
+pub whole_begun : (c : Config) (alone : Bool) (old now : Histories) (me : ℕ) (front told : List ℕ)
+    (answer : Result Request HeadFault) (stage : Stage) (ended : Option Ending) (before after : List ℕ)
+    → IsHead front → told ≡ front → HeadAnswer told answer
+    → BeginsFor c alone old now me (request_judged c [] answer) stage ended before after
     → HasBegunFor c alone old now me front stage ended before after
-whole_begun c alone old now me front told stage ended before after head same (inr lost) = inr lost
-whole_begun c alone old now me front told stage ended before after head same (inl (answer, says, inr lost)) = inr lost
-whole_begun c alone old now me front told stage ended before after head same (inl (answer, says, inl begins)) =
+whole_begun c alone old now me front told answer stage ended before after head same says (inr lost) = inr lost
+whole_begun c alone old now me front told answer stage ended before after head same says (inl begins) =
     let all : take (length front) front ≡ front = take_all (length front) front (omega arith) in
     inl (record {
       heading = whole (length front) answer;
@@ -203,10 +201,10 @@ front_and_rest text head bytes count is =
 -- it ended as it began
 pub fed_ended : (c : Config) (alone : Bool) (old now : Histories) (me : ℕ) (new : Session) (opening : Opening)
     (text bytes : List ℕ) (steps : List Step) (sent head before after : List ℕ) (count : ℕ) (end : Ending)
-    → IsAwaited opening text steps sent head → new.me ≡ me → new.ended ≡ Some end → StartsAs new.stage new.ended
+    → IsAwaited opening text steps sent head → new.me ≡ me → new.ended ≡ Some end
     → HasBegunFor c alone old now me (head ++ take count bytes) new.stage new.ended before after
     → Fed c alone old now new opening (text ++ bytes) steps sent before after
-fed_ended c alone old now me new opening text bytes steps sent head before after count end is same ended starts
+fed_ended c alone old now me new opening text bytes steps sent head before after count end is same ended
     (inl b) = record {
       more = b.begins.more;
       added = b.begins.added;
@@ -216,10 +214,10 @@ fed_ended c alone old now me new opening text bytes steps sent head before after
       stands = rw is.opens (rw is.uncalled (rw is.unsent
           (rw (sym (front_and_rest text head bytes count is.text_is))
           (inl (ended_more c new sends_head (head ++ take count bytes) (drop count bytes) b.begins.more now
-          b.begins.added end ended starts
+          b.begins.added end ended b.begins.starts
           (begun_stands c alone old now me (head ++ take count bytes) new before after b same))))));
     }
-fed_ended c alone old now me new opening text bytes steps sent head before after count end is same ended starts
+fed_ended c alone old now me new opening text bytes steps sent head before after count end is same ended
     (inr lost) = record {
       more = [];
       added = [];
@@ -307,15 +305,14 @@ fed_behind c alone old mid_h now me mid new opening text bytes steps sent head b
           (rw (sym (front_and_rest text head bytes count is.text_is)) (inl on.stands))));
     }
 
--- what became of it by these bytes is what the session is now
-pub begun_as : (c : Config) (alone : Bool) (old now : Histories) (was : Session) (head front : List ℕ) (begun : Begun)
-    (session : Session) (before after : List ℕ) → head ≡ front
-    → session ≡ record { alloc = was.alloc; me = was.me; stage = begun.stage; ended = begun.ended }
-    → HasBegunFor c alone old now was.me head begun.stage begun.ended before after
-    → HasBegunFor c alone old now was.me front session.stage session.ended before after
-begun_as c alone old now was head front begun session before after same is has =
-    subst (λ (s : Session). HasBegunFor c alone old now was.me front s.stage s.ended before after) (sym is)
-    (subst (λ (l : List ℕ). HasBegunFor c alone old now was.me l begun.stage begun.ended before after) same has)
+-- so it began by the bytes that its head is made of, and this is its stage
+pub begun_as : (c : Config) (alone : Bool) (old now : Histories) (me : ℕ) (head front : List ℕ) (begun : Begun)
+    (stage : Stage) (before after : List ℕ) → head ≡ front → stage ≡ begun.stage
+    → HasBegunFor c alone old now me head begun.stage begun.ended before after
+    → HasBegunFor c alone old now me front stage begun.ended before after
+begun_as c alone old now me head front begun stage before after same is has =
+    subst (λ (s : Stage). HasBegunFor c alone old now me front s begun.ended before after) (sym is)
+    (subst (λ (l : List ℕ). HasBegunFor c alone old now me l begun.stage begun.ended before after) same has)
 
 -- ---- a connection that is behind its head
 

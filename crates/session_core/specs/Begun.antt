@@ -24,6 +24,13 @@ due_by c histories j steps =
     ++ body_of (version_of (came_to j steps))
     (kept_frames c histories.rings (reverse (segments_after [] steps)))
 
+-- a connection that was just begun goes on, unless nothing is left to be closed, or it is a rover
+-- that was halted as it joined
+abbrev pub StartsAs : Stage → Option Ending → Type 0
+StartsAs Over ended = ⊤
+StartsAs (Rover account session) ended = ended ≡ ended_joining session.halt
+StartsAs _ ended = ended ≡ None
+
 -- A connection that is so judged was begun: it made what it owes and was sent its reply.
 pub record Begins (c : Config) (alone : Bool) (old now : Histories) (me : ℕ) (j : Judged)
     (stage : Stage) (ended : Option Ending) (before after : List ℕ) : Type 0 where
@@ -37,14 +44,8 @@ pub record Begins (c : Config) (alone : Bool) (old now : Histories) (me : ℕ) (
   pub stage_is : (opening : Opening) (text : List ℕ)
       → IsAtStage c me now opening j text more stage
   pub halts : EndsAt stage ended
+  pub starts : StartsAs stage ended
   pub sent_is : IsSentBy (is_halted_uncalled ended more) added (due_by c now j more)
-
--- a connection that was just begun goes on, unless nothing is left to be closed, or it is a rover
--- that was halted as it joined
-abbrev pub StartsAs : Stage → Option Ending → Type 0
-StartsAs Over ended = ⊤
-StartsAs (Rover account session) ended = ended ≡ ended_joining session.halt
-StartsAs _ ended = ended ≡ None
 
 -- memory was lacking before anything was called or appended
 pub record IsLostAt (old now : Histories) (stage : Stage) (ended : Option Ending)

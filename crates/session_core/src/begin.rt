@@ -1,13 +1,13 @@
 //! How a connection begins, once its head is whole.
 
-ghost use Rattle.std.specs.Prelude.{◌≡◌, ◌+◌, ◌<◌, ◌≤◌, ◌++◌, [], length, map, vec_len, Some, Ok, IfNone, IfSome};
+ghost use Rattle.std.specs.Prelude.{◌≡◌, ◌+◌, ◌<◌, ◌≤◌, ◌++◌, [], length, map, vec_len, Some, Ok, IfNone, IfSome, OnOk};
 ghost use Rattle.std.specs.Vec.{vec_capacity};
 ghost use Rattle.session_calls.specs.Rings.{AllSpeak};
 ghost use Rattle.cast_config.specs.declared.config.Config.{Config as ConfigValue};
 ghost use Rattle.session_model.specs.Setting.{shapes};
 ghost use Rattle.session_model.specs.Judged.{source_judged};
 ghost use Rattle.session_model.specs.Called.{IsCause};
-ghost use Rattle.session_core.specs.Begun.{BeginsFor, StartsAs};
+ghost use Rattle.session_core.specs.Begun.{BeginsFor};
 ghost use Rattle.session_core.specs.Beginnings.{text_unclaimed, end_unclaimed};
 ghost use Rattle.session_core.specs.Places.{Stay, alone_in, seen_in, worn_in};
 
@@ -21,6 +21,7 @@ use ntrip_reply::Reply;
 use rtcm_frame::Cutter;
 use session_model::Ending;
 use source_session::{ClaimFault, SourceSession};
+use std::alloc::AllocError;
 use turn_log::Turns;
 
 /// A source whose claim was not given is told so, if another one holds the mountpoint.
@@ -38,6 +39,15 @@ fn unclaimed(version: Option<Version>, fault: ClaimFault, out: &mut Vec<u8>) -> 
         ClaimFault::Worn { turns } => Begun::over(Ending::Worn { turns }),
         ClaimFault::Memory => Begun::over(Ending::Memory),
     }
+}
+
+/// The cutter of a source. Room for its reply is reserved.
+fn new_cutter(out: &mut Vec<u8>) -> Result<Box<Cutter>, AllocError>
+    ensures room { OnOk result (vec_len out.new + 256 ≤ vec_capacity out.new) }
+    ensures unsent { out.new.items ≡ out.old.items }
+{
+    out.reserve(REPLY_ROOM)?;
+    Ok(Box::new(*out.allocator(), Cutter::new())?)
 }
 
 /// Lets a source in that is admitted to the mountpoint of this number: it claims the mountpoint,
@@ -58,13 +68,9 @@ pub(crate) fn begin_source<T: Turns<Ring>, B: Turns<Book>>(
         (seen_in T.Turns B.Turns places.new) me (source_judged version chunked [] (Ok mount))
         result.stage result.ended out.old.items out.new.items }
     ensures untold { IfNone version (out.new.items ≡ out.old.items) }
-    ensures starts { StartsAs result.stage result.ended }
     ensures cause { IfSome result.ended (IsCause (worn_in T.Turns B.Turns places.new)) }
 {
-    let Ok(()) = out.reserve(REPLY_ROOM) else {
-        return Begun::over(Ending::Memory);
-    };
-    let Ok(cutter) = Box::new(*out.allocator(), Cutter::new()) else {
+    let Ok(cutter) = new_cutter(out) else {
         return Begun::over(Ending::Memory);
     };
     match SourceSession::claim(me, chunked, cutter, &mut places.rings[mount as usize]) {

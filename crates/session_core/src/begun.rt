@@ -1,14 +1,14 @@
 //! What becomes of a connection as it begins, and its reply.
 
-ghost use Rattle.std.specs.Prelude.{◌≡◌, ℕ, ◌+◌, ◌≤◌, ◌++◌, ◌⊎◌, Bool, [], vec_len, IfNone, Some};
+ghost use Rattle.std.specs.Prelude.{◌≡◌, ℕ, ◌+◌, ◌≤◌, ◌++◌, Bool, List, [], vec_len, IfNone, IfSome, Some};
 ghost use Rattle.std.specs.Vec.{vec_capacity};
 ghost use Rattle.cast_config.specs.declared.config.Config.{Config as ConfigValue};
-ghost use Rattle.session_model.specs.Setting as setting;
+ghost use Rattle.session_model.specs.Called.{IsCause};
 ghost use Rattle.session_model.specs.Judged.{finished, replied};
-ghost use Rattle.session_core.specs.Beginnings.{IsTableFor};
 ghost use Rattle.session_model.specs.Replies.{text_if};
 ghost use Rattle.session_model.specs.Run.{Histories};
-ghost use Rattle.session_core.specs.Begun.{BeginsFor, StartsAs};
+ghost use Rattle.session_core.specs.Beginnings.{IsTableFor};
+ghost use Rattle.session_core.specs.Begun.{BeginsFor};
 
 use crate::stage::Stage;
 use ntrip_head::Version;
@@ -40,43 +40,27 @@ impl Begun {
     }
 }
 
-/// Refuses a connection with this reply, if it is replied to.
-pub(crate) fn refuse(
+/// Sends a connection this as its last reply, if it is replied to, and ends it so.
+pub(crate) fn finish(
     version: Option<Version>,
-    with: Reply,
-    ending: Ending,
+    last: (Reply, Ending),
     table: &[u8],
     out: &mut Vec<u8>,
 ) -> Begun
     ensures begins { (c : ConfigValue) (alone : Bool) (h : Histories) (me : ℕ)
         → IsTableFor version table.now c
-        → BeginsFor c alone h h me (finished (replied version with) ending) result.stage result.ended
-        out.old.items out.new.items }
+        → BeginsFor c alone h h me (finished (replied version last.0) last.1) result.stage
+        result.ended out.old.items out.new.items }
     ensures untold { IfNone version (out.new.items ≡ out.old.items) }
-    ensures starts { StartsAs result.stage result.ended }
-    ensures cause { (result.ended ≡ Some ending) ⊎ (result.ended ≡ Some Ending.Memory) }
+    ensures cause { (worn : List ℕ) → IsCause worn last.1 → IfSome result.ended (IsCause worn) }
 {
+    let (with, ending) = last;
     match version {
         None => Begun::over(ending),
         Some(version) => match reply(version, &with, table, out) {
             Ok(()) => Begun::over(ending),
             Err(AllocError) => Begun::over(Ending::Memory),
         },
-    }
-}
-
-/// Sends a connection the sourcetable.
-pub(crate) fn send_table(version: Version, table: &[u8], out: &mut Vec<u8>) -> Begun
-    ensures begins { (c : ConfigValue) (alone : Bool) (h : Histories) (me : ℕ)
-        → table.now ≡ setting.table c
-        → BeginsFor c alone h h me (finished (Some (version, Reply.Table)) Ending.TableSent)
-        result.stage result.ended out.old.items out.new.items }
-    ensures starts { StartsAs result.stage result.ended }
-    ensures cause { (result.ended ≡ Some Ending.TableSent) ⊎ (result.ended ≡ Some Ending.Memory) }
-{
-    match reply(version, &Reply::Table, table, out) {
-        Ok(()) => Begun::over(Ending::TableSent),
-        Err(AllocError) => Begun::over(Ending::Memory),
     }
 }
 

@@ -1,6 +1,6 @@
 //! What is told of a connection that is closed.
 
-ghost use Rattle.std.specs.Prelude.{◌≡◌, [], false, reverse, unwrap_or};
+ghost use Rattle.std.specs.Prelude.{◌≡◌, reverse, unwrap_or};
 ghost use Rattle.rover_session.specs.Made.{overrun_in, sent_in};
 ghost use Rattle.session_core.specs.Closing.{IsJunkAt, end_at, segments_at};
 ghost use Rattle.session_model.specs.Endings.{ended_last};
@@ -15,8 +15,6 @@ fn ending_at_end(stage: &Stage) -> Ending
     ensures { result ≡ end_at stage.now }
 {
     match stage {
-        Stage::Head(_) => Ending::NoHead,
-        Stage::Over => Ending::NoHead,
         Stage::Source { mount: _, session } => Ending::SourceEnd {
             claim: session.claim_number(),
         },
@@ -28,6 +26,7 @@ fn ending_at_end(stage: &Stage) -> Ending
             account: _,
             session: _,
         } => Ending::RoverEnd,
+        _ => Ending::NoHead,
     }
 }
 
@@ -47,37 +46,9 @@ fn junk_at(stage: &Stage) -> u64
     ensures { IsJunkAt stage.now result }
 {
     match stage {
-        Stage::Head(_) => 0,
-        Stage::Over => 0,
         Stage::Source { mount: _, session } => session.junk(),
         Stage::Relay { mount: _, session } => session.junk(),
-        Stage::Rover {
-            account: _,
-            session: _,
-        } => 0,
-    }
-}
-
-/// What is told of a connection that was no rover.
-fn without_segments(alloc: Global, ending: Ending, junk: u64, settled: bool) -> Receipt
-    ensures { result ≡ record {
-      ending = ending;
-      segments = [];
-      sent = 0;
-      overrun = 0;
-      junk = junk;
-      entered = false;
-      settled = settled;
-    } }
-{
-    Receipt {
-        ending,
-        segments: Segments::new(Vec::new(alloc)),
-        sent: 0,
-        overrun: 0,
-        junk,
-        entered: false,
-        settled,
+        _ => 0,
     }
 }
 
@@ -99,17 +70,26 @@ pub(crate) fn receipt_of(
 {
     let ending = ended.unwrap_or(ending_last(&stage, last));
     let junk = junk_at(&stage);
+    let told = Receipt {
+        ending,
+        segments: Segments::new(Vec::new(alloc)),
+        sent: 0,
+        overrun: 0,
+        junk,
+        entered: false,
+        settled,
+    };
     match stage {
-        Stage::Head(_head) => without_segments(alloc, ending, junk, settled),
-        Stage::Over => without_segments(alloc, ending, junk, settled),
+        Stage::Head(_head) => told,
+        Stage::Over => told,
         Stage::Source {
             mount: _mount,
             session: _session,
-        } => without_segments(alloc, ending, junk, settled),
+        } => told,
         Stage::Relay {
             mount: _mount,
             session: _session,
-        } => without_segments(alloc, ending, junk, settled),
+        } => told,
         Stage::Rover {
             account: _account,
             session,

@@ -16,14 +16,13 @@ ghost use Rattle.session_model.specs.Setting.{caps, shapes};
 ghost use Rattle.session_model.specs.Setting as setting;
 ghost use Rattle.session_core.specs.Turned.{flow_of};
 ghost use Rattle.session_core.specs.Standing.{Fed, Follows, Stands, StandsFor};
-ghost use Rattle.session_core.specs.Begun.{StartsAs};
 ghost use Rattle.session_core.specs.Setups.{IsSetUp};
 ghost use Rattle.session_core.specs.Places.{Stay, seen_in, alone_in, worn_in};
 
-use crate::begun::{Begun, refuse};
+use crate::begun::{Begun, finish};
 use crate::ending::Flow;
 use crate::head::take_head;
-use crate::judging::begin_head;
+use crate::judging::{begin_request, refused_head};
 use crate::places::Places;
 use crate::rovers::halted;
 use crate::session::Session;
@@ -33,10 +32,11 @@ use crate::turning::flow_after;
 use cast_config::Config;
 use caster_accounts::Book;
 use mount_ring::Ring;
-use ntrip_head::{HeadBuf, HeadStep, Version};
+use ntrip_head::{HeadBuf, HeadError, HeadStep, Version, read_head};
 use ntrip_reply::Reply;
 use session_model::Ending;
 use source_session::SourceHalt;
+use std::mem;
 use turn_log::Turns;
 use upstream_relay::RelayHalt;
 
@@ -83,8 +83,8 @@ fn ended_relay(claim: Option<u64>, fed: Result<(), RelayHalt>) -> Option<Ending>
     }
 }
 
-/// What becomes of a connection whose head these bytes end, which are whole or too long.
-fn begin_taken<T: Turns<Ring>, B: Turns<Book>>(
+/// What becomes of a connection whose head is whole or too long.
+fn begin<T: Turns<Ring>, B: Turns<Book>>(
     setup: &Setup,
     head: &HeadBuf,
     step: HeadStep,
@@ -102,16 +102,21 @@ fn begin_taken<T: Turns<Ring>, B: Turns<Book>>(
     ensures begun { HasBegunFor setup.now.config.now (alone_in T.Turns B.Turns places.old)
         (seen_in T.Turns B.Turns places.old) (seen_in T.Turns B.Turns places.new) setup.now.me
         head.now result.stage result.ended out.old.items out.new.items }
-    ensures starts { StartsAs result.stage result.ended }
     ensures cause { IfSome result.ended (IsCause (worn_in T.Turns B.Turns places.new)) }
 {
     match step {
         HeadStep::More => unreachable!(),
-        HeadStep::Done => begin_head(setup, head.bytes(), places, out),
         HeadStep::Long => {
-            let (reply, ending) = (Reply::BadHead, Ending::LongHead);
-            refuse(Some(Version::One), reply, ending, setup.table, out)
+            let last = (Reply::BadHead, Ending::LongHead);
+            finish(Some(Version::One), last, setup.table, out)
         }
+        HeadStep::Done => match read_head(setup.alloc, head.bytes()) {
+            Ok(request) => begin_request(setup, &request, places, out),
+            Err(HeadError::Refused(fault)) => {
+                finish(Some(Version::One), refused_head(fault), setup.table, out)
+            }
+            Err(HeadError::Memory) => Begun::over(Ending::Memory),
+        },
     }
 }
 
@@ -157,19 +162,6 @@ impl Session {
                 self.ended = halted(session.feed(bytes, places.rings.as_mut_slice()));
             }
         }
-    }
-
-    /// Is what became of it once its head was whole.
-    fn go_on_as(&mut self, begun: Begun)
-        ensures { self.new ≡ record {
-          alloc = self.old.alloc;
-          me = self.old.me;
-          stage = begun.stage;
-          ended = begun.ended;
-        } }
-    {
-        self.stage = begun.stage;
-        self.ended = begun.ended;
     }
 
     /// Takes bytes that came in. Where they end the head, the connection is judged by it: it is
@@ -222,8 +214,9 @@ impl Session {
             table,
             me: self.me,
         };
-        let begun = begin_taken(&setup, head, step, places, out);
-        self.go_on_as(begun);
+        let begun = begin(&setup, head, step, places, out);
+        drop(mem::replace(&mut self.stage, begun.stage));
+        self.ended = begun.ended;
         if self.ended.is_some() {
             return Flow::Ended;
         }

@@ -1,24 +1,28 @@
 //! How a rover begins.
 
-ghost use Rattle.std.specs.Prelude.{◌≡◌, ℕ, ◌+◌, ◌<◌, ◌≤◌, ◌++◌, IsTrue, List, [], map, unwrap_or, vec_len, vec_capacity, Ok, Err, IfNone, IfOk, IfSome, OnOk, option_to_list, slice_get};
+ghost use Rattle.std.specs.Prelude.{◌≡◌, ℕ, ◌+◌, ◌<◌, ◌≤◌, ◌++◌, Bool, IsTrue, List, [], length, map, unwrap_or, vec_len, vec_capacity, Ok, Err, IfNone, IfOk, IfSome, OnOk, option_to_list, slice_get};
 ghost use Rattle.std.specs.Result.{result_err};
 ghost use Rattle.base_select.specs.Measure.{IsOnEarth};
-ghost use Rattle.session_calls.specs.Rings.{AllSpeak};
-ghost use Rattle.rover_session.specs.Standing.{IsNew};
+ghost use Rattle.session_calls.specs.Rings.{AllSpeak, all_alone};
+ghost use Rattle.rover_session.specs.Standing.{AreWithin, IsNew, KnowsFilter};
 ghost use Rattle.ntrip_head.specs.declared.request.Version.TheVariants.{One};
 ghost use Rattle.ntrip_head.specs.declared.request.Auth.{Auth as AuthValue};
+ghost use Rattle.cast_config.specs.declared.config.Config.{Config as ConfigValue};
 ghost use Rattle.cast_config.specs.Kept.{KeepsRules};
+ghost use Rattle.access_groups.specs.declared.admission.Admission.{Admission as AdmissionValue};
 ghost use Rattle.access_groups.specs.Admission.{admission as admission_of};
 ghost use Rattle.session_model.specs.Setting.{shapes, caps};
 ghost use Rattle.session_model.specs.Setting as setting;
 ghost use Rattle.session_model.specs.Judged.{rover_judged};
 ghost use Rattle.session_model.specs.Owed.{terms_of};
 ghost use Rattle.session_model.specs.Replies.{text_if};
+ghost use Rattle.session_model.specs.Run.{Histories};
 ghost use Rattle.session_model.specs.Called.{IsCause};
 ghost use Rattle.session_core.specs.Beginnings.{end_unentered, ended_joining};
-ghost use Rattle.session_core.specs.Begun.{BeginsFor, StartsAs};
+ghost use Rattle.session_core.specs.Begun.{BeginsFor};
+ghost use Rattle.session_core.specs.Entries.{HasEntered};
 ghost use Rattle.session_core.specs.Setups.{IsSetUpFor};
-ghost use Rattle.session_core.specs.Places.{Stay, seen_in, alone_in, worn_in};
+ghost use Rattle.session_core.specs.Places.{Stay, StayAtRings, seen_in, alone_in, worn_in};
 
 use crate::begun::{Begun, REPLY_ROOM, push_reply};
 use crate::book::{Entry, enter};
@@ -78,13 +82,14 @@ fn bases_of(alloc: Global, config: &Config, numbers: &[u32]) -> Result<Vec<Base>
     Ok(bases)
 }
 
-/// The session of a rover that is admitted, before its first call.
+/// The session of a rover that is admitted, before its first call. Room for its reply is reserved.
 fn new_session(
     alloc: Global,
     config: &Config,
     me: u32,
     version: Option<Version>,
     admission: &Admission,
+    out: &mut Vec<u8>,
 ) -> Result<RoverSession, AllocError>
     requires kept { (cap : ℕ) × KeepsRules cap config.now }
     requires admitted { (auth : AuthValue) × (name : List ℕ)
@@ -95,7 +100,10 @@ fn new_session(
         session.version ≡ unwrap_or version One) }
     ensures terms { IfOk result (λ session.
         session.terms ≡ terms_of config.now admission.now) }
+    ensures room { OnOk result (vec_len out.new + 256 ≤ vec_capacity out.new) }
+    ensures unsent { out.new.items ≡ out.old.items }
 {
+    out.reserve(REPLY_ROOM)?;
     let bases = bases_of(alloc, config, admission.bases.as_slice())?;
     RoverSession::new(
         alloc,
@@ -140,6 +148,39 @@ fn turn_away(version: Option<Version>, busy: u32, cap: u32, out: &mut Vec<u8>) -
     Begun::over(Ending::Full { busy, cap })
 }
 
+/// A rover that entered its account is told so, and joins.
+fn join<T: Turns<Ring>>(
+    account: u32,
+    mut session: RoverSession,
+    version: Option<Version>,
+    first: Option<Position>,
+    rings: &mut [T],
+    out: &mut Vec<u8>,
+) -> Begun
+    requires room { vec_len out.old + 256 ≤ vec_capacity out.old }
+    requires new { IsNew session }
+    requires within { AreWithin (length rings.old) session.terms.bases }
+    requires filter { KnowsFilter (map T.shape rings.old) session.terms.filter }
+    requires first { IfSome first IsOnEarth }
+    requires speaks { AllSpeak T.speaks rings.old session.me }
+    ensures stay { StayAtRings T.Turns rings.old rings.new }
+    ensures begins { (c : ConfigValue) (alone : Bool) (old now : Histories) (me : ℕ)
+        (a : AdmissionValue) → map T.shape rings.old ≡ shapes c
+        → (IsTrue alone → IsTrue (all_alone T.alone rings.old)) → map T.seen rings.old ≡ old.rings
+        → map T.seen rings.new ≡ now.rings → HasEntered c alone old now me version a account session
+        → BeginsFor c alone old now me (rover_judged version first [] (Ok a)) result.stage
+        result.ended out.old.items out.new.items }
+    ensures untold { IfNone version (out.new.items ≡ out.old.items) }
+    ensures cause { IfSome result.ended (IsCause (map T.worn rings.new)) }
+{
+    push_reply(version, Reply::RoverOk, out);
+    let joined = session.start(first, rings);
+    Begun {
+        stage: Stage::Rover { account, session },
+        ended: halted(joined),
+    }
+}
+
 /// Lets a rover in that is admitted: it enters its account, is replied to, and joins.
 pub(crate) fn begin_rover<T: Turns<Ring>, B: Turns<Book>>(
     setup: &Setup,
@@ -163,27 +204,25 @@ pub(crate) fn begin_rover<T: Turns<Ring>, B: Turns<Book>>(
         (rover_judged version first [] (Ok admission.now)) result.stage result.ended out.old.items
         out.new.items }
     ensures untold { IfNone version (out.new.items ≡ out.old.items) }
-    ensures starts { StartsAs result.stage result.ended }
     ensures cause { IfSome result.ended (IsCause (worn_in T.Turns B.Turns places.new)) }
 {
-    let Ok(mut session) = new_session(setup.alloc, setup.config, setup.me, version, admission)
-    else {
-        return Begun::over(Ending::Memory);
-    };
-    let Ok(()) = out.reserve(REPLY_ROOM) else {
+    let (alloc, config, me) = (setup.alloc, setup.config, setup.me);
+    let Ok(session) = new_session(alloc, config, me, version, admission, out) else {
         return Begun::over(Ending::Memory);
     };
     let account = admission.account;
     match enter(&mut places.book, setup.me, account) {
         Ok(Entry::Entered) => {
-            push_reply(version, Reply::RoverOk, out);
-            let joined = session.start(first, places.rings.as_mut_slice());
-            Begun {
-                stage: Stage::Rover { account, session },
-                ended: halted(joined),
-            }
+            let rings = places.rings.as_mut_slice();
+            join(account, session, version, first, rings, out)
         }
-        Ok(Entry::Full { busy, cap }) => turn_away(version, busy, cap, out),
-        Err(fault) => Begun::over(unentered(fault)),
+        Ok(Entry::Full { busy, cap }) => {
+            drop(session);
+            turn_away(version, busy, cap, out)
+        }
+        Err(fault) => {
+            drop(session);
+            Begun::over(unentered(fault))
+        }
     }
 }

@@ -33,7 +33,7 @@ use turn_log::Turns;
 use upstream_relay::RelaySession;
 
 /// One connection: the bytes that come in on it are fed to it, and what is to be sent it appends.
-#[derive(Debug, Drop)]
+#[derive(Drop)]
 pub struct Session {
     pub(crate) alloc: Global,
     pub(crate) me: u32,

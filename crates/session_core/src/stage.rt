@@ -4,7 +4,7 @@ use source_session::SourceSession;
 use upstream_relay::RelaySession;
 
 /// How far a connection is.
-#[derive(Debug, Drop)]
+#[derive(Drop)]
 pub enum Stage {
     /// Its head is awaited.
     Head(HeadBuf),

@@ -53,20 +53,11 @@ fn turn_at<T: Turns<Ring>>(
     ensures cause { IfSome result (IsCause (map T.worn rings.new)) }
 {
     match stage {
-        Stage::Head(_) => None,
-        Stage::Over => None,
-        Stage::Source {
-            mount: _mount,
-            session: _session,
-        } => None,
-        Stage::Relay {
-            mount: _mount,
-            session: _session,
-        } => None,
         Stage::Rover {
             account: _account,
             session,
         } => halted(session.turn(budget, rings, out)),
+        _ => None,
     }
 }
 

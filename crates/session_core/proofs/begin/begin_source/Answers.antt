@@ -48,7 +48,7 @@ returns-in-Ok-claim-clause-begins g c config same =
     (holding_picked g.T.Turns rings c.args.mount c.claim.new.place c.args.me c.in-Ok-claim.session.claim
     c.requires.within told.holds)
     told.begins.stands told.begins.goes_on told.begins.caller told.begins.coded
-    (c.push_reply.ensures ∙ ap (λ (l : List ℕ). l ++ text_if c.args.version SourceOk []) c.reserve.ensures.items)
+    (c.push_reply.ensures ∙ ap (λ (l : List ℕ). l ++ text_if c.args.version SourceOk []) c.new_cutter.ensures.unsent)
 
 pub returns-in-Err-clause-stay : goal.returns-in-Err-clause-stay
 returns-in-Err-clause-stay g c = record {
@@ -74,7 +74,7 @@ returns-in-Err-clause-begins g c config same =
     c.requires.within c.index_mut.ensures.value c.in-Err.ensures.unclaimed))
     c.unclaimed.ensures.stage c.unclaimed.ensures.ended
     (c.unclaimed.ensures.sent ∙ ap (λ (l : List ℕ). l ++ text_unclaimed c.args.version c.in-Err.fault)
-    c.reserve.ensures.items)
+    c.new_cutter.ensures.unsent)
 
 pub returns-in-Err-clause-cause : goal.returns-in-Err-clause-cause
 returns-in-Err-clause-cause g c =

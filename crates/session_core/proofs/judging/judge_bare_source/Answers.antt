@@ -1,9 +1,10 @@
 use Rattle.std.proofs.Common.{◌∙◌, ℕ, [], length, sym, ap, subst, arith, Result, None, false}
 use Rattle.std.proofs.lemmas.List.{length-map}
 use Rattle.access_groups.specs.declared.admission.SourceDenial.{SourceDenial}
-use Rattle.session_model.specs.Judged.{source_judged}
+use Rattle.session_model.specs.Judged.{Judged, source_judged}
 use Rattle.session_core.specs.Places.{alone_in, seen_in, worn_in}
 use Rattle.session_core.specs.Begun.{BeginsFor}
+use Rattle.session_core.proofs.BegunLemmas.{denied_source_cause}
 use Rattle.session_core.proofs.HeldLemmas.{length_shapes}
 use Rattle.session_core.proofs.judging.judge_bare_source.Goals as goal
 
@@ -27,12 +28,17 @@ returns-in-Ok-clause-begins g c =
 
 pub returns-in-Err-clause-begins : goal.returns-in-Err-clause-begins
 returns-in-Err-clause-begins g c =
+    let config = c.args.config.now in
     let alone = alone_in g.T.Turns g.B.Turns c.args.places.now in
     let seen = seen_in g.T.Turns g.B.Turns c.args.places.now in
-    subst (λ (answer : Result ℕ SourceDenial). BeginsFor c.args.config.now alone seen seen c.args.me
-    (source_judged None false [] answer) c.deny_source.result.stage c.deny_source.result.ended
-    c.args.out.now.items c.deny_source.new.out.items) (sym (sym c.admit_bare.ensures.value ∙ c.in-Err.is))
-    (c.deny_source.ensures.begins c.args.config.now alone seen c.args.me false tt)
+    subst (λ (j : Judged). BeginsFor config alone seen seen c.args.me j c.finish.result.stage
+    c.finish.result.ended c.args.out.now.items c.finish.new.out.items)
+    (c.denied_source.ensures None false ∙ ap (source_judged None false [])
+    (sym (sym c.admit_bare.ensures.value ∙ c.in-Err.is)))
+    (c.finish.ensures.begins config alone seen c.args.me tt)
 
 pub returns-in-Err-clause-cause : goal.returns-in-Err-clause-cause
-returns-in-Err-clause-cause g c = c.deny_source.ensures.cause (worn_in g.T.Turns g.B.Turns c.args.places.now)
+returns-in-Err-clause-cause g c =
+    let worn = worn_in g.T.Turns g.B.Turns c.args.places.now in
+    c.finish.ensures.cause worn (denied_source_cause worn c.in-Err.denial _ c.denied_source.result.1
+    (c.denied_source.ensures None false))

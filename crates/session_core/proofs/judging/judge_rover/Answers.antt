@@ -1,10 +1,8 @@
-use Rattle.std.proofs.Common.{rules, [], Result, subst, sym}
-use Rattle.access_groups.specs.declared.admission.Admission.{Admission}
-use Rattle.access_groups.specs.declared.admission.Denial.{Denial}
-use Rattle.session_model.specs.Judged.{rover_judged}
-use Rattle.session_core.specs.Beginnings.{worn_at}
+use Rattle.std.proofs.Common.{◌∙◌, rules, [], None, ap, sym, subst}
+use Rattle.session_model.specs.Judged.{Judged, rover_judged}
 use Rattle.session_core.specs.Begun.{BeginsFor}
-use Rattle.session_core.specs.Places.{alone_in, seen_in}
+use Rattle.session_core.specs.Places.{alone_in, seen_in, worn_in}
+use Rattle.session_core.proofs.BegunLemmas.{denied_cause}
 use Rattle.session_core.proofs.judging.judge_rover.Goals as goal
 
 pub returns-in-Err-Denied-clause-begins : goal.returns-in-Err-Denied-clause-begins
@@ -13,12 +11,12 @@ returns-in-Err-Denied-clause-begins g c =
     let alone = alone_in g.T.Turns g.B.Turns c.args.places.now in
     let old = seen_in g.T.Turns g.B.Turns c.args.places.now in
     let is = rw c.in-Err-Denied.field-0-is at c.in-Err-Denied.ensures in
-    let begins = rw c.in-Err-Denied.field-0-is at
-    (c.deny.ensures.begins config alone old c.args.setup.now.me c.args.first (search rules)) in
-    subst (λ (answer : Result Admission Denial). BeginsFor config alone old old c.args.setup.now.me
-    (rover_judged c.args.version c.args.first [] answer) c.deny.result.stage c.deny.result.ended c.args.out.now.items
-    c.deny.new.out.items) (sym is) begins
+    subst (λ (j : Judged). BeginsFor config alone old old c.args.setup.now.me j c.finish.result.stage
+    c.finish.result.ended c.args.out.now.items c.finish.new.out.items)
+    ((rw c.in-Err-Denied.field-0-is at (c.denied.ensures c.args.version c.args.first)) ∙ ap (rover_judged c.args.version c.args.first []) (sym is))
+    (c.finish.ensures.begins config alone old c.args.setup.now.me (search rules))
 
 pub returns-in-Err-Denied-clause-cause : goal.returns-in-Err-Denied-clause-cause
 returns-in-Err-Denied-clause-cause g c =
-    c.deny.ensures.cause (worn_at g.T.Turns.worn g.B.Turns.worn c.args.places.now.rings.items c.args.places.now.book)
+    let worn = worn_in g.T.Turns g.B.Turns c.args.places.now in
+    c.finish.ensures.cause worn (denied_cause worn _ _ c.denied.result.1 (c.denied.ensures None None))

@@ -1,4 +1,4 @@
-use Rattle.std.proofs.Common.{◌≡◌, ◌∙◌, ◌++◌, ◌<◌, ℕ, IsTrue, List, [], length, map, refl, sym, ap, subst, arith, Option, Some}
+use Rattle.std.proofs.Common.{◌≡◌, ◌∙◌, ◌++◌, ◌<◌, ℕ, IsTrue, List, [], length, map, refl, sym, ap, subst, arith, Some, Ok}
 use Rattle.std.proofs.lemmas.Bool.{and_parts}
 use Rattle.std.proofs.lemmas.List.{length-map}
 use Rattle.mount_ring.specs.declared.shape.RingShape.{RingShape}
@@ -10,18 +10,14 @@ use Rattle.session_calls.specs.Rings.{all_alone}
 use Rattle.session_model.specs.Setting.{shapes, bases_at}
 use Rattle.session_model.specs.Replies.{text_if}
 use Rattle.caster_accounts.specs.History.{may_leave}
-use Rattle.rover_session.specs.Standing.{IsResumable, frames_sent}
 use Rattle.session_calls.proofs.PlaceLemmas.{length_same}
-use Rattle.session_model.specs.declared.ending.Ending.{Ending}
-use Rattle.session_core.specs.declared.stage.Stage.TheVariants as stages
-use Rattle.session_model.specs.Judged.{rover}
+use Rattle.session_model.specs.Judged.{rover_judged}
 use Rattle.session_model.specs.Run.{Histories}
-use Rattle.session_core.specs.Beginnings.{ended_joining}
 use Rattle.session_core.specs.Begun.{BeginsFor}
 use Rattle.session_model.specs.Called.{alone_at, seen_at}
 use Rattle.session_core.proofs.HeldLemmas.{length_shapes}
 use Rattle.session_core.proofs.AdmittedLemmas.{IsReady, is_ready}
-use Rattle.session_core.proofs.EnteredLemmas.{heard_as, back_whole, entered_back, worn_back, told_as, called_none_by, begins_entered, begins_full, begins_unentered, cause_joined, cause_unentered}
+use Rattle.session_core.proofs.EnteredLemmas.{heard_as, back_whole, entered_back, worn_back, called_none_by, begins_full, begins_unentered, cause_left, cause_unentered}
 use Rattle.session_core.proofs.rovers.begin_rover.Goals as goal
 
 pub enter-requires-clause-known : goal.enter-requires-clause-known
@@ -30,29 +26,29 @@ enter-requires-clause-known g c =
     is_ready c.args.setup.now.config.now c.args.admission.now c.requires.ready.kept c.requires.admitted in
     subst (λ (l : List ℕ). c.args.admission.now.account < length l) (sym c.requires.caps) ready.account
 
-pub start-joined-requires-clause-within : goal.start-joined-requires-clause-within
-start-joined-requires-clause-within g c =
+pub join-requires-clause-within : goal.join-requires-clause-within
+join-requires-clause-within g c =
     let ready : IsReady c.args.setup.now.config.now c.args.admission.now (bases_at c.args.setup.now.config.now c.args.admission.now.bases) =
     is_ready c.args.setup.now.config.now c.args.admission.now c.requires.ready.kept c.requires.admitted in
-    let long : length c.args.setup.now.config.now.mount ≡ length c.as_mut_slice.result.now =
+    let long : length c.args.setup.now.config.now.mount ≡ length c.as_mut_slice-rings.result.now =
     omega (
       arith,
       length_shapes c.args.setup.now.config.now,
       ap length c.requires.shapes,
       length-map c.args.places.now.rings.items g.T.Turns.shape,
-      ap length c.as_mut_slice.ensures.value,
+      ap length c.as_mut_slice-rings.ensures.value,
     ) in
-    subst (λ (l : List Base). AreWithin (length c.as_mut_slice.result.now) l)
+    subst (λ (l : List Base). AreWithin (length c.as_mut_slice-rings.result.now) l)
     (sym (ap (λ (t : Terms). t.bases) c.in-Ok.ensures.terms))
     (subst (λ (n : ℕ). AreWithin n (bases_at c.args.setup.now.config.now c.args.admission.now.bases)) long ready.within)
 
-pub start-joined-requires-clause-filter : goal.start-joined-requires-clause-filter
-start-joined-requires-clause-filter g c =
+pub join-requires-clause-filter : goal.join-requires-clause-filter
+join-requires-clause-filter g c =
     let ready : IsReady c.args.setup.now.config.now c.args.admission.now (bases_at c.args.setup.now.config.now c.args.admission.now.bases) =
     is_ready c.args.setup.now.config.now c.args.admission.now c.requires.ready.kept c.requires.admitted in
-    let same : shapes c.args.setup.now.config.now ≡ map g.T.Turns.shape c.as_mut_slice.result.now =
-    sym (ap (map g.T.Turns.shape) c.as_mut_slice.ensures.value ∙ c.requires.shapes) in
-    subst (λ (n : ℕ). KnowsFilter (map g.T.Turns.shape c.as_mut_slice.result.now) n)
+    let same : shapes c.args.setup.now.config.now ≡ map g.T.Turns.shape c.as_mut_slice-rings.result.now =
+    sym (ap (map g.T.Turns.shape) c.as_mut_slice-rings.ensures.value ∙ c.requires.shapes) in
+    subst (λ (n : ℕ). KnowsFilter (map g.T.Turns.shape c.as_mut_slice-rings.result.now) n)
     (sym (ap (λ (t : Terms). t.filter) c.in-Ok.ensures.terms))
     (subst (λ (s : List RingShape). KnowsFilter s c.args.admission.now.group) same ready.filter)
 
@@ -74,7 +70,7 @@ returns-in-Ok-Full-clause-begins g c =
     (rw c.in-Ok-Full.field-0-is at c.in-Ok-Full.ensures.heard))
     refl c.turn_away.ensures.stage c.turn_away.ensures.ended
     (c.turn_away.ensures.sent ∙ ap (λ (l : List ℕ). l ++ text_if c.args.version replies.Full [])
-    c.reserve.ensures.items)
+    c.new_session.ensures.unsent)
 
 pub returns-in-Err-clause-cause : goal.returns-in-Err-clause-cause
 returns-in-Err-clause-cause g c =
@@ -89,72 +85,57 @@ returns-in-Err-clause-begins g c =
     (seen_at g.T.Turns.seen g.B.Turns.seen c.args.places.now.rings.items c.args.places.now.book)
     (seen_at g.T.Turns.seen g.B.Turns.seen c.args.places.now.rings.items c.enter.new.book) c.args.setup.now.me
     (record { version = c.args.version; admission = c.args.admission.now; first = c.args.first }) c.in-Err.fault
-    c.over-in-Err.result.stage c.over-in-Err.result.ended c.args.out.now.items c.reserve.new.self.items
+    c.over-in-Err.result.stage c.over-in-Err.result.ended c.args.out.now.items c.new_session.new.out.items
     (called_none_by c.args.setup.now.config.now alone (map g.T.Turns.seen c.args.places.now.rings.items)
     (g.B.Turns.seen c.args.places.now.book) (g.B.Turns.seen c.enter.new.book) c.args.setup.now.me c.in-Err.ensures.err)
-    c.over-in-Err.ensures.stage (c.over-in-Err.ensures.ended ∙ ap Some c.unentered.ensures) c.reserve.ensures.items
+    c.over-in-Err.ensures.stage (c.over-in-Err.ensures.ended ∙ ap Some c.unentered.ensures) c.new_session.ensures.unsent
 
 pub returns-in-Ok-Entered-clause-cause : goal.returns-in-Ok-Entered-clause-cause
 returns-in-Ok-Entered-clause-cause g c =
     let items = c.args.places.now.rings.items in
-    let new = c.start-joined.new.places in
+    let new = c.join.new.rings in
     let long : length new ≡ length items =
-    length_same g.T.Turns.shape c.as_mut_slice.result.now new c.start-joined.ensures.stay.same.0
-    ∙ ap length c.as_mut_slice.ensures.value in
-    worn_back g.T.Turns.worn g.B.Turns.worn new items c.args.places.now.rings.len c.enter.new.book c.halted.result
+    length_same g.T.Turns.shape c.as_mut_slice-rings.result.now new c.join.ensures.stay.same.0
+    ∙ ap length c.as_mut_slice-rings.ensures.value in
+    worn_back g.T.Turns.worn g.B.Turns.worn new items c.args.places.now.rings.len c.enter.new.book c.join.result.ended
     (back_whole new items c.args.places.now.rings.len long (omega (arith, c.args.places.now.rings.ok)))
-    (cause_joined (map g.T.Turns.worn new) (g.B.Turns.worn c.enter.new.book) c.start-joined.result c.halted.result
-    c.halted.ensures c.start-joined.ensures.cause)
+    (cause_left (map g.T.Turns.worn new) (g.B.Turns.worn c.enter.new.book) c.join.result.ended c.join.ensures.cause)
 
 pub returns-in-Ok-Entered-clause-begins : goal.returns-in-Ok-Entered-clause-begins
 returns-in-Ok-Entered-clause-begins g c =
     let items = c.args.places.now.rings.items in
-    let new = c.start-joined.new.places in
-    let alone = alone_at g.T.Turns.alone g.B.Turns.alone items c.args.places.now.book in
+    let book = c.args.places.now.book in
+    let new = c.join.new.rings in
+    let there = c.as_mut_slice-rings.ensures.value in
+    let alone = alone_at g.T.Turns.alone g.B.Turns.alone items book in
     let config = c.args.setup.now.config.now in
-    let session = c.start-joined.new.self in
-    let shaped : map g.T.Turns.shape c.as_mut_slice.result.now ≡ shapes config =
-    ap (map g.T.Turns.shape) c.as_mut_slice.ensures.value ∙ c.requires.shapes in
+    let me = c.args.setup.now.me in
+    let account = c.args.admission.now.account in
+    let old : Histories = seen_at g.T.Turns.seen g.B.Turns.seen items book in
     let long : length new ≡ length items =
-    length_same g.T.Turns.shape c.as_mut_slice.result.now new c.start-joined.ensures.stay.same.0
-    ∙ ap length c.as_mut_slice.ensures.value in
-    let halts : c.halted.result ≡ ended_joining session.halt =
-    c.halted.ensures ∙ ap ended_joining (sym c.start-joined.ensures.halt) in
+    length_same g.T.Turns.shape c.as_mut_slice-rings.result.now new c.join.ensures.stay.same.0 ∙ ap length there in
     entered_back g.T.Turns.seen g.B.Turns.seen new items c.args.places.now.rings.len c.enter.new.book
-    (λ (h : Histories). BeginsFor config alone
-    (seen_at g.T.Turns.seen g.B.Turns.seen items c.args.places.now.book) h c.args.setup.now.me
-    (rover (record { version = c.args.version; admission = c.args.admission.now; first = c.args.first }) [])
-    (stages.Rover c.args.admission.now.account session) c.halted.result c.args.out.now.items c.push_reply.new.out.items)
+    (λ (h : Histories). BeginsFor config alone old h me
+    (rover_judged c.args.version c.args.first [] (Ok c.args.admission.now)) c.join.result.stage c.join.result.ended
+    c.args.out.now.items c.join.new.out.items)
     (back_whole new items c.args.places.now.rings.len long (omega (arith, c.args.places.now.rings.ok)))
-    (subst (λ (e : Option Ending). BeginsFor config alone
-    (seen_at g.T.Turns.seen g.B.Turns.seen items c.args.places.now.book)
-    (seen_at g.T.Turns.seen g.B.Turns.seen new c.enter.new.book) c.args.setup.now.me
-    (rover (record { version = c.args.version; admission = c.args.admission.now; first = c.args.first }) [])
-    (stages.Rover c.args.admission.now.account session) e c.args.out.now.items c.push_reply.new.out.items) (sym halts)
-    (begins_entered config alone (seen_at g.T.Turns.seen g.B.Turns.seen items c.args.places.now.book)
-    (seen_at g.T.Turns.seen g.B.Turns.seen new c.enter.new.book) c.args.setup.now.me
-    (record { version = c.args.version; admission = c.args.admission.now; first = c.args.first }) session
-    c.args.out.now.items c.push_reply.new.out.items
-    (heard_as config (g.B.Turns.shape c.args.places.now.book) alone (g.B.Turns.alone c.args.places.now.book)
-    (g.B.Turns.seen c.args.places.now.book) (g.B.Turns.seen c.enter.new.book) c.args.setup.now.me _ c.requires.caps
-    (λ both. (and_parts (all_alone g.T.Turns.alone items) (g.B.Turns.alone c.args.places.now.book) both).1)
-    (rw c.in-Ok-Entered.field-0-is at c.in-Ok-Entered.ensures.heard))
-    (subst (λ (l : List ℕ). IsTrue (may_leave l (g.B.Turns.seen c.enter.new.book) c.args.setup.now.me
-    c.args.admission.now.account))
-    c.requires.caps (c.in-Ok-Entered.ensures.inside c.in-Ok-Entered.field-0-is))
-    (told_as g.T.Turns.shape g.T.Turns.alone g.T.Turns.seen config alone c.as_mut_slice.result.now items new
-    session c.args.first c.as_mut_slice.ensures.value c.requires.shapes
-    (λ both. (and_parts (all_alone g.T.Turns.alone items) (g.B.Turns.alone c.args.places.now.book) both).0)
-    c.start-joined.ensures.told)
-    (c.start-joined.ensures.admission.1 ∙ c.in-Ok.ensures.me) (c.start-joined.ensures.admission.2 ∙
-    c.in-Ok.ensures.terms)
-    (c.start-joined.ensures.admission.0 ∙ c.in-Ok.ensures.version)
-    (subst (λ (m : ℕ). IsResumable (shapes config) m (map g.T.Turns.seen new)
-    session.segments) c.in-Ok.ensures.me
-    (subst (λ (s : List RingShape). IsResumable s c.in-Ok.session.me (map g.T.Turns.seen new)
-    session.segments)
-    shaped c.start-joined.ensures.sent.resumable))
-    (subst (λ (s : List RingShape). frames_sent s (map g.T.Turns.seen new) session.segments ≡ []) shaped
-    c.start-joined.ensures.sent.sent)
-    (c.push_reply.ensures ∙ ap (λ (l : List ℕ). l ++ text_if c.args.version replies.RoverOk [])
-    c.reserve.ensures.items)))
+    (subst (λ (l : List ℕ). BeginsFor config alone old (seen_at g.T.Turns.seen g.B.Turns.seen new c.enter.new.book) me
+    (rover_judged c.args.version c.args.first [] (Ok c.args.admission.now)) c.join.result.stage c.join.result.ended
+    l c.join.new.out.items) c.new_session.ensures.unsent
+    (c.join.ensures.begins config alone old (seen_at g.T.Turns.seen g.B.Turns.seen new c.enter.new.book) me
+    c.args.admission.now (ap (map g.T.Turns.shape) there ∙ c.requires.shapes)
+    (λ both. ap (all_alone g.T.Turns.alone) there
+    ∙ (and_parts (all_alone g.T.Turns.alone items) (g.B.Turns.alone book) both).0)
+    (ap (map g.T.Turns.seen) there) refl
+    (record {
+      account_is = refl;
+      entered = heard_as config (g.B.Turns.shape book) alone (g.B.Turns.alone book) (g.B.Turns.seen book)
+          (g.B.Turns.seen c.enter.new.book) me _ c.requires.caps
+          (λ both. (and_parts (all_alone g.T.Turns.alone items) (g.B.Turns.alone book) both).1)
+          (rw c.in-Ok-Entered.field-0-is at c.in-Ok-Entered.ensures.heard);
+      inside = subst (λ (l : List ℕ). IsTrue (may_leave l (g.B.Turns.seen c.enter.new.book) me account))
+          c.requires.caps (c.in-Ok-Entered.ensures.inside c.in-Ok-Entered.field-0-is);
+      caller = c.in-Ok.ensures.me;
+      terms_are = c.in-Ok.ensures.terms;
+      version_is = c.in-Ok.ensures.version;
+    })))

@@ -3,9 +3,7 @@ use Rattle.std.proofs.Common.{◌≡◌, ◌∙◌, ◌-◌, ◌++◌, List, ℕ
 use Rattle.std.proofs.lemmas.List.{take_all}
 use Rattle.ntrip_head.specs.declared.buffer.HeadStep.TheVariants.{More}
 use Rattle.ntrip_client.specs.Steps.{IsStep}
-use Rattle.session_calls.specs.Rings.{AllSpeak}
 use Rattle.session_calls.proofs.PlaceLemmas.{speak_same}
-use Rattle.session_core.specs.Begun.{StartsAs}
 use Rattle.session_core.specs.declared.session.Session.{Session}
 use Rattle.session_core.specs.declared.stage.Stage.TheVariants.{Head}
 use Rattle.session_core.specs.Feeding.{FedOn}
@@ -48,8 +46,8 @@ pub returns-then-is_some-clause-fed : goal.returns-then-is_some-clause-fed
 returns-then-is_some-clause-fed g c = λ opening text steps histories sent stands others.
     let config = c.args.config.now in
     let was = c.args.self.now in
-    let begun = c.begin_taken-begun in
-    let session = c.go_on_as.new.self in
+    let begun = c.begin-begun in
+    let session : Session = record c.args.self.now { stage = c.replace.new.dest; ended = begun.result.ended } in
     let old = seen_in g.T.Turns g.B.Turns c.args.places.now in
     let now = seen_in g.T.Turns g.B.Turns begun.new.places in
     let alone = alone_in g.T.Turns g.B.Turns c.args.places.now in
@@ -59,38 +57,35 @@ returns-then-is_some-clause-fed g c = λ opening text steps histories sent stand
     fed_ended config alone old now was.me session opening text c.args.bytes.now steps sent c.in-Head.head
     c.args.out.now.items begun.new.out.items count end.0
     (is_awaited config was opening text steps histories sent c.in-Head.head c.in-Head.is c.requires.goes_on stands)
-    (ap (λ (s : Session). s.me) c.go_on_as.ensures) end.1
-    (subst (λ (s : Session). StartsAs s.stage s.ended) (sym c.go_on_as.ensures) begun.ensures.starts)
-    (begun_as config alone old now was c.take_head-count.new.head front begun.result session c.args.out.now.items
-    begun.new.out.items c.take_head-count.ensures.bytes c.go_on_as.ensures begun.ensures.begun)
+    refl end.1
+    (begun_as config alone old now was.me c.take_head-count.new.head front begun.result session.stage
+    c.args.out.now.items begun.new.out.items c.take_head-count.ensures.bytes c.replace.ensures.after begun.ensures.begun)
 
 pub feed_behind-requires-2-clause-behind : goal.feed_behind-requires-2-clause-behind
 feed_behind-requires-2-clause-behind g c =
     let was = c.args.self.now in
-    let begun = c.begin_taken-begun in
-    let session = c.go_on_as.new.self in
+    let begun = c.begin-begun in
+    let session : Session = record c.args.self.now { stage = c.replace.new.dest; ended = begun.result.ended } in
     let old = seen_in g.T.Turns g.B.Turns c.args.places.now in
     let now = seen_in g.T.Turns g.B.Turns begun.new.places in
     let alone = alone_in g.T.Turns g.B.Turns c.args.places.now in
     let front : List ℕ = c.in-Head.head ++ take c.take_head-count.result.0 c.args.bytes.now in
     begun_behind c.args.config.now alone old now was.me front session.stage session.ended
     c.args.out.now.items begun.new.out.items (none_of session.ended (sym c.is_some.ensures ∙ c.if-is_some.false))
-    (begun_as c.args.config.now alone old now was c.take_head-count.new.head front begun.result session c.args.out.now.items
-    begun.new.out.items c.take_head-count.ensures.bytes c.go_on_as.ensures begun.ensures.begun)
+    (begun_as c.args.config.now alone old now was.me c.take_head-count.new.head front begun.result session.stage
+    c.args.out.now.items begun.new.out.items c.take_head-count.ensures.bytes c.replace.ensures.after begun.ensures.begun)
 
 pub feed_behind-requires-2-clause-rings : goal.feed_behind-requires-2-clause-rings
 feed_behind-requires-2-clause-rings g c =
-    subst (AllSpeak g.T.Turns.speaks c.begin_taken-begun.new.places.rings.items)
-    (sym (ap (λ (s : Session). s.me) c.go_on_as.ensures))
-    (speak_same g.T.Turns.speaks c.args.places.now.rings.items c.begin_taken-begun.new.places.rings.items
-    c.args.self.now.me c.begin_taken-begun.ensures.stay.at_rings.same.1 c.requires.rings)
+    speak_same g.T.Turns.speaks c.args.places.now.rings.items c.begin-begun.new.places.rings.items
+    c.args.self.now.me c.begin-begun.ensures.stay.at_rings.same.1 c.requires.rings
 
 pub feed_behind-requires-2-clause-follows : goal.feed_behind-requires-2-clause-follows
 feed_behind-requires-2-clause-follows g c =
     let config = c.args.config.now in
     let was = c.args.self.now in
-    let begun = c.begin_taken-begun in
-    let session = c.go_on_as.new.self in
+    let begun = c.begin-begun in
+    let session : Session = record c.args.self.now { stage = c.replace.new.dest; ended = begun.result.ended } in
     let follows = c.requires.follows in
     let bytes = c.args.bytes.now in
     let taken = c.take_head-count in
@@ -107,18 +102,18 @@ feed_behind-requires-2-clause-follows g c =
           follows.4 c.in-Head.head c.args.out.now.items begun.new.out.items count
           (is_awaited config was follows.0 follows.1 follows.2 follows.3 follows.4 c.in-Head.head
           c.in-Head.is c.requires.goes_on follows.5)
-          (ap (λ (s : Session). s.me) c.go_on_as.ensures)
+          refl
           (none_of session.ended (sym c.is_some.ensures ∙ c.if-is_some.false)) taken.ensures.within follows.7
-          (begun_as config alone old now was taken.new.head front begun.result session c.args.out.now.items
-          begun.new.out.items taken.ensures.bytes c.go_on_as.ensures begun.ensures.begun)),
+          (begun_as config alone old now was.me taken.new.head front begun.result session.stage
+          c.args.out.now.items begun.new.out.items taken.ensures.bytes c.replace.ensures.after begun.ensures.begun)),
     )
 
 pub returns-clause-fed : goal.returns-clause-fed
 returns-clause-fed g c = λ opening text steps histories sent stands others.
     let config = c.args.config.now in
     let was = c.args.self.now in
-    let begun = c.begin_taken-begun in
-    let session = c.go_on_as.new.self in
+    let begun = c.begin-begun in
+    let session : Session = record c.args.self.now { stage = c.replace.new.dest; ended = begun.result.ended } in
     let bytes = c.args.bytes.now in
     let taken = c.take_head-count in
     let count = taken.result.0 in
@@ -134,11 +129,11 @@ returns-clause-fed g c = λ opening text steps histories sent stands others.
     fed_behind config alone old mid now was.me session c.feed_behind-2.new.self opening text
     bytes steps sent c.in-Head.head c.args.out.now.items begun.new.out.items count
     (is_awaited config was opening text steps histories sent c.in-Head.head c.in-Head.is c.requires.goes_on stands)
-    (ap (λ (s : Session). s.me) c.go_on_as.ensures)
+    refl
     (none_of session.ended (sym c.is_some.ensures ∙ c.if-is_some.false))
-    (c.feed_behind-2.ensures.me ∙ ap (λ (s : Session). s.me) c.go_on_as.ensures)
-    (begun_as config alone old mid was taken.new.head front begun.result session c.args.out.now.items
-    begun.new.out.items taken.ensures.bytes c.go_on_as.ensures begun.ensures.begun)
+    c.feed_behind-2.ensures.me
+    (begun_as config alone old mid was.me taken.new.head front begun.result session.stage
+    c.args.out.now.items begun.new.out.items taken.ensures.bytes c.replace.ensures.after begun.ensures.begun)
     (λ o before ss h so_far s between.
     subst (λ l. FedOn config alone mid now c.feed_behind-2.new.self o (before ++ l) ss so_far)
     (rest_of bytes count taken.ensures.within)
