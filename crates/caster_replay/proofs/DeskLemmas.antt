@@ -2,6 +2,7 @@
 use Rattle.std.proofs.Common.{◌≡◌, ◌∙◌, ◌&&◌, ◌++◌, ◌+◌, ◌<◌, ℕ, zero, suc, Bool, true, false, List, [], ◌∷◌, length, map, take, get_or, refl, sym, ap, subst, Result, Some, arith}
 use Rattle.std.specs.Prelude.{IfOk, IsTrue}
 use Rattle.std.specs.declared.alloc.AllocError.{AllocError}
+use Rattle.std.proofs.lemmas.List.{map-append, take_more}
 use Rattle.turn_log.specs.History.{History}
 use Rattle.mount_ring.specs.declared.call.RingCall.{RingCall}
 use Rattle.mount_ring.specs.declared.shape.RingShape.{RingShape}
@@ -20,7 +21,7 @@ use Rattle.session_model.specs.Headings.{Heading}
 use Rattle.session_model.specs.Judged.{Opening, judged}
 use Rattle.session_model.specs.Reports.{IsHeadingOf, mount_total}
 use Rattle.session_model.specs.Run.{Histories}
-use Rattle.session_model.specs.Setting.{shapes_from}
+use Rattle.session_model.specs.Setting.{shapes, shapes_from}
 use Rattle.session_model.specs.Called.{alone_at, seen_at, OthersCalled}
 use Rattle.session_core.specs.Standing.{StandsFor, Fed}
 use Rattle.session_core.specs.Closed.{IsClosed}
@@ -137,7 +138,7 @@ pub shapes_count : (groups : List Group) (n : ℕ) (mounts : List Mount)
 shapes_count groups n [] = refl
 shapes_count groups n (mount ∷ mounts) = ap suc (shapes_count groups (n + 1) mounts)
 
-abbrev no_call : History RingCall
+abbrev pub no_call : History RingCall
 no_call = []
 
 abbrev pub no_shape : RingShape
@@ -156,6 +157,28 @@ pub uncalled_next : (mounts : List Mount) (i : ℕ) → i < length mounts
     []
 uncalled_next mounts i within =
     ap (λ (n : ℕ). map (λ (mount : Mount). no_call) (take n mounts)) (sym (one_next i)) ∙ uncalled_suc mounts i within
+
+-- the places at the rings of the first so many mountpoints
+pub record AreFirst {P : Type 0} (shape : P → RingShape) (seen : P → History RingCall) (c : Config) (count : ℕ)
+    (places : List P) : Type 0 where
+  pub shapes_are : map shape places ≡ take count (shapes c)
+  pub uncalled : map seen places ≡ map (λ (mount : Mount). no_call) (take count c.mount)
+
+-- and one more
+pub first_next : {P : Type 0} (shape : P → RingShape) (seen : P → History RingCall) (c : Config) (count : ℕ)
+    (places after : List P) (place : P) → count < length c.mount → after ≡ places ++ place ∷ []
+    → shape place ≡ get_or (shapes c) count no_shape → seen place ≡ no_call → AreFirst shape seen c count places
+    → AreFirst shape seen c (count + 1) after
+first_next {P} shape seen c count places after place within more shaped new first = record {
+  shapes_are = ap (map shape) more ∙ map-append shape places (place ∷ [])
+      ∙ ap (λ (l : List RingShape). l ++ shape place ∷ []) first.shapes_are
+      ∙ ap (λ (s : RingShape). take count (shapes c) ++ s ∷ []) shaped
+      ∙ sym (take_more (shapes c) count no_shape (omega (arith, within, shapes_count c.group 0 c.mount)));
+  uncalled = ap (map seen) more ∙ map-append seen places (place ∷ [])
+      ∙ ap (λ (l : List (History RingCall)). l ++ seen place ∷ []) first.uncalled
+      ∙ ap (λ (h : History RingCall). map (λ (mount : Mount). no_call) (take count c.mount) ++ h ∷ []) new
+      ∙ sym (uncalled_next c.mount count within);
+}
 
 -- ---- what the mountpoints came to
 

@@ -1,9 +1,10 @@
 -- The list of a run's connections: where a number stands in it, and what becomes of one of them.
-use Rattle.std.proofs.Common.{◌≡◌, ◌&&◌, ◌∙◌, ◌<◌, ◌++◌, ◌+◌, ◌^◌, ℕ, zero, suc, Bool, true, false, List, [], ◌∷◌, length, get_or, set, refl, sym, ap, subst, arith}
+use Rattle.std.proofs.Common.{◌≡◌, ◌&&◌, ◌∙◌, ◌<◌, ◌≤◌, ◌++◌, ◌+◌, ◌^◌, ℕ, zero, suc, Bool, true, false, List, [], ◌∷◌, length, get_or, set, refl, sym, ap, subst, arith}
 use Rattle.std.specs.Prelude.{nat_lt, insert, slice_index_or, ◌↔◌, IsTrue}
 use Rattle.std.specs.List.{sum_by}
 use Rattle.std.proofs.lemmas.Bool.{and_parts, leb-true}
 use Rattle.std.proofs.lemmas.List.{length-map, map-set}
+use Rattle.std.proofs.lemmas.List.Edits.{get_or-insert_at}
 use Rattle.std.proofs.lemmas.List.Sums.{sum_by-append, sum_by-cons}
 use Rattle.session_script.specs.declared.Event.{Event}
 use Rattle.session_script.specs.declared.Event.TheVariants as events
@@ -119,6 +120,20 @@ lives_insert [] (suc place) entry = refl
 lives_insert (first ∷ entries) zero entry = refl
 lives_insert (first ∷ entries) (suc place) entry =
     ap (λ (l : List Live). live_in first ∷ l) (lives_insert entries place entry)
+
+-- one more, and what stands there then
+pub placed_is : (entries placed : List Entry) (place : ℕ) (entry found : Entry) → place ≤ length entries
+    → placed ≡ insert entries place entry → found ≡ get_or placed place found → found ≡ entry
+placed_is entries placed place entry found within more is =
+    is ∙ ap (λ (l : List Entry). get_or l place found) more ∙ get_or-insert_at entries place entry found within
+
+pub set_insert : (entries : List Entry) (place : ℕ) (entry next : Entry) → place ≤ length entries
+    → set (insert entries place entry) place next ≡ insert entries place next
+set_insert [] zero entry next within = refl
+set_insert [] (suc place) entry next within = absurd (omega (arith, within))
+set_insert (first ∷ entries) zero entry next within = refl
+set_insert (first ∷ entries) (suc place) entry next within =
+    ap (λ (l : List Entry). first ∷ l) (set_insert entries place entry next (omega (arith, within)))
 
 -- a connection that was closed in its place
 pub closed_put : (c : Config) (old now : Histories) (last : Last) (place : ℕ) (before : List Entry)

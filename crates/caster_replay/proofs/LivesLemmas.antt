@@ -2,29 +2,29 @@
 use Rattle.std.proofs.Common.{◌≡◌, ◌∙◌, ◌<◌, ◌≤◌, ◌++◌, ℕ, zero, suc, Bool, true, false, List, [], ◌∷◌, length, get_or, set, refl, sym, ap, subst, arith}
 use Rattle.std.specs.Prelude.{nat_lt, insert, ◌↔◌, IsTrue}
 use Rattle.std.specs.List.Sorted.{IsNonDecreasingBy, IsPartitionPoint}
-use Rattle.std.proofs.lemmas.Grind.{get_or-set_at}
-use Rattle.std.proofs.lemmas.List.{length-map, set-set}
+use Rattle.std.proofs.lemmas.List.{length-map}
 use Rattle.std.proofs.lemmas.List.Sums.{prefix_len_is}
 use Rattle.session_script.specs.declared.Event.{Event}
 use Rattle.cast_config.specs.declared.config.Config.{Config}
 use Rattle.session_model.specs.declared.ending.Last.{Last}
 use Rattle.session_model.specs.Headings.{Heading}
 use Rattle.session_model.specs.Judged.{Opening}
-use Rattle.session_model.specs.Owed.{Happening, ends}
+use Rattle.session_model.specs.Owed.{Happening, arrives, takes_turn, ends}
 use Rattle.session_model.specs.Run.{Histories, Connected, after_events}
+use Rattle.caster_replay.specs.declared.entry.Act.{Act}
+use Rattle.caster_replay.specs.declared.entry.Act.TheVariants as acts
 use Rattle.caster_replay.specs.declared.entry.Entry.{Entry}
-use Rattle.caster_replay.specs.declared.entry.State.{State}
 use Rattle.caster_replay.specs.Caster.{DesksValue, SamePlaces}
-use Rattle.caster_replay.specs.Entries.{ClosedAt, IsClosedAt, IsUnsent, HasOpened, SettledAt}
+use Rattle.caster_replay.specs.Entries.{ActedAt, IsClosedAt, IsUnsent, HasOpened, SettledAt}
 use Rattle.caster_replay.specs.Lives.{Live, live_of, live_in, lives_in, place_of, IsLive}
 use Rattle.caster_replay.specs.Runs.{Runs, StandsAt, AreAbove, IsIncreasing, Pairs}
-use Rattle.caster_replay.specs.Scripts.{Begins, Plays, Stands}
+use Rattle.caster_replay.specs.Scripts.{Acts, Begins, Plays, Stands}
 use Rattle.caster_replay.specs.Sends.{sent_in, IsSilent, SendsTo, Sends}
-use Rattle.caster_replay.proofs.SendsLemmas.{sends_set, set_silent, sends_opened}
-use Rattle.caster_replay.proofs.WorldRunnerLemmas.{IsAbout, IsAbsent, headings_now, are_now}
+use Rattle.caster_replay.proofs.SendsLemmas.{sends_set, set_silent, sends_opened, sends_silent}
+use Rattle.caster_replay.proofs.WorldRunnerLemmas.{IsAbout, IsAbsent, about_in, about_turn, headings_now, are_now}
 use Rattle.caster_replay.specs.Entries as looks
-use Rattle.caster_replay.proofs.EntryLemmas.{no_live, number_at, within_lives, absent_at, placed_at, found_at, missing_at, lives_set, lives_insert, opening_by, is_clean}
-use Rattle.caster_replay.proofs.PlayLemmas.{play_closed, play_absent, play_again, play_opened}
+use Rattle.caster_replay.proofs.EntryLemmas.{no_live, number_at, within_lives, absent_at, placed_at, found_at, missing_at, lives_set, lives_insert, about_of, opening_by, is_clean}
+use Rattle.caster_replay.proofs.PlayLemmas.{fed_more, turned_more, play_absent, play_again, play_opened}
 use Rattle.caster_replay.proofs.ReplayLemmas.{entry_at, live_get, places_stay}
 
 -- ---- the order
@@ -107,6 +107,15 @@ looked first second entries number place answer same same_too is test =
           test none);
     }
 
+-- the event is about the number
+pub about_act : (event : Event) (number : ℕ) (act : Act) → Acts event number act
+    → (what : Happening) × IsAbout event number what
+about_act event number (acts.In text) so =
+    (arrives text.now, subst (λ (e : Event). IsAbout e number (arrives text.now)) (sym so) (about_in number text.now))
+about_act event number (acts.Turn budget) so =
+    (takes_turn budget, subst (λ (e : Event). IsAbout e number (takes_turn budget)) (sym so) (about_turn number budget))
+about_act event number (acts.Close last) so = (ends last, about_of event number last so)
+
 -- nobody has the number
 pub stands_absent : (c : Config) (script : List Event) (event : Event) (entries : List Entry) (desks : DesksValue)
     (number : ℕ) (what : Happening) → IsAbout event number what → Plays c script event entries desks
@@ -142,41 +151,6 @@ runs_put c script entries place number new now same run =
     subst (λ (l : List Live). Runs c script l now)
     (ap (λ (n : ℕ). set (lives_in entries) place (live_of n new.state new.bytes.items)) (sym same)
     ∙ sym (lives_set entries place new)) run
-
--- the connection is closed
-pub runs_closed : (c : Config) (script : List Event) (event : Event) (entries after : List Entry) (old now : Histories)
-    (number place : ℕ) (last : Last) (d : Entry) → IsAbout event number (ends last)
-    → Runs c script (lives_in entries) old → looks.StandsAt entries place number
-    → IsClosedAt c old now last place (get_or entries place d) entries after
-    → Runs c (script ++ event ∷ []) (lives_in after) now
-runs_closed c script event entries after old now number place last d about run there closed =
-    let entry : Entry = get_or entries place d in
-    let same : entry.number ≡ number = there.1 d in
-    let is : get_or (lives_in entries) place (live_in d) ≡ live_of number entry.state entry.bytes.items =
-    live_get entries place d there.0
-    ∙ ap (λ (n : ℕ). live_of n entry.state entry.bytes.items) same in
-    subst (λ (l : List Live). Runs c (script ++ event ∷ []) l now)
-    (ap (λ (n : ℕ). set (lives_in entries) place (live_of n closed.0 entry.bytes.items)) (sym same) ∙ sym closed.2)
-    (play_closed c script (lives_in entries) old number place (live_in d) entry.bytes.items run
-    (within_lives entries place there.0) event last now entry.state closed.0 about is closed.1)
-
--- it was changed, and is then closed
-pub lives_closed : (c : Config) (old now : Histories) (entries after : List Entry) (place number : ℕ) (new : Entry)
-    (d : Entry) (last : Last) → place < length entries → new.number ≡ number
-    → IsClosedAt c old now last place (get_or (set entries place new) place d) (set entries place new) after
-    → (state : State) × ClosedAt c old now last new.state state
-    × (lives_in after ≡ set (lives_in entries) place (live_of number state new.bytes.items))
-lives_closed c old now entries after place number new d last within same closed =
-    let found : get_or (set entries place new) place d ≡ new = get_or-set_at entries place place new d refl within in
-    let by : IsClosedAt c old now last place new (set entries place new) after =
-    subst (λ (e : Entry). IsClosedAt c old now last place e (set entries place new) after) found closed in (
-      by.0,
-      by.1,
-      by.2
-          ∙ ap (λ (l : List Live). set l place (live_of new.number by.0 new.bytes.items)) (lives_set entries place new)
-          ∙ set-set (lives_in entries) place (live_in new) (live_of new.number by.0 new.bytes.items)
-          ∙ ap (λ (n : ℕ). set (lives_in entries) place (live_of n by.0 new.bytes.items)) same,
-    )
 
 -- ---- one more
 
@@ -217,6 +191,32 @@ sends_at entries place number entry new after there is here own more changed =
     (sends_set number place (lives_in entries) (live_in entry) new more.0 is (within_lives entries place there.0)
     (ap (λ (l : Live). l.number) here) own
     (more.1 ∙ ap (λ (b : List ℕ). b ++ more.0) (sym (ap (λ (l : Live). l.bytes) here))))
+
+-- something happened to the connection at this place
+pub sends_applied : (c : Config) (script : List Event) (event : Event) (act : Act) (entries : List Entry)
+    (old now : Histories) (place number : ℕ) (entry new : Entry) → Acts event number act
+    → Runs c script (lives_in entries) old → looks.StandsAt entries place number
+    → place ≡ place_of number (lives_in entries)
+    → get_or (lives_in entries) place (live_in entry) ≡ live_of number entry.state entry.bytes.items
+    → new.number ≡ number → ActedAt c old now act entry.state new.state entry.bytes.items new.bytes.items
+    → Sends event (lives_in entries) (lives_in (set entries place new))
+sends_applied c script event (acts.In text) entries old now place number entry new so run there is here own acted =
+    subst (λ (e : Event). Sends e (lives_in entries) (lives_in (set entries place new))) (sym so)
+    (sends_at entries place number entry (live_in new) (lives_in (set entries place new)) there is here own
+    (fed_more c script (lives_in entries) old number place (live_in entry) entry.bytes.items run
+    (within_lives entries place there.0) acted.mid entry.state acted.between text.now new.bytes.items here acted.fed)
+    (lives_set entries place new))
+sends_applied c script event (acts.Turn budget) entries old now place number entry new so run there is here own acted =
+    subst (λ (e : Event). Sends e (lives_in entries) (lives_in (set entries place new))) (sym so)
+    (sends_at entries place number entry (live_in new) (lives_in (set entries place new)) there is here own
+    (turned_more c script (lives_in entries) old number place (live_in entry) entry.bytes.items run
+    (within_lives entries place there.0) now entry.state new.state budget new.bytes.items here acted)
+    (lives_set entries place new))
+sends_applied c script event (acts.Close last) entries old now place number entry new so run there is here own acted =
+    sends_silent event number last (lives_in entries) (lives_in (set entries place new)) so
+    (λ n. ap (sent_in n) (lives_set entries place new)
+    ∙ set_silent n place (lives_in entries) (live_in entry) (live_in new) (within_lives entries place there.0)
+    (ap (λ (l : Live). l.number) here ∙ sym own) (ap (λ (l : Live). l.bytes) here ∙ sym acted.1))
 
 -- the connection at this place was closed
 pub silent_closed : (c : Config) (old now : Histories) (last : Last) (place : ℕ) (entries after : List Entry)

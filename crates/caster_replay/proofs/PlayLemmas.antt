@@ -1,7 +1,7 @@
 -- What is kept of the connections of a run, while events are played, by whether the connection that
 -- each event is about goes on.
-use Rattle.std.proofs.Common.{◌≡◌, ◌∙◌, ◌<◌, ◌++◌, ◌+◌, ◌^◌, ℕ, Bool, true, false, List, [], ◌∷◌, length, get_or, set, refl, sym, ap, subst, inl, inr, arith, Option, None, Some}
-use Rattle.std.specs.Prelude.{insert}
+use Rattle.std.proofs.Common.{◌≡◌, ◌∙◌, ◌<◌, ◌++◌, ◌+◌, ◌^◌, ℕ, Bool, true, false, List, [], ◌∷◌, length, length-append, get_or, set, refl, sym, ap, subst, inl, inr, arith, Option, None, Some}
+use Rattle.std.specs.Prelude.{insert, is_some}
 use Rattle.std.specs.List.{sum_by}
 use Rattle.std.proofs.lemmas.List.{set-get_or, append-nil}
 use Rattle.session_calls.specs.Steps.{Step}
@@ -10,7 +10,6 @@ use Rattle.session_script.specs.declared.Event.TheVariants as events
 use Rattle.session_script.specs.Script.{input_length}
 use Rattle.cast_config.specs.declared.config.Config.{Config}
 use Rattle.session_model.specs.declared.ending.Ending.{Ending}
-use Rattle.session_core.specs.declared.ending.Flow.{Flow}
 use Rattle.session_core.specs.declared.ending.Flow.TheVariants as flows
 use Rattle.session_model.specs.declared.ending.Last.{Last}
 use Rattle.session_model.specs.declared.ending.Last.TheVariants as lasts
@@ -22,21 +21,25 @@ use Rattle.session_model.specs.Owed.{Came, came_to, Happening, arrives, takes_tu
 use Rattle.session_model.specs.Replies.{opening_text}
 use Rattle.session_model.specs.Run.{Histories}
 use Rattle.session_model.specs.Called.{is_halt}
-use Rattle.session_core.specs.Standing.{is_halted, StandsFor}
+use Rattle.session_core.specs.Standing.{is_halted, StandsFor, Follows}
 use Rattle.session_core.specs.Closed.{ending_by}
 use Rattle.session_core.specs.Turned.{flow_of, is_rover}
 use Rattle.session_model.proofs.WellLemmas.{events_well}
+use Rattle.caster_replay.specs.declared.entry.Act.{Act}
+use Rattle.caster_replay.specs.declared.entry.Act.TheVariants as acts
 use Rattle.caster_replay.specs.declared.entry.State.{State}
 use Rattle.caster_replay.specs.declared.entry.State.TheVariants.{Open, Closed}
-use Rattle.caster_replay.specs.Calls.{TakesTurn, Closes, Opens}
-use Rattle.caster_replay.specs.Entries.{MayGoOn, MayBeClosed, FedAt, TurnedAt, ClosedAt, HasOpened, SettledBy, SettledAt}
+use Rattle.caster_replay.specs.Calls.{Feeds, TakesTurn, Closes, Opens}
+use Rattle.caster_replay.specs.Entries.{MayGoOn, MayBeClosed, MayAct, FedAt, TurnedAt, ClosedAt, ActedAt, HasOpened, SettledBy, SettledAt, is_ended_at}
 use Rattle.caster_replay.specs.Lives.{Live, live_of, place_of}
 use Rattle.caster_replay.specs.Runs.{Runs}
+use Rattle.caster_replay.specs.Scripts.{Acts}
 use Rattle.session_core.proofs.FeedHeadLemmas.{others_none}
+use Rattle.caster_replay.proofs.EntryLemmas.{about_of}
 use Rattle.caster_replay.proofs.WorldKnownLemmas.{IsClean}
 use Rattle.caster_replay.proofs.WorldRunnerLemmas.{IsRun, IsAbout, IsAbsent, about_in, about_turn, run_fed, run_fed_over, run_turned, run_bystander, run_closed, run_skipped, run_absent}
 use Rattle.caster_replay.proofs.WorldReportLemmas.{IsOpening, run_opens, run_opens_over, run_again}
-use Rattle.caster_replay.proofs.WorldSessionLemmas.{session_goes, session_follows, fed_so, fed_adds, turned_adds, fed_follows}
+use Rattle.caster_replay.proofs.WorldSessionLemmas.{session_goes, session_follows, fed_so, fed_adds, turned_adds}
 
 -- ---- the run, with what its histories are besides
 
@@ -62,13 +65,54 @@ runs_of c script lives now r = record {
 
 -- ---- answers
 
-flow_on : (ended : Option Ending) → flow_of ended ≡ flows.Open → ended ≡ None
+pub flow_on : (ended : Option Ending) → flow_of ended ≡ flows.Open → ended ≡ None
 flow_on None open_now = refl
 flow_on (Some end) open_now = absurd cc
 
-flow_over : (ended : Option Ending) → flow_of ended ≡ flows.Ended → (end : Ending) × (ended ≡ Some end)
-flow_over None over = absurd cc
-flow_over (Some end) over = (end, refl)
+-- one that was closed because it had ended, and one that had not
+settled_some : (ended : Option Ending) (c : Config) (old now : Histories) (before after : State)
+    → is_some ended ≡ true → ClosedAt c old now lasts.End before after → SettledBy ended c old now before after
+settled_some None c old now before after over closed = absurd cc
+settled_some (Some end) c old now before after over closed = closed
+
+pub settled_closed : (c : Config) (old now : Histories) (before after : State) → is_ended_at before ≡ true
+    → ClosedAt c old now lasts.End before after → SettledAt c old now before after
+settled_closed c old now (Open session) after over closed =
+    settled_some session.ended c old now (Open session) after over closed
+settled_closed c old now (Closed receipt) after over closed = absurd cc
+
+settled_none : (ended : Option Ending) (c : Config) (old : Histories) (before : State) → is_some ended ≡ false
+    → SettledBy ended c old old before before
+settled_none None c old before on = (refl, refl)
+settled_none (Some end) c old before on = absurd cc
+
+pub settled_same : (c : Config) (old : Histories) (before : State) → is_ended_at before ≡ false
+    → SettledAt c old old before before
+settled_same c old (Open session) on = settled_none session.ended c old (Open session) on
+settled_same c old (Closed receipt) on = (refl, refl)
+
+-- one that was fed may be closed
+follows_fed : (c : Config) (old now : Histories) (session next : Session) (text before after : List ℕ)
+    → Follows c session old (length text) → Feeds c old now session next text before after → Follows c next now 0
+follows_fed c old now session next text before after (o, so_far, steps, h, sent, stands, others, few) feeds =
+    let fed = feeds o so_far steps h sent stands others in (
+      o,
+      so_far ++ text,
+      steps ++ fed.more,
+      now,
+      sent ++ fed.added,
+      fed.stands,
+      others_none now next.me,
+      omega (arith, few, length-append so_far text),
+    )
+
+pub may_close_fed : (c : Config) (old now : Histories) (state after : State) (text sent sent_after : List ℕ)
+    → MayGoOn c old (length text) state → FedAt c old now state after text sent sent_after → MayBeClosed c now after
+may_close_fed c old now (Open session) after text sent sent_after may fed =
+    subst (λ (s : State). MayBeClosed c now s) (sym fed.1)
+    (follows_fed c old now session fed.0 text sent sent_after may.1 fed.3)
+may_close_fed c old now (Closed receipt) after text sent sent_after may fed =
+    subst (λ (s : State). MayBeClosed c now s) (sym fed.0) tt
 
 -- ---- a session whose receipt tells of no halt was not halted
 
@@ -119,79 +163,79 @@ module _ (c : Config) (script : List Event) (lives : List Live) (old : Histories
       (omega (arith, few))
   may_close (Closed receipt) is few = tt
 
+  -- what happens to it
+  pub may_apply : (event : Event) (act : Act) (state : State) → Acts event number act
+      → get_or lives at y ≡ live_of number state before
+      → sum_by input_length script + input_length event < 2 ^ 63 → MayAct c old act state
+  may_apply event (acts.In text) state so is room =
+      may_go_on (length text.now) state is
+      (subst (λ (e : Event). sum_by input_length script + input_length e < 2 ^ 63) so room)
+  may_apply event (acts.Turn budget) state so is room = may_go_on 0 state is (omega (arith, room))
+  may_apply event (acts.Close last) state so is room = may_close state is (omega (arith, room))
+
   -- ---- bytes that came in
 
-  pub may_close_fed : (mid : Histories) (flow : Flow) (state after : State) (text sent : List ℕ)
-      → get_or lives at y ≡ live_of number state before → FedAt c old mid flow state after text before sent
-      → sum_by input_length script + length text < 2 ^ 63 → MayBeClosed c mid after
-  may_close_fed mid flow (Open session) after text sent is fed few =
-      subst (λ (s : State). MayBeClosed c mid s) (sym fed.1)
-      (fed_follows c script lives old number at y session before (run_of c script lives old run) within is mid fed.0
-      text sent fed.4 few)
-  may_close_fed mid flow (Closed receipt) after text sent is fed few =
-      subst (λ (s : State). MayBeClosed c mid s) (sym fed.0) tt
-
-  -- it goes on, or was over before
-  pub play_fed : (now : Histories) (flow : Flow) (state after : State) (text sent : List ℕ)
-      → get_or lives at y ≡ live_of number state before → FedAt c old now flow state after text before sent
-      → flow ≡ flows.Open
+  -- it goes on, or ended by them and was closed
+  fed_then : (ended : Option Ending) (mid now : Histories) (session next : Session) (after : State)
+      (text sent : List ℕ) → next.ended ≡ ended → get_or lives at y ≡ live_of number (Open session) before
+      → next.me ≡ session.me → Feeds c old mid session next text before sent
+      → SettledBy ended c mid now (Open next) after
       → Runs c (script ++ events.In number text ∷ []) (set lives at (live_of number after sent)) now
-  play_fed now flow (Open session) after text sent is fed on =
+  fed_then None mid now session next after text sent goes is me feeds settled =
       subst (λ (s : State). Runs c (script ++ events.In number text ∷ []) (set lives at (live_of number s sent)) now)
-      (sym fed.1)
-      (runs_of c (script ++ events.In number text ∷ []) (set lives at (live_of number (Open fed.0) sent)) now
-      (run_fed c script lives old now number at y session fed.0 text before sent (run_of c script lives old run) within
-      is
-      fed.4 fed.2 (flow_on fed.0.ended (sym fed.3 ∙ on))))
-  play_fed now flow (Closed receipt) after text sent is fed on =
+      (sym settled.0)
+      (subst (λ (h : Histories). Runs c (script ++ events.In number text ∷ [])
+      (set lives at (live_of number (Open next) sent)) h) (sym settled.1)
+      (runs_of c (script ++ events.In number text ∷ []) (set lives at (live_of number (Open next) sent)) mid
+      (run_fed c script lives old mid number at y session next text before sent (run_of c script lives old run) within
+      is feeds me goes)))
+  fed_then (Some end) mid now session next after text sent over is me feeds settled =
+      let so = fed_so c script lives old number at y session before (run_of c script lives old run) within is mid next
+      text sent feeds in
+      subst (λ (s : State). Runs c (script ++ events.In number text ∷ []) (set lives at (live_of number s sent)) now)
+      (sym settled.1)
+      (runs_of c (script ++ events.In number text ∷ []) (set lives at (live_of number (Closed settled.0) sent)) now
+      (run_fed_over c script lives old mid now number at y session next end settled.0 text before sent
+      (run_of c script lives old run) within is feeds me over
+      (not_halted c mid now next lasts.End settled.0 end so.0 so.1 so.2 so.3 so.4 settled.4 over settled.3)
+      settled.4 settled.2))
+
+  pub play_fed : (mid now : Histories) (state between after : State) (text sent : List ℕ)
+      → get_or lives at y ≡ live_of number state before → FedAt c old mid state between text before sent
+      → SettledAt c mid now between after
+      → Runs c (script ++ events.In number text ∷ []) (set lives at (live_of number after sent)) now
+  play_fed mid now (Open session) between after text sent is fed settled =
+      let next : Session = fed.0 in
+      fed_then next.ended mid now session next after text sent refl is fed.2 fed.3
+      (subst (λ (s : State). SettledAt c mid now s after) fed.1 settled)
+  play_fed mid now (Closed receipt) between after text sent is fed settled =
+      let by : SettledAt c mid now (Closed receipt) after =
+      subst (λ (s : State). SettledAt c mid now s after) fed.0 settled in
       subst (λ (l : List Live). Runs c (script ++ events.In number text ∷ []) l now)
       (put_same lives at y (live_of number after sent)
-      (is ∙ ap (λ (s : State). live_of number s before) (sym fed.0) ∙ ap (live_of number after) (sym fed.2)))
-      (subst (λ (h : Histories). Runs c (script ++ events.In number text ∷ []) lives h) (sym fed.1)
+      (is ∙ ap (λ (s : State). live_of number s before) (sym by.0) ∙ ap (live_of number after) (sym fed.2)))
+      (subst (λ (h : Histories). Runs c (script ++ events.In number text ∷ []) lives h) (sym (by.1 ∙ fed.1))
       (runs_of c (script ++ events.In number text ∷ []) lives old
       (run_skipped c script (events.In number text) lives old number (arrives text) at y receipt before
       (about_in number text) (run_of c script lives old run) within is)))
 
   -- it was sent more
-  pub fed_more : (now : Histories) (flow : Flow) (state after : State) (text sent : List ℕ)
-      → get_or lives at y ≡ live_of number state before → FedAt c old now flow state after text before sent
+  pub fed_more : (now : Histories) (state after : State) (text sent : List ℕ)
+      → get_or lives at y ≡ live_of number state before → FedAt c old now state after text before sent
       → (more : List ℕ) × (sent ≡ before ++ more)
-  fed_more now flow (Open session) after text sent is fed =
+  fed_more now (Open session) after text sent is fed =
       fed_adds c script lives old number at y session before (run_of c script lives old run) within is now fed.0 text
       sent
-      fed.4
-  fed_more now flow (Closed receipt) after text sent is fed = ([], fed.2 ∙ sym (append-nil before))
+      fed.3
+  fed_more now (Closed receipt) after text sent is fed = ([], fed.2 ∙ sym (append-nil before))
 
-  pub turned_more : (now : Histories) (flow : Flow) (state after : State) (budget : ℕ) (sent : List ℕ)
-      → get_or lives at y ≡ live_of number state before → TurnedAt c old now flow state after budget before sent
+  pub turned_more : (now : Histories) (state after : State) (budget : ℕ) (sent : List ℕ)
+      → get_or lives at y ≡ live_of number state before → TurnedAt c old now state after budget before sent
       → (more : List ℕ) × (sent ≡ before ++ more)
-  turned_more now flow (Open session) after budget sent is turned =
+  turned_more now (Open session) after budget sent is turned =
       turned_adds c script lives old number at y session before (run_of c script lives old run) within is now turned.0
       budget sent (is_rover session.stage) refl turned.4
-  turned_more now flow (Closed receipt) after budget sent is turned = ([], turned.2 ∙ sym (append-nil before))
-
-  -- it ended, and was closed at once
-  pub play_fed_over : (mid now : Histories) (flow : Flow) (state between after : State) (text sent : List ℕ)
-      → get_or lives at y ≡ live_of number state before → FedAt c old mid flow state between text before sent
-      → flow ≡ flows.Ended → ClosedAt c mid now lasts.End between after
-      → Runs c (script ++ events.In number text ∷ []) (set lives at (live_of number after sent)) now
-  play_fed_over mid now flow (Open session) between after text sent is fed over closed =
-      let next : Session = fed.0 in
-      let end = flow_over next.ended (sym fed.3 ∙ over) in
-      let by : ClosedAt c mid now lasts.End (Open next) after =
-      subst (λ (s : State). ClosedAt c mid now lasts.End s after) fed.1 closed in
-      let so = fed_so c script lives old number at y session before (run_of c script lives old run) within is mid next
-      text sent fed.4 in
-      subst (λ (s : State). Runs c (script ++ events.In number text ∷ []) (set lives at (live_of number s sent)) now)
-      (sym by.1)
-      (runs_of c (script ++ events.In number text ∷ []) (set lives at (live_of number (Closed by.0) sent)) now
-      (run_fed_over c script lives old mid now number at y session next end.0 by.0 text before sent
-      (run_of c script lives old run) within is fed.4 fed.2 end.1
-      (not_halted c mid now next lasts.End by.0 end.0 so.0 so.1 so.2 so.3 so.4 by.4 end.1
-      by.3)
-      by.4 by.2))
-  play_fed_over mid now flow (Closed receipt) between after text sent is fed over closed =
-      let none : flows.Open ≡ flows.Ended = sym fed.3 ∙ over in absurd cc
+  turned_more now (Closed receipt) after budget sent is turned = ([], turned.2 ∙ sym (append-nil before))
 
   -- ---- a turn
 
@@ -215,17 +259,15 @@ module _ (c : Config) (script : List Event) (lives : List Live) (old : Histories
       (run_bystander c script lives old number budget at y session before (run_of c script lives old run) within is
       apart))))
 
-  pub play_turned : (now : Histories) (flow : Flow) (state after : State) (budget : ℕ) (sent : List ℕ)
-      → get_or lives at y ≡ live_of number state before → TurnedAt c old now flow state after budget before sent
-      → flow ≡ flows.Open
+  pub play_turned : (now : Histories) (state after : State) (budget : ℕ) (sent : List ℕ)
+      → get_or lives at y ≡ live_of number state before → TurnedAt c old now state after budget before sent
       → Runs c (script ++ events.Turn number budget ∷ []) (set lives at (live_of number after sent)) now
-  play_turned now flow (Open session) after budget sent is turned on =
+  play_turned now (Open session) after budget sent is turned =
       subst (λ (s : State). Runs c (script ++ events.Turn number budget ∷ []) (set lives at (live_of number s sent))
       now)
       (sym turned.1)
-      (turned_if (is_rover session.stage) now session turned.0 budget sent refl is turned.4 turned.2
-      (flow_on turned.0.ended (sym turned.3 ∙ on)))
-  play_turned now flow (Closed receipt) after budget sent is turned on =
+      (turned_if (is_rover session.stage) now session turned.0 budget sent refl is turned.4 turned.2 turned.3)
+  play_turned now (Closed receipt) after budget sent is turned =
       subst (λ (l : List Live). Runs c (script ++ events.Turn number budget ∷ []) l now)
       (put_same lives at y (live_of number after sent)
       (is ∙ ap (λ (s : State). live_of number s before) (sym turned.0)
@@ -255,6 +297,22 @@ module _ (c : Config) (script : List Event) (lives : List Live) (old : Histories
       (runs_of c (script ++ event ∷ []) lives old
       (run_skipped c script event lives old number (ends last) at y receipt before about (run_of c script lives old run)
       within is)))
+
+  -- ---- any of these
+
+  pub play_applied : (event : Event) (act : Act) (now : Histories) (state after : State) (sent : List ℕ)
+      → Acts event number act → get_or lives at y ≡ live_of number state before
+      → ActedAt c old now act state after before sent
+      → Runs c (script ++ event ∷ []) (set lives at (live_of number after sent)) now
+  play_applied event (acts.In text) now state after sent so is acted =
+      subst (λ (e : Event). Runs c (script ++ e ∷ []) (set lives at (live_of number after sent)) now) (sym so)
+      (play_fed acted.mid now state acted.between after text.now sent is acted.fed acted.settled)
+  play_applied event (acts.Turn budget) now state after sent so is acted =
+      subst (λ (e : Event). Runs c (script ++ e ∷ []) (set lives at (live_of number after sent)) now) (sym so)
+      (play_turned now state after budget sent is acted)
+  play_applied event (acts.Close last) now state after sent so is acted =
+      subst (λ (b : List ℕ). Runs c (script ++ event ∷ []) (set lives at (live_of number after b)) now) (sym acted.1)
+      (play_closed event last now state after (about_of event number last so) is acted.0)
 
   -- ---- a number that was opened before
 

@@ -1,15 +1,19 @@
 -- A run that is played event by event: what it stands for, and what is asked of it.
-use Rattle.std.proofs.Common.{◌≡◌, ◌∙◌, ◌<◌, ◌≤◌, ◌++◌, ◌+◌, ℕ, suc, Bool, false, List, [], ◌∷◌, length, get_or, take, drop, refl, sym, ap, subst, Option, None}
+use Rattle.std.proofs.Common.{◌≡◌, ◌∙◌, ◌<◌, ◌≤◌, ◌++◌, ◌+◌, ℕ, suc, Bool, false, List, [], ◌∷◌, length, get_or, take, drop, refl, sym, ap, subst, inl, inr, Option, None}
 use Rattle.std.specs.Prelude.{IsTrue}
 use Rattle.std.specs.List.Sorted.{IsNonDecreasingBy}
 use Rattle.std.proofs.lemmas.List.{take_more, take_all}
+use Rattle.turn_log.specs.History.{History}
+use Rattle.mount_ring.specs.declared.call.RingCall.{RingCall}
 use Rattle.session_script.specs.declared.Event.{Event}
 use Rattle.cast_config.specs.declared.config.Config.{Config}
 use Rattle.session_core.specs.declared.rover_state.RoverState.{RoverState}
 use Rattle.session_model.specs.Run.{nothing_called}
 use Rattle.caster_replay.specs.declared.entry.Entry.{Entry}
+use Rattle.caster_replay.specs.declared.entry.State.{State}
+use Rattle.caster_replay.specs.declared.entry.State.TheVariants.{Open, Closed}
 use Rattle.caster_replay.specs.declared.run.Run.{Run}
-use Rattle.caster_replay.specs.Entries.{IsFoundAt, IsMissing, is_open_at, is_behind_at, rover_at}
+use Rattle.caster_replay.specs.Entries.{IsFoundAt, IsMissing, IsRoverIn, is_open_at, is_behind_at, is_behind_by, rover_at}
 use Rattle.caster_replay.specs.Going.{GoesOn, IsBehind, IsRover, MaySpeak}
 use Rattle.caster_replay.specs.Kept.{StandsFor, MayCome, lives_of}
 use Rattle.caster_replay.specs.Lives.{Live, live_in, lives_in, live_of, place_of}
@@ -83,6 +87,11 @@ module _ (entries : List Entry) (number : ℕ) where
 
 -- ---- what is answered
 
+behind_so : (rings : List (History RingCall)) (state : State)
+    → is_behind_by rings (rover_at state) ≡ is_behind_at rings state
+behind_so rings (Open session) = refl
+behind_so rings (Closed receipt) = refl
+
 module _ {P : Type 0} (c : Config) (script : List Event) (run : Run P) (number : ℕ) (stands : StandsFor c script run) where
   pub missing_goes : IsMissing run.entries.items number → (answer : Bool) → answer ≡ false
       → GoesOn c script number answer
@@ -90,7 +99,7 @@ module _ {P : Type 0} (c : Config) (script : List Event) (run : Run P) (number :
       none ∙ sym (going_missing c script (lives_of run) run.desks.seen stands.stands.runs headings are number no_live
       (missing_absent run.entries.items number missing))
 
-  pub missing_behind : IsMissing run.entries.items number → (answer : Bool) → answer ≡ false
+  missing_behind : IsMissing run.entries.items number → (answer : Bool) → answer ≡ false
       → IsBehind c script number answer
   missing_behind missing answer none headings are =
       none ∙ sym (behind_missing c script (lives_of run) run.desks.seen stands.stands.runs headings are number no_live
@@ -104,7 +113,7 @@ module _ {P : Type 0} (c : Config) (script : List Event) (run : Run P) (number :
       (within_lives run.entries.items (place_of number (lives_of run)) f.there.0)
       (found_live run.entries.items number entry f))
 
-  pub found_lags : (entry : Entry) → IsFoundAt run.entries.items number entry → (answer : Bool)
+  found_lags : (entry : Entry) → IsFoundAt run.entries.items number entry → (answer : Bool)
       → answer ≡ is_behind_at run.desks.seen.rings entry.state → IsBehind c script number answer
   found_lags entry f answer told headings are =
       told ∙ sym (behind_found c script (lives_of run) run.desks.seen stands.stands.runs headings are number
@@ -112,20 +121,34 @@ module _ {P : Type 0} (c : Config) (script : List Event) (run : Run P) (number :
       (within_lives run.entries.items (place_of number (lives_of run)) f.there.0)
       (found_live run.entries.items number entry f))
 
-  pub missing_rover : IsMissing run.entries.items number → (answer : Option RoverState) → answer ≡ None
+  missing_rover : IsMissing run.entries.items number → (answer : Option RoverState) → answer ≡ None
       → IsRover c script number answer
   missing_rover missing answer none more headings are =
       none ∙ sym (rover_missing c script (lives_of run) run.desks.seen stands.stands.runs more headings are number
       no_live
       (missing_absent run.entries.items number missing))
 
-  pub found_rover : (entry : Entry) → IsFoundAt run.entries.items number entry → (answer : Option RoverState)
+  found_rover : (entry : Entry) → IsFoundAt run.entries.items number entry → (answer : Option RoverState)
       → answer ≡ rover_at entry.state → IsRover c script number answer
   found_rover entry f answer told more headings are =
       told ∙ sym (rover_found c script (lives_of run) run.desks.seen stands.stands.runs more headings are number
       (place_of number (lives_of run)) (live_in entry) entry.state entry.bytes.items
       (within_lives run.entries.items (place_of number (lives_of run)) f.there.0)
       (found_live run.entries.items number entry f))
+
+  -- by where it stands as a rover
+  pub told_rover : (answer : Option RoverState) → IsRoverIn run.entries.items number answer
+      → IsRover c script number answer
+  told_rover answer (inl found) = found_rover found.0 found.1 answer found.2
+  told_rover answer (inr missing) = missing_rover missing.0 answer missing.1
+
+  pub told_behind : (rover : Option RoverState) (answer : Bool) → IsRoverIn run.entries.items number rover
+      → answer ≡ is_behind_by run.desks.seen.rings rover → IsBehind c script number answer
+  told_behind rover answer (inl found) is =
+      found_lags found.0 found.1 answer
+      (is ∙ ap (is_behind_by run.desks.seen.rings) found.2 ∙ behind_so run.desks.seen.rings found.0.state)
+  told_behind rover answer (inr missing) is =
+      missing_behind missing.0 answer (is ∙ ap (is_behind_by run.desks.seen.rings) missing.1)
 
   pub found_may_speak : (entry : Entry) → IsFoundAt run.entries.items number entry → IsTrue (is_open_at entry.state)
       → MaySpeak script number

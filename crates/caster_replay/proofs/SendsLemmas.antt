@@ -5,14 +5,15 @@ use Rattle.std.proofs.lemmas.Bool.{cases_Bool, eq-eqb, eqb-true, eqb-false, ne_e
 use Rattle.std.proofs.lemmas.List.{append-nil}
 use Rattle.session_script.specs.declared.Event.{Event}
 use Rattle.session_script.specs.declared.Event.TheVariants as events
+use Rattle.session_model.specs.declared.ending.Last.{Last}
 use Rattle.session_model.specs.declared.report.Connection.{Connection}
 use Rattle.session_model.specs.Judged.{Opening}
 use Rattle.caster_replay.specs.declared.entry.State.{State}
 use Rattle.caster_replay.specs.declared.entry.State.TheVariants.{Open, Closed}
 use Rattle.caster_replay.specs.Entries.{IsUnsent}
 use Rattle.caster_replay.specs.Lives.{Live, place_of, IsToldBy, AreTold}
-use Rattle.caster_replay.specs.Scripts.{Begins}
-use Rattle.caster_replay.specs.Sends.{sent_in, told_sent, SendsTo, Sends}
+use Rattle.caster_replay.specs.Scripts.{Begins, Ends}
+use Rattle.caster_replay.specs.Sends.{sent_in, told_sent, IsSilent, SendsTo, Sends}
 use Rattle.caster_replay.proofs.WorldRunnerLemmas.{IsAbsent}
 
 -- what a number that stands first was sent
@@ -246,6 +247,18 @@ sends_none (events.In k bytes) lives = sends_nothing k lives
 sends_none (events.Turn k budget) lives = sends_nothing k lives
 sends_none (events.Break k) lives = λ n. refl
 sends_none (events.End k) lives = λ n. refl
+
+-- nobody is sent more as a connection is closed
+pub sends_silent : (event : Event) (number : ℕ) (last : Last) (before after : List Live) → Ends event number last
+    → IsSilent before after → Sends event before after
+sends_silent (events.Open k) number last before after is silent = absurd is
+sends_silent (events.Source k mount) number last before after is silent = absurd is
+sends_silent (events.Rover k mount) number last before after is silent = absurd is
+sends_silent (events.Relay k relay) number last before after is silent = absurd is
+sends_silent (events.In k bytes) number last before after is silent = absurd is
+sends_silent (events.Turn k budget) number last before after is silent = absurd is
+sends_silent (events.Break k) number last before after is silent = silent
+sends_silent (events.End k) number last before after is silent = silent
 
 -- ---- what is told at the end
 

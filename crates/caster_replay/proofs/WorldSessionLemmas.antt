@@ -253,23 +253,3 @@ module _ (c : Config) (script : List Event) (lives : List Live) (old : Histories
       (subst (λ (n : ℕ). OthersCalled here.kept.histories old n) (sym here.kept.me) here.kept.others) in
       (turned.added, turned.out)
   turned_adds now next budget after false apart turns = ([], (turns.1 apart).2 ∙ sym (append-nil bytes))
-
-  -- and may be closed
-  pub fed_follows : (now : Histories) (next : Session) (text after : List ℕ)
-      → Feeds c old now session next text bytes after
-      → sum_by input_length script + length text < 2 ^ 63 → Follows c next now 0
-  fed_follows now next text after feeds few =
-      let d = there c (headings_now script run.has) script at in
-      let fed = feeds d.opening d.text d.steps here.kept.histories bytes (inl here.kept.stands)
-      (subst (λ (n : ℕ). OthersCalled here.kept.histories old n) (sym here.kept.me) here.kept.others) in
-      let count : length (d.text ++ here.known.rest) ≤ sum_by input_length script =
-      subst (λ (l : List ℕ). length l ≤ sum_by input_length script) here.known.begins (bytes_within d.number script) in (
-        d.opening,
-        d.text ++ text,
-        d.steps ++ fed.more,
-        now,
-        bytes ++ fed.added,
-        fed.stands,
-        others_none now next.me,
-        omega (arith, few, count, length-append d.text here.known.rest, length-append d.text text),
-      )

@@ -1,5 +1,5 @@
 -- What becomes of what is kept of a connection, by whether it goes on.
-use Rattle.std.specs.Prelude.{◌≡◌, ⊤, ℕ, ◌<◌, Bool, true, false, List, [], length, set, Option, None, Some, is_some, nat_lt, slice_index_or}
+use Rattle.std.specs.Prelude.{◌≡◌, ◌⊎◌, ⊤, ℕ, ◌<◌, Bool, true, false, List, [], length, set, Option, None, Some, is_some, nat_lt, slice_index_or}
 use Rattle.std.specs.List.{All}
 use Rattle.turn_log.specs.History.{History}
 use Rattle.mount_ring.specs.declared.call.RingCall.{RingCall}
@@ -7,8 +7,6 @@ use Rattle.mount_ring.specs.History.{state_of}
 use Rattle.session_calls.specs.Rings.{history_at}
 use Rattle.cast_config.specs.declared.config.Config.{Config}
 use Rattle.session_model.specs.declared.ending.Ending.{Ending}
-use Rattle.session_core.specs.declared.ending.Flow.{Flow}
-use Rattle.session_core.specs.declared.ending.Flow.TheVariants as flows
 use Rattle.session_model.specs.declared.ending.Last.{Last}
 use Rattle.session_model.specs.declared.ending.Last.TheVariants as lasts
 use Rattle.session_model.specs.declared.report.Receipt.{Receipt}
@@ -20,7 +18,8 @@ use Rattle.session_model.specs.Called.{is_halt}
 use Rattle.session_model.specs.Judged.{Opening, sends_head, relays, bare_source, bare_rover}
 use Rattle.session_model.specs.Run.{Histories}
 use Rattle.session_core.specs.Standing.{Follows}
-use Rattle.session_core.specs.Turned.{flow_of}
+use Rattle.caster_replay.specs.declared.entry.Act.{Act}
+use Rattle.caster_replay.specs.declared.entry.Act.TheVariants as acts
 use Rattle.caster_replay.specs.declared.entry.Entry.{Entry}
 use Rattle.caster_replay.specs.declared.entry.State.{State}
 use Rattle.caster_replay.specs.declared.entry.State.TheVariants.{Open, Closed}
@@ -66,25 +65,31 @@ abbrev pub MayBeClosed : Config → Histories → State → Type 0
 MayBeClosed c now (Open session) = Follows c session now 0
 MayBeClosed c now (Closed receipt) = ⊤
 
+-- this may happen to it
+abbrev pub MayAct : Config → Histories → Act → State → Type 0
+MayAct c now (acts.In text) state = MayGoOn c now (length text.now) state
+MayAct c now (acts.Turn budget) state = MayGoOn c now 0 state
+MayAct c now (acts.Close last) state = MayBeClosed c now state
+
 -- ---- what becomes of it
 
 -- by bytes that came in
-abbrev pub FedAt : Config → Histories → Histories → Flow → State → State → List ℕ → List ℕ → List ℕ
+abbrev pub FedAt : Config → Histories → Histories → State → State → List ℕ → List ℕ → List ℕ
     → Type 0
-FedAt c old now flow (Open session) after text sent sent_after =
+FedAt c old now (Open session) after text sent sent_after =
     (next : Session) × (after ≡ Open next) × (next.me ≡ session.me)
-    × (flow ≡ flow_of next.ended) × Feeds c old now session next text sent sent_after
-FedAt c old now flow (Closed receipt) after text sent sent_after =
-    (after ≡ Closed receipt) × (now ≡ old) × (sent_after ≡ sent) × (flow ≡ flows.Open)
+    × Feeds c old now session next text sent sent_after
+FedAt c old now (Closed receipt) after text sent sent_after =
+    (after ≡ Closed receipt) × (now ≡ old) × (sent_after ≡ sent)
 
--- by a turn
-abbrev pub TurnedAt : Config → Histories → Histories → Flow → State → State → ℕ → List ℕ → List ℕ
+-- by a turn, after which it goes on
+abbrev pub TurnedAt : Config → Histories → Histories → State → State → ℕ → List ℕ → List ℕ
     → Type 0
-TurnedAt c old now flow (Open session) after budget sent sent_after =
-    (next : Session) × (after ≡ Open next) × (next.me ≡ session.me)
-    × (flow ≡ flow_of next.ended) × TakesTurn c old now session next budget sent sent_after
-TurnedAt c old now flow (Closed receipt) after budget sent sent_after =
-    (after ≡ Closed receipt) × (now ≡ old) × (sent_after ≡ sent) × (flow ≡ flows.Open)
+TurnedAt c old now (Open session) after budget sent sent_after =
+    (next : Session) × (after ≡ Open next) × (next.me ≡ session.me) × (next.ended ≡ None)
+    × TakesTurn c old now session next budget sent sent_after
+TurnedAt c old now (Closed receipt) after budget sent sent_after =
+    (after ≡ Closed receipt) × (now ≡ old) × (sent_after ≡ sent)
 
 -- as it is closed: its receipt is settled, and tells of no halt
 abbrev pub ClosedAt : Config → Histories → Histories → Last → State → State → Type 0
@@ -92,6 +97,33 @@ ClosedAt c old now last (Open session) after =
     (receipt : Receipt) × (after ≡ Closed receipt) × (receipt.settled ≡ true)
     × (is_halt receipt.ending ≡ false) × Closes c old now session last receipt
 ClosedAt c old now last (Closed receipt) after = (after ≡ Closed receipt) × (now ≡ old)
+
+-- one that ended by itself is closed at once
+abbrev pub SettledBy : Option Ending → Config → Histories → Histories → State → State → Type 0
+SettledBy None c old now before after = (after ≡ before) × (now ≡ old)
+SettledBy (Some end) c old now before after = ClosedAt c old now lasts.End before after
+
+abbrev pub SettledAt : Config → Histories → Histories → State → State → Type 0
+SettledAt c old now (Open session) after = SettledBy session.ended c old now (Open session) after
+SettledAt c old now (Closed receipt) after = (after ≡ Closed receipt) × (now ≡ old)
+
+-- by bytes that came in: where it ended by them, it was closed at once
+pub record TakenIn (c : Config) (old now : Histories) (before after : State)
+    (text sent sent_after : List ℕ) : Type 0 where
+  pub mid : Histories
+  pub between : State
+  pub fed : FedAt c old mid before between text sent sent_after
+  pub settled : SettledAt c mid now between after
+
+-- by what happened to it
+abbrev pub ActedAt : Config → Histories → Histories → Act → State → State → List ℕ → List ℕ
+    → Type 0
+ActedAt c old now (acts.In text) before after sent sent_after =
+    TakenIn c old now before after text.now sent sent_after
+ActedAt c old now (acts.Turn budget) before after sent sent_after =
+    TurnedAt c old now before after budget sent sent_after
+ActedAt c old now (acts.Close last) before after sent sent_after =
+    ClosedAt c old now last before after × (sent_after ≡ sent)
 
 -- so it becomes of the connection at this place, and the others stay
 abbrev pub IsClosedAt : Config → Histories → Histories → Last → ℕ → Entry → List Entry → List Entry
@@ -116,6 +148,12 @@ pub record IsFoundAt (entries : List Entry) (number : ℕ) (entry : Entry) : Typ
 abbrev pub IsMissing : List Entry → ℕ → Type 0
 IsMissing entries number = StandsAt entries (place_of number (lives_in entries)) number → ⊥
 
+-- so it is told where the connection of the number stands as a rover
+abbrev pub IsRoverIn : List Entry → ℕ → Option RoverState → Type 0
+IsRoverIn entries number rover =
+    ((entry : Entry) × IsFoundAt entries number entry × (rover ≡ rover_at entry.state))
+    ⊎ (IsMissing entries number × (rover ≡ None))
+
 -- ---- how it opens
 
 abbrev pub opening_of : Way → Opening
@@ -135,15 +173,6 @@ abbrev pub HasOpened : Config → Histories → Histories → ℕ → Opening �
 HasOpened c old now number opening (Open session) bytes =
     (session.me ≡ number) × Opens c old now session opening bytes
 HasOpened c old now number opening (Closed receipt) bytes = ⊥
-
--- one that ended as it opened is closed at once
-abbrev pub SettledBy : Option Ending → Config → Histories → Histories → State → State → Type 0
-SettledBy None c old now before after = (after ≡ before) × (now ≡ old)
-SettledBy (Some end) c old now before after = ClosedAt c old now lasts.End before after
-
-abbrev pub SettledAt : Config → Histories → Histories → State → State → Type 0
-SettledAt c old now (Open session) after = SettledBy session.ended c old now (Open session) after
-SettledAt c old now (Closed receipt) after = (after ≡ Closed receipt) × (now ≡ old)
 
 -- one that asks no other caster was sent nothing as it opened
 abbrev pub IsUnsent : Opening → List ℕ → Type 0

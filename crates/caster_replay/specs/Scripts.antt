@@ -9,8 +9,13 @@ use Rattle.cast_config.specs.declared.config.Config.{Config}
 use Rattle.session_model.specs.declared.ending.Last.{Last}
 use Rattle.session_model.specs.declared.ending.Last.TheVariants as lasts
 use Rattle.session_model.specs.Judged.{Opening, sends_head, relays, bare_source, bare_rover}
+use Rattle.caster_replay.specs.declared.entry.Act.{Act}
+use Rattle.caster_replay.specs.declared.entry.Act.TheVariants as acts
 use Rattle.caster_replay.specs.declared.entry.Entry.{Entry}
+use Rattle.caster_replay.specs.declared.event.Request.{Request}
+use Rattle.caster_replay.specs.declared.event.Request.TheVariants as requests
 use Rattle.caster_replay.specs.Caster.{DesksValue, ArePlaces}
+use Rattle.caster_replay.specs.Entries.{opening_of}
 use Rattle.caster_replay.specs.Lives.{lives_in}
 use Rattle.caster_replay.specs.Runs.{Runs}
 
@@ -53,6 +58,17 @@ Ends (events.In k bytes) number last = ⊥
 Ends (events.Turn k budget) number last = ⊥
 Ends (events.Break k) number last = (k ≡ number) × (last ≡ lasts.ReadFault)
 Ends (events.End k) number last = (k ≡ number) × (last ≡ lasts.End)
+
+-- by this event this happens to the connection of this number
+abbrev pub Acts : Event → ℕ → Act → Type 0
+Acts event number (acts.In text) = event ≡ events.In number text.now
+Acts event number (acts.Turn budget) = event ≡ events.Turn number budget
+Acts event number (acts.Close last) = Ends event number last
+
+-- an event asks this of the connection of this number
+abbrev pub Asks : Event → ℕ → Request → Type 0
+Asks event number (requests.Open way) = Begins event number (opening_of way)
+Asks event number (requests.Apply act) = Acts event number act
 
 -- ---- while they are played
 

@@ -1,12 +1,11 @@
 //! The desks of a run: nobody but its connections calls at them.
 
-ghost use Rattle.std.specs.Prelude.{◌≡◌, ◌<◌, ◌++◌, ℕ, [], ◌∷◌, length, get_or, IfOk, OnOk, IfSome, IsTrue, None};
+ghost use Rattle.std.specs.Prelude.{◌≡◌, ℕ, [], length, IfOk, IfSome, IsTrue, None};
 ghost use Rattle.cast_config.specs.declared.config.Config.{Config as ConfigValue};
-ghost use Rattle.mount_ring.specs.declared.shape.RingShape.{RingShape};
 ghost use Rattle.mount_ring.specs.History.{state_of};
 ghost use Rattle.session_calls.specs.Rings.{history_at};
 ghost use Rattle.cast_config.specs.Kept.{KeepsRules};
-ghost use Rattle.session_model.specs.Setting.{caps, shapes};
+ghost use Rattle.session_model.specs.Setting.{caps};
 ghost use Rattle.session_core.specs.Beginnings.{bare_opening};
 ghost use Rattle.session_model.specs.Called.{is_halt};
 ghost use Rattle.session_model.specs.Run.{nothing_called};
@@ -14,7 +13,7 @@ ghost use Rattle.session_model.specs.Setting as setting;
 ghost use Rattle.session_core.specs.Standing.{Follows};
 ghost use Rattle.session_core.specs.Turned.{flow_of};
 ghost use Rattle.caster_replay.specs.Calls.{Closes, Feeds, Opens, TakesTurn};
-ghost use Rattle.caster_replay.specs.Caster.{ArePlaces, AreRings, SameBook, SamePlaces};
+ghost use Rattle.caster_replay.specs.Caster.{AreNew, ArePlaces, AreRings, SameBook, SamePlaces};
 
 use crate::caps::caps_of;
 use crate::ring_place::RingPlace;
@@ -26,7 +25,7 @@ use session_core::{Bare, Flow, Last, Places, Receipt, Session};
 use std::alloc::{AllocError, Global};
 use std::marker::Model;
 use std::mem;
-use turn_log::{Desk, Turns};
+use turn_log::{Desk, Played, Turns};
 
 /// One place at the ring of each mountpoint, in the order of their numbers, and a desk at the book.
 ///
@@ -52,47 +51,41 @@ impl<P: Turns<Ring>> Model for Desks<P> {
     } };
 }
 
+/// The place at a new ring of each mountpoint, in the order of their numbers.
+fn rings_of<P: RingPlace>(alloc: Global, config: &Config) -> Result<Vec<P>, AllocError>
+    requires kept { (cap : ℕ) × KeepsRules cap config.now }
+    ensures { IfOk result (λ rings. AreNew P.Turns config.now rings.items) }
+{
+    let mut rings = Vec::new(alloc);
+    for number in 0..config.mount.as_slice().len() {
+        let place = P::open(alloc, config, number as u32)?;
+        rings.push(place)?;
+    }
+    Ok(rings)
+}
+
+/// The desk at a new book of the accounts.
+fn book_of(alloc: Global, config: &Config) -> Result<Desk<Book>, AllocError>
+    ensures shape { IfOk result (λ book.
+        ⟦<Desk<Book> as Turns<Book>>⟧.shape book ≡ caps config.now) }
+    ensures uncalled { IfOk result (λ book. ⟦<Desk<Book> as Turns<Book>>⟧.seen book ≡ []) }
+{
+    let caps = caps_of(alloc, config)?;
+    Ok(Desk::new(Book::new(alloc, &caps)?))
+}
+
 impl<P: RingPlace> Desks<P> {
-    /// One more place, at a new ring of the mountpoint of this number.
-    fn add_ring(&mut self, alloc: Global, config: &Config, number: u32) -> Result<(), AllocError>
-        requires kept { (cap : ℕ) × KeepsRules cap config.now }
-        requires there { number < length config.now.mount }
-        ensures ring { (d : RingShape) → OnOk result (self.new.rings
-            ≡ self.old.rings ++ get_or (shapes config.now) number d ∷ []) }
-        ensures uncalled { OnOk result
-            (self.new.seen.rings ≡ self.old.seen.rings ++ [] ∷ []) }
-        ensures book { SameBook self.old self.new }
-    {
-        let place = P::open(alloc, config, number)?;
-        self.places.rings.push(place)?;
-        Ok(())
-    }
-
-    /// The desk at a new book of the accounts, and no place at a ring yet.
-    fn at_book(alloc: Global, config: &Config) -> Result<Desks<P>, AllocError>
-        ensures rings { IfOk result (λ desks. desks.rings ≡ []) }
-        ensures book { IfOk result (λ desks. desks.book ≡ caps config.now) }
-        ensures seen { IfOk result (λ desks. desks.seen ≡ record { rings = []; book = [] }) }
-    {
-        let caps = caps_of(alloc, config)?;
-        let book = Desk::new(Book::new(alloc, &caps)?);
-        let rings = Vec::new(alloc);
-        Ok(Desks {
-            places: Places { rings, book },
-        })
-    }
-
     /// The desks of a caster with this configuration, at which nothing was called.
     pub(crate) fn new(alloc: Global, config: &Config) -> Result<Desks<P>, AllocError>
         requires kept { (cap : ℕ) × KeepsRules cap config.now }
         ensures places { IfOk result (λ desks. ArePlaces config.now desks) }
         ensures uncalled { IfOk result (λ desks. desks.seen ≡ nothing_called config.now) }
     {
-        let mut desks = Desks::at_book(alloc, config)?;
-        for number in 0..config.mount.as_slice().len() {
-            desks.add_ring(alloc, config, number as u32)?;
-        }
-        Ok(desks)
+        let rings = rings_of(alloc, config)?;
+        let book = book_of(alloc, config)?;
+        Ok(Desks {
+            places: Places { rings, book },
+        })
     }
 
     /// How many frames the mountpoint of this number published, none where there is none.
@@ -112,6 +105,14 @@ impl<P: RingPlace> Desks<P> {
         self.places.rings.as_slice()
     }
 
+    /// The book of accounts.
+    pub(crate) fn book(&self) -> &Book
+        ensures stands { ⟦<Book as Played>⟧.stands result.now self.now.seen.book }
+        ensures shape { ⟦<Book as Played>⟧.shape result.now ≡ self.now.book }
+    {
+        self.places.book.value()
+    }
+
     /// Takes these places at the rings, and gives those that there were.
     pub(crate) fn replace_rings(&mut self, rings: Vec<P>) -> Vec<P>
         ensures gives { AreRings P.Turns self.old result.items }
@@ -129,7 +130,7 @@ impl<P: RingPlace> Desks<P> {
         table: &[u8],
         bytes: &[u8],
         out: &mut Vec<u8>,
-    ) -> Flow
+    )
         requires goes_on { session.old.ended ≡ None }
         requires kept { (cap : ℕ) × KeepsRules cap config.now }
         requires table { table.now ≡ setting.table config.now }
@@ -137,11 +138,10 @@ impl<P: RingPlace> Desks<P> {
         requires follows { Follows config.now session.old self.old.seen (length bytes.now) }
         ensures same { SamePlaces self.old self.new }
         ensures me { session.new.me ≡ session.old.me }
-        ensures flow { result ≡ flow_of session.new.ended }
         ensures fed { Feeds config.now self.old.seen self.new.seen session.old session.new
             bytes.now out.old.items out.new.items }
     {
-        session.feed(config, table, bytes, &mut self.places, out)
+        session.feed(config, table, bytes, &mut self.places, out);
     }
 
     /// A session that goes on takes a turn; its frames are appended. It ends only where it is

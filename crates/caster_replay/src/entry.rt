@@ -6,7 +6,7 @@ ghost use Rattle.cast_config.specs.Kept.{KeepsRules};
 ghost use Rattle.session_model.specs.Called as called;
 ghost use Rattle.session_model.specs.Setting as setting;
 ghost use Rattle.caster_replay.specs.Caster.{ArePlaces, SamePlaces};
-ghost use Rattle.caster_replay.specs.Entries.{ClosedAt, FedAt, MayBeClosed, MayGoOn, TurnedAt, is_behind_at, is_ended_at, is_open_at, rover_at};
+ghost use Rattle.caster_replay.specs.Entries.{ActedAt, ClosedAt, FedAt, MayAct, MayBeClosed, MayGoOn, SettledAt, TakenIn, TurnedAt, is_ended_at, is_open_at, rover_at};
 
 use crate::desks::Desks;
 use crate::ring_place::RingPlace;
@@ -22,6 +22,17 @@ pub(crate) enum State {
     Open(Session),
     /// It is over, and came to this.
     Closed(Receipt),
+}
+
+/// What happens to a connection that was opened.
+#[derive(Clone, Copy)]
+pub(crate) enum Act<'a> {
+    /// These bytes come in on it.
+    In(&'a [u8]),
+    /// It takes a turn, with this budget of frames.
+    Turn(u32),
+    /// It is closed so.
+    Close(Last),
 }
 
 /// A connection of a run.
@@ -83,7 +94,7 @@ fn no_state(alloc: Global) -> State {
 
 impl Entry {
     /// Whether its session ended by itself, or was halted, and waits to be closed.
-    pub(crate) fn has_ended(&self) -> bool
+    fn has_ended(&self) -> bool
         ensures { result ≡ is_ended_at self.now.state }
     {
         match &self.state {
@@ -112,56 +123,89 @@ impl Entry {
         }
     }
 
-    /// Whether it is a rover that goes on and has frames to read.
-    pub(crate) fn is_behind<P: RingPlace>(&self, desks: &Desks<P>) -> bool
-        ensures { result ≡ is_behind_at desks.now.seen.rings self.now.state }
-    {
-        let State::Open(session) = &self.state else {
-            return false;
-        };
-        match session.rover() {
-            Some(rover) => rover.next < desks.published(rover.mount),
-            None => false,
-        }
-    }
-
     /// Bytes come in on it.
-    pub(crate) fn feed<P: RingPlace>(
+    fn feed<P: RingPlace>(
         &mut self,
         config: &Config,
         table: &[u8],
         desks: &mut Desks<P>,
         bytes: &[u8],
-    ) -> Flow
+    )
         requires kept { (cap : ℕ) × KeepsRules cap config.now }
         requires table { table.now ≡ setting.table config.now }
         requires places { ArePlaces config.now desks.old }
         requires may { MayGoOn config.now desks.old.seen (length bytes.now) self.old.state }
         ensures same { SamePlaces desks.old desks.new }
         ensures number { self.new.number ≡ self.old.number }
-        ensures fed { FedAt config.now desks.old.seen desks.new.seen result self.old.state
+        ensures fed { FedAt config.now desks.old.seen desks.new.seen self.old.state
             self.new.state bytes.now self.old.bytes.items self.new.bytes.items }
     {
         match &mut self.state {
             State::Open(session) => desks.feed(session, config, table, bytes, &mut self.bytes),
-            State::Closed(_) => Flow::Open,
+            State::Closed(_) => {}
         }
     }
 
-    /// It takes a turn. Answers that it ended where it was halted.
-    pub(crate) fn turn<P: RingPlace>(&mut self, desks: &mut Desks<P>, budget: u32) -> Flow
+    /// Bytes come in on it. Where its session ends by them, it is closed at once.
+    fn take_in<P: RingPlace>(
+        &mut self,
+        config: &Config,
+        table: &[u8],
+        desks: &mut Desks<P>,
+        bytes: &[u8],
+    ) -> Result<(), AllocError>
+        requires kept { (cap : ℕ) × KeepsRules cap config.now }
+        requires table { table.now ≡ setting.table config.now }
+        requires places { ArePlaces config.now desks.old }
+        requires may { MayGoOn config.now desks.old.seen (length bytes.now) self.old.state }
+        ensures same { SamePlaces desks.old desks.new }
+        ensures number { self.new.number ≡ self.old.number }
+        ensures taken { OnOk result (TakenIn config.now desks.old.seen desks.new.seen
+            self.old.state self.new.state bytes.now self.old.bytes.items self.new.bytes.items) }
+    {
+        self.feed(config, table, desks, bytes);
+        self.settle(desks)
+    }
+
+    /// It takes a turn.
+    ///
+    /// # Errors
+    /// Where it was halted. Then the run is of no further use.
+    fn turn<P: RingPlace>(&mut self, desks: &mut Desks<P>, budget: u32) -> Result<(), AllocError>
         requires may { (c : ConfigValue) × ArePlaces c desks.old
             × MayGoOn c desks.old.seen 0 self.old.state }
         ensures same { SamePlaces desks.old desks.new }
         ensures number { self.new.number ≡ self.old.number }
         ensures turned { (c : ConfigValue) → ArePlaces c desks.old
-            → TurnedAt c desks.old.seen desks.new.seen result self.old.state self.new.state
-            budget self.old.bytes.items self.new.bytes.items }
+            → OnOk result (TurnedAt c desks.old.seen desks.new.seen self.old.state self.new.state
+            budget self.old.bytes.items self.new.bytes.items) }
     {
         match &mut self.state {
-            State::Open(session) => desks.turn(session, budget, &mut self.bytes),
-            State::Closed(_) => Flow::Open,
+            State::Open(session) => match desks.turn(session, budget, &mut self.bytes) {
+                Flow::Open => Ok(()),
+                Flow::Ended => Err(AllocError),
+            },
+            State::Closed(_) => Ok(()),
         }
+    }
+
+    /// Its state, for a while in which it is being closed.
+    fn take_state(&mut self) -> State
+        ensures state { result ≡ self.old.state }
+        ensures number { self.new.number ≡ self.old.number }
+        ensures bytes { self.new.bytes.items ≡ self.old.bytes.items }
+    {
+        let between = no_state(*self.bytes.allocator());
+        mem::replace(&mut self.state, between)
+    }
+
+    /// It has this state from now on.
+    fn put_state(&mut self, state: State)
+        ensures state { self.new.state ≡ state }
+        ensures number { self.new.number ≡ self.old.number }
+        ensures bytes { self.new.bytes.items ≡ self.old.bytes.items }
+    {
+        drop(mem::replace(&mut self.state, state));
     }
 
     /// It is closed, unless it is over already.
@@ -182,9 +226,56 @@ impl Entry {
         ensures closed { (c : ConfigValue) → ArePlaces c desks.old → OnOk result
             (ClosedAt c desks.old.seen desks.new.seen last self.old.state self.new.state) }
     {
-        let between = no_state(*self.bytes.allocator());
-        let state = mem::replace(&mut self.state, between);
-        self.state = closed(state, desks, last)?;
+        let state = self.take_state();
+        self.put_state(closed(state, desks, last)?);
         Ok(())
+    }
+
+    /// It is closed at once, if its session ended by itself.
+    ///
+    /// # Errors
+    /// As where it is closed.
+    pub(crate) fn settle<P: RingPlace>(&mut self, desks: &mut Desks<P>) -> Result<(), AllocError>
+        requires may { (c : ConfigValue) × ArePlaces c desks.old
+            × MayBeClosed c desks.old.seen self.old.state }
+        ensures same { SamePlaces desks.old desks.new }
+        ensures number { self.new.number ≡ self.old.number }
+        ensures bytes { self.new.bytes.items ≡ self.old.bytes.items }
+        ensures settled { (c : ConfigValue) → ArePlaces c desks.old → OnOk result
+            (SettledAt c desks.old.seen desks.new.seen self.old.state self.new.state) }
+    {
+        if self.has_ended() {
+            self.close(desks, Last::End)
+        } else {
+            Ok(())
+        }
+    }
+
+    /// This happens to it. Where its session ends by bytes, it is closed at once.
+    ///
+    /// # Errors
+    /// Where its session was halted, or the turn that closes it was refused. Then the run is of no
+    /// further use.
+    pub(crate) fn apply<P: RingPlace>(
+        &mut self,
+        config: &Config,
+        table: &[u8],
+        desks: &mut Desks<P>,
+        act: Act<'_>,
+    ) -> Result<(), AllocError>
+        requires kept { (cap : ℕ) × KeepsRules cap config.now }
+        requires table { table.now ≡ setting.table config.now }
+        requires places { ArePlaces config.now desks.old }
+        requires may { MayAct config.now desks.old.seen act self.old.state }
+        ensures same { SamePlaces desks.old desks.new }
+        ensures number { self.new.number ≡ self.old.number }
+        ensures acted { OnOk result (ActedAt config.now desks.old.seen desks.new.seen act.entry
+            self.old.state self.new.state self.old.bytes.items self.new.bytes.items) }
+    {
+        match act {
+            Act::In(bytes) => self.take_in(config, table, desks, bytes),
+            Act::Turn(budget) => self.turn(desks, budget),
+            Act::Close(last) => self.close(desks, last),
+        }
     }
 }

@@ -18,7 +18,7 @@ use session_core::{Bare, Session};
 use std::alloc::{AllocError, Global};
 
 /// How a connection opens.
-#[derive(Drop)]
+#[derive(Clone, Copy)]
 pub(crate) enum Way<'a> {
     /// It will send a head.
     Head,

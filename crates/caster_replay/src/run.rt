@@ -3,6 +3,7 @@
 ghost use Rattle.std.specs.Prelude.{◌≡◌, ℕ, ◌≤◌, ◌+◌, [], ◌∷◌, ◌++◌, List, length, IsTrue, IfOk, OnOk};
 ghost use Rattle.cast_config.specs.declared.config.Config.{Config as ConfigValue};
 ghost use Rattle.cast_config.specs.Kept.{KeepsRules};
+ghost use Rattle.session_model.specs.declared.report.Connection.{Connection as ConnectionValue};
 ghost use Rattle.session_model.specs.Reports.{IsReport};
 ghost use Rattle.session_model.specs.Setting as setting;
 ghost use Rattle.session_script.specs.declared.Event.{Event as EventValue};
@@ -10,13 +11,13 @@ ghost use Rattle.caster_replay.specs.Entries.{AreOver, IsOverAt};
 ghost use Rattle.caster_replay.specs.Going.{GoesOn, IsBehind, IsRover, MaySpeak};
 ghost use Rattle.caster_replay.specs.Kept.{HasRings, MayCome, SameButRings, StandsFor, homes_of, lives_of, sent_by_run};
 ghost use Rattle.caster_replay.specs.Lives.{AreTold, IsToldBy, lives_in};
-ghost use Rattle.caster_replay.specs.Scripts.{IsShort};
-ghost use Rattle.caster_replay.specs.Sends.{Sends, told_sent};
+ghost use Rattle.caster_replay.specs.Scripts.{IsShort, Stands};
+ghost use Rattle.caster_replay.specs.Sends.{IsSilent, Sends, told_sent};
 
 use crate::desks::Desks;
 use crate::entry::{Entry, State};
-use crate::event::play;
-use crate::lives::{close_all, find};
+use crate::event::{Request, request_of};
+use crate::lives::{apply, close_all, find, open, rover_of};
 use crate::ring_place::RingPlace;
 use crate::totals::totals;
 use cast_config::Config;
@@ -80,6 +81,29 @@ fn told_all(alloc: Global, entries: Vec<Entry>) -> Result<Vec<Connection>, Alloc
     Ok(list)
 }
 
+/// Closes the connections that go on, each as its end, and tells what the mountpoints and accounts
+/// came to.
+fn close_down<P: RingPlace>(
+    alloc: Global,
+    config: &Config,
+    entries: &mut Vec<Entry>,
+    desks: &mut Desks<P>,
+) -> Result<Closed, AllocError>
+    requires kept { (cap : ℕ) × KeepsRules cap config.now }
+    requires run { (script : List EventValue) × IsShort script
+        × Stands config.now script entries.old.items desks.old }
+    ensures report { (script : List EventValue) → IsShort script
+        → Stands config.now script entries.old.items desks.old → IfOk result (λ closed.
+        (told : List ConnectionValue) → AreTold (lives_in entries.new.items) told
+        → IsReport config.now script (record { connections = told; closed = closed })) }
+    ensures over { OnOk result (AreOver (lives_in entries.new.items)) }
+    ensures silent { OnOk result
+        (IsSilent (lives_in entries.old.items) (lives_in entries.new.items)) }
+{
+    close_all(entries, desks)?;
+    totals(alloc, config, desks)
+}
+
 impl<P: RingPlace> Run<P> {
     /// The run of no events yet, over one place a mountpoint, made as the configuration says, and
     /// one desk of the book of accounts.
@@ -115,14 +139,13 @@ impl<P: RingPlace> Run<P> {
         ensures sends { OnOk result (Sends event.now (lives_of self.old) (lives_of self.new)) }
         ensures homes { homes_of self.new ≡ homes_of self.old }
     {
-        play(
-            alloc,
-            config,
-            &self.table,
-            &mut self.entries,
-            &mut self.desks,
-            event,
-        )
+        let (number, request) = request_of(event);
+        let entries = &mut self.entries;
+        let desks = &mut self.desks;
+        match request {
+            Request::Open(way) => open(alloc, config, entries, desks, number, way),
+            Request::Apply(act) => apply(config, &self.table, entries, desks, number, act),
+        }
     }
 
     /// Whether the connection of this number was opened and goes on.
@@ -148,8 +171,8 @@ impl<P: RingPlace> Run<P> {
         ensures { (c : ConfigValue) (script : List EventValue) → StandsFor c script self.now
             → IsBehind c script number result }
     {
-        match find(&self.entries, number) {
-            Some(entry) => entry.is_behind(&self.desks),
+        match rover_of(&self.entries, number) {
+            Some(rover) => rover.next < self.desks.published(rover.mount),
             None => false,
         }
     }
@@ -174,10 +197,7 @@ impl<P: RingPlace> Run<P> {
         ensures { (c : ConfigValue) (script : List EventValue) → StandsFor c script self.now
             → IsRover c script number result }
     {
-        match find(&self.entries, number) {
-            Some(entry) => entry.rover(),
-            None => None,
-        }
+        rover_of(&self.entries, number)
     }
 
     /// The places at the rings, in the order of their mountpoints.
@@ -241,12 +261,14 @@ impl<P: RingPlace> Run<P> {
             told_sent n parts.0.items ≡ sent_by_run self n) }
     {
         let Run {
-            table: _,
+            table,
             mut entries,
             mut desks,
         } = self;
-        close_all(&mut entries, &mut desks)?;
-        let closed = totals(alloc, config, &desks)?;
+        drop(table);
+        let ended = close_down(alloc, config, &mut entries, &mut desks);
+        drop(desks);
+        let closed = ended?;
         let connections = told_all(alloc, entries)?;
         Ok((connections, closed))
     }

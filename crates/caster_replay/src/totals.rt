@@ -1,24 +1,27 @@
 //! What the mountpoints and accounts of a run came to.
 
-ghost use Rattle.std.specs.Prelude.{◌≡◌, ℕ, ◌^◌, ◌<◌, length, map, IfOk};
+ghost use Rattle.std.specs.Prelude.{◌≡◌, ℕ, ◌^◌, ◌<◌, length, IfOk};
 ghost use Rattle.cast_config.specs.Kept.{KeepsRules};
 ghost use Rattle.cast_config.specs.declared.config.Config.{Config as ConfigValue};
-ghost use Rattle.session_model.specs.Reports.{closed_of, mount_total, sums_from};
-ghost use Rattle.caster_replay.specs.Caster.{ArePlaces};
+ghost use Rattle.session_model.specs.Reports.{closed_of, sums_from};
+ghost use Rattle.session_model.specs.Run.{Histories};
+ghost use Rattle.session_model.specs.Setting.{caps};
+ghost use Rattle.caster_replay.specs.Caster.{ArePlaces, mount_totals};
 
 use crate::desks::Desks;
 use crate::ring_place::RingPlace;
 use cast_config::Config;
-use caster_accounts::Sum;
+use caster_accounts::{Book, Sum};
 use session_core::{Closed, MountTotal, MountTotals, Sums};
 use std::alloc::{AllocError, Global};
+use turn_log::Played;
 
-/// What the mountpoints came to.
-fn mounts<P: RingPlace>(alloc: Global, desks: &Desks<P>) -> Result<Vec<MountTotal>, AllocError>
-    ensures { IfOk result (λ totals. totals.items ≡ map mount_total desks.now.seen.rings) }
+/// What the mountpoints of these places came to.
+fn mounts<P: RingPlace>(alloc: Global, places: &[P]) -> Result<Vec<MountTotal>, AllocError>
+    ensures { IfOk result (λ totals. totals.items ≡ mount_totals P.Turns places.now) }
 {
     let mut totals = Vec::new(alloc);
-    for place in desks.places.rings.as_slice() {
+    for place in places {
         let ring = place.ring();
         totals.push(MountTotal {
             published: ring.published(),
@@ -29,17 +32,12 @@ fn mounts<P: RingPlace>(alloc: Global, desks: &Desks<P>) -> Result<Vec<MountTota
 }
 
 /// What the named accounts came to, which are numbered from 1.
-fn accounts<P: RingPlace>(
-    alloc: Global,
-    config: &Config,
-    desks: &Desks<P>,
-) -> Result<Vec<Sum>, AllocError>
-    requires places { ArePlaces config.now desks.now }
+fn accounts(alloc: Global, config: &Config, book: &Book) -> Result<Vec<Sum>, AllocError>
+    requires shape { ⟦<Book as Played>⟧.shape book.now ≡ caps config.now }
     requires few { length config.now.account < 2 ^ 31 }
-    ensures { IfOk result (λ sums.
-        sums.items ≡ sums_from 1 desks.now.seen config.now.account) }
+    ensures { (seen : Histories) → ⟦<Book as Played>⟧.stands book.now seen.book
+        → IfOk result (λ sums. sums.items ≡ sums_from 1 seen config.now.account) }
 {
-    let book = desks.places.book.value();
     let mut sums = Vec::new(alloc);
     for number in 0..config.account.as_slice().len() {
         sums.push(book.total(number as u32 + 1))?;
@@ -65,8 +63,8 @@ pub(crate) fn totals<P: RingPlace>(
     requires few { length config.now.account < 2 ^ 31 }
     ensures { IfOk result (λ closed. closed ≡ closed_of config.now desks.now.seen) }
 {
-    let mounts = mounts(alloc, desks)?;
-    let accounts = accounts(alloc, config, desks)?;
+    let mounts = mounts(alloc, desks.rings())?;
+    let accounts = accounts(alloc, config, desks.book())?;
     Ok(Closed {
         mounts: MountTotals::new(mounts),
         accounts: Sums::new(accounts),

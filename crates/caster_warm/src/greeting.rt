@@ -24,10 +24,7 @@ fn append_frame(version: Version, frame: &Frame, out: &mut Vec<u8>) -> Result<()
     ensures { OnOk result (out.new.items ≡ out.old.items ++ frame_sent version frame.now) }
 {
     match version {
-        Version::One => {
-            out.extend_from_slice(frame.bytes())?;
-            Ok(())
-        }
+        Version::One => out.extend_from_slice(frame.bytes()),
         Version::Two => chunk(frame, out),
     }
 }

@@ -46,8 +46,7 @@ fn sent_behind(
     requires within { before ≤ length (sent_by_run run.now number) }
     ensures { IfOk result (λ bytes. bytes.items ≡ drop before (sent_by_run run.now number)) }
 {
-    let mut bytes = Vec::new(alloc);
-    bytes.extend_from_slice(&run.sent(number)[before..])?;
+    let bytes = Vec::from_slice(alloc, &run.sent(number)[before..])?;
     Ok(bytes)
 }
 

@@ -38,9 +38,8 @@ pub(crate) fn add_part(sent: &mut AllSent, part: Part) -> Result<(), AllocError>
 pub(crate) fn bytes_to(alloc: Global, number: u32, sent: &AllSent) -> Result<Vec<u8>, AllocError>
     ensures { IfOk result (λ bytes. bytes.items ≡ sent_to number sent.now) }
 {
-    let mut copy = Vec::new(alloc);
-    if let Some(bytes) = sent.get(&number) {
-        copy.extend_from_slice(bytes)?;
+    match sent.get(&number) {
+        Some(bytes) => Vec::from_slice(alloc, bytes),
+        None => Ok(Vec::new(alloc)),
     }
-    Ok(copy)
 }

@@ -1,26 +1,31 @@
-use Rattle.std.proofs.Common.{◌∙◌, ◌<◌, ◌++◌, List, length, map, take, subst, arith}
+use Rattle.std.proofs.Common.{◌∙◌, ◌<◌, ◌++◌, List, length, map, set, take, sym, subst, arith}
 use Rattle.std.proofs.lemmas.List.{take_all, length-map}
+use Rattle.session_model.specs.declared.ending.Last.TheVariants as lasts
 use Rattle.caster_replay.specs.declared.entry.Entry.{Entry}
-use Rattle.caster_replay.specs.Entries.{AreOver}
+use Rattle.caster_replay.specs.Entries.{AreOver, MayBeClosed}
 use Rattle.caster_replay.specs.Lives.{Live, end_of, live_in, lives_in}
 use Rattle.caster_replay.specs.Scripts.{Stands}
-use Rattle.session_model.specs.declared.ending.Last.TheVariants as lasts
+use Rattle.caster_replay.proofs.EntryLemmas.{closed_put}
 use Rattle.caster_replay.proofs.LivesLemmas.{silent_closed}
-use Rattle.caster_replay.proofs.ReplayLemmas.{entry_at, closes_next, may_close_at, over_next, same_count}
+use Rattle.caster_replay.proofs.ReplayLemmas.{closes_next, may_close_at, over_next, same_count}
 use Rattle.caster_replay.proofs.lives.close_all.Goals as goal
 
-pub close_at-requires-clause-may : goal.close_at-requires-clause-may
-close_at-requires-clause-may g c =
+pub close-requires : goal.close-requires
+close-requires g c =
     let config = c.requires.run.0 in
     let entries : List Entry = c.loop-place.entries.items in
     let so_far = c.loop-place.invariant.closes config c.requires.run.1 c.requires.run.2 c.requires.run.3 in
     let within : c.loop-place.place < length entries =
-    omega (arith, c.loop-place-test.true, c.len-place-end.ensures, c.loop-place.invariant.count) in (
-      config,
-      so_far.stands.places,
-      λ d. may_close_at config (c.requires.run.1 ++ map end_of (take c.loop-place.place (lives_in entries))) entries
-          c.loop-place.desks c.loop-place.place d within so_far.short so_far.stands,
-    )
+    omega (arith, c.loop-place-test.true, c.len-place-end.ensures, c.loop-place.invariant.count) in
+    record {
+      may = (
+        config,
+        so_far.stands.places,
+        subst (λ (e : Entry). MayBeClosed config c.loop-place.desks.seen e.state) (sym c.index_mut.ensures.value)
+            (may_close_at config (c.requires.run.1 ++ map end_of (take c.loop-place.place (lives_in entries))) entries
+            c.loop-place.desks c.loop-place.place c.index_mut.result.now within so_far.short so_far.stands),
+      );
+    }
 
 pub loop-place-preserved : goal.loop-place-preserved
 loop-place-preserved g c =
@@ -29,21 +34,27 @@ loop-place-preserved g c =
     let so_far = c.loop-place.invariant.closes config c.requires.run.1 c.requires.run.2 c.requires.run.3 in
     let within : c.loop-place.place < length entries =
     omega (arith, c.loop-place-test.true, c.len-place-end.ensures, c.loop-place.invariant.count) in
-    let d : Entry = entry_at entries c.loop-place.place within in
-    let closed = c.in_ok-close_at.ensures.closed config d so_far.stands.places in
+    let place = c.loop-place.place in
+    let d : Entry = c.index_mut.result.now in
+    let after : List Entry = set entries place c.close.new.self in
+    let closed = closed_put config c.loop-place.desks.seen c.close.new.desks.seen lasts.End place entries d d
+    c.close.new.self within c.index_mut.ensures.value c.close.ensures.number c.close.ensures.bytes
+    (c.in_ok-close.ensures.closed config so_far.stands.places) in
     record {
-      count = same_count config c.requires.run.1 entries c.close_at.new.entries.items c.loop-place.desks
-          c.close_at.new.desks c.loop-place.place d within closed ∙ c.loop-place.invariant.count;
-      over = over_next config c.requires.run.1 entries c.close_at.new.entries.items c.loop-place.desks
-          c.close_at.new.desks c.loop-place.place d within closed c.loop-place.invariant.over;
+      count = same_count config c.requires.run.1 entries after c.loop-place.desks c.close.new.desks place d within closed
+          ∙ c.loop-place.invariant.count;
+      over = over_next config c.requires.run.1 entries after c.loop-place.desks c.close.new.desks place d within closed
+          c.loop-place.invariant.over;
       closes = λ any script short stands.
           let before = c.loop-place.invariant.closes any script short stands in
-          closes_next any script entries c.close_at.new.entries.items c.loop-place.desks c.close_at.new.desks
-          c.loop-place.place d within (c.in_ok-close_at.ensures.closed any d before.stands.places)
-          c.in_ok-close_at.ensures.same before;
+          closes_next any script entries after c.loop-place.desks c.close.new.desks place d within
+          (closed_put any c.loop-place.desks.seen c.close.new.desks.seen lasts.End place entries d d c.close.new.self
+          within c.index_mut.ensures.value c.close.ensures.number c.close.ensures.bytes
+          (c.in_ok-close.ensures.closed any before.stands.places))
+          c.close.ensures.same before;
       silent = λ n.
-          silent_closed config c.loop-place.desks.seen c.close_at.new.desks.seen lasts.End c.loop-place.place entries
-          c.close_at.new.entries.items d within closed n ∙ c.loop-place.invariant.silent n;
+          silent_closed config c.loop-place.desks.seen c.close.new.desks.seen lasts.End place entries after d within
+          closed n ∙ c.loop-place.invariant.silent n;
     }
 
 pub returns-clause-ok : goal.returns-clause-ok

@@ -7,7 +7,7 @@ use Rattle.caster_replay.proofs.RunLemmas.{comes_next, stands_next, stands_whole
 use Rattle.caster_warm.specs.Parts.{part_to}
 use Rattle.caster_warm.specs.Warm.{sent_by_events}
 use Rattle.caster_warm.proofs.PartLemmas.{headings_at, sent_next}
-use Rattle.caster_warm.proofs.warming.played.Goals as goal
+use Rattle.caster_warm.proofs.warming.play_all.Goals as goal
 
 pub play_part-requires-clause-run : goal.play_part-requires-clause-run
 play_part-requires-clause-run c = (

@@ -6,7 +6,7 @@ use Rattle.session_model.specs.Run.{after_events}
 use Rattle.caster_replay.specs.Kept.{StandsFor}
 use Rattle.caster_warm.specs.Parts.{sent_to}
 use Rattle.caster_warm.specs.Warm.{sent_by_events}
-use Rattle.caster_warm.proofs.warming.played.Given as goal
+use Rattle.caster_warm.proofs.warming.play_all.Given as goal
 
 abbrev pub invariant-loop-event : goal.invariant-loop-event
 invariant-loop-event l = record {
