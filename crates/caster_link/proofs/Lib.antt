@@ -4,6 +4,7 @@ pub mod ReachLemmas
 pub mod LinkLemmas
 pub mod PlaceLemmas
 pub mod ServingLemmas
+pub mod SteppedLemmas
 pub mod SoundLemmas
 pub mod ClosedLemmas
 pub mod PublishLemmas

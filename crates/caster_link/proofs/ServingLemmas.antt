@@ -233,12 +233,3 @@ follows_serving c opening me start now session before after out given more s few
 pub going_by : {A : Type 0} (ended : Option A) (answer : Bool) → answer ≡ false → answer ≡ is_some ended → ended ≡ None
 going_by None answer no_answer is = refl
 going_by (Some end) answer no_answer is = let clash = sym is ∙ no_answer in absurd cc
-
--- the same of a link that tells the same
-pub still : (c : Config) (opening : Opening) (me : ℕ) (start now : Histories) (session : Session)
-    (before after later : LinkTold) (out : List ℕ) (given more : ℕ) → after ≡ later → given ≡ more
-    → Serving c opening me start now session before after out given
-    → Serving c opening me start now session before later out more
-still c opening me start now session before after later out given more same count s =
-    subst (Serving c opening me start now session before later out) count
-    (subst (λ (told : LinkTold). Serving c opening me start now session before told out given) same s)

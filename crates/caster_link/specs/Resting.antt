@@ -1,5 +1,7 @@
 -- When the link of a connection may rest.
-use Rattle.std.specs.Prelude.{ℕ, ◌-◌, ◌&&◌, Bool, not, nat_lt, is_some, Option, None, Some}
+use Rattle.std.specs.Prelude.{ℕ, ◌-◌, ◌&&◌, Bool, false, not, nat_lt, is_some, Option, None, Some}
+use Rattle.cast_io.specs.declared.steps.Step.{Step}
+use Rattle.cast_io.specs.declared.steps.Step.TheVariants as took
 use Rattle.session_core.specs.declared.rover_state.RoverState.{RoverState}
 use Rattle.session_core.specs.declared.session.Session.{Session}
 use Rattle.session_core.specs.States.{rover_state}
@@ -17,3 +19,9 @@ next_of session = next_in (rover_state session)
 abbrev pub is_caught_up : Session → ℕ → Bool
 is_caught_up session from =
     not (is_some session.ended) && nat_lt (next_of session - from) 16
+
+-- Behind a read that was this step of the link, from the session before it to that after it: it
+-- found nothing, and no frame is left.
+abbrev pub rests_behind : Step → Session → Session → Bool
+rests_behind took.Idle before after = is_caught_up after (next_of before)
+rests_behind _ before after = false

@@ -86,23 +86,6 @@ pub record Came (c : Config) (opening : Opening) (me : ℕ) (start now : Histori
   pub bytes : IsSentBy (is_torn last) written sent
   pub caused : IsCausedBy last before.faults after.faults
 
--- From whatever beginning a link was served so far, with nothing left to be written, it is served
--- on from here, and these bytes are to be written.
-abbrev pub IsServedOn : Config → Histories → Histories → Session → Session → LinkTold → LinkTold
-    → ℕ → ℕ → List ℕ → Type 0
-IsServedOn c now later session next after last given more out =
-    (opening : Opening) (me : ℕ) (start : Histories) (before : LinkTold)
-    → Serving c opening me start now session before after [] given
-    → Serving c opening me start later next before last out more
-
--- From whatever beginning it was served so far, it is to be closed so.
-abbrev pub ComesTo : Config → Histories → Histories → Session → Session → LinkTold → LinkTold → ℕ
-    → Last → Type 0
-ComesTo c now later session next after last given closed =
-    (opening : Opening) (me : ℕ) (start : Histories) (before : LinkTold)
-    → Serving c opening me start now session before after [] given
-    → Came c opening me start later next before last closed
-
 -- ---- when it is over
 
 -- What all bytes of a connection say it is. Where memory was lacking before it called anything,

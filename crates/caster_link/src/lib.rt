@@ -2,11 +2,13 @@
 //! is sent over the link, from its first byte to its receipt.
 #![tactic(auto)]
 
-mod arriving;
 mod connection;
 pub mod laws;
 mod role;
 mod sending;
+mod service;
+mod turning;
 
 pub use connection::serve_places;
 pub use role::Role;
+pub use service::Service;

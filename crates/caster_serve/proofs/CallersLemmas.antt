@@ -15,6 +15,7 @@ use Rattle.caster_accounts.specs.declared.account.Sum.{Sum}
 use Rattle.cast_config.specs.declared.config.Config.{Config}
 use Rattle.cast_config.specs.declared.config.Relay.{Relay}
 use Rattle.session_calls.specs.Rings.{AllLater}
+use Rattle.session_model.specs.Judged as judged
 use Rattle.session_model.specs.Run.{Histories}
 use Rattle.session_model.specs.Setting.{caps}
 use Rattle.caster_serve.specs.Ends.{EndTold, at_door, over_link, Kind, a_worker, a_relay, IsUnused, door_failed, kind_of, kinds, relays_from}
@@ -30,7 +31,7 @@ use Rattle.caster_serve.specs.Callers.{Caller, Served, ServedOver, IsServed, Are
 use Rattle.caster_seats.specs.Hands.{HandTold}
 use Rattle.caster_seats.specs.Seated.{AreAllAt, AreBelow, AreLegal, AreSeated, HavePlaces, IsSeated}
 use Rattle.caster_serve.specs.Serving.{TaskTold, HandServed, FitsEnd, MayServe, caller_of}
-use Rattle.caster_serve.proofs.WorkLemmas.{relay_on, worked_on}
+use Rattle.caster_serve.proofs.WorkLemmas.{counted_on, worked_on}
 use Rattle.caster_link.proofs.WornLemmas.{WearsOn, later_none}
 
 -- what each hand tells of its caller
@@ -183,7 +184,7 @@ served_on c limit me wear later (at_door before) (at_door after) old new on serv
 served_on c limit me wear later (at_door before) (over_link number after) old new on served = absurd served
 served_on c limit me wear later (over_link number before) (at_door after) old new on served = absurd served
 served_on c limit me wear later (over_link number before) (over_link now after) old new on served =
-    (served.0, relay_on c number me wear later old.seen new.seen after old.tally new.tally on served.1)
+    (served.0, counted_on c (judged.relays number) me wear later old.seen new.seen after old.tally new.tally on served.1)
 
 abbrev served_one : (shared : Shared) (limit n : ℕ) (worn : List ℕ) (end : EndTold) (old new : HandTold TaskTold)
     → IsUnused end → IsSeated shared n (new_task end) old → HandServed shared.config.now limit old new

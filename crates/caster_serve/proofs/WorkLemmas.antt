@@ -1,5 +1,6 @@
 -- Links that a door gave, one after the other.
-use Rattle.std.proofs.Common.{◌≡◌, ◌∙◌, ◌+◌, ◌≤◌, ◌++◌, ◌⊎◌, ℕ, Bool, false, List, [], ◌∷◌, fold, refl, sym, ap, subst, inl, inr, Option, None, Some, append-nil, append_assoc, arith}
+use Rattle.std.proofs.Common.{◌≡◌, ◌∙◌, ◌+◌, ◌≤◌, ◌++◌, ◌⊎◌, ℕ, Bool, true, false, List, [], ◌∷◌, fold, refl, sym, ap, subst, inl, inr, Option, None, Some, append-nil, append_assoc, arith}
+use Rattle.std.specs.Prelude.{◌&&◌, if◌then◌else◌}
 use Rattle.std.proofs.lemmas.List.{map-append, length-append}
 use Rattle.std.proofs.lemmas.Grind.{fold-append}
 use Rattle.cast_io.specs.Told.{LinkTold, DoorTold, Grew, StillTold}
@@ -11,7 +12,7 @@ use Rattle.cast_io.proofs.ToldLemmas.{grew_none, grew_both, rose_since}
 use Rattle.caster_accounts.specs.declared.account.Sum.{Sum}
 use Rattle.cast_config.specs.declared.config.Config.{Config}
 use Rattle.session_model.specs.declared.report.Receipt.{Receipt}
-use Rattle.session_model.specs.Judged.{Opening, sends_head, relays}
+use Rattle.session_model.specs.Judged.{Opening, sends_head}
 use Rattle.session_model.specs.Run.{Histories}
 use Rattle.caster_link.specs.Links.{IsCausedBy}
 use Rattle.caster_link.specs.Served.{LinkServed}
@@ -19,7 +20,7 @@ use Rattle.caster_places.specs.Leaves.{Leaves}
 use Rattle.caster_serve.proofs.LeaveLemmas.{leaves_none, leaves_both, leaves_of}
 use Rattle.caster_serve.specs.Visits.{Visit, HasCome, GoesOnBy, WentOn}
 use Rattle.caster_link.specs.Wear.{Wear, IsRefusedBy, only_worn}
-use Rattle.caster_serve.specs.Works.{Record, IsTold, RecordGoes, Followed, AreTaken, givens_among, givens_of, tallied, links_of, receipts_of, Works, OneServed, RelayGoes, Worked}
+use Rattle.caster_serve.specs.Works.{Record, IsTold, RecordGoes, Followed, AreTaken, givens_among, givens_of, tallied, links_of, receipts_of, Works, LinkCounted, Worked}
 use Rattle.caster_link.proofs.PublishLemmas.{source_published}
 use Rattle.caster_link.proofs.WornLemmas.{WearsOn, refused_on}
 
@@ -48,31 +49,67 @@ record_goes c opening me wear start now before after receipt fresh served refuse
   published = source_published c opening me start now served.taken served.written served.last receipt served.goes;
 }
 
-pub one_served : (c : Config) (me : ℕ) (wear : Wear) (start now : Histories) (before after : LinkTold)
-    (receipt : Receipt) (door hung : DoorTold) (old new : Sum) → IsNewLink before
-    → LinkServed c sends_head me start now before after receipt → IsRefusedBy wear receipt
-    → HasHungUp after door hung → new ≡ tallied old receipt → OneServed c me wear start now before door hung old new
-one_served c me wear start now before after receipt door hung old new fresh served refused hangs counts = record {
-  entry = record { link = after; receipt = receipt };
-  given = served.link.given;
-  left = hangs.left;
-  back = hangs.back;
-  faults = hangs.faults;
-  goes = record_goes c sends_head me wear start now before after receipt fresh served refused;
-  tally = counts;
-}
-
-pub relay_goes : (c : Config) (number me : ℕ) (wear : Wear) (start now : Histories) (before after : LinkTold)
-    (receipt : Receipt) (old new : Sum) → IsNewLink before
-    → LinkServed c (relays number) me start now before after receipt → IsRefusedBy wear receipt
-    → new ≡ tallied old receipt → RelayGoes c number me wear start now after old new
-relay_goes c number me wear start now before after receipt old new fresh served refused counts = record {
+pub link_counted : (c : Config) (opening : Opening) (me : ℕ) (wear : Wear) (start now : Histories)
+    (before after : LinkTold) (receipt : Receipt) (old new : Sum) → IsNewLink before
+    → LinkServed c opening me start now before after receipt → IsRefusedBy wear receipt
+    → new ≡ tallied old receipt → LinkCounted c opening me wear start now after old new
+link_counted c opening me wear start now before after receipt old new fresh served refused counts = record {
   receipt = receipt;
-  goes = record_goes c (relays number) me wear start now before after receipt fresh served refused;
+  goes = record_goes c opening me wear start now before after receipt fresh served refused;
   tally = counts;
   leaves = subst (Leaves me start.book now.book old) (sym counts)
-      (leaves_of c (relays number) me start now served.taken served.written served.last receipt old served.goes);
+      (leaves_of c opening me start now served.taken served.written served.last receipt old served.goes);
 }
+
+-- ---- the tally
+
+-- a sum with what a receipt counts for
+abbrev with_sums : Sum → ℕ → ℕ → Sum
+with_sums sum sent overrun = record {
+  sessions = sum.sessions + 1;
+  sent = sum.sent + sent;
+  overrun = sum.overrun + overrun;
+}
+
+count_for : (entered settled : Bool) (more same : Sum) → entered ≡ true → settled ≡ true
+    → more ≡ (if entered && settled then more else same)
+count_for true true more same enters settles = refl
+count_for true false more same enters settles = absurd (let clash : false ≡ true = settles in cc)
+count_for false settled more same enters settles = absurd (let clash : false ≡ true = enters in cc)
+
+count_not : (entered settled : Bool) (more same : Sum) → (entered ≡ false) ⊎ (settled ≡ false)
+    → same ≡ (if entered && settled then more else same)
+count_not false settled more same none = refl
+count_not true false more same none = refl
+count_not true true more same (inl none) = absurd (let clash : true ≡ false = none in cc)
+count_not true true more same (inr none) = absurd (let clash : true ≡ false = none in cc)
+
+pub tallied_by : (sum : Sum) (receipt : Receipt) (sent overrun : ℕ) → receipt.entered ≡ true
+    → receipt.settled ≡ true → sent ≡ receipt.sent → overrun ≡ receipt.overrun
+    → with_sums sum sent overrun ≡ tallied sum receipt
+tallied_by sum receipt sent overrun enters settles is over =
+    ap (λ (n : ℕ). with_sums sum n overrun) is ∙ ap (with_sums sum receipt.sent) over
+    ∙ count_for receipt.entered receipt.settled (with_sums sum receipt.sent receipt.overrun) sum enters settles
+
+pub untallied : (sum : Sum) (receipt : Receipt) → (receipt.entered ≡ false) ⊎ (receipt.settled ≡ false)
+    → sum ≡ tallied sum receipt
+untallied sum receipt none =
+    count_not receipt.entered receipt.settled (with_sums sum receipt.sent receipt.overrun) sum none
+
+-- a receipt counts for one session at most
+one_session : (counts : Bool) (old new more : Sum) → more.sessions ≡ old.sessions + 1
+    → new ≡ (if counts then more else old) → new.sessions ≤ old.sessions + 1
+one_session true old new more one is =
+    let same : new.sessions ≡ more.sessions = ap (λ (sum : Sum). sum.sessions) is in omega (arith, same, one)
+one_session false old new more one is =
+    let same : new.sessions ≡ old.sessions = ap (λ (sum : Sum). sum.sessions) is in omega (arith, same)
+
+pub one_more : (c : Config) (opening : Opening) (me : ℕ) (wear : Wear) (start now : Histories) (after : LinkTold)
+    (old new : Sum) → LinkCounted c opening me wear start now after old new → new.sessions ≤ old.sessions + 1
+one_more c opening me wear start now after old new counted =
+    let receipt = counted.receipt in
+    one_session (receipt.entered && receipt.settled) old new (with_sums old receipt.sent receipt.overrun) refl
+    counted.tally
 
 -- ---- arrivals
 
@@ -192,30 +229,28 @@ followed_worn c me wear later (entry ∷ entries) start now on so_far = (
 )
 
 pub works_more : {L : Type 0} (told : L → LinkTold) (link : L) (c : Config) (me : ℕ) (wear later : Wear)
-    (start between now : Histories) (before door opened after : DoorTold) (old sum new : Sum) (count : ℕ)
-    → WearsOn wear later → Works c me wear start between before door old sum count
-    → HasAccepted told door opened (arrived.Link link)
-    → OneServed c me later between now (told link) opened after sum new
+    (start between now : Histories) (before door opened after : DoorTold) (hung : LinkTold) (old sum new : Sum)
+    (count : ℕ) → WearsOn wear later → Works c me wear start between before door old sum count
+    → HasAccepted told door opened (arrived.Link link) → LinkCounted c sends_head me later between now hung sum new
+    → hung.given ≡ (told link).given → HasHungUp hung opened after
     → Works c me later start now before after old new (count + 1)
-works_more told link c me wear later start between now before door opened after old sum new count on works came one = record {
-  entries = works.entries ++ one.entry ∷ [];
-  back = subst (Grew before.back after.back) (sym (map-append (λ (e : Record). e.link) works.entries (one.entry ∷ [])))
-      (grew_both before.back door.back after.back (links_of works.entries) (one.entry.link ∷ []) works.back
-      (subst (λ told. Grew told after.back (one.entry.link ∷ [])) came.back one.back));
-  arrived = taken_more before.left door.left opened.left after.left works.entries one.entry (told link).given
-      works.arrived (came_first told link door opened came) one.given one.left;
-  followed = followed-snoc c me later works.entries one.entry start between now
-      (followed_worn c me wear later works.entries start between on works.followed) one.goes;
-  counted = length-append works.entries (one.entry ∷ []) ∙ ap (λ (n : ℕ). n + 1) works.counted;
-  tally = one.tally ∙ ap (λ (s : Sum). tallied s one.entry.receipt) works.tally
-      ∙ sym (fold-append tallied old (receipts_of works.entries) (one.entry.receipt ∷ []))
-      ∙ ap (fold tallied old) (sym (map-append (λ (e : Record). e.receipt) works.entries (one.entry ∷ [])));
-  leaves = leaves_both me start.book between.book now.book old sum new works.leaves
-      (subst (Leaves me between.book now.book sum) (sym one.tally)
-      (leaves_of c sends_head me between now one.goes.taken one.goes.written one.goes.last one.entry.receipt sum
-      one.goes.goes));
-  later = omega (arith, works.later, came.later, one.faults);
-}
+works_more told link c me wear later start between now before door opened after hung old sum new count on works came one
+    given hangs = let entry : Record = record { link = hung; receipt = one.receipt } in record {
+      entries = works.entries ++ entry ∷ [];
+      back = subst (Grew before.back after.back) (sym (map-append (λ (e : Record). e.link) works.entries (entry ∷ [])))
+          (grew_both before.back door.back after.back (links_of works.entries) (hung ∷ []) works.back
+          (subst (λ told. Grew told after.back (hung ∷ [])) came.back hangs.back));
+      arrived = taken_more before.left door.left opened.left after.left works.entries entry (told link).given
+          works.arrived (came_first told link door opened came) given hangs.left;
+      followed = followed-snoc c me later works.entries entry start between now
+          (followed_worn c me wear later works.entries start between on works.followed) one.goes;
+      counted = length-append works.entries (entry ∷ []) ∙ ap (λ (n : ℕ). n + 1) works.counted;
+      tally = one.tally ∙ ap (λ (s : Sum). tallied s one.receipt) works.tally
+          ∙ sym (fold-append tallied old (receipts_of works.entries) (one.receipt ∷ []))
+          ∙ ap (fold tallied old) (sym (map-append (λ (e : Record). e.receipt) works.entries (entry ∷ [])));
+      leaves = leaves_both me start.book between.book now.book old sum new works.leaves one.leaves;
+      later = omega (arith, works.later, came.later, hangs.faults);
+    }
 
 -- ---- the door, from accept to accept
 
@@ -273,15 +308,13 @@ pub visited_none : (door : DoorTold) → Visited door door
 visited_none door = record { visits = []; went = refl }
 
 -- a link came, was served and hung up
-pub visited_link : {L : Type 0} (told : L → LinkTold) (link : L) (before now opened after : DoorTold) (c : Config)
-    (me : ℕ) (wear : Wear) (start later : Histories) (old new : Sum) → Visited before now
-    → HasAccepted told now opened (arrived.Link link)
-    → OneServed c me wear start later (told link) opened after old new → Visited before after
-visited_link told link before now opened after c me wear start later old new so_far came one =
+pub visited_link : {L : Type 0} (told : L → LinkTold) (link : L) (before now opened after : DoorTold)
+    (hung : LinkTold) → Visited before now → HasAccepted told now opened (arrived.Link link)
+    → HasHungUp hung opened after → Visited before after
+visited_link told link before now opened after hung so_far came hangs =
     let visit : Visit = record { came = arrived.Link (told link); opened = opened; left = after } in record {
       visits = so_far.visits ++ visit ∷ [];
-      went = went-snoc so_far.visits visit before now so_far.went (link_come told link now opened came)
-          (one.entry.link, record { left = one.left; back = one.back; faults = one.faults });
+      went = went-snoc so_far.visits visit before now so_far.went (link_come told link now opened came) (hung, hangs);
     }
 
 -- none came
@@ -389,13 +422,13 @@ worked_on c me wear later start now before after old new limit count on worked =
   stopped = worked.stopped;
 }
 
-pub relay_on : (c : Config) (number me : ℕ) (wear later : Wear) (start now : Histories) (after : LinkTold)
-    (old new : Sum) → WearsOn wear later → RelayGoes c number me wear start now after old new
-    → RelayGoes c number me later start now after old new
-relay_on c number me wear later start now after old new on relay = record {
-  receipt = relay.receipt;
-  goes = goes_worn c (relays number) me wear later (record { link = after; receipt = relay.receipt }) start now on
-      relay.goes;
-  tally = relay.tally;
-  leaves = relay.leaves;
+pub counted_on : (c : Config) (opening : Opening) (me : ℕ) (wear later : Wear) (start now : Histories)
+    (after : LinkTold) (old new : Sum) → WearsOn wear later → LinkCounted c opening me wear start now after old new
+    → LinkCounted c opening me later start now after old new
+counted_on c opening me wear later start now after old new on counted = record {
+  receipt = counted.receipt;
+  goes = goes_worn c opening me wear later (record { link = after; receipt = counted.receipt }) start now on
+      counted.goes;
+  tally = counted.tally;
+  leaves = counted.leaves;
 }

@@ -4,10 +4,11 @@ use Rattle.std.specs.Prelude.{◌≡◌, ℕ, ◌+◌, ⊤, nat_eq, Bool, true, 
 use Rattle.caster_accounts.specs.declared.account.Sum.{Sum}
 use Rattle.caster_accounts.specs.Sums.{nothing}
 use Rattle.cast_config.specs.declared.config.Config.{Config}
+use Rattle.session_model.specs.Judged.{relays}
 use Rattle.session_model.specs.Run.{Histories, nothing_called}
 use Rattle.caster_serve.specs.Ends.{EndTold, at_door, over_link, IsUnused}
 use Rattle.caster_link.specs.Wear.{Wear, only_worn}
-use Rattle.caster_serve.specs.Works.{Worked, RelayGoes}
+use Rattle.caster_serve.specs.Works.{Worked, LinkCounted}
 
 -- what it has seen, what its rovers add up to, how many connections it served, and over what
 pub record Caller : Type 0 where
@@ -24,7 +25,8 @@ ServedOver c limit me wear (at_door before) (at_door after) old new =
 ServedOver c limit me wear (at_door before) (over_link number after) old new = ⊥
 ServedOver c limit me wear (over_link number before) (at_door after) old new = ⊥
 ServedOver c limit me wear (over_link number before) (over_link now after) old new =
-    (now ≡ number) × RelayGoes c number me wear old.seen new.seen after old.tally new.tally
+    (now ≡ number)
+    × LinkCounted c (relays number) me wear old.seen new.seen after old.tally new.tally
 
 -- the caller of this number served
 abbrev pub Served : Config → ℕ → ℕ → Wear → Caller → Caller → Type 0

@@ -9,7 +9,7 @@ use Rattle.caster_accounts.specs.declared.account.Sum.{Sum}
 use Rattle.cast_config.specs.declared.config.Config.{Config}
 use Rattle.session_model.specs.declared.ending.Last.{Last}
 use Rattle.session_model.specs.declared.report.Receipt.{Receipt}
-use Rattle.session_model.specs.Judged.{Opening, SourceTerms, sends_head, relays}
+use Rattle.session_model.specs.Judged.{Opening, SourceTerms, sends_head}
 use Rattle.session_model.specs.Owed.{holding, came_to}
 use Rattle.session_model.specs.Run.{Histories}
 use Rattle.session_core.specs.Standing.{is_halted}
@@ -120,22 +120,11 @@ pub record Worked (c : Config) (me : ℕ) (wear : Wear) (start now : Histories)
   pub went_on : WentOn visits before at
   pub stopped : ((count ≡ limit) × (after ≡ at)) ⊎ HasCome arrived.Failed at after
 
--- this link, which had arrived, was served and came back, and the tally counts its receipt
-pub record OneServed (c : Config) (me : ℕ) (wear : Wear) (start now : Histories) (link : LinkTold)
-    (before after : DoorTold) (old new : Sum) : Type 0 where
-  pub entry : Record
-  pub given : entry.link.given ≡ link.given
-  pub left : after.left ≡ before.left
-  pub back : Grew before.back after.back (entry.link ∷ [])
-  pub faults : after.faults ≡ before.faults
-  pub goes : RecordGoes c sends_head me wear entry start now
-  pub tally : new ≡ tallied old entry.receipt
-
--- The relay of this number was served over its link to its receipt, which the tally counts.
-pub record RelayGoes (c : Config) (number me : ℕ) (wear : Wear) (start now : Histories)
-    (after : LinkTold) (old new : Sum) : Type 0 where
+-- A link of a connection that opens so was served to its receipt, which the tally counts; so many
+-- sessions more its caller ended in the book.
+pub record LinkCounted (c : Config) (opening : Opening) (me : ℕ) (wear : Wear)
+    (start now : Histories) (after : LinkTold) (old new : Sum) : Type 0 where
   pub receipt : Receipt
-  pub goes : RecordGoes c (relays number) me wear (record { link = after; receipt = receipt })
-      start now
+  pub goes : RecordGoes c opening me wear (record { link = after; receipt = receipt }) start now
   pub tally : new ≡ tallied old receipt
   pub leaves : Leaves me start.book now.book old new

@@ -6,7 +6,6 @@ mod accept_loop;
 mod callers;
 mod connection;
 mod listeners;
-mod relay;
 mod tally;
 mod task;
 mod threads;

@@ -6,11 +6,12 @@ ghost use Rattle.caster_seats.specs.Hands.{hand_told};
 ghost use Rattle.caster_serve.specs.Serving.{HandServed, MayServe, task_told};
 
 use crate::accept_loop::work_places;
-use crate::relay::serve_relay;
+use crate::tally::serve_counted;
 use crate::task::{End, Task};
 use cast_config::Config;
 use cast_io::{Door, Link};
 use caster_accounts::Book;
+use caster_link::Role;
 use caster_places::AllPlaces;
 use caster_seats::Hand;
 use mount_ring::Ring;
@@ -44,7 +45,7 @@ fn do_task<T: Turns<Ring>, B: Turns<Book>, L: Link, D: Door<Link = L>, R: Wait>(
     task.served = match &mut task.end {
         End::Door(door) => { work_places(rt, setup, places, door, tally, limit) }
         End::Link(relay, link) => {
-            serve_relay(rt, setup, places, *relay, link, tally);
+            serve_counted(rt, setup, places, Role::Relay(*relay), link, tally);
             1
         }
     };

@@ -1,7 +1,7 @@
 -- A link more, or none yet.
-use Rattle.std.proofs.Common.{◌+◌, refl, ap, arith}
+use Rattle.std.proofs.Common.{◌+◌, ap, arith}
 use Rattle.caster_link.specs.Wear.{lacks_in}
-use Rattle.caster_serve.proofs.WorkLemmas.{works_none, works_more, works_idle, worked_all, worked_failed, visited_none, visited_link, visited_idle}
+use Rattle.caster_serve.proofs.WorkLemmas.{one_more, works_none, works_more, works_idle, worked_all, worked_failed, visited_none, visited_link, visited_idle}
 use Rattle.caster_link.proofs.WornLemmas.{stay_both, stay_none}
 use Rattle.caster_serve.proofs.accept_loop.work_places.Goals as goal
 
@@ -33,19 +33,21 @@ returns-in-Failed-clause-worked g c =
 pub loop-preserved-in-Link : goal.loop-preserved-in-Link
 loop-preserved-in-Link g c =
     let kept = c.loop.invariant in
-    let one = c.serve_one.ensures in
+    let one = c.serve_counted.ensures in
+    let few = one_more _ _ _ _ _ _ _ _ _ one.counted in
     record {
       can = tt;
       finite = tt;
       stay = stay_both _ _ _ _ _ _ kept.stay one.stay;
-      room = omega (arith, one.sessions, kept.room, c.if-left-eq0.false);
+      room = omega (arith, few, kept.room, c.if-left-eq0.false);
       within = one.within;
       count = kept.count + 1;
       so_many = omega (arith, kept.so_many, c.if-left-eq0.false);
-      works = works_more g.D.Link.Link.told c.in-Link.link _ _ _ _ _ _ _ _ _ _ _ _ _ _ kept.count
-          (record { same = ap lacks_in one.stay.known; later = one.stay.later }) kept.works c.in-Link.ensures.accepted one.one;
-      visited = visited_link g.D.Link.Link.told c.in-Link.link _ _ _ _ _ _ _ _ _ _ _ kept.visited
-          c.in-Link.ensures.accepted one.one;
+      works = works_more g.D.Link.Link.told c.in-Link.link _ _ _ _ _ _ _ _ _ _ _ _ _ _ _ kept.count
+          (record { same = ap lacks_in one.stay.known; later = one.stay.later }) kept.works c.in-Link.ensures.accepted
+          one.counted one.given c.hang_up.ensures.left;
+      visited = visited_link g.D.Link.Link.told c.in-Link.link _ _ _ _ _ kept.visited c.in-Link.ensures.accepted
+          c.hang_up.ensures.left;
     }
 
 pub loop-preserved : goal.loop-preserved

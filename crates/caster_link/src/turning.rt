@@ -1,23 +1,20 @@
-//! What a session does for a step of its link.
+//! Turns of a session over its link.
 
-ghost use Rattle.std.specs.Prelude.{◌≡◌, ℕ, List, [], ◌∷◌, length, None, IfSome};
+ghost use Rattle.std.specs.Prelude.{◌≡◌, ℕ, List, [], ◌∷◌, None, IfSome};
 ghost use Rattle.cast_config.specs.declared.config.Config.{Config as ConfigValue};
-ghost use Rattle.cast_config.specs.Kept.{KeepsRules};
 ghost use Rattle.session_model.specs.Called.{IsCause};
 ghost use Rattle.session_model.specs.Judged.{Opening};
-ghost use Rattle.session_model.specs.Owed.{Happening, arrives, takes_turn};
+ghost use Rattle.session_model.specs.Owed.{Happening, takes_turn};
 ghost use Rattle.session_model.specs.Run.{Histories};
-ghost use Rattle.session_model.specs.Setting as setting;
 ghost use Rattle.session_core.specs.Standing.{Follows};
 ghost use Rattle.caster_places.specs.Known.{Fit, StayKnown};
 ghost use Rattle.caster_link.specs.Resting.{is_caught_up, next_of};
 ghost use Rattle.caster_link.specs.Served.{Arrived, Reached};
 
-use cast_config::Config;
 use caster_accounts::Book;
 use caster_places::AllPlaces;
 use mount_ring::Ring;
-use session_core::{Flow, Places, Session};
+use session_core::{Places, Session};
 use turn_log::Turns;
 
 /// How many frames a served connection reads in one turn at most.
@@ -69,41 +66,4 @@ pub(crate) fn take_turn<T: Turns<Ring>, B: Turns<Book>>(
     let from = next_of(session);
     session.turn(BUDGET, places, out);
     is_caught_up(session, from)
-}
-
-/// Bytes of a connection that goes on, and then a turn, unless they ended it.
-pub(crate) fn arrive<T: Turns<Ring>, B: Turns<Book>>(
-    config: &Config,
-    table: &[u8],
-    session: &mut Session,
-    bytes: &[u8],
-    places: &mut Places<T, B>,
-    out: &mut Vec<u8>,
-)
-    requires goes_on { session.old.ended ≡ None }
-    requires kept { (cap : ℕ) × KeepsRules cap config.now }
-    requires table { table.now ≡ setting.table config.now }
-    requires fit { Fit config.now session.old.me (⟦<Places<T, B> as AllPlaces>⟧.known places.old) }
-    requires follows { Follows config.now session.old
-        (⟦<Places<T, B> as AllPlaces>⟧.seen places.old) (length bytes.now) }
-    ensures stay { StayKnown (⟦<Places<T, B> as AllPlaces>⟧.known places.old)
-        (⟦<Places<T, B> as AllPlaces>⟧.known places.new)
-        (⟦<Places<T, B> as AllPlaces>⟧.worn places.old)
-        (⟦<Places<T, B> as AllPlaces>⟧.worn places.new) }
-    ensures cause { IfSome session.new.ended
-        (IsCause (⟦<Places<T, B> as AllPlaces>⟧.worn places.new)) }
-    ensures arrived { (opening : Opening) (me : ℕ) (start : Histories) (sent : List ℕ)
-        (whats : List Happening)
-        → Reached config.now opening me start (⟦<Places<T, B> as AllPlaces>⟧.seen places.old)
-        session.old sent whats
-        → Arrived config.now opening me start (⟦<Places<T, B> as AllPlaces>⟧.seen places.new)
-        session.new sent out.old.items out.new.items whats
-        (arrives bytes.now ∷ takes_turn 16 ∷ []) }
-{
-    match session.feed(config, table, bytes, places, out) {
-        Flow::Ended => {}
-        Flow::Open => {
-            take_turn(session, places, out);
-        }
-    }
 }

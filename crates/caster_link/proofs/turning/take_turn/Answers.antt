@@ -6,7 +6,7 @@ use Rattle.caster_link.proofs.CalledLemmas.{others_none}
 use Rattle.caster_link.proofs.PlaceLemmas.{speak_by}
 use Rattle.caster_link.proofs.ReachLemmas.{turned_arrived}
 use Rattle.caster_link.proofs.WornLemmas.{stay_known}
-use Rattle.caster_link.proofs.arriving.take_turn.Goals as goal
+use Rattle.caster_link.proofs.turning.take_turn.Goals as goal
 
 pub turn-requires-clause-rings : goal.turn-requires-clause-rings
 turn-requires-clause-rings g c =
