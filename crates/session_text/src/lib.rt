@@ -4,5 +4,5 @@
 mod report_lines;
 mod text;
 
-pub use report_lines::report_text;
+pub use report_lines::{EndingWords, report_text, words_of};
 pub use text::{closed_text, room_for_closed};

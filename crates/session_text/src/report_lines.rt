@@ -28,21 +28,21 @@ fn push_words(out: &mut Vec<u8>, word: &[u8], numbers: &[u128]) -> Result<(), Al
 }
 
 /// What an ending is told by: a word, and up to two numbers behind it.
-enum EndingWords {
+pub enum EndingWords {
     /// The word alone.
     Bare(&'static [u8]),
     /// The word and a number.
-    One(&'static [u8], u128),
+    One(&'static [u8], u64),
     /// The word and two numbers.
-    Two(&'static [u8], u128, u128),
+    Two(&'static [u8], u64, u64),
 }
 
 /// What this ending is told by.
-fn words_of(ending: Ending) -> EndingWords
+pub fn words_of(ending: Ending) -> EndingWords
     ensures { words_in result ≡ ending_words ending }
 {
     match ending {
-        Ending::SourceEnd { claim } => EndingWords::One(b"source-end", u128::from(claim)),
+        Ending::SourceEnd { claim } => EndingWords::One(b"source-end", claim),
         Ending::RoverEnd => EndingWords::Bare(b"rover-end"),
         Ending::TableSent => EndingWords::Bare(b"table-sent"),
         Ending::NoHead => EndingWords::Bare(b"no-head"),
@@ -52,21 +52,17 @@ fn words_of(ending: Ending) -> EndingWords
         Ending::Coding => EndingWords::Bare(b"coding"),
         Ending::NoMount => EndingWords::Bare(b"no-mount"),
         Ending::NoAccount => EndingWords::Bare(b"no-account"),
-        Ending::Password { account } => EndingWords::One(b"password", u128::from(account)),
+        Ending::Password { account } => EndingWords::One(b"password", u64::from(account)),
         Ending::SourcePassword => EndingWords::Bare(b"source-password"),
-        Ending::Denied { group } => EndingWords::One(b"denied", u128::from(group)),
-        Ending::Taken { caller, claim } => {
-            EndingWords::Two(b"taken", u128::from(caller), u128::from(claim))
-        }
-        Ending::Full { busy, cap } => {
-            EndingWords::Two(b"full", u128::from(busy), u128::from(cap))
-        }
-        Ending::BadChunk { at } => EndingWords::One(b"bad-chunk", u128::from(at)),
+        Ending::Denied { group } => EndingWords::One(b"denied", u64::from(group)),
+        Ending::Taken { caller, claim } => EndingWords::Two(b"taken", u64::from(caller), claim),
+        Ending::Full { busy, cap } => EndingWords::Two(b"full", u64::from(busy), u64::from(cap)),
+        Ending::BadChunk { at } => EndingWords::One(b"bad-chunk", at),
         Ending::UpstreamTable => EndingWords::Bare(b"upstream-table"),
-        Ending::Upstream { status } => EndingWords::One(b"upstream", u128::from(status)),
+        Ending::Upstream { status } => EndingWords::One(b"upstream", u64::from(status)),
         Ending::ReadFault => EndingWords::Bare(b"read-fault"),
         Ending::WriteFault => EndingWords::Bare(b"write-fault"),
-        Ending::Worn { turns } => EndingWords::One(b"worn", u128::from(turns)),
+        Ending::Worn { turns } => EndingWords::One(b"worn", turns),
         Ending::Memory => EndingWords::Bare(b"memory"),
     }
 }
@@ -78,8 +74,10 @@ fn push_ending(out: &mut Vec<u8>, ending: Ending) -> Result<(), AllocError>
 {
     match words_of(ending) {
         EndingWords::Bare(word) => push_words(out, word, &[]),
-        EndingWords::One(word, number) => push_words(out, word, &[number]),
-        EndingWords::Two(word, first, second) => push_words(out, word, &[first, second]),
+        EndingWords::One(word, number) => push_words(out, word, &[u128::from(number)]),
+        EndingWords::Two(word, first, second) => {
+            push_words(out, word, &[u128::from(first), u128::from(second)])
+        }
     }
 }
 

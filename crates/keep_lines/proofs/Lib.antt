@@ -1,0 +1,4 @@
+pub mod EndLemmas
+pub mod LinkLemmas
+pub mod WordLemmas
+pub mod PutLemmas
