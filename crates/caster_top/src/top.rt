@@ -205,14 +205,14 @@ where
 
     // What is written.
     ensures outcome { result ≢ 4 → result ≢ 5 → result ≢ 7
-        → FollowsOutcome (texts words.now) (Tells (I.left input.old)) (Holds (S.store store.old).files)
-        result (O.taken out.old) (O.taken out.new) }
+        → FollowsOutcome (texts words.now) (Tells (I.left input.old))
+        (Holds (S.store store.old).files) result (O.taken out.old) (O.taken out.new) }
     ensures undisturbed { ¬ HaveFault (texts words.now)
         (Rose (I.faults input.old) (I.faults input.new))
         (Rose (S.faults store.old) (S.faults store.new))
         → ¬ Rose (O.faults out.old) (O.faults out.new) → result ≢ 7
-        → FollowsOutcome (texts words.now) (Tells (I.left input.old)) (Holds (S.store store.old).files)
-        result (O.taken out.old) (O.taken out.new) }
+        → FollowsOutcome (texts words.now) (Tells (I.left input.old))
+        (Holds (S.store store.old).files) result (O.taken out.old) (O.taken out.new) }
     ensures fault_line { result ≡ 4
         → Appends (O.taken out.old) (O.taken out.new) read_fault_exit.text }
     ensures memory_line { WriteAtEnd (texts words.now) → result ≡ 7
