@@ -1,8 +1,9 @@
 -- A connection that was served is closed.
-use Rattle.std.proofs.Common.{◌≡◌, ◌∙◌, ◌≤◌, ◌++◌, length, ℕ, Bool, true, false, List, [], refl, sym, ap, subst, inl, inr, Option, Some, append_assoc}
+use Rattle.std.proofs.Common.{◌≡◌, ◌∙◌, ◌≤◌, ◌++◌, length, ℕ, Bool, true, false, List, [], refl, sym, ap, subst, inl, inr, Option, None, Some, append_assoc}
 use Rattle.std.specs.Prelude.{is_some, reverse, ◌||◌}
 use Rattle.std.proofs.lemmas.List.{append-nil}
 use Rattle.std.proofs.lemmas.List.Elements.{All-nil}
+use Rattle.cast_io.specs.declared.steps.Step.{Step as LinkTook}
 use Rattle.cast_io.specs.Told.{LinkTold}
 use Rattle.session_calls.specs.Steps.{Step}
 use Rattle.session_calls.specs.Plans.{Plan, IsBegun}
@@ -18,7 +19,7 @@ use Rattle.session_model.specs.declared.report.Receipt.{Receipt}
 use Rattle.session_core.specs.declared.session.Session.{Session}
 use Rattle.session_model.specs.Headings.{Heading}
 use Rattle.session_model.specs.Judged.{Opening, Judged, waiting, judged}
-use Rattle.session_model.specs.Owed.{nothing, came_to, plan_of, closing}
+use Rattle.session_model.specs.Owed.{Happening, nothing, came_to, plan_of, closing}
 use Rattle.session_model.specs.Endings.{ended_by}
 use Rattle.session_model.specs.Replies.{opening_text, sent_by}
 use Rattle.session_model.specs.Reports.{IsHeadingOf}
@@ -31,6 +32,14 @@ use Rattle.session_model.proofs.KeepLemmas.{AllSound}
 use Rattle.session_core.proofs.ClosingLemmas.{free_closed, free_junk, free_out, uncalled_free}
 use Rattle.session_model.specs.Courses.{happened, steps_of, text_of}
 use Rattle.caster_link.specs.Links.{Stopped, is_torn}
+use Rattle.session_core.specs.declared.held.Held.TheVariants.{Nothing}
+use Rattle.session_core.specs.declared.stage.Stage.{Stage}
+use Rattle.session_core.specs.Holding.{HoldsAs}
+use Rattle.session_core.specs.States.{holding_at, session_holding}
+use Rattle.session_core.specs.Asking.{IsAsking, asked_in}
+use Rattle.session_core.proofs.AskingLemmas.{asks_so}
+use Rattle.session_core.proofs.HoldingLemmas.{holds_so}
+use Rattle.caster_link.specs.Stepped.{HasClosed}
 use Rattle.caster_link.specs.Served.{Came, IsJudged, LinkGoes, LinkServed}
 use Rattle.caster_link.proofs.CalledLemmas.{called_none, called_less, others_none}
 use Rattle.caster_link.proofs.LinkLemmas.{link_none}
@@ -94,6 +103,25 @@ lost_receipt ended j steps last receipt halted none is = record {
 
 -- ---- the whole
 
+-- what its bytes ask is told of its session
+came_asks : (c : Config) (opening : Opening) (me : ℕ) (start between : Histories) (session : Session)
+    (before after : LinkTold) (last : Last) (came : Came c opening me start between session before after last)
+    (heading : Heading) → IsHeadingOf (Some opening) (text_of (happened came.reached.events)) heading
+    → IsAsking session.asked session.ended (asked_in heading)
+came_asks c opening me start between session before after last came heading is =
+    asks_so session opening heading (text_of came.whats)
+    (subst (λ (w : List Happening). IsHeadingOf (Some opening) (text_of w) heading) came.reached.happened_are is)
+    came.reached.asks
+
+-- it goes so, its session held what these events came to, and what is told of it is what their bytes
+-- ask
+abbrev GoesSo : Config → Opening → ℕ → Histories → Histories → Session → List LinkTook → List ℕ → Last → Receipt → Type 0
+GoesSo c opening me start now session taken written last receipt =
+    (goes : LinkGoes c opening me start now taken written last receipt)
+    × HoldsAs c opening (came_to goes.j (steps_of goes.events)) (session_holding session)
+    × ((heading : Heading) → IsHeadingOf (Some opening) (text_of (happened goes.events)) heading
+    → IsAsking session.asked goes.ended (asked_in heading))
+
 goes_by : (c : Config) (opening : Opening) (me : ℕ) (alone : Bool) (start between now : Histories)
     (session : Session) (before after : LinkTold) (last : Last) (receipt : Receipt)
     (came : Came c opening me start between session before after last) (j : Judged) (more : List Step)
@@ -107,39 +135,43 @@ goes_by : (c : Config) (opening : Opening) (me : ℕ) (alone : Bool) (start betw
     → IsSettled receipt.settled (closing j (steps_of came.reached.events)) more
     → IsReceipt session.ended j (steps_of came.reached.events) last receipt
     → AllSound c between.rings (segments_after [] (steps_of came.reached.events))
-    → LinkGoes c opening me start now came.taken came.written last receipt
+    → HoldsAs c opening (came_to j (steps_of came.reached.events)) (session_holding session)
+    → GoesSo c opening me start now session came.taken came.written last receipt
 goes_by c opening me alone start between now session before after last receipt came j more is ends owes due called
-    settled told sound =
+    settled told sound holds =
     let reached = came.reached in
     let same : came.whats ≡ happened reached.events = sym reached.happened_are in
     let cut : Bool = is_halted_uncalled session.ended (steps_of reached.events) in
     let closed : Called c false between now me more =
     called_less c alone between now me more
-    (subst (λ (n : ℕ). Called c alone between now n more) reached.caller called) in
-    record {
-      events = reached.events;
-      ended = session.ended;
-      ran = reached.ran;
-      missing = came.missing;
-      split = ap (λ w. w ++ came.missing) reached.happened_are ∙ came.split;
-      left_out = came.left_out;
-      stopped = subst (λ w. Stopped (is_some session.ended) (length (text_of w)) came.taken last) same came.stopped;
-      between = between;
-      called = reached.called;
-      j = j;
-      judged_is = subst (λ w. IsJudged c opening (text_of w) (steps_of reached.events) session.ended j) same is;
-      ends = ends;
-      owes = owes;
-      bytes = subst (IsSentBy (cut || is_torn last) came.written)
-          (sent_later c between now me opening j (steps_of reached.events) more sound closed)
-          (sent_through cut (is_torn last) came.written came.sent _ came.bytes due);
-      closed_by = more;
-      closed = closed;
-      settled = settled;
-      receipt_is = told;
-      sound = subst (AllSound c now.rings) (sym told.segments)
-          (sound_closed c between now me (steps_of reached.events) more sound closed);
-    }
+    (subst (λ (n : ℕ). Called c alone between now n more) reached.caller called) in (
+      record {
+        events = reached.events;
+        ended = session.ended;
+        ran = reached.ran;
+        missing = came.missing;
+        split = ap (λ w. w ++ came.missing) reached.happened_are ∙ came.split;
+        left_out = came.left_out;
+        stopped = subst (λ w. Stopped (is_some session.ended) (length (text_of w)) came.taken last) same came.stopped;
+        between = between;
+        called = reached.called;
+        j = j;
+        judged_is = subst (λ w. IsJudged c opening (text_of w) (steps_of reached.events) session.ended j) same is;
+        ends = ends;
+        owes = owes;
+        bytes = subst (IsSentBy (cut || is_torn last) came.written)
+            (sent_later c between now me opening j (steps_of reached.events) more sound closed)
+            (sent_through cut (is_torn last) came.written came.sent _ came.bytes due);
+        closed_by = more;
+        closed = closed;
+        settled = settled;
+        receipt_is = told;
+        sound = subst (AllSound c now.rings) (sym told.segments)
+            (sound_closed c between now me (steps_of reached.events) more sound closed);
+      },
+      holds,
+      came_asks c opening me start between session before after last came,
+    )
 
 -- what `close` says
 abbrev pub Closes : Config → Opening → Bool → Histories → Histories → Session → Last → Receipt → Type 0
@@ -154,7 +186,7 @@ goes_on_stands : (c : Config) (opening : Opening) (me : ℕ) (alone : Bool) (sta
     (came : Came c opening me start between session before after last)
     → Closes c opening alone between now session last receipt
     → StandsFor c session opening (text_of came.whats) (steps_of came.reached.events) between came.sent
-    → LinkGoes c opening me start now came.taken came.written last receipt
+    → GoesSo c opening me start now session came.taken came.written last receipt
 goes_on_stands c opening me alone start between now session before after last receipt came closes (inl stands) =
     let steps : List Step = steps_of came.reached.events in
     let j : Judged = judged c opening stands.heading (text_of came.whats) in
@@ -165,6 +197,8 @@ goes_on_stands c opening me alone start between now session before after last re
     (inl (stands.heading, stands.is_heading, refl)) stands.ends stands.owes stands.sent_is closed.called closed.settled
     closed.receipt_is
     (stands_sound c session opening (text_of came.whats) steps between came.sent (inl stands))
+    (holds_so c session opening stands.heading (text_of came.whats) steps between came.sent stands.is_heading
+    (inl stands))
 goes_on_stands c opening me alone start between now session before after last receipt came closes (inr lost) =
     let reached = came.reached in
     let steps : List Step = steps_of reached.events in
@@ -181,52 +215,65 @@ goes_on_stands c opening me alone start between now session before after last re
     closed.called (lost_settled receipt.settled j steps closed.more lost.uncalled closed.settled)
     (lost_receipt session.ended j steps last receipt lost.ended lost.uncalled closed.receipt_is)
     (stands_sound c session opening (text_of came.whats) steps between came.sent (inr lost))
+    (subst (λ (stage : Stage). HoldsAs c opening (came_to waiting steps) (holding_at stage)) (sym lost.stage)
+    (uncalled_free steps lost.uncalled waiting))
 
 pub came_closed : (c : Config) (opening : Opening) (me : ℕ) (alone : Bool) (start between now : Histories)
     (session : Session) (before after : LinkTold) (last : Last) (receipt : Receipt)
     → Came c opening me start between session before after last
     → Closes c opening alone between now session last receipt
-    → LinkServed c opening me start now before after receipt
-came_closed c opening me alone start between now session before after last receipt came closes = record {
-  taken = came.taken;
-  written = came.written;
-  link = came.link;
-  last = last;
-  goes = goes_on_stands c opening me alone start between now session before after last receipt came closes
-      came.reached.stands;
-  caused = came.caused;
-}
+    → HasClosed c opening me start now before after (session_holding session) session.asked receipt
+came_closed c opening me alone start between now session before after last receipt came closes =
+    let so = goes_on_stands c opening me alone start between now session before after last receipt came closes
+    came.reached.stands in record {
+      served = record {
+        taken = came.taken;
+        written = came.written;
+        link = came.link;
+        last = last;
+        goes = so.0;
+        caused = came.caused;
+      };
+      held = so.1;
+      asked = so.2;
+    }
 
--- a session for which there was no memory called nothing and was sent nothing
+-- a session for which there was no memory called nothing, was sent nothing, and held and asked nothing
 pub unopened : (c : Config) (opening : Opening) (me : ℕ) (now : Histories) (told : LinkTold) (receipt : Receipt)
     → IsSettled receipt.settled (closing waiting []) []
     → IsReceipt (Some Memory) waiting [] lasts.End receipt
-    → LinkServed c opening me now now told told receipt
+    → HasClosed c opening me now now told told Nothing None receipt
 unopened c opening me now told receipt settled is = record {
-  taken = [];
-  written = [];
-  link = link_none told;
-  last = lasts.End;
-  goes = record {
-    events = [];
-    ended = Some Memory;
-    ran = record { whole = []; last = []; split = refl; course = tt; broken = tt };
-    missing = [];
-    split = refl;
-    left_out = inl refl;
-    stopped = inr (refl, inl refl);
-    between = now;
-    called = called_none c now me;
-    j = waiting;
-    judged_is = inr (refl, refl, refl);
-    ends = inl refl;
-    owes = tt;
-    bytes = (sent_by c now.rings opening (came_to waiting []) (reverse (segments_after [] [])), refl);
-    closed_by = [];
-    closed = called_none c now me;
-    settled = settled;
-    receipt_is = is;
-    sound = subst (AllSound c now.rings) (sym is.segments) (All-nil (IsSoundIn c now.rings));
-  };
-  caused = tt;
-}
+  served = served;
+  held = tt;
+  asked = λ heading is. inr (refl, refl);
+} where
+  served : LinkServed c opening me now now told told receipt
+  served = record {
+    taken = [];
+    written = [];
+    link = link_none told;
+    last = lasts.End;
+    goes = record {
+      events = [];
+      ended = Some Memory;
+      ran = record { whole = []; last = []; split = refl; course = tt; broken = tt };
+      missing = [];
+      split = refl;
+      left_out = inl refl;
+      stopped = inr (refl, inl refl);
+      between = now;
+      called = called_none c now me;
+      j = waiting;
+      judged_is = inr (refl, refl, refl);
+      ends = inl refl;
+      owes = tt;
+      bytes = (sent_by c now.rings opening (came_to waiting []) (reverse (segments_after [] [])), refl);
+      closed_by = [];
+      closed = called_none c now me;
+      settled = settled;
+      receipt_is = is;
+      sound = subst (AllSound c now.rings) (sym is.segments) (All-nil (IsSoundIn c now.rings));
+    };
+    caused = tt;
+  }

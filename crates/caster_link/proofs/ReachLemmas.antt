@@ -22,6 +22,7 @@ use Rattle.session_model.specs.Called.{Called, OthersCalled}
 use Rattle.session_core.specs.Standing.{Stands, StandsFor, IsAtStage, IsMadeBy, EndsAs, Follows, Fed, is_halted}
 use Rattle.session_core.specs.declared.ending.Flow.TheVariants as flows
 use Rattle.session_core.specs.Turned.{Turned, is_rover, flow_of}
+use Rattle.session_core.specs.Asking.{TellsAsked}
 use Rattle.session_model.specs.Courses.{Event, happened, steps_of, text_of, IsGoingOn, Ran}
 use Rattle.caster_link.specs.Links.{IsLeftOut}
 use Rattle.caster_link.specs.Served.{Reached, Arrived}
@@ -62,9 +63,10 @@ pub reach_event : (c : Config) (opening : Opening) (me : ℕ) (start now later :
     → OwedBy (is_halted next.ended) c opening (text_of whats) (steps_of reached.events)
     (record { what = what; made = more })
     → StandsFor c next opening (text_of (whats ++ what ∷ [])) (steps_of reached.events ++ more) later (sent ++ added)
+    → TellsAsked opening (text_of (whats ++ what ∷ [])) next
     → Reached c opening me start later next (sent ++ added) (whats ++ what ∷ [])
 reach_event c opening me start now later session next sent added whats what more reached unended same called owes
-    stands =
+    stands tells =
     let event : Event = record { what = what; made = more } in
     let unhalted : is_halted session.ended ≡ false = ap is_halted unended in
     let whole : Ran c opening false reached.events =
@@ -87,6 +89,7 @@ reach_event c opening me start now later session next sent added whats what more
           (subst (λ (n : ℕ). Called c false now later n more) reached.caller called));
       stands = subst (λ (s : List Step). StandsFor c next opening (text_of (whats ++ what ∷ [])) s later
           (sent ++ added)) (sym (steps-snoc reached.events event)) stands;
+      asks = tells;
     }
 
 -- ---- bytes
@@ -140,8 +143,10 @@ pub reach_bytes : (c : Config) (opening : Opening) (me : ℕ) (alone : Bool) (st
     (reached : Reached c opening me start now session sent whats) → session.ended ≡ None
     → next.me ≡ session.me
     → (fed : Fed c alone now later next opening (text_of whats ++ bytes) (steps_of reached.events) sent before after)
+    → TellsAsked opening (text_of whats ++ bytes) next
     → Reached c opening me start later next (sent ++ fed.added) (whats ++ arrives bytes ∷ [])
-reach_bytes c opening me alone start now later session next sent before after bytes whats reached unended same fed =
+reach_bytes c opening me alone start now later session next sent before after bytes whats reached unended same fed
+    tells =
     reach_event c opening me start now later session next sent fed.added whats (arrives bytes) fed.more reached unended
     same
     (called_less c alone now later session.me fed.more
@@ -150,6 +155,7 @@ reach_bytes c opening me alone start now later session next sent before after by
     fed.no_read fed.stands)
     (subst (λ (t : List ℕ). StandsFor c next opening t (steps_of reached.events ++ fed.more) later (sent ++ fed.added))
     (sym (text-snoc whats (arrives bytes))) fed.stands)
+    (subst (λ (t : List ℕ). TellsAsked opening t next) (sym (text-snoc whats (arrives bytes))) tells)
 
 -- ---- a turn
 
@@ -203,6 +209,8 @@ reach_still c opening me start now later session next sent whats reached unended
     (subst (λ (l : List ℕ). StandsFor c session opening (text_of whats) (steps ++ []) now l) (sym (append-nil sent))
     (subst (λ (s : List Step). StandsFor c session opening (text_of whats) s now sent) (sym (append-nil steps))
     reached.stands)))))
+    (subst (λ (t : List ℕ). TellsAsked opening t next) (sym (text-snoc whats (takes_turn 16)))
+    (subst (TellsAsked opening (text_of whats)) (sym same) reached.asks))
 
 -- of a rover
 pub reach_turn : (c : Config) (opening : Opening) (me : ℕ) (alone : Bool) (start now later : Histories)
@@ -210,8 +218,9 @@ pub reach_turn : (c : Config) (opening : Opening) (me : ℕ) (alone : Bool) (sta
     (reached : Reached c opening me start now session sent whats) → session.ended ≡ None
     → next.me ≡ session.me
     → (turned : Turned c alone now later 16 next opening (text_of whats) (steps_of reached.events) sent before after)
+    → TellsAsked opening (text_of whats) next
     → Reached c opening me start later next (sent ++ turned.added) (whats ++ takes_turn 16 ∷ [])
-reach_turn c opening me alone start now later session next sent before after whats reached unended same turned =
+reach_turn c opening me alone start now later session next sent before after whats reached unended same turned tells =
     let stands = stands_going c session opening (text_of whats) (steps_of reached.events) now sent unended
     reached.stands in
     reach_event c opening me start now later session next sent turned.added whats (takes_turn 16) turned.more reached
@@ -222,6 +231,7 @@ reach_turn c opening me alone start now later session next sent before after wha
     stands.is_heading turned.made)
     (subst (λ (t : List ℕ). StandsFor c next opening t (steps_of reached.events ++ turned.more) later
     (sent ++ turned.added)) (sym (text-snoc whats (takes_turn 16))) turned.stands)
+    (subst (λ (t : List ℕ). TellsAsked opening t next) (sym (text-snoc whats (takes_turn 16))) tells)
 
 -- ---- what the next call asks
 
@@ -322,19 +332,20 @@ bytes_turned c opening me start later next sent before between after added bytes
 pub turned_arrived : (c : Config) (opening : Opening) (me : ℕ) (alone : Bool) (start now later : Histories)
     (session next : Session) (sent before after : List ℕ) (whats : List Happening)
     (reached : Reached c opening me start now session sent whats) → session.ended ≡ None
-    → next.me ≡ session.me
+    → next.me ≡ session.me → TellsAsked opening (text_of whats) next
     → (is_rover session.stage ≡ false → (next ≡ session) × (later ≡ now) × (after ≡ before))
     → (is_rover session.stage ≡ true
     → Turned c alone now later 16 next opening (text_of whats) (steps_of reached.events) sent before after)
     → Arrived c opening me start later next sent before after whats (takes_turn 16 ∷ [])
-turned_arrived c opening me alone start now later session next sent before after whats reached unended same still
+turned_arrived c opening me alone start now later session next sent before after whats reached unended same tells still
     turned = by (is_rover session.stage) refl where
       by : (b : Bool) → is_rover session.stage ≡ b
           → Arrived c opening me start later next sent before after whats (takes_turn 16 ∷ [])
       by true is =
           let t = turned is in
           turn_arrived c opening me start later next sent before after t.added whats t.out
-          (reach_turn c opening me alone start now later session next sent before after whats reached unended same t)
+          (reach_turn c opening me alone start now later session next sent before after whats reached unended same t
+          tells)
       by false is =
           let s = still is in
           turn_arrived c opening me start later next sent before after [] whats (s.2 ∙ sym (append-nil before))

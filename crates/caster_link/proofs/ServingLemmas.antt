@@ -16,6 +16,7 @@ use Rattle.session_model.specs.Judged.{Opening}
 use Rattle.session_model.specs.Owed.{Happening, arrives, takes_turn}
 use Rattle.session_model.specs.Run.{Histories}
 use Rattle.session_core.specs.Standing.{StandsFor, Follows, is_halted}
+use Rattle.session_core.specs.Asking.{TellsAsked}
 use Rattle.session_model.specs.Courses.{text_of, Ran}
 use Rattle.caster_link.specs.Links.{IsLeftOut, happens_by, happens_in}
 use Rattle.caster_link.specs.Sending.{HasSent, HasTorn}
@@ -30,8 +31,8 @@ use Rattle.caster_link.proofs.ReachLemmas.{stands_going, follows_reached}
 
 pub begins : (c : Config) (opening : Opening) (me : ℕ) (now : Histories) (session : Session) (sent : List ℕ)
     → session.ended ≡ None → session.me ≡ me → StandsFor c session opening [] [] now sent
-    → Reached c opening me now now session sent []
-begins c opening me now session sent unended caller stands =
+    → TellsAsked opening [] session → Reached c opening me now now session sent []
+begins c opening me now session sent unended caller stands asks =
     let is = stands_going c session opening [] [] now sent unended stands in record {
       caller = caller;
       first = is.heading;
@@ -42,6 +43,7 @@ begins c opening me now session sent unended caller stands =
       happened_are = refl;
       called = called_none c now me;
       stands = stands;
+      asks = asks;
     }
 
 pub begins_serving : (c : Config) (opening : Opening) (me : ℕ) (now : Histories) (session : Session) (told : LinkTold)

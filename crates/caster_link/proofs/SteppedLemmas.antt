@@ -11,6 +11,7 @@ use Rattle.session_model.specs.Owed.{Happening, arrives, takes_turn}
 use Rattle.session_model.specs.Run.{Histories}
 use Rattle.session_model.specs.Courses.{steps_of, text_of}
 use Rattle.session_core.specs.Standing.{Fed}
+use Rattle.session_core.specs.Asking.{TellsAsked}
 use Rattle.caster_link.specs.Served.{Reached, Arrived, Serving}
 use Rattle.caster_link.proofs.ReachLemmas.{reach_bytes, bytes_ended, bytes_turned}
 use Rattle.caster_link.proofs.ServingLemmas.{goes_on_by, long_bytes, long_idle}
@@ -29,15 +30,17 @@ pub served_ended : (c : Config) (opening : Opening) (me : ℕ) (alone : Bool) (s
     → next.me ≡ session.me → is_some next.ended ≡ true
     → Fed c alone now later next opening (text_of s.whats ++ take count buf) (steps_of s.reached.events)
     (s.written ++ []) out new
+    → TellsAsked opening (text_of s.whats ++ take count buf) next
     → Serving c opening me start later next before last new (given + count)
 served_ended c opening me alone start now later session next before after last given count buf out new s unended read
-    empty long same ended fed =
+    empty long same ended fed asks =
     let bytes = take count buf in
     let sent = s.written ++ [] in
     goes_on_by c opening me start now later session next before after last given count (got.Bytes count) buf out new s
     unended read empty
     (bytes_ended c opening me start later next sent out new fed.added bytes s.whats fed.out ended
-    (reach_bytes c opening me alone start now later session next sent out new bytes s.whats s.reached unended same fed))
+    (reach_bytes c opening me alone start now later session next sent out new bytes s.whats s.reached unended same fed
+    asks))
     (as_long s.whats bytes count long)
 
 -- they did not, and a turn followed
@@ -48,11 +51,12 @@ pub served_turned : (c : Config) (opening : Opening) (me : ℕ) (alone : Bool) (
     → next.me ≡ session.me
     → Fed c alone now later next opening (text_of s.whats ++ take count buf) (steps_of s.reached.events)
     (s.written ++ []) out between
+    → TellsAsked opening (text_of s.whats ++ take count buf) next
     → ((sent : List ℕ) (whats : List Happening) → Reached c opening me start later next sent whats
     → Arrived c opening me start latest third sent between new whats (takes_turn 16 ∷ []))
     → Serving c opening me start latest third before last new (given + count)
 served_turned c opening me alone start now later latest session next third before after last given count buf out between
-    new s unended read empty long same fed turned =
+    new s unended read empty long same fed asks turned =
     let bytes = take count buf in
     let sent = s.written ++ [] in
     goes_on_by c opening me start now latest session third before after last given count (got.Bytes count) buf out new s
@@ -60,7 +64,7 @@ served_turned c opening me alone start now later latest session next third befor
     (bytes_turned c opening me start latest third sent out between new fed.added bytes s.whats fed.out
     (turned (sent ++ fed.added) (s.whats ++ arrives bytes ∷ [])
     (reach_bytes c opening me alone start now later session next sent out between bytes s.whats s.reached unended same
-    fed)))
+    fed asks)))
     (as_long s.whats bytes count long)
 
 -- ---- nothing was there, and a turn was taken

@@ -22,6 +22,7 @@ use Rattle.session_model.specs.Run.{Histories}
 use Rattle.session_model.specs.Called.{Called}
 use Rattle.session_core.specs.Standing.{StandsFor, EndsAs, IsMadeBy, IsSentBy, is_halted, is_halted_uncalled}
 use Rattle.session_core.specs.Closed.{IsSettled, IsReceipt}
+use Rattle.session_core.specs.Asking.{TellsAsked}
 use Rattle.session_model.specs.Courses.{Event, Ran, happened, steps_of, text_of}
 use Rattle.caster_link.specs.Links.{LinkGrew, IsLeftOut, Stopped, IsCausedBy, happens_in, is_torn}
 
@@ -40,6 +41,7 @@ pub record Reached (c : Config) (opening : Opening) (me : ℕ) (start now : Hist
   pub happened_are : happened events ≡ whats
   pub called : Called c false start now me (steps_of events)
   pub stands : StandsFor c session opening (text_of whats) (steps_of events) now sent
+  pub asks : TellsAsked opening (text_of whats) session
 
 -- Of what was due, all happened too, but no turn after the connection had ended; and further bytes
 -- were made for it.

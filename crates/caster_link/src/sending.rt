@@ -1,7 +1,6 @@
 //! What a link is sent.
 
 ghost use Rattle.std.specs.Prelude.{◌≡◌, [], OnOk, OnErr};
-ghost use Rattle.cast_io.specs.Causes.{Rose};
 ghost use Rattle.caster_link.specs.Sending.{HasSent, HasTorn};
 
 use cast_io::{Failed, Link};

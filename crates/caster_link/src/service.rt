@@ -6,6 +6,7 @@ ghost use Rattle.session_model.specs.Called.{IsCause};
 ghost use Rattle.session_model.specs.Judged.{Opening, waiting};
 ghost use Rattle.session_model.specs.Run.{Histories};
 ghost use Rattle.session_core.specs.Standing.{StandsFor};
+ghost use Rattle.session_core.specs.Asking.{TellsAsked};
 ghost use Rattle.session_core.specs.Closed.{IsReceipt};
 ghost use Rattle.session_core.specs.Setups.{IsSetUp};
 ghost use Rattle.caster_places.specs.Known.{Fit, StayKnown};
@@ -54,6 +55,7 @@ fn open_as(setup: &Setup, role: Role, out: &mut Vec<u8>) -> Result<Session, Allo
     ensures goes_on { IfOk result (λ session. session.ended ≡ None) }
     ensures stands { IfOk result (λ session. (histories : Histories)
         → StandsFor setup.now.config.now session (opening_of role) [] [] histories out.new.items) }
+    ensures asks { IfOk result (λ session. TellsAsked (opening_of role) [] session) }
 {
     match role {
         Role::Caller => Session::open(setup.alloc, setup.me),
@@ -180,7 +182,8 @@ impl Service {
     }
 
     /// Closes the connection as its last step answered, at the places of its steps: what it holds
-    /// is given back, and its receipt says what became of it.
+    /// is given back, and its receipt says what became of it. What the session held before is what
+    /// the receipt's record came to, and what it asked is what its bytes say.
     pub fn close<T: Turns<Ring>, B: Turns<Book>>(
         self,
         last: Last,

@@ -7,6 +7,8 @@ ghost use Rattle.session_model.specs.Judged.{Opening};
 ghost use Rattle.session_model.specs.Owed.{Happening, takes_turn};
 ghost use Rattle.session_model.specs.Run.{Histories};
 ghost use Rattle.session_core.specs.Standing.{Follows};
+ghost use Rattle.session_core.specs.States.{session_holding};
+ghost use Rattle.session_core.specs.Holding.{HoldsOn};
 ghost use Rattle.caster_places.specs.Known.{Fit, StayKnown};
 ghost use Rattle.caster_link.specs.Resting.{is_caught_up, next_of};
 ghost use Rattle.caster_link.specs.Served.{Arrived, Reached};
@@ -48,6 +50,8 @@ pub(crate) fn take_turn<T: Turns<Ring>, B: Turns<Book>>(
     requires ready { (c : ConfigValue)
         × Fit c session.old.me (⟦<Places<T, B> as AllPlaces>⟧.known places.old)
         × Follows c session.old (⟦<Places<T, B> as AllPlaces>⟧.seen places.old) 0 }
+    ensures holds { HoldsOn (session_holding session.old) (session_holding session.new) }
+    ensures asks_still { session.new.asked ≡ session.old.asked }
     ensures rests { result ≡ is_caught_up session.new (next_of session.old) }
     ensures stay { StayKnown (⟦<Places<T, B> as AllPlaces>⟧.known places.old)
         (⟦<Places<T, B> as AllPlaces>⟧.known places.new)

@@ -11,7 +11,7 @@ use Rattle.session_script.specs.declared.Event.TheVariants as events
 use Rattle.session_script.specs.declared.ScriptKind.{ScriptKind}
 use Rattle.session_script.specs.Line.{is_event}
 use Rattle.session_script.specs.Numbers.{Numbers, no_numbers, is_among, may_speak, opening, closing}
-use Rattle.session_script.specs.Script.{is_relay, may_follow, is_session_after, IsSession, input_length}
+use Rattle.session_script.specs.Script.{may_follow, is_session_after, IsSession, input_length}
 use Rattle.session_script.specs.Script as scripts
 use Rattle.cast_config.specs.declared.config.Config.{Config}
 use Rattle.session_core.specs.declared.session.Session.{Session}
@@ -24,7 +24,6 @@ use Rattle.session_core.specs.Turned.{is_rover}
 use Rattle.caster_replay.specs.Lives.{Live, live_of}
 use Rattle.caster_replay.specs.Calls.{Feeds, TakesTurn}
 use Rattle.caster_replay.specs.Runs.{is_cut}
-use Rattle.session_core.proofs.FeedHeadLemmas.{others_none}
 use Rattle.session_calls.specs.Steps.{Step}
 use Rattle.caster_replay.specs.declared.entry.State.TheVariants.{Open}
 use Rattle.caster_replay.proofs.WorldKnownLemmas.{IsClean}

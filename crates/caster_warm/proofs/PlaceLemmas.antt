@@ -10,7 +10,7 @@ use Rattle.mount_ring.specs.Shapes.{shape_of}
 use Rattle.last_frames.specs.Greeted.{greeted_since}
 use Rattle.session_script.specs.declared.Event.{Event}
 use Rattle.cast_config.specs.declared.config.Config.{Config}
-use Rattle.session_calls.specs.Rings.{history_at, shape_at}
+use Rattle.session_calls.specs.Rings.{history_at}
 use Rattle.session_model.specs.Run.{Histories}
 use Rattle.caster_replay.specs.declared.run.Run.{Run}
 use Rattle.caster_replay.specs.Kept.{SameButRings, StandsFor, lives_of, seen_of}

@@ -2,9 +2,10 @@
 
 ghost use Rattle.std.specs.Prelude.{◌≡◌, ◌≤◌, ◌-◌, ℕ, true, false, List, [], ◌∷◌, ◌++◌, length, take, IfOk};
 ghost use Rattle.ntrip_head.specs.Head.{IsHead};
+ghost use Rattle.ntrip_head.specs.Steps.{IsStep};
 ghost use Rattle.ntrip_client.specs.FirstLine.{has_line, SpeaksHttp};
 ghost use Rattle.ntrip_client.specs.Answer.{HeadGoesOn, IsAnswer};
-ghost use Rattle.ntrip_client.specs.Steps.{IsStep, BeginsAt};
+ghost use Rattle.ntrip_client.specs.Steps.{BeginsAt};
 
 use crate::answer::{Answer, Refusal};
 use crate::first_line::{FirstLine, kind_of};

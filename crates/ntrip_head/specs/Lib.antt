@@ -7,3 +7,4 @@ pub mod Judge
 pub mod Outcome
 pub mod SourceHead
 pub mod Upstream
+pub mod Steps

@@ -1,7 +1,8 @@
 //! The bytes of a head, as they come.
 
-ghost use Rattle.std.specs.Prelude.{◌≡◌, List, [], ◌∷◌, ◌++◌, IfOk};
+ghost use Rattle.std.specs.Prelude.{◌≡◌, ◌≤◌, List, [], ◌∷◌, ◌++◌, length, take, IfOk};
 ghost use Rattle.ntrip_head.specs.Head.{ends_with_empty_line, IsOpen, IsHead, IsLong};
+ghost use Rattle.ntrip_head.specs.Steps.{IsStep};
 
 use std::alloc::{AllocError, Global};
 use std::marker::Model;
@@ -76,6 +77,24 @@ impl HeadBuf {
         } else {
             HeadStep::More
         }
+    }
+
+    /// Takes more bytes of a head that goes on, until it is whole or too long. Gives how many were
+    /// taken, and what the last of them makes of the head.
+    pub fn take(&mut self, bytes: &[u8]) -> (usize, HeadStep)
+        requires open { IsOpen self.old }
+        ensures within { result.0 ≤ length bytes.now }
+        ensures bytes { self.new ≡ self.old ++ take result.0 bytes.now }
+        ensures step { IsStep self.new result.1 }
+        ensures all { result.1 ≡ HeadStep.More → result.0 ≡ length bytes.now }
+    {
+        for count in 0..bytes.len() {
+            let step = self.push(bytes[count]);
+            if step != HeadStep::More {
+                return (count + 1, step);
+            }
+        }
+        (bytes.len(), HeadStep::More)
     }
 
     /// The bytes that were taken.

@@ -75,14 +75,14 @@ IsFreeWith steps = (j : Judged) → IsFree (came_to j steps)
 pub uncalled_free : (steps : List Step) → steps ≡ [] → IsFreeWith steps
 uncalled_free steps none = λ j. subst (λ (l : List Step). IsFree (came_to j l)) (sym none) (free_none j)
 
-none_made : (mount : ℕ) (short : Bool) (answer other : HeadAnswer) (text : List ℕ) (steps : List Step)
+pub none_made : (mount : ℕ) (short : Bool) (answer other : HeadAnswer) (text : List ℕ) (steps : List Step)
     → owed mount other text ≡ done → answer ≡ other → IsDone short (owed mount answer text) steps
     → IsFreeWith steps
 none_made mount short answer other text steps unowed is made =
     uncalled_free steps (done_is_none short steps
     (subst (λ (p : Plan). IsDone short p steps) (ap (λ (a : HeadAnswer). owed mount a text) is ∙ unowed) made))
 
-halted_free : (mount : ℕ) (answer : HeadAnswer) (text : List ℕ) (steps : List Step) (halt : RelayHalt)
+pub halted_free : (mount : ℕ) (answer : HeadAnswer) (text : List ℕ) (steps : List Step) (halt : RelayHalt)
     (short : Bool)
     → IsDone short (owed mount answer text) steps → IsHaltedBy mount answer steps halt → IsFreeWith steps
 halted_free mount answer text steps halts.BadHead short made is = none_made mount short answer _ text steps refl is made

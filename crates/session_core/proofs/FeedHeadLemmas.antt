@@ -192,7 +192,7 @@ begun_stands c alone old now me front new before after b same = record {
 }
 
 -- the text of the connection, whose head ended within these bytes
-front_and_rest : (text head bytes : List ℕ) (count : ℕ) → head ≡ text
+pub front_and_rest : (text head bytes : List ℕ) (count : ℕ) → head ≡ text
     → (head ++ take count bytes) ++ drop count bytes ≡ text ++ bytes
 front_and_rest text head bytes count is =
     append_assoc head (take count bytes) (drop count bytes)

@@ -23,3 +23,5 @@ pub mod FollowLemmas
 pub mod FeedBodyLemmas
 pub mod TurningLemmas
 pub mod FeedHeadLemmas
+pub mod HoldingLemmas
+pub mod AskingLemmas

@@ -46,7 +46,7 @@ pub rover_inside : (c : Config) (me : ℕ) (h : Histories) (j : Judged) (steps :
 rover_inside c me h j steps account session at =
     ap (λ (x : Judged). came_to x steps) at.judged_is ∙ ap (came_to (rover at.terms at.tail)) at.steps_are
 
-relay_at : (c : Config) (me : ℕ) (h : Histories) (o : Opening) (heading : Heading) (text : List ℕ)
+pub relay_at : (c : Config) (me : ℕ) (h : Histories) (o : Opening) (heading : Heading) (text : List ℕ)
     (steps : List Step) (mount : ℕ) (session : RelaySession) → IsHeadingOf (Some o) text heading
     → IsRelay c me h o text steps mount session
     → IsCameBy mount text (claim_at session.stage) (came_to (judged c o heading text) steps)

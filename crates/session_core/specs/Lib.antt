@@ -10,3 +10,5 @@ pub mod Places
 pub mod Setups
 pub mod Turned
 pub mod States
+pub mod Holding
+pub mod Asking

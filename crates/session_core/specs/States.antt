@@ -1,9 +1,13 @@
--- How far a rover is, for whoever gives it its turns, and at which mountpoint a session is.
+-- How far a rover is, for whoever gives it its turns; at which mountpoint a session is, and what it
+-- holds.
 use Rattle.std.specs.Prelude.{ℕ, List, [], ◌∷◌, length, Option, None, Some}
 use Rattle.ntrip_head.specs.declared.request.Version.{Version}
 use Rattle.rover_cursor.specs.declared.segment.Segment.{Segment}
 use Rattle.rover_session.specs.Standing.{Rover as RoverValue}
+use Rattle.upstream_relay.specs.Standing.{claim_at}
 use Rattle.session_model.specs.declared.ending.Ending.{Ending}
+use Rattle.session_core.specs.declared.held.Held.{Held}
+use Rattle.session_core.specs.declared.held.Held.TheVariants as holds
 use Rattle.session_core.specs.declared.rover_state.RoverState.{RoverState}
 use Rattle.session_core.specs.declared.stage.Stage.{Stage}
 use Rattle.session_core.specs.declared.stage.Stage.TheVariants.{Source, Relay, Rover}
@@ -41,3 +45,15 @@ mount_at _ _ = None
 
 abbrev pub session_mount : Session → Option ℕ
 session_mount session = mount_at session.stage (rover_state session)
+
+-- ---- what it holds
+
+-- an account, or a claim: that of a source, or of a relay that was given one
+abbrev pub holding_at : Stage → Held
+holding_at (Source mount session) = holds.Source mount session.claim
+holding_at (Relay mount session) = holds.Relay mount (claim_at session.stage)
+holding_at (Rover account session) = holds.Rover account
+holding_at _ = holds.Nothing
+
+abbrev pub session_holding : Session → Held
+session_holding session = holding_at session.stage

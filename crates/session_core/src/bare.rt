@@ -1,12 +1,13 @@
 //! Connections without head and reply.
 
-ghost use Rattle.std.specs.Prelude.{◌≡◌, ℕ, IsTrue, [], map, IfOk, IfSome, OnErr};
+ghost use Rattle.std.specs.Prelude.{◌≡◌, ℕ, IsTrue, [], map, None, IfOk, IfSome, OnErr};
 ghost use Rattle.session_calls.specs.Rings.{AllSpeak};
 ghost use Rattle.cast_config.specs.Kept.{KeepsRules};
 ghost use Rattle.session_model.specs.Called.{IsCause};
 ghost use Rattle.session_core.specs.Beginnings.{bare_opening};
 ghost use Rattle.session_model.specs.Setting.{caps, shapes};
 ghost use Rattle.session_core.specs.Standing.{Fed};
+ghost use Rattle.session_core.specs.Asking.{TellsAsked};
 ghost use Rattle.session_core.specs.Places.{Stay, seen_in, alone_in, worn_in};
 
 use crate::begun::{Begun, REPLY_ROOM};
@@ -31,6 +32,7 @@ impl Session {
           me = me;
           stage = begun.stage;
           ended = begun.ended;
+          asked = None;
         } }
     {
         Session {
@@ -38,6 +40,7 @@ impl Session {
             me,
             stage: begun.stage,
             ended: begun.ended,
+            asked: None,
         }
     }
 
@@ -66,6 +69,7 @@ impl Session {
         ensures begun { IfOk result (λ session. Fed config.now (alone_in T.Turns B.Turns places.old)
             (seen_in T.Turns B.Turns places.old) (seen_in T.Turns B.Turns places.new) session
             (bare_opening role mount.now) [] [] [] [] []) }
+        ensures asks { IfOk result (λ session. TellsAsked (bare_opening role mount.now) [] session) }
         ensures cause { IfOk result (λ session. IfSome session.ended
             (IsCause (worn_in T.Turns B.Turns places.new))) }
         ensures err { OnErr result (places.new ≡ places.old) }

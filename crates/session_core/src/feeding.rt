@@ -3,25 +3,28 @@
 ghost use Rattle.std.specs.Prelude.{◌≡◌, ◌≢◌, ◌++◌, ℕ, IsTrue, List, length, map, IfSome, None};
 ghost use Rattle.std.specs.Option.{option_map};
 ghost use Rattle.std.specs.Result.{result_err};
-ghost use Rattle.ntrip_client.specs.Steps.{IsStep};
+ghost use Rattle.ntrip_head.specs.Steps.{IsStep};
 ghost use Rattle.session_calls.specs.Steps.{Step};
 ghost use Rattle.session_calls.specs.Rings.{AllSpeak};
 ghost use Rattle.cast_config.specs.declared.config.Config.{Config as ConfigValue};
 ghost use Rattle.cast_config.specs.Kept.{KeepsRules};
 ghost use Rattle.session_model.specs.Called.{IsCause, OthersCalled};
 ghost use Rattle.session_core.specs.Feeding.{FedOn, HasBegunFor, IsBehindHead, end_of_relay, end_of_source};
-ghost use Rattle.session_model.specs.Judged.{Opening};
+ghost use Rattle.session_model.specs.Judged.{Opening, sends_head};
 ghost use Rattle.session_model.specs.Run.{Histories};
 ghost use Rattle.session_model.specs.Setting.{caps, shapes};
 ghost use Rattle.session_model.specs.Setting as setting;
 ghost use Rattle.session_core.specs.Turned.{flow_of};
+ghost use Rattle.session_core.specs.States.{session_holding};
+ghost use Rattle.session_core.specs.Holding.{HoldsOn};
+ghost use Rattle.session_core.specs.Asking.{AsksOn, TellsAsked, TellsBehind};
 ghost use Rattle.session_core.specs.Standing.{Fed, Follows, Stands, StandsFor};
 ghost use Rattle.session_core.specs.Setups.{IsSetUp};
 ghost use Rattle.session_core.specs.Places.{Stay, seen_in, alone_in, worn_in};
 
+use crate::asked::{Asked, asked_of};
 use crate::begun::{Begun, finish};
 use crate::ending::Flow;
-use crate::head::take_head;
 use crate::judging::{begin_request, refused_head};
 use crate::places::Places;
 use crate::rovers::halted;
@@ -83,14 +86,14 @@ fn ended_relay(claim: Option<u64>, fed: Result<(), RelayHalt>) -> Option<Ending>
     }
 }
 
-/// What becomes of a connection whose head is whole or too long.
+/// What becomes of a connection whose head is whole or too long, and what its head asked.
 fn begin<T: Turns<Ring>, B: Turns<Book>>(
     setup: &Setup,
     head: &HeadBuf,
     step: HeadStep,
     places: &mut Places<T, B>,
     out: &mut Vec<u8>,
-) -> Begun
+) -> (Begun, Option<Asked>)
     requires ready { IsSetUp setup.now }
     requires step { IsStep head.now step }
     requires ends { step ≢ HeadStep.More }
@@ -101,21 +104,26 @@ fn begin<T: Turns<Ring>, B: Turns<Book>>(
     ensures stay { Stay T.Turns B.Turns places.old places.new }
     ensures begun { HasBegunFor setup.now.config.now (alone_in T.Turns B.Turns places.old)
         (seen_in T.Turns B.Turns places.old) (seen_in T.Turns B.Turns places.new) setup.now.me
-        head.now result.stage result.ended out.old.items out.new.items }
-    ensures cause { IfSome result.ended (IsCause (worn_in T.Turns B.Turns places.new)) }
+        head.now result.0.stage result.0.ended out.old.items out.new.items }
+    ensures asks { TellsBehind sends_head head.now result.1 result.0.ended }
+    ensures cause { IfSome result.0.ended (IsCause (worn_in T.Turns B.Turns places.new)) }
 {
     match step {
         HeadStep::More => unreachable!(),
         HeadStep::Long => {
             let last = (Reply::BadHead, Ending::LongHead);
-            finish(Some(Version::One), last, setup.table, out)
+            (finish(Some(Version::One), last, setup.table, out), None)
         }
         HeadStep::Done => match read_head(setup.alloc, head.bytes()) {
-            Ok(request) => begin_request(setup, &request, places, out),
-            Err(HeadError::Refused(fault)) => {
-                finish(Some(Version::One), refused_head(fault), setup.table, out)
+            Ok(request) => {
+                let begun = begin_request(setup, &request, places, out);
+                (begun, Some(asked_of(request)))
             }
-            Err(HeadError::Memory) => Begun::over(Ending::Memory),
+            Err(HeadError::Refused(fault)) => {
+                let last = refused_head(fault);
+                (finish(Some(Version::One), last, setup.table, out), None)
+            }
+            Err(HeadError::Memory) => (Begun::over(Ending::Memory), None),
         },
     }
 }
@@ -136,6 +144,10 @@ impl Session {
             × Follows c self.old (seen_in T.Turns B.Turns places.old) (length bytes.now) }
         ensures stay { Stay T.Turns B.Turns places.old places.new }
         ensures me { self.new.me ≡ self.old.me }
+        ensures holds { HoldsOn (session_holding self.old) (session_holding self.new) }
+        ensures asks { (opening : Opening) (text : List ℕ) → TellsAsked opening text self.old
+            → TellsAsked opening (text ++ bytes.now) self.new }
+        ensures asks_still { self.new.asked ≡ self.old.asked }
         ensures fed { (c : ConfigValue) (opening : Opening) (text : List ℕ) (steps : List Step)
             (histories : Histories) (sent : List ℕ) → map T.shape places.old.rings.items ≡ shapes c
             → Stands c self.old opening text steps histories sent
@@ -190,6 +202,12 @@ impl Session {
             (length bytes.now) }
         ensures stay { Stay T.Turns B.Turns places.old places.new }
         ensures me { self.new.me ≡ self.old.me }
+        ensures holds { HoldsOn (session_holding self.old) (session_holding self.new) }
+        ensures asks { (opening : Opening) (text : List ℕ) → TellsAsked opening text self.old
+            → TellsAsked opening (text ++ bytes.now) self.new }
+        ensures asks_on { (opening : Opening) (text : List ℕ) → TellsAsked opening text self.old
+            → AsksOn self.old.asked self.new.asked }
+        ensures asks_still { IsBehindHead self.old.stage → self.new.asked ≡ self.old.asked }
         ensures flow { result ≡ flow_of self.new.ended }
         ensures fed { (opening : Opening) (text : List ℕ) (steps : List Step)
             (histories : Histories) (sent : List ℕ)
@@ -204,7 +222,7 @@ impl Session {
             self.feed_behind(bytes, places);
             return flow_after(self.ended);
         };
-        let (count, step) = take_head(head, bytes);
+        let (count, step) = head.take(bytes);
         if step == HeadStep::More {
             return Flow::Open;
         }
@@ -214,8 +232,9 @@ impl Session {
             table,
             me: self.me,
         };
-        let begun = begin(&setup, head, step, places, out);
+        let (begun, asked) = begin(&setup, head, step, places, out);
         drop(mem::replace(&mut self.stage, begun.stage));
+        drop(mem::replace(&mut self.asked, asked));
         self.ended = begun.ended;
         if self.ended.is_some() {
             return Flow::Ended;

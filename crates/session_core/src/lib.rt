@@ -1,6 +1,7 @@
 //! One connection of a caster, from its first byte to its receipt.
 #![tactic(auto)]
 
+mod asked;
 mod bare;
 mod begin;
 mod begun;
@@ -8,7 +9,7 @@ mod book;
 mod closing;
 mod ending;
 mod feeding;
-mod head;
+mod held;
 mod judging;
 mod places;
 mod rover_state;
@@ -19,7 +20,9 @@ mod setup;
 mod stage;
 mod turning;
 
+pub use asked::Asked;
 pub use ending::{Bare, Flow};
+pub use held::Held;
 pub use places::Places;
 pub use rover_state::RoverState;
 pub use session::Session;

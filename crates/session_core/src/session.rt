@@ -15,10 +15,12 @@ ghost use Rattle.session_model.specs.Reports.{IsHeadingOf};
 ghost use Rattle.session_model.specs.Run.{Histories};
 ghost use Rattle.session_model.specs.Setting.{caps, shapes};
 ghost use Rattle.session_core.specs.Standing.{Follows, IsNewRelay, StandsFor};
+ghost use Rattle.session_core.specs.Asking.{TellsAsked};
 ghost use Rattle.session_core.specs.Closed.{IsClosed, IsSettled};
 ghost use Rattle.upstream_relay.specs.Request.{relay_request};
 ghost use Rattle.session_core.specs.Places.{Stay, seen_in, alone_in, worn_in, lacks_in};
 
+use crate::asked::Asked;
 use crate::closing::receipt_of;
 use crate::places::Places;
 use crate::settle::settle;
@@ -39,6 +41,8 @@ pub struct Session {
     pub(crate) me: u32,
     pub(crate) stage: Stage,
     pub(crate) ended: Option<Ending>,
+    /// What its head asked.
+    pub(crate) asked: Option<Asked>,
 }
 
 /// A relay before the first byte of the answer, whose request is appended.
@@ -65,6 +69,7 @@ impl Session {
         ensures goes_on { IfOk result (λ session. session.ended ≡ None) }
         ensures stands { IfOk result (λ session. (c : Config) (histories : Histories)
             → StandsFor c session sends_head [] [] histories []) }
+        ensures asks { IfOk result (λ session. TellsAsked sends_head [] session) }
     {
         let head = HeadBuf::new(alloc)?;
         Ok(Session {
@@ -72,6 +77,7 @@ impl Session {
             me,
             stage: Stage::Head(head),
             ended: None,
+            asked: None,
         })
     }
 
@@ -96,6 +102,7 @@ impl Session {
         ensures stands { IfOk result (λ session. (histories : Histories)
             → StandsFor config.now session (relays number) [] [] histories
             (opening_text config.now (relays number))) }
+        ensures asks { IfOk result (λ session. TellsAsked (relays number) [] session) }
     {
         let stage = new_relay(alloc, me, &config.relay.as_slice()[number as usize], out)?;
         Ok(Session {
@@ -103,6 +110,7 @@ impl Session {
             me,
             stage,
             ended: None,
+            asked: None,
         })
     }
 

@@ -1,6 +1,6 @@
 //! Turns of a rover.
 
-ghost use Rattle.std.specs.Prelude.{◌≡◌, ℕ, List, false, map, IfSome, IsTrue, None, true};
+ghost use Rattle.std.specs.Prelude.{◌≡◌, ℕ, List, false, map, IfSome, None, true};
 ghost use Rattle.session_calls.specs.Steps.{Step};
 ghost use Rattle.session_calls.specs.Rings.{AllSpeak, all_alone};
 ghost use Rattle.cast_config.specs.declared.config.Config.{Config as ConfigValue};
@@ -10,6 +10,9 @@ ghost use Rattle.session_model.specs.Run.{Histories};
 ghost use Rattle.session_model.specs.Setting.{caps, shapes};
 ghost use Rattle.session_core.specs.Standing.{Follows, StandsFor};
 ghost use Rattle.session_core.specs.Turned.{HaltedUnread, IsReadBy, Turned, TurnedAt, flow_of, is_rover};
+ghost use Rattle.session_core.specs.States.{holding_at, session_holding};
+ghost use Rattle.session_core.specs.Holding.{HoldsOn};
+ghost use Rattle.session_core.specs.Asking.{TellsAsked};
 ghost use Rattle.session_core.specs.Places.{Stay, StayAtRings, seen_in, alone_in, worn_in};
 
 use crate::ending::Flow;
@@ -43,6 +46,7 @@ fn turn_at<T: Turns<Ring>>(
     requires speaks { AllSpeak T.speaks rings.old me }
     requires reads { IsReadBy (map T.shape rings.old) me (map T.seen rings.old) stage.old }
     ensures stay { StayAtRings T.Turns rings.old rings.new }
+    ensures holds { HoldsOn (holding_at stage.old) (holding_at stage.new) }
     ensures bystander { is_rover stage.old ≡ false → (result ≡ None) × (stage.new ≡ stage.old)
         × (rings.new ≡ rings.old) × (out.new.items ≡ out.old.items) }
     ensures turned { TurnedAt (map T.shape rings.old) (all_alone T.alone rings.old)
@@ -80,6 +84,10 @@ impl Session {
             × (B.shape places.old.book ≡ caps c)
             × Follows c self.old (seen_in T.Turns B.Turns places.old) 0 }
         ensures me { self.new.me ≡ self.old.me }
+        ensures holds { HoldsOn (session_holding self.old) (session_holding self.new) }
+        ensures asks { (opening : Opening) (text : List ℕ) → TellsAsked opening text self.old
+            → TellsAsked opening text self.new }
+        ensures asks_still { self.new.asked ≡ self.old.asked }
         ensures stay { Stay T.Turns B.Turns places.old places.new }
         ensures flow { result ≡ flow_of self.new.ended }
         ensures halted { IfSome self.new.ended (HaltedUnread (seen_in T.Turns B.Turns places.old)

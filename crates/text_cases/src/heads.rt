@@ -1,10 +1,9 @@
 //! Heads of requests, and of the answers of other casters.
-ghost use Rattle.ntrip_head.specs.Head.{IsOpen};
 
 use crate::printing::{put, say, say_kept, show_in_brackets};
 use cast_text::{MountName, Text};
 use gga_read::Position;
-use ntrip_head::{Auth, HeadBuf, HeadError, HeadStep, Request, Version, read_head, read_upstream};
+use ntrip_head::{Auth, HeadBuf, HeadError, Request, Version, read_head, read_upstream};
 use std::alloc::AllocError;
 
 /// The credentials in words.
@@ -86,25 +85,10 @@ pub fn head(head: &[u8], out: &mut Vec<u8>) -> Result<(), AllocError> {
     }
 }
 
-/// Pushes bytes up to the step that ends the head, and says which byte gave it, from 1.
-fn ended_by(head: &mut HeadBuf, bytes: &[u8]) -> (usize, HeadStep)
-    requires { IsOpen head.old }
-{
-    let mut count: usize = 0;
-    for byte in bytes {
-        count += 1;
-        let step = head.push(*byte);
-        if step != HeadStep::More {
-            return (count, step);
-        }
-    }
-    (count, HeadStep::More)
-}
-
 /// Behind how many bytes a head ends, how, and whether just these bytes are kept.
 pub fn head_end(bytes: &[u8], out: &mut Vec<u8>) -> Result<(), AllocError> {
     let mut head = HeadBuf::new(*out.allocator())?;
-    let ended = ended_by(&mut head, bytes);
+    let ended = head.take(bytes);
     say(out, &ended)?;
     put(out, " ")?;
     let taken = bytes.get(..ended.0).unwrap_or(b"");

@@ -15,8 +15,8 @@ returns-in-Err-clause-stay g c = stay_none _ _
 pub returns-in-Err-clause-served : goal.returns-in-Err-clause-served
 returns-in-Err-clause-served g c =
     let t = g.T.Turns in let b = g.B.Turns in
-    c.in-Err.ensures.unopened.served (seen_at t.seen b.seen c.args.places.now.rings.items c.args.places.now.book)
-    (g.L.Link.told c.args.link.now)
+    (c.in-Err.ensures.unopened.closed (seen_at t.seen b.seen c.args.places.now.rings.items c.args.places.now.book)
+    (g.L.Link.told c.args.link.now)).served
 
 pub returns-in-Err-clause-worn : goal.returns-in-Err-clause-worn
 returns-in-Err-clause-worn g c =
@@ -98,6 +98,6 @@ returns-in-Some-step-clause-served g c =
     let told = g.L.Link.told c.args.link.now in
     let kept = c.loop.invariant in
     let stay = stay_both _ _ _ _ _ _ kept.stay c.step.ensures.stay in
-    c.close.ensures.served c.args.setup.now.config.now (opening_of c.args.role) c.args.setup.now.me start told
+    (c.close.ensures.served c.args.setup.now.config.now (opening_of c.args.role) c.args.setup.now.me start told
     (g.L.Link.told c.step.new.link) (fit_kept _ _ _ _ _ refl stay.known c.requires.fit)
-    (c.in-Some-step.ensures.closes.came (opening_of c.args.role) c.args.setup.now.me start told kept.served)
+    (c.in-Some-step.ensures.closes.came (opening_of c.args.role) c.args.setup.now.me start told kept.served)).served

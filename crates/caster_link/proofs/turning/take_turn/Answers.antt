@@ -30,6 +30,7 @@ returns-clause-turned g c = λ config opening me start sent whats fit reached.
     turned_arrived config opening me (alone_at t.alone b.alone items book) start now
     (seen_at t.seen b.seen new.rings.items new.book) c.args.session.now c.turn.new.self sent
     c.args.out.now.items c.turn.new.out.items whats reached c.requires.goes_on c.turn.ensures.me
+    (c.turn.ensures.asks opening (text_of whats) reached.asks)
     (λ apart. let s = c.turn.ensures.bystander apart in (
       s.0,
       ap (λ l. seen_at t.seen b.seen l new.book) s.1 ∙ ap (λ k. seen_at t.seen b.seen items k) s.2,

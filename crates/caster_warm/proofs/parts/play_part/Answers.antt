@@ -1,4 +1,4 @@
-use Rattle.std.proofs.Common.{◌∙◌, ◌++◌, [], ◌∷◌}
+use Rattle.std.proofs.Common.{◌++◌, [], ◌∷◌}
 use Rattle.session_script.specs.declared.Event.{Event}
 use Rattle.session_model.specs.Run.{after_events}
 use Rattle.caster_warm.proofs.PartLemmas.{are_next, bytes_here, cleared_before, part_here, sent_within}

@@ -1,6 +1,6 @@
 use Rattle.std.proofs.Common.{subst}
 use Rattle.ntrip_head.specs.declared.buffer.HeadStep.{HeadStep}
-use Rattle.ntrip_client.specs.Steps.{IsStep}
+use Rattle.ntrip_head.specs.Steps.{IsStep}
 use Rattle.ntrip_client.proofs.SayingLemmas.{long_response}
 use Rattle.ntrip_client.proofs.head.by_step.Goals as goal
 

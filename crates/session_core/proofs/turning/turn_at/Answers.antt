@@ -5,6 +5,7 @@ use Rattle.rover_session.specs.Standing.{WasResumable}
 use Rattle.session_core.specs.declared.stage.Stage.{Stage}
 use Rattle.session_core.specs.declared.stage.Stage.TheVariants as stages
 use Rattle.session_core.specs.Turned.{IsReadBy, TurnedAt}
+use Rattle.session_core.proofs.HoldingLemmas.{rover_on}
 use Rattle.session_core.proofs.TurningLemmas.{rover_turned, halted_of, cause_of, no_bystander}
 use Rattle.session_core.proofs.turning.turn_at.Goals as goal
 
@@ -24,6 +25,10 @@ turn-requires-clause-resumes g c =
 pub returns-in-Rover-clause-bystander : goal.returns-in-Rover-clause-bystander
 returns-in-Rover-clause-bystander g c = λ apart.
     absurd (no_bystander c.args.stage.now c.in-Rover._account c.in-Rover.session c.in-Rover.is apart)
+
+pub returns-in-Rover-clause-holds : goal.returns-in-Rover-clause-holds
+returns-in-Rover-clause-holds g c =
+    rover_on c.args.stage.now c.in-Rover._account c.in-Rover.session c.turn.new.self c.in-Rover.is
 
 pub returns-in-Rover-clause-turned : goal.returns-in-Rover-clause-turned
 returns-in-Rover-clause-turned g c =

@@ -13,7 +13,8 @@ returns-clause-opened c = record {
   restless = refl;
   served = λ histories told. record {
     serving = begins_serving _ _ _ _ _ told _ c.in-Ok.ensures.goes_on
-        (begins _ _ _ _ _ _ c.in-Ok.ensures.goes_on c.in-Ok.ensures.me (c.in-Ok.ensures.stands histories));
+        (begins _ _ _ _ _ _ c.in-Ok.ensures.goes_on c.in-Ok.ensures.me (c.in-Ok.ensures.stands histories)
+        c.in-Ok.ensures.asks);
     few = omega arith;
     size = refl;
   };
@@ -23,7 +24,7 @@ pub returns-in_default-clause-unopened : goal.returns-in_default-clause-unopened
 returns-in_default-clause-unopened c = record {
   ending = c.not_opened.ensures.receipt.ending;
   settled = c.not_opened.ensures.settled;
-  served = λ histories told. unopened _ _ _ histories told _
+  closed = λ histories told. unopened _ _ _ histories told _
       (subst (λ (b : Bool). IsSettled b (closing waiting []) []) (sym c.not_opened.ensures.settled) refl)
       c.not_opened.ensures.receipt;
 }

@@ -5,6 +5,8 @@ use Rattle.cast_io.specs.declared.link.Got.TheVariants as got
 use Rattle.cast_io.specs.declared.steps.Step.TheVariants as took
 use Rattle.session_model.specs.Called.{alone_at, seen_at}
 use Rattle.session_model.specs.Courses.{steps_of, text_of}
+use Rattle.session_core.proofs.AskingLemmas.{asks_both, same_on}
+use Rattle.session_core.proofs.HoldingLemmas.{holding_behind, holds_both}
 use Rattle.caster_link.proofs.CalledLemmas.{others_none}
 use Rattle.caster_link.proofs.LinkLemmas.{link_step}
 use Rattle.caster_link.proofs.PlaceLemmas.{fit_kept, speak_by}
@@ -20,6 +22,7 @@ use Rattle.caster_link.proofs.service.Service.step.Goals as goal
 pub returns-in_default-clause-closes : goal.returns-in_default-clause-closes
 returns-in_default-clause-closes g c = record {
   stopped = c.in_default.ensures.err;
+  still = refl;
   came = λ opening me start before so_far.
       torn _ _ _ _ _ _ _ _ _ _ _ (omega (arith, so_far.few)) so_far.serving c.in_default.ensures.err;
 }
@@ -35,6 +38,7 @@ returns-then-ended-clause-closes g c =
       | then-ended-via-else-ended+then-self-ge-MOST w ↦ inr w.if-self-ge-MOST.true
     ] in record {
       stopped = inr (c.in-Ok.ensures.ok, enough);
+      still = refl;
       came = λ opening me start before so_far.
           stops _ _ _ _ _ _ _ _ _ (omega (arith, so_far.few))
           (sent_on _ _ _ _ _ _ _ _ _ _ _ so_far.serving c.in-Ok.ensures.ok) enough;
@@ -84,6 +88,10 @@ returns-in-Ended-clause-goes_on g c =
       no_end = refl;
       link = link_step _ _ _ [] _ (got.Bytes count) buf c.in-Ok.ensures.ok c.in-Bytes.ensures.read;
       rests = refl;
+      holds = c.feed.ensures.holds;
+      asks = λ opening me start before so_far.
+          c.feed.ensures.asks_on opening (text_of so_far.serving.whats) so_far.serving.reached.asks;
+      asks_still = λ is. c.feed.ensures.asks_still (holding_behind _ is);
       served = λ opening me start before so_far.
           let s = sent_on _ _ _ _ _ _ _ _ _ _ _ so_far.serving c.in-Ok.ensures.ok in
           record {
@@ -91,7 +99,8 @@ returns-in-Ended-clause-goes_on g c =
                 c.in-Ok.ensures.empty long c.feed.ensures.me
                 (ended_flow c.feed.new.self.ended c.in-Ended.ensures.flow)
                 (c.feed.ensures.fed opening (text_of s.whats) (steps_of s.reached.events) now (s.written ++ [])
-                s.reached.stands (others_none now c.args.self.now.session.me));
+                s.reached.stands (others_none now c.args.self.now.session.me))
+                (c.feed.ensures.asks opening (text_of s.whats) s.reached.asks);
             few = omega (arith, c.if-self-ge-MOST.false, c.in-Bytes.ensures.bound.1, so_far.size);
             size = c.read.auto.buf ∙ so_far.size;
           };
@@ -143,6 +152,12 @@ returns-in-Open-clause-goes_on g c =
       no_end = refl;
       link = link_step _ _ _ [] _ (got.Bytes count) buf c.in-Ok.ensures.ok c.in-Bytes.ensures.read;
       rests = refl;
+      holds = holds_both _ _ _ c.feed.ensures.holds c.take_turn.ensures.holds;
+      asks = λ opening me start before so_far.
+          asks_both _ _ _
+          (c.feed.ensures.asks_on opening (text_of so_far.serving.whats) so_far.serving.reached.asks)
+          (same_on _ _ c.take_turn.ensures.asks_still);
+      asks_still = λ is. c.take_turn.ensures.asks_still ∙ c.feed.ensures.asks_still (holding_behind _ is);
       served = λ opening me start before so_far.
           let s = sent_on _ _ _ _ _ _ _ _ _ _ _ so_far.serving c.in-Ok.ensures.ok in
           let fit = fit_kept config c.args.self.now.session.me me _ _ (sym s.reached.caller)
@@ -152,6 +167,7 @@ returns-in-Open-clause-goes_on g c =
                 c.in-Ok.ensures.empty long c.feed.ensures.me
                 (c.feed.ensures.fed opening (text_of s.whats) (steps_of s.reached.events) now (s.written ++ [])
                 s.reached.stands (others_none now c.args.self.now.session.me))
+                (c.feed.ensures.asks opening (text_of s.whats) s.reached.asks)
                 (λ sent whats reached. c.take_turn.ensures.turned config opening me start sent whats fit reached);
             few = omega (arith, c.if-self-ge-MOST.false, c.in-Bytes.ensures.bound.1, so_far.size);
             size = c.read.auto.buf ∙ so_far.size;
@@ -180,6 +196,9 @@ returns-in-Idle-clause-goes_on g c =
       no_end = refl;
       link = link_step _ _ _ [] _ got.Idle buf c.in-Ok.ensures.ok c.in-Idle.ensures.read;
       rests = c.take_turn-self.ensures.rests;
+      holds = c.take_turn-self.ensures.holds;
+      asks = λ opening me start before so_far. same_on _ _ c.take_turn-self.ensures.asks_still;
+      asks_still = λ is. c.take_turn-self.ensures.asks_still;
       served = λ opening me start before so_far.
           let s = sent_on _ _ _ _ _ _ _ _ _ _ _ so_far.serving c.in-Ok.ensures.ok in
           let turned = c.take_turn-self.ensures.turned c.args.setup.now.config.now opening me start (s.written ++ [])
@@ -203,6 +222,7 @@ returns-in-End-clause-closes g c = record {
     },
     link_step _ _ _ [] _ got.End _ c.in-Ok.ensures.ok c.in-End.ensures.read,
   );
+  still = refl;
   came = λ opening me start before so_far.
       ends_so _ _ _ _ _ _ _ _ _ _ _ (omega (arith, so_far.few))
       (sent_on _ _ _ _ _ _ _ _ _ _ _ so_far.serving c.in-Ok.ensures.ok) c.in-End.ensures.read;
@@ -217,6 +237,7 @@ returns-in-Failed-clause-closes g c = record {
     },
     link_step _ _ _ [] _ got.Failed _ c.in-Ok.ensures.ok c.in-Failed.ensures.read,
   );
+  still = refl;
   came = λ opening me start before so_far.
       fails_so _ _ _ _ _ _ _ _ _ _ _ (omega (arith, so_far.few))
       (sent_on _ _ _ _ _ _ _ _ _ _ _ so_far.serving c.in-Ok.ensures.ok) c.in-Failed.ensures.read;

@@ -2,20 +2,27 @@
 use Rattle.std.proofs.Common.{◌≡◌, ◌∙◌, ◌-◌, ◌++◌, List, ℕ, length, take, drop, refl, sym, ap, subst, arith, rules}
 use Rattle.std.proofs.lemmas.List.{take_all}
 use Rattle.ntrip_head.specs.declared.buffer.HeadStep.TheVariants.{More}
-use Rattle.ntrip_client.specs.Steps.{IsStep}
+use Rattle.ntrip_head.specs.Steps.{IsStep}
 use Rattle.session_calls.proofs.PlaceLemmas.{speak_same}
+use Rattle.session_model.specs.Judged.{sends_head}
 use Rattle.session_core.specs.declared.session.Session.{Session}
 use Rattle.session_core.specs.declared.stage.Stage.TheVariants.{Head}
-use Rattle.session_core.specs.Feeding.{FedOn}
+use Rattle.session_core.specs.Feeding.{FedOn, IsBehindHead}
 use Rattle.session_core.specs.Places.{alone_in, seen_in}
 use Rattle.session_core.specs.Standing.{Follows}
 use Rattle.session_core.proofs.FeedHeadLemmas.{alone_as, begun_as, begun_behind, begun_follows, fed_behind, fed_ended, fed_on, fed_open, is_awaited, none_of, rest_of, some_of}
+use Rattle.session_core.proofs.AskingLemmas.{awaited_on, same_on, tells_begun, tells_ended, tells_open, tells_rest}
+use Rattle.session_core.proofs.HoldingLemmas.{head_on}
 use Rattle.session_core.proofs.session.Session.feed.Goals as goal
 
 pub returns-in_default : goal.returns-in_default
 returns-in_default g c = record {
   stay = c.feed_behind.ensures.stay;
   me = c.feed_behind.ensures.me;
+  holds = c.feed_behind.ensures.holds;
+  asks = c.feed_behind.ensures.asks;
+  asks_on = λ opening text tells. same_on _ _ c.feed_behind.ensures.asks_still;
+  asks_still = λ behind. c.feed_behind.ensures.asks_still;
   flow = c.flow_after.ensures;
   fed = λ opening text steps histories sent stands others.
       fed_on c.args.config.now (alone_in g.T.Turns g.B.Turns c.args.places.now)
@@ -30,50 +37,58 @@ pub returns-then-eq-clause-fed : goal.returns-then-eq-clause-fed
 returns-then-eq-clause-fed g c = λ opening text steps histories sent stands others.
     let was = c.args.self.now in
     let bytes = c.args.bytes.now in
-    let taken = c.take_head-count in
+    let taken = c.take-count in
     let goes_on : taken.result.1 ≡ More = search rules in
     let all : taken.result.0 ≡ length bytes = taken.ensures.all goes_on in
     fed_open c.args.config.now (alone_in g.T.Turns g.B.Turns c.args.places.now)
-    (seen_in g.T.Turns g.B.Turns c.args.places.now) (record was { stage = Head taken.new.head }) opening text bytes steps
-    sent c.in-Head.head taken.new.head c.args.out.now.items
+    (seen_in g.T.Turns g.B.Turns c.args.places.now) (record was { stage = Head taken.new.self }) opening text bytes steps
+    sent c.in-Head.head taken.new.self c.args.out.now.items
     (is_awaited c.args.config.now was opening text steps histories sent c.in-Head.head c.in-Head.is c.requires.goes_on
     stands) c.requires.goes_on refl
     (taken.ensures.bytes ∙ ap (λ (l : List ℕ). c.in-Head.head ++ l)
     (take_all taken.result.0 bytes (omega (arith, all))))
-    (subst (IsStep taken.new.head) goes_on taken.ensures.step)
+    (subst (IsStep taken.new.self) goes_on taken.ensures.step)
 
 pub returns-then-is_some-clause-fed : goal.returns-then-is_some-clause-fed
 returns-then-is_some-clause-fed g c = λ opening text steps histories sent stands others.
     let config = c.args.config.now in
     let was = c.args.self.now in
     let begun = c.begin-begun in
-    let session : Session = record c.args.self.now { stage = c.replace.new.dest; ended = begun.result.ended } in
+    let session : Session = record c.args.self.now {
+      stage = c.replace.new.dest;
+      asked = c.replace-2.new.dest;
+      ended = begun.result.0.ended;
+    } in
     let old = seen_in g.T.Turns g.B.Turns c.args.places.now in
     let now = seen_in g.T.Turns g.B.Turns begun.new.places in
     let alone = alone_in g.T.Turns g.B.Turns c.args.places.now in
-    let count = c.take_head-count.result.0 in
+    let count = c.take-count.result.0 in
     let front : List ℕ = c.in-Head.head ++ take count c.args.bytes.now in
     let end = some_of session.ended (sym c.is_some.ensures ∙ c.if-is_some.true) in
     fed_ended config alone old now was.me session opening text c.args.bytes.now steps sent c.in-Head.head
     c.args.out.now.items begun.new.out.items count end.0
     (is_awaited config was opening text steps histories sent c.in-Head.head c.in-Head.is c.requires.goes_on stands)
     refl end.1
-    (begun_as config alone old now was.me c.take_head-count.new.head front begun.result session.stage
-    c.args.out.now.items begun.new.out.items c.take_head-count.ensures.bytes c.replace.ensures.after begun.ensures.begun)
+    (begun_as config alone old now was.me c.take-count.new.self front begun.result.0 session.stage
+    c.args.out.now.items begun.new.out.items c.take-count.ensures.bytes c.replace.ensures.after begun.ensures.begun)
 
 pub feed_behind-requires-2-clause-behind : goal.feed_behind-requires-2-clause-behind
 feed_behind-requires-2-clause-behind g c =
     let was = c.args.self.now in
     let begun = c.begin-begun in
-    let session : Session = record c.args.self.now { stage = c.replace.new.dest; ended = begun.result.ended } in
+    let session : Session = record c.args.self.now {
+      stage = c.replace.new.dest;
+      asked = c.replace-2.new.dest;
+      ended = begun.result.0.ended;
+    } in
     let old = seen_in g.T.Turns g.B.Turns c.args.places.now in
     let now = seen_in g.T.Turns g.B.Turns begun.new.places in
     let alone = alone_in g.T.Turns g.B.Turns c.args.places.now in
-    let front : List ℕ = c.in-Head.head ++ take c.take_head-count.result.0 c.args.bytes.now in
+    let front : List ℕ = c.in-Head.head ++ take c.take-count.result.0 c.args.bytes.now in
     begun_behind c.args.config.now alone old now was.me front session.stage session.ended
     c.args.out.now.items begun.new.out.items (none_of session.ended (sym c.is_some.ensures ∙ c.if-is_some.false))
-    (begun_as c.args.config.now alone old now was.me c.take_head-count.new.head front begun.result session.stage
-    c.args.out.now.items begun.new.out.items c.take_head-count.ensures.bytes c.replace.ensures.after begun.ensures.begun)
+    (begun_as c.args.config.now alone old now was.me c.take-count.new.self front begun.result.0 session.stage
+    c.args.out.now.items begun.new.out.items c.take-count.ensures.bytes c.replace.ensures.after begun.ensures.begun)
 
 pub feed_behind-requires-2-clause-rings : goal.feed_behind-requires-2-clause-rings
 feed_behind-requires-2-clause-rings g c =
@@ -85,10 +100,14 @@ feed_behind-requires-2-clause-follows g c =
     let config = c.args.config.now in
     let was = c.args.self.now in
     let begun = c.begin-begun in
-    let session : Session = record c.args.self.now { stage = c.replace.new.dest; ended = begun.result.ended } in
+    let session : Session = record c.args.self.now {
+      stage = c.replace.new.dest;
+      asked = c.replace-2.new.dest;
+      ended = begun.result.0.ended;
+    } in
     let follows = c.requires.follows in
     let bytes = c.args.bytes.now in
-    let taken = c.take_head-count in
+    let taken = c.take-count in
     let count = taken.result.0 in
     let old = seen_in g.T.Turns g.B.Turns c.args.places.now in
     let now = seen_in g.T.Turns g.B.Turns begun.new.places in
@@ -104,7 +123,7 @@ feed_behind-requires-2-clause-follows g c =
           c.in-Head.is c.requires.goes_on follows.5)
           refl
           (none_of session.ended (sym c.is_some.ensures ∙ c.if-is_some.false)) taken.ensures.within follows.7
-          (begun_as config alone old now was.me taken.new.head front begun.result session.stage
+          (begun_as config alone old now was.me taken.new.self front begun.result.0 session.stage
           c.args.out.now.items begun.new.out.items taken.ensures.bytes c.replace.ensures.after begun.ensures.begun)),
     )
 
@@ -113,9 +132,13 @@ returns-clause-fed g c = λ opening text steps histories sent stands others.
     let config = c.args.config.now in
     let was = c.args.self.now in
     let begun = c.begin-begun in
-    let session : Session = record c.args.self.now { stage = c.replace.new.dest; ended = begun.result.ended } in
+    let session : Session = record c.args.self.now {
+      stage = c.replace.new.dest;
+      asked = c.replace-2.new.dest;
+      ended = begun.result.0.ended;
+    } in
     let bytes = c.args.bytes.now in
-    let taken = c.take_head-count in
+    let taken = c.take-count in
     let count = taken.result.0 in
     let stay = begun.ensures.stay in
     let old = seen_in g.T.Turns g.B.Turns c.args.places.now in
@@ -132,7 +155,7 @@ returns-clause-fed g c = λ opening text steps histories sent stands others.
     refl
     (none_of session.ended (sym c.is_some.ensures ∙ c.if-is_some.false))
     c.feed_behind-2.ensures.me
-    (begun_as config alone old mid was.me taken.new.head front begun.result session.stage
+    (begun_as config alone old mid was.me taken.new.self front begun.result.0 session.stage
     c.args.out.now.items begun.new.out.items taken.ensures.bytes c.replace.ensures.after begun.ensures.begun)
     (λ o before ss h so_far s between.
     subst (λ l. FedOn config alone mid now c.feed_behind-2.new.self o (before ++ l) ss so_far)
@@ -140,3 +163,88 @@ returns-clause-fed g c = λ opening text steps histories sent stands others.
     (subst (λ a. FedOn config a mid now c.feed_behind-2.new.self o
     (before ++ take (length bytes - count) (drop count bytes)) ss so_far) same
     (c.feed_behind-2.ensures.fed config o before ss h so_far (stay.at_rings.same.0 ∙ c.requires.shapes) s between)))
+
+-- ---- what it holds: nothing, as long as its head is awaited
+
+pub returns-then-eq-clause-holds : goal.returns-then-eq-clause-holds
+returns-then-eq-clause-holds g c = head_on c.args.self.now c.in-Head.head _ c.in-Head.is
+
+pub returns-then-is_some-clause-holds : goal.returns-then-is_some-clause-holds
+returns-then-is_some-clause-holds g c = head_on c.args.self.now c.in-Head.head _ c.in-Head.is
+
+pub returns-clause-holds : goal.returns-clause-holds
+returns-clause-holds g c = head_on c.args.self.now c.in-Head.head _ c.in-Head.is
+
+-- ---- what it asked
+
+pub returns-then-eq-clause-asks : goal.returns-then-eq-clause-asks
+returns-then-eq-clause-asks g c = λ opening text tells.
+    let bytes = c.args.bytes.now in
+    let taken = c.take-count in
+    let goes_on : taken.result.1 ≡ More = search rules in
+    let all : taken.result.0 ≡ length bytes = taken.ensures.all goes_on in
+    tells_open c.args.self.now opening text bytes c.in-Head.head taken.new.self c.in-Head.is
+    (taken.ensures.bytes ∙ ap (λ (l : List ℕ). c.in-Head.head ++ l)
+    (take_all taken.result.0 bytes (omega (arith, all))))
+    (subst (IsStep taken.new.self) goes_on taken.ensures.step) tells
+
+pub returns-then-eq-clause-asks_on : goal.returns-then-eq-clause-asks_on
+returns-then-eq-clause-asks_on g c = λ opening text tells.
+    awaited_on c.args.self.now opening text c.in-Head.head _ c.in-Head.is tells
+
+pub returns-then-is_some-clause-asks : goal.returns-then-is_some-clause-asks
+returns-then-is_some-clause-asks g c = λ opening text tells.
+    let config = c.args.config.now in
+    let was = c.args.self.now in
+    let begun = c.begin-begun in
+    let old = seen_in g.T.Turns g.B.Turns c.args.places.now in
+    let now = seen_in g.T.Turns g.B.Turns begun.new.places in
+    let alone = alone_in g.T.Turns g.B.Turns c.args.places.now in
+    let count = c.take-count.result.0 in
+    let front : List ℕ = c.in-Head.head ++ take count c.args.bytes.now in
+    tells_ended config alone old now was.me c.take-count.new.self c.replace.new.dest begun.result.0.ended
+    c.args.out.now.items begun.new.out.items c.replace-2.new.dest begun.result.1 was opening text c.args.bytes.now
+    c.in-Head.head count c.take-count.ensures.bytes c.replace-2.ensures.after
+    (begun_as config alone old now was.me c.take-count.new.self front begun.result.0 c.replace.new.dest
+    c.args.out.now.items begun.new.out.items c.take-count.ensures.bytes c.replace.ensures.after begun.ensures.begun)
+    begun.ensures.asks c.in-Head.is tells
+
+pub returns-then-is_some-clause-asks_on : goal.returns-then-is_some-clause-asks_on
+returns-then-is_some-clause-asks_on g c = λ opening text tells.
+    awaited_on c.args.self.now opening text c.in-Head.head _ c.in-Head.is tells
+
+pub returns-clause-asks : goal.returns-clause-asks
+returns-clause-asks g c = λ opening text tells.
+    let config = c.args.config.now in
+    let was = c.args.self.now in
+    let begun = c.begin-begun in
+    let bytes = c.args.bytes.now in
+    let old = seen_in g.T.Turns g.B.Turns c.args.places.now in
+    let now = seen_in g.T.Turns g.B.Turns begun.new.places in
+    let alone = alone_in g.T.Turns g.B.Turns c.args.places.now in
+    let count = c.take-count.result.0 in
+    let front : List ℕ = c.in-Head.head ++ take count bytes in
+    tells_rest was c.feed_behind-2.new.self opening text bytes c.in-Head.head count c.take-count.ensures.within
+    c.in-Head.is tells
+    (c.feed_behind-2.ensures.asks sends_head front
+    (tells_begun config alone old now was.me front c.take-count.new.self c.replace.new.dest begun.result.0.ended
+    c.args.out.now.items begun.new.out.items c.replace-2.new.dest begun.result.1 c.take-count.ensures.bytes
+    c.replace-2.ensures.after
+    (begun_as config alone old now was.me c.take-count.new.self front begun.result.0 c.replace.new.dest
+    c.args.out.now.items begun.new.out.items c.take-count.ensures.bytes c.replace.ensures.after begun.ensures.begun)
+    begun.ensures.asks))
+
+pub returns-clause-asks_on : goal.returns-clause-asks_on
+returns-clause-asks_on g c = λ opening text tells.
+    awaited_on c.args.self.now opening text c.in-Head.head _ c.in-Head.is tells
+
+-- ---- behind the head it is no longer awaited
+
+pub returns-then-eq-clause-asks_still : goal.returns-then-eq-clause-asks_still
+returns-then-eq-clause-asks_still g c = λ behind. absurd (subst IsBehindHead c.in-Head.is behind)
+
+pub returns-then-is_some-clause-asks_still : goal.returns-then-is_some-clause-asks_still
+returns-then-is_some-clause-asks_still g c = λ behind. absurd (subst IsBehindHead c.in-Head.is behind)
+
+pub returns-clause-asks_still : goal.returns-clause-asks_still
+returns-clause-asks_still g c = λ behind. absurd (subst IsBehindHead c.in-Head.is behind)

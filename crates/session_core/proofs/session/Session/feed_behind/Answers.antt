@@ -29,12 +29,14 @@ use Rattle.session_core.specs.declared.stage.Stage.TheVariants as stages
 use Rattle.session_core.specs.Beginnings.{ended_joining, histories_of}
 use Rattle.session_core.specs.Feeding.{FedOn, end_of_relay, end_of_source}
 use Rattle.session_core.specs.Places.{alone_in, seen_in}
+use Rattle.session_core.proofs.AskingLemmas.{tells_on}
 use Rattle.session_core.proofs.EnteredLemmas.{back_whole, cause_joined, entered_back, worn_back}
 use Rattle.session_core.proofs.FeedBodyLemmas.{as_many_places, ended_as, published_as, relay_fed_as, resumes_as, sent_as, told_by, within_places}
 use Rattle.session_core.proofs.FeedRelayLemmas.{relay_fed_on}
 use Rattle.session_core.proofs.FeedRoverLemmas.{rover_fed_on}
 use Rattle.session_core.proofs.FeedSourceLemmas.{source_fed_on}
 use Rattle.session_core.proofs.FollowLemmas.{relay_ready, rover_ready, source_ready}
+use Rattle.session_core.proofs.HoldingLemmas.{relay_on, rover_on, source_on}
 use Rattle.session_core.proofs.PickLemmas.{added_picked, history_picked, published_picked, relay_cause_picked, source_cause_picked, speaks_picked, stay_picked, stays_still}
 use Rattle.session_core.proofs.session.Session.feed_behind.Goals as goal
 
@@ -84,6 +86,15 @@ returns-in-Source-clause-stay g c = record {
       c.feed-fed.new.place c.index_mut.ensures.value c.feed-fed.ensures.stays;
   at_book = stays_still g.B.Turns c.args.places.now.book;
 }
+
+pub returns-in-Source-clause-asks : goal.returns-in-Source-clause-asks
+returns-in-Source-clause-asks g c = λ opening text tells.
+    tells_on c.args.self.now opening text c.args.bytes.now _ c.requires.goes_on c.requires.behind tells
+
+pub returns-in-Source-clause-holds : goal.returns-in-Source-clause-holds
+returns-in-Source-clause-holds g c =
+    source_on c.args.self.now c.in-Source.mount c.in-Source.session c.feed-fed.new.self c.in-Source.is
+    c.feed-fed.ensures.source.1
 
 pub returns-in-Source-clause-fed : goal.returns-in-Source-clause-fed
 returns-in-Source-clause-fed g c = λ config opening text steps histories sent same stands others.
@@ -179,6 +190,20 @@ returns-in-Relay-clause-stay g c = record {
   at_book = stays_still g.B.Turns c.args.places.now.book;
 }
 
+pub returns-in-Relay-clause-asks : goal.returns-in-Relay-clause-asks
+returns-in-Relay-clause-asks g c = λ opening text tells.
+    tells_on c.args.self.now opening text c.args.bytes.now _ c.requires.goes_on c.requires.behind tells
+
+pub returns-in-Relay-clause-holds : goal.returns-in-Relay-clause-holds
+returns-in-Relay-clause-holds g c =
+    let follows = c.requires.follows in
+    let inner = c.in-Relay.session in
+    let few = (relay_ready follows.0 c.args.self.now (seen_in g.T.Turns g.B.Turns c.args.places.now)
+    (length c.args.bytes.now) c.in-Relay.mount inner c.in-Relay.is c.requires.goes_on follows.3).few in
+    let more = c.feed-fed-in-Relay.ensures.adds c.in-Relay.mount few.0 few.1 few.2 in
+    relay_on c.args.self.now c.in-Relay.mount inner.me c.feed-fed-in-Relay.new.self.me inner
+    c.feed-fed-in-Relay.new.self few.0 (few.0 ++ c.args.bytes.now) few.1 more.0 c.in-Relay.is few.2 more.2
+
 pub returns-in-Relay-clause-fed : goal.returns-in-Relay-clause-fed
 returns-in-Relay-clause-fed g c = λ config opening text steps histories sent same stands others.
     let follows = c.requires.follows in
@@ -255,6 +280,14 @@ feed-requires-clause-resumes g c =
     (rover_ready follows.0 c.args.self.now (seen_in g.T.Turns g.B.Turns c.args.places.now) (length c.args.bytes.now)
     c.in-Rover.account c.in-Rover.session follows.1 c.in-Rover.is c.requires.goes_on follows.3).resumes)
 
+pub returns-in-Rover-clause-asks : goal.returns-in-Rover-clause-asks
+returns-in-Rover-clause-asks g c = λ opening text tells.
+    tells_on c.args.self.now opening text c.args.bytes.now _ c.requires.goes_on c.requires.behind tells
+
+pub returns-in-Rover-clause-holds : goal.returns-in-Rover-clause-holds
+returns-in-Rover-clause-holds g c =
+    rover_on c.args.self.now.stage c.in-Rover.account c.in-Rover.session c.feed.new.self c.in-Rover.is
+
 pub returns-in-Rover-clause-fed : goal.returns-in-Rover-clause-fed
 returns-in-Rover-clause-fed g c = λ config opening text steps histories sent same stands others.
     let places = c.args.places.now in
@@ -274,6 +307,7 @@ returns-in-Rover-clause-fed g c = λ config opening text steps histories sent sa
       me = c.args.self.now.me;
       stage = stages.Rover c.in-Rover.account c.feed.new.self;
       ended = c.halted-self.result;
+      asked = c.args.self.now.asked;
     } in
     entered_back g.T.Turns.seen g.B.Turns.seen new items places.rings.len places.book
     (λ (h : Histories). FedOn config alone (seen_in g.T.Turns g.B.Turns places) h session opening
