@@ -5,3 +5,4 @@ pub mod ListLemmas
 pub mod ToldLemmas
 pub mod StoreLemmas
 pub mod LogLemmas
+pub mod GateLemmas

@@ -4,19 +4,22 @@ use Rattle.cast_io.specs.declared.door.Arrived.{Arrived}
 use Rattle.cast_io.specs.declared.door.Arrived.TheVariants as arrived
 use Rattle.cast_io.specs.declared.gate_end.GateEnd.{GateEnd}
 use Rattle.cast_io.specs.declared.gate_end.GateEnd.TheVariants as ends
+use Rattle.cast_io.specs.declared.yard_asked.YardAsked.{YardAsked}
 use Rattle.cast_io.specs.Peers.{no_peer}
 use Rattle.cast_io.specs.Yards.{GateTold}
 use Rattle.cast_io.specs.FakeLinks.{LinkState}
 use Rattle.cast_io.specs.FakeDoors.{DoorState, door_told, is_new_door}
 
 -- a gate in memory: the door at which its links arrive, the peers of the links to come, the peer of
--- the link that was given last, when it is over, and how often it was asked whether it is
+-- the link that was given last, when it is over, how often it was asked whether it is, and what it
+-- was made for, once a yard gave it
 pub record GateState : Type 0 where
   pub door : DoorState
   pub peers : List (List ℕ)
   pub peer : List ℕ
   pub end : GateEnd
   pub asks : ℕ
+  pub origin : YardAsked
 
 -- a gate of this end is over, with these arrivals to come and after so many asks
 abbrev pub has_ended : GateEnd → List (Option LinkState) → ℕ → Bool
@@ -34,6 +37,10 @@ gate_told gate = record { door = door_told gate.door; over = gate_over gate }
 -- no link came back to the gate, and none of its accepts failed
 abbrev pub is_new_gate : GateState → Bool
 is_new_gate gate = is_new_door gate.door
+
+-- the gate as a yard gives it that was asked for this
+abbrev pub made_for : YardAsked → GateState → GateState
+made_for asked gate = record gate { origin = asked }
 
 -- a gate that has not been called, at this door, with these peers of its links
 pub record IsGateOf (gate : GateState) (door : DoorState) (peers : List (List ℕ)) (end : GateEnd)

@@ -1,8 +1,9 @@
 -- What a yard tells of itself, as plain data, and what its calls do to it.
-use Rattle.std.specs.Prelude.{ℕ, ◌≡◌, ◌≤◌, List, [], ◌∷◌, Option, Some, is_some, Bool, Result, IsErrOf, OnOk}
+use Rattle.std.specs.Prelude.{ℕ, ◌≡◌, ◌≤◌, List, [], ◌∷◌, Option, None, Some, is_some, Bool, Result, IsErrOf, OnOk}
 use Rattle.cast_io.specs.declared.street.StreetFault.{StreetFault}
 use Rattle.cast_io.specs.declared.street.StreetFault.TheVariants as fault
 use Rattle.cast_io.specs.declared.yard_asked.YardAsked.{YardAsked}
+use Rattle.cast_io.specs.declared.yard_asked.YardAsked.TheVariants as asked
 use Rattle.cast_io.specs.Causes.{Rose}
 use Rattle.cast_io.specs.Told.{DoorTold, Grew}
 use Rattle.cast_io.specs.Streets.{RisesWith}
@@ -25,6 +26,11 @@ pub record YardTold : Type 0 where
   pub notes : Option (List NotesTold)
   pub faults : ℕ
   pub note_faults : ℕ
+
+-- what a gate was made for: to be one of so many at this address, or to dial it
+abbrev pub origin_of : List ℕ → Option ℕ → ℕ → YardAsked
+origin_of addr (Some gates) quiet = asked.OpenGates addr gates quiet
+origin_of addr None quiet = asked.Reach addr quiet
 
 -- notes that were just given: they took no byte and had no fault
 pub record AreNewNotes (told : NotesTold) : Type 0 where

@@ -10,6 +10,7 @@ use crate::gate::Gate;
 use crate::gate_end::GateEnd;
 use crate::mem_door::MemDoor;
 use crate::mem_link::MemLink;
+use crate::origin::Origin;
 use crate::peer::PeerAddr;
 use std::collections::VecDeque;
 use std::marker::Model;
@@ -22,6 +23,7 @@ pub struct MemGate {
     peer: PeerAddr,
     end: GateEnd,
     asks: u64,
+    origin: Origin,
 }
 
 impl Model for MemGate {
@@ -35,11 +37,13 @@ impl Model for MemGate {
       peer = g.peer;
       end = g.end;
       asks = g.asks;
+      origin = g.origin;
     } };
 }
 
 impl MemGate {
-    ghost use Rattle.cast_io.specs.FakeGates.{IsGateOf, first_peer, gate_over};
+    ghost use Rattle.cast_io.specs.FakeGates.{IsGateOf, first_peer, gate_over, made_for};
+    ghost use Rattle.cast_io.specs.declared.yard_asked.YardAsked.TheVariants as asked;
 
     /// A gate at which the links of this door arrive, and which is over then. `peers` are the peers
     /// of its links, in order; of a link past the last of them the peer is not told.
@@ -52,6 +56,7 @@ impl MemGate {
             peer: PeerAddr::unknown(),
             end,
             asks: 0,
+            origin: Origin::reached("", 0),
         }
     }
 
@@ -77,6 +82,20 @@ impl MemGate {
         ensures { result ≡ self.now.door.faults }
     {
         self.door.faults()
+    }
+
+    // A yard gives it as one of so many gates at this address.
+    pub(crate) fn be_opened(&mut self, addr: &str, gates: u32, quiet: u32)
+        ensures { self.new ≡ made_for (asked.OpenGates addr.now gates quiet) self.old }
+    {
+        self.origin = Origin::opened(addr, gates, quiet);
+    }
+
+    // A yard gives it as one that dials this address.
+    pub(crate) fn be_reached(&mut self, addr: &str, quiet: u32)
+        ensures { self.new ≡ made_for (asked.Reach addr.now quiet) self.old }
+    {
+        self.origin = Origin::reached(addr, quiet);
     }
 
     // The peer of the next link is that of the last one now.
@@ -145,6 +164,8 @@ impl Gate for MemGate {
     ghost over = { gate_over };
 
     ghost peer = { λ g. g.peer };
+
+    ghost origin = { λ g. g.origin };
 
     fn is_over(&mut self) -> bool
         ensures over { result ≡ gate_over self.new }

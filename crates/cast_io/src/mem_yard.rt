@@ -1,6 +1,6 @@
 //! The gates and the notes of a street in memory. They are given in order, and calls fail that are
 //! told to.
-ghost use Rattle.std.specs.Prelude.{◌≡◌, ◌≤◌, ◌<◌, ◌+◌, ◌-◌, ◌↔◌, [], ◌∷◌, length, take, drop, vec_len, nat_lt, Some, if◌then◌else◌, is_ok, is_some, option_map, IsTrue, IsErr, IsErrOf, IfOk};
+ghost use Rattle.std.specs.Prelude.{◌≡◌, ◌≤◌, ◌<◌, ◌+◌, ◌-◌, ◌↔◌, [], ◌∷◌, length, map, take, drop, vec_len, nat_lt, Some, if◌then◌else◌, is_ok, is_some, option_map, IsTrue, IsErr, IsErrOf, IfOk};
 ghost use Rattle.std.specs.List.{All, list_all};
 ghost use Rattle.cast_io.specs.Causes.{next_count};
 ghost use Rattle.cast_io.specs.Fakes.{fails_next};
@@ -8,6 +8,8 @@ ghost use Rattle.cast_io.specs.Returns.{with_return};
 ghost use Rattle.cast_io.specs.Streets.{RisesWith};
 ghost use Rattle.cast_io.specs.Doors.{IsNewDoor};
 ghost use Rattle.cast_io.specs.FakeDoors.{door_told};
+ghost use Rattle.cast_io.specs.FakeGates.{made_for};
+ghost use Rattle.cast_io.specs.declared.yard_asked.YardAsked.TheVariants as asked;
 
 use crate::bytes::ByteString;
 use crate::calls::is_told;
@@ -141,7 +143,6 @@ impl MemYard {
     ghost use Rattle.cast_io.specs.FakeGates.{is_new_gate};
     ghost use Rattle.cast_io.specs.FakeYards.{GaveGates, GaveNotes, HasCounted, IsSureYardCall, IsYardCall, are_new_notes, gates_fail, notes_fail, notes_told, yard_told};
     ghost use Rattle.cast_io.specs.declared.yard_asked.YardAsked.{YardAsked};
-    ghost use Rattle.cast_io.specs.declared.yard_asked.YardAsked.TheVariants as asked;
 
     // Adds to what was asked. Where that is told no longer since, that is a fault.
     fn note(&mut self, wanted: Result<YardAsked, AllocError>)
@@ -246,6 +247,7 @@ impl MemYard {
     }
 
     // An open of so many gates, as `open_gates` of the street.
+    #[tactic(auto, using(crate::proofs::GateLemmas::made_so))]
     pub(crate) fn open_gates(
         &mut self,
         addr: &str,
@@ -257,16 +259,21 @@ impl MemYard {
         ensures count { IfOk result (λ given. vec_len given ≡ gates) }
         ensures each { IfOk result
             (λ given. All (λ gate. IsNewDoor (door_told gate.door)) given.items) }
+        ensures made { IfOk result (λ given. All (λ gate. gate.origin
+            ≡ asked.OpenGates addr.now gates quiet) given.items) }
         ensures answered { HasAnswered result (yard_told self.old) (yard_told self.new) }
         ensures fake { IsYardCall (gates_fail self.old gates) self.old self.new result }
-        ensures given { IfOk result (λ given. given.items ≡ take gates self.old.gates) }
+        ensures given { IfOk result (λ given. given.items
+            ≡ map (made_for (asked.OpenGates addr.now gates quiet)) (take gates self.old.gates)) }
         ensures gave { GaveGates (is_ok result) gates self.old self.new }
     {
         self.note(an_open(self.alloc, addr, gates, quiet));
         if self.fails_call() {
             return Err(StreetFault::Failed);
         }
-        self.give_gates(gates as usize)
+        let mut given = self.give_gates(gates as usize)?;
+        be_opened(&mut given, addr, gates, quiet);
+        Ok(given)
     }
 
     // The making of a gate that dials, as `reach` of the street.
@@ -274,16 +281,20 @@ impl MemYard {
         ensures wanted { HasBeenAsked (asked.Reach addr.now quiet)
             (yard_told self.old) (yard_told self.new) }
         ensures each { IfOk result (λ gate. IsNewDoor (door_told gate.door)) }
+        ensures made { IfOk result (λ gate. gate.origin ≡ asked.Reach addr.now quiet) }
         ensures answered { HasAnswered result (yard_told self.old) (yard_told self.new) }
         ensures fake { IsSureYardCall (gates_fail self.old 1) self.old self.new result }
-        ensures given { IfOk result (λ gate. self.old.gates ≡ gate ∷ self.new.gates) }
+        ensures given { IfOk result (λ gate. gate ∷ []
+            ≡ map (made_for (asked.Reach addr.now quiet)) (take 1 self.old.gates)) }
         ensures gave { GaveGates (is_ok result) 1 self.old self.new }
     {
         self.note(a_reach(self.alloc, addr, quiet));
         if self.fails_call() {
             return Err(StreetFault::Failed);
         }
-        self.give_gate()
+        let mut gate = self.give_gate()?;
+        gate.be_reached(addr, quiet);
+        Ok(gate)
     }
 
     // The making of notes, as `notes` of the street.
@@ -358,6 +369,16 @@ impl MemYard {
     {
         self.count_note_faults(notes.faults());
         self.notes_back.take_back(notes);
+    }
+}
+
+// A yard gives these as the gates at this address, of which there are so many.
+fn be_opened(given: &mut Vec<MemGate>, addr: &str, gates: u32, quiet: u32)
+    ensures { given.new.items
+        ≡ map (made_for (asked.OpenGates addr.now gates quiet)) given.old.items }
+{
+    for gate in given.iter_mut() {
+        gate.be_opened(addr, gates, quiet);
     }
 }
 

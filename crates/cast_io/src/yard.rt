@@ -24,7 +24,8 @@ pub trait Yard: Street {
     /// What the yard tells of itself beside the street.
     ghost kept: { Self → YardTold };
 
-    /// Opens so many gates at one address. None of them has given or taken anything.
+    /// Opens so many gates at one address. Each is made for that, and none of them has given or
+    /// taken anything.
     fn open_gates(
         &mut self,
         addr: &str,
@@ -36,14 +37,18 @@ pub trait Yard: Street {
         ensures count { IfOk result (λ given. vec_len given ≡ gates) }
         ensures each { IfOk result
             (λ given. All (λ gate. IsNewDoor (Self.Gate.told gate)) given.items) }
+        ensures made { IfOk result (λ given. All (λ gate. Self.Gate.origin gate
+            ≡ asked.OpenGates addr.now gates quiet) given.items) }
         ensures answered { HasAnswered result (kept self.old) (kept self.new) }
         ensures street { Self.told self.new ≡ Self.told self.old };
 
-    /// Makes a gate whose links are dialled: each connects to the peer at this address. Nothing is
-    /// asked of the peer yet.
+    /// Makes a gate whose links are dialled: each connects to the peer at this address, and the gate
+    /// is made for that. Nothing is asked of the peer yet.
     fn reach(&mut self, addr: &str, quiet: u32) -> Result<Self::Gate, StreetFault>
         ensures wanted { HasBeenAsked (asked.Reach addr.now quiet) (kept self.old) (kept self.new) }
         ensures each { IfOk result (λ gate. IsNewDoor (Self.Gate.told gate)) }
+        ensures made { IfOk result
+            (λ gate. Self.Gate.origin gate ≡ asked.Reach addr.now quiet) }
         ensures answered { HasAnswered result (kept self.old) (kept self.new) }
         ensures street { Self.told self.new ≡ Self.told self.old };
 
