@@ -1,5 +1,5 @@
 -- Callers at a press, each with its work.
-use Rattle.std.proofs.Common.{◌≡◌, ◌∙◌, ◌+◌, ◌<◌, ℕ, zero, suc, false, true, Bool, List, [], ◌∷◌, ◌++◌, length, map, take, drop, refl, sym, ap, subst, arith, append_assoc, append-nil, length-append}
+use Rattle.std.proofs.Common.{◌≡◌, ◌∙◌, ◌+◌, ◌<◌, ℕ, zero, suc, false, true, Bool, IsTrue, List, [], ◌∷◌, ◌++◌, length, map, take, drop, refl, sym, ap, subst, arith, append_assoc, append-nil, length-append}
 use Rattle.std.specs.Prelude.{Option, slice_index_or}
 use Rattle.std.specs.List.{All}
 use Rattle.std.proofs.lemmas.Bool.{eq-eqb}
@@ -12,12 +12,11 @@ use Rattle.turn_log.specs.declared.lock.parts.Pass.{Pass}
 use Rattle.turn_log.specs.History.{History, own}
 use Rattle.caster_press.specs.declared.line.Line.{Line}
 use Rattle.caster_press.specs.declared.press.Start.{Start}
-use Rattle.caster_press.specs.Callers.{CallerTold, HasCalled, HaveCalled, HaveLeft, HaveWritten, IsCaller, AreCallers, MayCall, lines_put, rows_of}
+use Rattle.caster_press.specs.Callers.{AreCallers, AreNewCallers, CallerTold, HasCalled, HaveCalled, HaveLeft, HaveWritten, IsCaller, MayCall, Wrote, lines_put, rows_of}
 use Rattle.caster_press.specs.Lines.{text_in}
 use Rattle.caster_press.specs.Piles.{IsPile, IsWhole, Row, row_of}
-use Rattle.caster_press.specs.Places.{HasPut, IsAt, LockTold}
+use Rattle.caster_press.specs.Places.{IsAt, LockTold}
 use Rattle.caster_press.specs.Written.{IsWritten}
-use Rattle.caster_press.proofs.PlaceLemmas.{own-put}
 
 -- ---- all at once
 
@@ -28,6 +27,16 @@ all_mapped P f slice xs is all = subst (All (λ x. P (f x))) (sym is) (unmap xs 
   unmap [] none = All-nil (λ x. P (f x))
   unmap (x ∷ l) each =
       All-cons (λ x. P (f x)) x l (All-head P (f x) (map f l) each) (unmap l (All-tail P (f x) (map f l) each))
+
+-- what holds of all in two ways
+pub all_both : {X Y : Type 0} (P : Y → Type 0) (Q : X → Type 0) (f : X → Y) (slice xs : List X) → slice ≡ xs
+    → All P (map f xs) → All Q xs → All (λ x. P (f x) × Q x) slice
+all_both P Q f slice xs is all more = subst (All (λ x. P (f x) × Q x)) (sym is) (both xs all more) where
+  both : (l : List _) → All P (map f l) → All Q l → All (λ x. P (f x) × Q x) l
+  both [] none no_more = All-nil (λ x. P (f x) × Q x)
+  both (x ∷ l) each and_each =
+      All-cons (λ x. P (f x) × Q x) x l (All-head P (f x) (map f l) each, All-head Q x l and_each)
+      (both l (All-tail P (f x) (map f l) each) (All-tail Q x l and_each))
 
 -- a slice of a whole list, given back as it is now
 as_it_is : {X : Type 0} (olds news : List X) (len : ℕ) → len ≡ length olds → length news ≡ length olds
@@ -83,14 +92,15 @@ slice_wrote wrote olds slice news len is long same each k old new was now =
 
 -- ---- they sit down
 
-callers-snoc : (n : ℕ) (callers : List CallerTold) (caller : CallerTold) (lock : LockTold) → AreCallers n callers lock
-    → IsCaller (n + length callers) caller lock → AreCallers n (callers ++ caller ∷ []) lock
-callers-snoc n [] caller lock all one =
-    (subst (λ (k : ℕ). IsCaller k caller lock) (let e : n + 0 ≡ n = omega arith in e) one, tt)
-callers-snoc n (c ∷ callers) caller lock all one = (
+callers-snoc : (n : ℕ) (callers : List CallerTold) (caller : CallerTold) (lock : LockTold)
+    → AreNewCallers n callers lock → IsCaller (n + length callers) caller lock → lines_put caller ≡ []
+    → AreNewCallers n (callers ++ caller ∷ []) lock
+callers-snoc n [] caller lock all one none =
+    ((subst (λ (k : ℕ). IsCaller k caller lock) (let e : n + 0 ≡ n = omega arith in e) one, none), tt)
+callers-snoc n (c ∷ callers) caller lock all one none = (
   all.0,
   callers-snoc (suc n) callers caller lock all.1
-      (subst (λ (k : ℕ). IsCaller k caller lock) (moved n (length callers)) one),
+      (subst (λ (k : ℕ). IsCaller k caller lock) (moved n (length callers)) one) none,
 ) where
   moved : (a b : ℕ) → a + suc b ≡ suc a + b
   moved a b = omega arith
@@ -98,17 +108,18 @@ callers-snoc n (c ∷ callers) caller lock all one = (
 -- one more sat down behind the others, with the last work
 pub seated_more : {X W : Type 0} (told : X → CallerTold) (work : X → W) (works front : List W) (last : W)
     (old mid new more : List X) (caller : X) (number : ℕ) (lock : LockTold) → works ≡ front ++ last ∷ []
-    → work caller ≡ last → mid ≡ old ++ more → AreCallers 0 (map told more) lock → front ≡ map work more
+    → work caller ≡ last → mid ≡ old ++ more → AreNewCallers 0 (map told more) lock → front ≡ map work more
     → new ≡ mid ++ caller ∷ [] → length mid ≡ length old + number → IsCaller number (told caller) lock
-    → (x : List X) × (new ≡ old ++ x) × AreCallers 0 (map told x) lock × (works ≡ map work x)
-seated_more told work works front last old mid new more caller number lock is same before so_far with_works pushed long one =
+    → lines_put (told caller) ≡ []
+    → (x : List X) × (new ≡ old ++ x) × AreNewCallers 0 (map told x) lock × (works ≡ map work x)
+seated_more told work works front last old mid new more caller number lock is same before so_far with_works pushed long one none =
     let count : number ≡ 0 + length (map told more) =
     omega (arith, long, ap length before, length-append old more, length-map more told) in (
       more ++ caller ∷ [],
       pushed ∙ ap (λ l. l ++ caller ∷ []) before ∙ append_assoc old more (caller ∷ []),
-      subst (λ l. AreCallers 0 l lock) (sym (map-append told more (caller ∷ [])))
+      subst (λ l. AreNewCallers 0 l lock) (sym (map-append told more (caller ∷ [])))
           (callers-snoc 0 (map told more) (told caller) lock so_far
-          (subst (λ (k : ℕ). IsCaller k (told caller) lock) count one)),
+          (subst (λ (k : ℕ). IsCaller k (told caller) lock) count one) none),
       is ∙ ap (λ l. l ++ last ∷ []) with_works ∙ ap (λ w. map work more ++ w ∷ []) (sym same)
           ∙ sym (map-append work more (caller ∷ [])),
     )
@@ -121,9 +132,9 @@ none_left (work ∷ works) passes same none = let never : false ≡ true = none 
 
 -- all, where nobody sat down before
 pub all_seated : {X : Type 0} (told : X → CallerTold) (none all more : List X) (lock : LockTold) → none ≡ []
-    → all ≡ none ++ more → AreCallers 0 (map told more) lock → AreCallers 0 (map told all) lock
+    → all ≡ none ++ more → AreNewCallers 0 (map told more) lock → AreNewCallers 0 (map told all) lock
 all_seated told none all more lock empty is seated =
-    subst (λ l. AreCallers 0 (map told l) lock) (sym (is ∙ ap (λ l. l ++ more) empty)) seated
+    subst (λ l. AreNewCallers 0 (map told l) lock) (sym (is ∙ ap (λ l. l ++ more) empty)) seated
 
 -- with their works
 pub all_works : {X W : Type 0} (work : X → W) (works : List W) (none all more : List X) → none ≡ [] → all ≡ none ++ more
@@ -133,11 +144,12 @@ all_works work works none all more empty is works_are =
 
 -- ---- they do their work
 
-pub may_call : (n : ℕ) (callers : List CallerTold) (lock : LockTold) → AreCallers n callers lock → All MayCall callers
+pub may_call : (n : ℕ) (callers : List CallerTold) (lock : LockTold) → AreNewCallers n callers lock
+    → All MayCall callers
 may_call n [] lock all = All-nil MayCall
 may_call n (caller ∷ callers) lock all =
-    All-cons MayCall caller callers (speaks n caller lock all.0) (may_call (suc n) callers lock all.1) where
-      speaks : (k : ℕ) (c : CallerTold) (l : LockTold) → IsCaller k c l → MayCall c
+    All-cons MayCall caller callers (speaks n caller lock all.0.0, all.0.1) (may_call (suc n) callers lock all.1) where
+      speaks : (k : ℕ) (c : CallerTold) (l : LockTold) → IsCaller k c l → IsTrue (c.place.speaks c.number)
       speaks k c l is =
           let at : c.place.speaks c.number ≡ true = is.at.speaks c.number ∙ eq-eqb c.number k is.numbered in cc
 
@@ -146,23 +158,19 @@ still_caller : (n : ℕ) (old new : CallerTold) (lock : LockTold) → IsCaller n
 still_caller n old new lock is called = record {
   numbered = called.number ∙ is.numbered;
   at = record {
-    speaks = λ k. ap (λ f. f k) called.worked.same.speaks ∙ is.at.speaks k;
-    home = called.worked.same.home ∙ is.at.home;
-    start = called.worked.same.start ∙ is.at.start;
+    speaks = λ k. ap (λ f. f k) called.same.speaks ∙ is.at.speaks k;
+    home = called.same.home ∙ is.at.home;
+    start = called.same.start ∙ is.at.start;
   };
-  mine =
-      own-put n called.worked.more old.place.seen new.place.seen
-      (subst (λ (k : ℕ). HasPut k called.worked.more old.place.seen new.place.seen) is.numbered called.worked.put)
-      ∙ ap (λ l. l ++ called.worked.more) is.mine ∙ sym called.worked.lines;
 }
 
-pub still_callers : (n : ℕ) (olds news : List CallerTold) (lock : LockTold) → AreCallers n olds lock
+pub still_callers : (n : ℕ) (olds news : List CallerTold) (lock : LockTold) → AreNewCallers n olds lock
     → HaveCalled olds news → AreCallers n news lock
 still_callers n [] [] lock all called = tt
 still_callers n [] (new ∷ news) lock all called = absurd called
 still_callers n (old ∷ olds) [] lock all called = absurd called
 still_callers n (old ∷ olds) (new ∷ news) lock all called =
-    (still_caller n old new lock all.0 called.0, still_callers (suc n) olds news lock all.1 called.1)
+    (still_caller n old new lock all.0.0 called.0, still_callers (suc n) olds news lock all.1 called.1)
 
 -- ---- they leave
 
@@ -203,13 +211,6 @@ works_more work all front last old mid new is before pushed =
 
 -- ---- and all is told
 
-lists_of : {X W : Type 0} (told : X → CallerTold) (work : X → W) (lines : W → List Line) (callers : List X)
-    → ((c : X) → (told c).lines ≡ lines (work c)) → map lines (map work callers) ≡ lines_put (map told callers)
-lists_of told work lines [] same = refl
-lists_of told work lines (c ∷ callers) same =
-    ap (λ l. l ∷ map lines (map work callers)) (sym (same c))
-    ∙ ap (λ l. (told c).lines ∷ l) (lists_of told work lines callers same)
-
 mapped_at : {X Y : Type 0} (f : X → Y) (xs : List X) (k : ℕ) (x : X) → get_elem? xs k ≡ some x
     → get_elem? (map f xs) k ≡ some (f x)
 mapped_at f [] k x at = absurd (some-ne-none x (sym at))
@@ -222,34 +223,31 @@ unmapped_at f [] k y at = absurd (some-ne-none y (sym at))
 unmapped_at f (x ∷ xs) zero y at = (x, refl, some-injective (f x) y at)
 unmapped_at f (x ∷ xs) (suc k) y at = unmapped_at f xs k y at
 
-caller_at : (n : ℕ) (callers : List CallerTold) (lock : LockTold) (k : ℕ) (lines : List Line) → AreCallers n callers lock
-    → get_elem? (lines_put callers) k ≡ some lines
+caller_at : (n : ℕ) (callers : List CallerTold) (lock : LockTold) (k : ℕ) → AreCallers n callers lock
+    → k < length callers
     → (caller : CallerTold) × (get_elem? callers k ≡ some caller)
-    × (get_elem? (rows_of callers) k ≡ some (row_of caller.place)) × (own (n + k) caller.place.seen ≡ lines)
-caller_at n [] lock k lines all at = absurd (some-ne-none lines (sym at))
-caller_at n (c ∷ callers) lock zero lines all at = (
-  c,
-  refl,
-  refl,
-  ap (λ (k : ℕ). own k c.place.seen) (let e : n + 0 ≡ n = omega arith in e) ∙ all.0.mine
-      ∙ some-injective c.lines lines at,
-)
-caller_at n (c ∷ callers) lock (suc k) lines all at =
-    let rest = caller_at (suc n) callers lock k lines all.1 at in
-    (rest.0, rest.1, rest.2, ap (λ (i : ℕ). own i rest.0.place.seen) (moved n k) ∙ rest.3) where
-      moved : (a b : ℕ) → a + suc b ≡ suc a + b
-      moved a b = omega arith
+    × (get_elem? (rows_of callers) k ≡ some (row_of caller.place)) × (caller.number ≡ n + k)
+caller_at n [] lock k all below = absurd (omega (arith, below))
+caller_at n (c ∷ callers) lock zero all below = (c, refl, refl, omega (arith, all.0.numbered))
+caller_at n (c ∷ callers) lock (suc k) all below =
+    let rest = caller_at (suc n) callers lock k all.1 (omega (arith, below)) in
+    (rest.0, rest.1, rest.2, omega (arith, rest.3))
+
+-- what stands at a place stands before the end
+place_below : {X : Type 0} (xs : List X) (k : ℕ) (x : X) → get_elem? xs k ≡ some x → k < length xs
+place_below [] k x at = absurd (some-ne-none x (sym at))
+place_below (y ∷ xs) zero x at = omega arith
+place_below (y ∷ xs) (suc k) x at = let rest = place_below xs k x at in omega (arith, rest)
 
 module _ {V A R W : Type 0} {g : Ghosts V Line A R Start} where
-  pub have_left : {X : Type 0} (told : X → CallerTold) (work : X → W) (lines : W → List Line)
-      (wrote : W → W → ℕ → Type 0) (befores afters : List X) (lock : LockTold) (olds mid news : List W)
-      (passes : List (Pass V Line A R Start g)) → AreCallers 0 (map told afters) lock
-      → ((c : X) → (told c).lines ≡ lines (work c)) → olds ≡ map work befores → mid ≡ []
+  pub have_left : {X : Type 0} (told : X → CallerTold) (work : X → W) (wrote : Wrote W) (befores afters : List X)
+      (lock : LockTold) (olds mid news : List W) (passes : List (Pass V Line A R Start g))
+      → AreCallers 0 (map told afters) lock → olds ≡ map work befores → mid ≡ []
       → news ≡ mid ++ map work afters → IsPile (rows_of (map told afters)) passes lock
       → ((k : ℕ) (old new : X) → get_elem? befores k ≡ some old → get_elem? afters k ≡ some new
-      → wrote (work old) (work new) (told new).place.worn)
-      → length afters ≡ length befores → HaveLeft lines wrote lock olds news passes
-  have_left told work lines wrote befores afters lock olds mid news passes here same were none are pile each as_many =
+      → wrote (work old) (work new) (lines_put (told new)) (told new).place.worn)
+      → length afters ≡ length befores → HaveLeft wrote lock olds news passes
+  have_left told work wrote befores afters lock olds mid news passes here were none are pile each as_many =
       let now : news ≡ map work afters = are ∙ ap (λ l. l ++ map work afters) none in record {
         count = omega (
           arith,
@@ -260,63 +258,56 @@ module _ {V A R W : Type 0} {g : Ghosts V Line A R Start} where
           length-map befores work,
         );
         callers = map told afters;
+        as_many = omega (arith, ap length now, length-map afters work, length-map afters told);
         here = here;
-        lists_are = ap (map lines) now ∙ lists_of told work lines afters same;
         pile = pile;
         each = λ k caller old new at was is.
             let c = unmapped_at told afters k caller at in
             let o = unmapped_at work befores k old (sym (ap (λ l. get_elem? l k) were) ∙ was) in
             let n = some-injective (work c.0) new
             (sym (mapped_at work afters k c.0 c.1) ∙ sym (ap (λ l. get_elem? l k) now) ∙ is) in
-            subst (λ w. wrote w new caller.place.worn) o.2
-            (subst (λ w. wrote (work o.0) w caller.place.worn) n
-            (subst (λ (t : CallerTold). wrote (work o.0) (work c.0) t.place.worn) c.2 (each k o.0 c.0 o.1 c.1)));
+            subst (λ w. wrote w new (lines_put caller) caller.place.worn) o.2
+            (subst (λ w. wrote (work o.0) w (lines_put caller) caller.place.worn) n
+            (subst (λ (t : CallerTold). wrote (work o.0) (work c.0) (lines_put t) t.place.worn) c.2
+            (each k o.0 c.0 o.1 c.1)));
       }
 
   -- the lock was closed with the passes of all
-  pub have_written : (lines : W → List Line) (wrote : W → W → ℕ → Type 0) (lock : LockTold) (olds news : List W)
+  pub have_written : (wrote : Wrote W) (lock : LockTold) (olds news : List W)
       (passes : List (Pass V Line A R Start g)) (torn : Bool) (start : Start) (taken : Option (List ℕ)) (faults : ℕ)
-      → HaveLeft lines wrote lock olds news passes
+      → HaveLeft wrote lock olds news passes
       → ((rows : List Row) → IsPile rows passes lock
       → (whole : History Line) × IsWhole rows whole × IsWritten torn start taken faults (text_in whole))
-      → HaveWritten lines wrote start torn taken faults olds news
-  have_written lines wrote lock olds news passes torn start taken faults left closed =
+      → HaveWritten wrote start torn taken faults olds news
+  have_written wrote lock olds news passes torn start taken faults left closed =
       let all = closed (rows_of left.callers) left.pile in record {
         count = left.count;
         whole = all.0;
         text = all.2;
-        owns = λ k work at.
-            let c = found k work at in
-            all.1.owns k _ c.2 ∙ ap (λ (i : ℕ). own i c.0.place.seen) (from_zero k) ∙ c.3;
         nobody_else = subst (λ (n : ℕ). All (λ (e : ℕ × Line). e.0 < n) all.0) long all.1.numbers;
         each = λ k old new was now.
             let c = found k new now in
-            (c.0.place.worn, all.1.worn k _ c.2, left.each k c.0 old new c.1 was now);
+            let same : lines_put c.0 ≡ own k all.0 =
+            ap (λ (i : ℕ). own i c.0.place.seen) c.3 ∙ sym (all.1.owns k _ c.2) in (
+              c.0.place.worn,
+              all.1.worn k _ c.2,
+              subst (λ l. wrote old new l c.0.place.worn) same (left.each k c.0 old new c.1 was now),
+            );
       } where
-        from_zero : (k : ℕ) → k ≡ 0 + k
-        from_zero k = omega arith
-
         found : (k : ℕ) (work : W) → get_elem? news k ≡ some work
             → (caller : CallerTold) × (get_elem? left.callers k ≡ some caller)
-            × (get_elem? (rows_of left.callers) k ≡ some (row_of caller.place))
-            × (own (0 + k) caller.place.seen ≡ lines work)
+            × (get_elem? (rows_of left.callers) k ≡ some (row_of caller.place)) × (caller.number ≡ k)
         found k work at =
-            caller_at 0 left.callers lock k (lines work) left.here
-            (sym (ap (λ l. get_elem? l k) left.lists_are) ∙ mapped_at lines news k work at)
+            let c = caller_at 0 left.callers lock k left.here
+            (omega (arith, place_below news k work at, left.as_many)) in
+            (c.0, c.1, c.2, omega (arith, c.3))
 
         long : length (rows_of left.callers) ≡ length news
-        long = omega (
-          arith,
-          ap length left.lists_are,
-          length-map left.callers (λ (c : CallerTold). row_of c.place),
-          length-map left.callers (λ (c : CallerTold). c.lines),
-          length-map news lines,
-        )
+        long = omega (arith, left.as_many, length-map left.callers (λ (c : CallerTold). row_of c.place))
 
 -- the same start by another name
-pub from_start : {W : Type 0} (lines : W → List Line) (wrote : W → W → ℕ → Type 0) (start from : Start) (torn : Bool)
-    (taken : Option (List ℕ)) (faults : ℕ) (olds news : List W) → start ≡ from
-    → HaveWritten lines wrote start torn taken faults olds news
-    → HaveWritten lines wrote from torn taken faults olds news
-from_start lines wrote start from torn taken faults olds news same written =
-    subst (λ (s : Start). HaveWritten lines wrote s torn taken faults olds news) same written
+pub from_start : {W : Type 0} (wrote : Wrote W) (start from : Start) (torn : Bool) (taken : Option (List ℕ))
+    (faults : ℕ) (olds news : List W) → start ≡ from → HaveWritten wrote start torn taken faults olds news
+    → HaveWritten wrote from torn taken faults olds news
+from_start wrote start from torn taken faults olds news same written =
+    subst (λ (s : Start). HaveWritten wrote s torn taken faults olds news) same written

@@ -1,7 +1,5 @@
 -- Lists by their last items.
-use Rattle.std.proofs.Common.{◌≡◌, ◌∙◌, ◌+◌, ℕ, zero, suc, List, [], ◌∷◌, ◌++◌, length, refl, sym, ap, subst, length-append}
-use Rattle.std.specs.List.{All}
-use Rattle.std.proofs.lemmas.List.Elements.{All-nil, All-cons, All-head, All-tail}
+use Rattle.std.proofs.Common.{◌≡◌, ◌∙◌, ◌+◌, ℕ, zero, suc, List, [], ◌∷◌, ◌++◌, length, refl, sym, ap, length-append}
 use mathlib.Core.Option.{some, some-ne-none}
 use lib.ListN.{get_elem?}
 
@@ -26,21 +24,6 @@ pub each_last : {X : Type 0} (P : ℕ → X → Type 0) (all front : List X) (la
     → ((i : ℕ) (x : X) → get_elem? all i ≡ some x → P i x) → P (length front) last
 each_last P all front last is each =
     each (length front) last (ap (λ l. get_elem? l (length front)) is ∙ at_back front last)
-
--- what holds of each item
-pub all_front : {X : Type 0} (P : X → Type 0) (all front : List X) (last : X) → all ≡ front ++ last ∷ [] → All P all
-    → All P front
-all_front {X} P all front last is holds = go front (subst (All P) is holds) where
-  go : (l : List X) → All P (l ++ last ∷ []) → All P l
-  go [] each = All-nil P
-  go (x ∷ l) each = All-cons P x l (All-head P x (l ++ last ∷ []) each) (go l (All-tail P x (l ++ last ∷ []) each))
-
-pub all_last : {X : Type 0} (P : X → Type 0) (all front : List X) (last : X) → all ≡ front ++ last ∷ [] → All P all
-    → P last
-all_last {X} P all front last is holds = go front (subst (All P) is holds) where
-  go : (l : List X) → All P (l ++ last ∷ []) → P last
-  go [] each = All-head P last [] each
-  go (x ∷ l) each = go l (All-tail P x (l ++ last ∷ []) each)
 
 pub one_longer : {X : Type 0} (all front : List X) (last : X) → all ≡ front ++ last ∷ []
     → length all ≡ length front + 1

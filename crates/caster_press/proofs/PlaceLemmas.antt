@@ -41,6 +41,11 @@ pub own-put : (me : ℕ) (lines : List Line) (old new : History Line) → HasPut
 own-put me lines old new put =
     ap (own me) put.goes_on ∙ own-append me old put.more ∙ ap (λ l. own me old ++ l) put.mine
 
+-- who had put nothing has put these lines, and no others
+pub put_all_own : (me : ℕ) (lines : List Line) (old new : History Line) → own me old ≡ [] → HasPut me lines old new
+    → lines ≡ own me new
+put_all_own me lines old new none put = sym (own-put me lines old new put ∙ ap (λ l. l ++ lines) none)
+
 -- the next line of a list was put
 pub put_next : (me : ℕ) (lines : List Line) (i : ℕ) (d line : Line) (old mid new : History Line) → i < length lines
     → line ≡ get_or lines i d → HasPut me (take i lines) old mid → HasPut me (line ∷ []) mid new

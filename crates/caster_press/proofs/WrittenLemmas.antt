@@ -20,7 +20,7 @@ text_in-snoc [] me line = append-nil (text_of line)
 text_in-snoc (e ∷ h) me line =
     ap (λ l. text_of e.1 ++ l) (text_in-snoc h me line) ∙ sym (append_assoc (text_of e.1) (text_in h) (text_of line))
 
-appends_more : (start now next : Option (List ℕ)) (text piece : List ℕ) → Appends start now text
+pub appends_more : (start now next : Option (List ℕ)) (text piece : List ℕ) → Appends start now text
     → Appends now next piece → Appends start next (text ++ piece)
 appends_more None now next text piece first second = tt
 appends_more (Some xs) None next text piece first second = absurd first
@@ -29,7 +29,7 @@ appends_more (Some xs) (Some ws) (Some ys) text piece first second =
     second ∙ ap (λ l. l ++ piece) first ∙ append_assoc xs text piece
 
 -- the last piece was cut
-cut_now : (start now next : Option (List ℕ)) (text piece : List ℕ) → Appends start now text
+pub cut_now : (start now next : Option (List ℕ)) (text piece : List ℕ) → Appends start now text
     → AppendsPrefix now next piece → IsCut start next (text ++ piece)
 cut_now None now next text piece first second = tt
 cut_now (Some xs) None next text piece first second = absurd first
@@ -45,7 +45,7 @@ cut_now (Some xs) (Some ws) (Some ys) text piece first second =
     (sym (take-append-add text piece n) ∙ ap (λ k. take k (text ++ piece)) (sym long))
 
 -- nothing is written after a cut
-cut_still : (start now : Option (List ℕ)) (text piece : List ℕ) → IsCut start now text
+pub cut_still : (start now : Option (List ℕ)) (text piece : List ℕ) → IsCut start now text
     → IsCut start now (text ++ piece)
 cut_still None now text piece cut = tt
 cut_still (Some xs) None text piece cut = absurd cut

@@ -1,5 +1,5 @@
 -- Callers at a press, each with its work, and what they put there.
-use Rattle.std.specs.Prelude.{◌≡◌, ℕ, suc, ◌<◌, ◌≤◌, IsTrue, ⊤, Bool, List, [], ◌∷◌, ◌++◌, length, map, Option}
+use Rattle.std.specs.Prelude.{◌≡◌, ℕ, suc, ◌<◌, ◌≤◌, IsTrue, ⊤, Bool, List, [], ◌∷◌, length, map, Option}
 use Rattle.std.specs.List.{All}
 use mathlib.Core.Option.{some}
 use lib.ListN.{get_elem?}
@@ -12,34 +12,34 @@ use Rattle.caster_press.specs.declared.line.Line.{Line}
 use Rattle.caster_press.specs.declared.press.Start.{Start}
 use Rattle.caster_press.specs.Lines.{text_in}
 use Rattle.caster_press.specs.Piles.{Row, IsPile, row_of}
-use Rattle.caster_press.specs.Places.{PlaceTold, IsSamePlace, HasPut, IsAt, LockTold}
+use Rattle.caster_press.specs.Places.{PlaceTold, IsSamePlace, IsAt, LockTold}
 use Rattle.caster_press.specs.Written.{IsWritten}
 
--- a caller: its number, its place, and the lines that its work has put
+-- a caller: its number, and its place
 pub record CallerTold : Type 0 where
   pub number : ℕ
   pub place : PlaceTold
-  pub lines : List Line
 
-abbrev pub caller_told : ℕ → PlaceTold → List Line → CallerTold
-caller_told number place lines = record { number = number; place = place; lines = lines }
+abbrev pub caller_told : ℕ → PlaceTold → CallerTold
+caller_told number place = record { number = number; place = place }
 
--- A work went on at this place: the lines that it has put are those that it had put, and behind
--- them exactly the caller's own of the history since then.
-pub record HasWorked (me : ℕ) (old new : PlaceTold) (before after : List Line) : Type 0 where
-  pub same : IsSamePlace old new
-  pub more : List Line
-  pub lines : after ≡ before ++ more
-  pub put : HasPut me more old.seen new.seen
+-- the lines that it has put, in order: its own of the history, as far as its place has seen it
+abbrev pub lines_put : CallerTold → List Line
+lines_put caller = own caller.number caller.place.seen
 
--- its place speaks for it
+-- What one work does, from before to after, that put these lines at a place that met the lock worn
+-- by so many turns.
+abbrev pub Wrote : Type 0 → Type 1
+Wrote W = W → W → List Line → ℕ → Type 0
+
+-- its place speaks for it, and it has put nothing yet
 abbrev pub MayCall : CallerTold → Type 0
-MayCall caller = IsTrue (caller.place.speaks caller.number)
+MayCall caller = IsTrue (caller.place.speaks caller.number) × (lines_put caller ≡ [])
 
--- the caller did its work
+-- the caller did its work: it has its number, and its place is what it was
 pub record HasCalled (old new : CallerTold) : Type 0 where
   pub number : new.number ≡ old.number
-  pub worked : HasWorked old.number old.place new.place old.lines new.lines
+  pub same : IsSamePlace old.place new.place
 
 -- each caller of the first list did its work, and is at the same place of the second
 abbrev pub HaveCalled : List CallerTold → List CallerTold → Type 0
@@ -56,49 +56,51 @@ module _ {V A R : Type 0} {g : Ghosts V Line A R Start} where
     pub unseen : pass_seen pass ≡ []
     pub here : IsPassOf pass lock
 
--- a caller at this lock under this number, whose work has put exactly the caller's own lines
+-- a caller at this lock under this number
 pub record IsCaller (number : ℕ) (caller : CallerTold) (lock : LockTold) : Type 0 where
   pub numbered : caller.number ≡ number
   pub at : IsAt number caller.place lock
-  pub mine : own number caller.place.seen ≡ caller.lines
 
 -- so are these, numbered from this number on
 abbrev pub AreCallers : ℕ → List CallerTold → LockTold → Type 0
 AreCallers n [] lock = ⊤
 AreCallers n (caller ∷ callers) lock = IsCaller n caller lock × AreCallers (suc n) callers lock
 
--- what they have put, and what they have seen and met
-abbrev pub lines_put : List CallerTold → List (List Line)
-lines_put callers = map (λ (caller : CallerTold). caller.lines) callers
+-- so are these, and none of them has put a line yet
+abbrev pub AreNewCallers : ℕ → List CallerTold → LockTold → Type 0
+AreNewCallers n [] lock = ⊤
+AreNewCallers n (caller ∷ callers) lock =
+    (IsCaller n caller lock × (lines_put caller ≡ [])) × AreNewCallers (suc n) callers lock
 
+-- what they have seen and met
 abbrev pub rows_of : List CallerTold → List Row
 rows_of callers = map (λ (caller : CallerTold). row_of caller.place) callers
 
 module _ {V A R W : Type 0} {g : Ghosts V Line A R Start} where
   -- Callers numbered from 0, each with the work at the same place of the first list, did their works
   -- at this lock, and left: the works as they are now are the second list, and these passes were
-  -- given back.
-  pub record HaveLeft (lines : W → List Line) (wrote : W → W → ℕ → Type 0) (lock : LockTold)
-      (olds news : List W) (passes : List (Pass V Line A R Start g)) : Type 0 where
+  -- given back. Each work put exactly the lines of its caller.
+  pub record HaveLeft (wrote : Wrote W) (lock : LockTold) (olds news : List W)
+      (passes : List (Pass V Line A R Start g)) : Type 0 where
     pub count : length news ≡ length olds
     pub callers : List CallerTold
+    pub as_many : length callers ≡ length news
     pub here : AreCallers 0 callers lock
-    pub lists_are : map lines news ≡ lines_put callers
     pub pile : IsPile (rows_of callers) passes lock
     pub each : (k : ℕ) (caller : CallerTold) (old new : W) → get_elem? callers k ≡ some caller
-        → get_elem? olds k ≡ some old → get_elem? news k ≡ some new → wrote old new caller.place.worn
+        → get_elem? olds k ≡ some old → get_elem? news k ≡ some new
+        → wrote old new (lines_put caller) caller.place.worn
 
 -- Works of callers numbered from 0 wrote on an output that was so at the start. The text is that of
--- one whole history, of which each caller's own lines are exactly those that its work has put, and
--- nobody else put any. It was written whole; or a write failed, and some first part was. Each work
--- did what it does at a place that met the lock worn by at most so many turns as there are lines.
-pub record HaveWritten {W : Type 0} (lines : W → List Line) (wrote : W → W → ℕ → Type 0)
-    (start : Start) (torn : Bool) (taken : Option (List ℕ)) (faults : ℕ) (olds news : List W)
-    : Type 0 where
+-- one whole history, of which each caller's own lines are exactly those that its work put, in its
+-- order, and nobody else put any. It was written whole; or a write failed, and some first part was.
+-- Each work did what it does at a place that met the lock worn by at most so many turns as there
+-- are lines.
+pub record HaveWritten {W : Type 0} (wrote : Wrote W) (start : Start) (torn : Bool)
+    (taken : Option (List ℕ)) (faults : ℕ) (olds news : List W) : Type 0 where
   pub count : length news ≡ length olds
   pub whole : History Line
   pub text : IsWritten torn start taken faults (text_in whole)
-  pub owns : (k : ℕ) (work : W) → get_elem? news k ≡ some work → own k whole ≡ lines work
   pub nobody_else : All (λ (entry : ℕ × Line). entry.0 < length news) whole
   pub each : (k : ℕ) (old new : W) → get_elem? olds k ≡ some old → get_elem? news k ≡ some new
-      → (worn : ℕ) × (worn ≤ length whole) × wrote old new worn
+      → (worn : ℕ) × (worn ≤ length whole) × wrote old new (own k whole) worn

@@ -3,7 +3,7 @@ ghost use Rattle.std.specs.Prelude.{◌≡◌, ◌<◌, ◌≤◌, ◌+◌, ◌^
 ghost use Rattle.std.specs.List.{All};
 ghost use mathlib.Core.Option.{some};
 ghost use lib.ListN.{get_elem?};
-ghost use Rattle.caster_press.specs.Callers.{AreCallers, HasCalled, HaveCalled, IsNew, MayCall, rows_of};
+ghost use Rattle.caster_press.specs.Callers.{AreCallers, AreNewCallers, HasCalled, HaveCalled, IsNew, MayCall, rows_of};
 ghost use Rattle.caster_press.specs.Piles.{IsPile};
 ghost use Rattle.caster_press.specs.Places.{LockTold, lock_told};
 
@@ -15,24 +15,27 @@ use std::sync::Wait;
 use std::thread::{self, Threads};
 use turn_log::{Pass, Played, Seat, Turn};
 
-/// The work of a caller at a press: it puts lines, and knows which ones it put.
+/// The work of a caller at a press: it puts lines.
 pub trait Writer: Send {
     ghost use Rattle.std.specs.Prelude.{ℕ, IsTrue, List};
     ghost use Rattle.caster_press.specs.declared.line.Line.{Line as LineValue};
-    ghost use Rattle.caster_press.specs.Callers.{HasWorked};
+    ghost use Rattle.caster_press.specs.Places.{HasPut, IsSamePlace};
 
-    /// The lines that it has put so far, in order.
-    ghost lines: { Self → List LineValue };
+    /// It may begin.
+    ghost ready: { Self → Type 0 };
 
-    /// What it does, from before to after, at a place that met so many turns of 2^62 or more, or 0.
-    ghost wrote: { Self → Self → ℕ → Type 0 };
+    /// What it does, from before to after, by the lines that it puts, in order, and at a place that
+    /// met so many turns of 2^62 or more, or 0.
+    ghost wrote: { Self → Self → List LineValue → ℕ → Type 0 };
 
     /// Puts lines at this place, as the caller `me`.
     fn write<P: AtPress>(&mut self, place: &mut P, me: u32)
-        requires { IsTrue ((P.told place.old).speaks me) }
-        ensures worked { HasWorked me (P.told place.old) (P.told place.new) (lines self.old)
-            (lines self.new) }
-        ensures wrote { wrote self.old self.new (P.told place.new).worn };
+        requires speaks { IsTrue ((P.told place.old).speaks me) }
+        requires ready { ready self.old }
+        ensures same { IsSamePlace (P.told place.old) (P.told place.new) }
+        ensures wrote { (lines : List LineValue)
+            × HasPut me lines (P.told place.old).seen (P.told place.new).seen
+            × wrote self.old self.new lines (P.told place.new).worn };
 }
 
 /// A caller at a press: its number, its place, and its work.
@@ -49,22 +52,29 @@ pub(crate) trait Calls: Send {
     /// What is told of it.
     ghost told: { Self → CallerTold };
 
+    /// Its work may begin.
+    ghost ready: { Self → Type 0 };
+
     /// What its work does, from before to after.
     ghost wrote: { Self → Self → Type 0 };
 
     /// Does its work.
     fn call(&mut self)
-        requires { MayCall (told self.old) }
+        requires may { MayCall (told self.old) }
+        requires ready { ready self.old }
         ensures called { HasCalled (told self.old) (told self.new) }
         ensures wrote { wrote self.old self.new };
 }
 
 impl<P: AtPress + Send, W: Writer> Calls for Caller<P, W> {
-    ghost use Rattle.caster_press.specs.Callers.{caller_told};
+    ghost use Rattle.caster_press.specs.Callers.{caller_told, lines_put};
 
-    ghost told = { λ caller. caller_told caller.number (P.told caller.place) (W.lines caller.work) };
+    ghost told = { λ caller. caller_told caller.number (P.told caller.place) };
 
-    ghost wrote = { λ old new. W.wrote old.work new.work (P.told new.place).worn };
+    ghost ready = { λ caller. W.ready caller.work };
+
+    ghost wrote = { λ old new. W.wrote old.work new.work
+        (lines_put (caller_told new.number (P.told new.place))) (P.told new.place).worn };
 
     fn call(&mut self) {
         let me = self.number;
@@ -75,7 +85,7 @@ impl<P: AtPress + Send, W: Writer> Calls for Caller<P, W> {
 /// Each of these does its work, in a thread of its own where one can be made.
 fn call_each<H: Calls, R: Threads + Sync>(rt: &R, callers: &mut [H])
     requires some { 0 < length callers.old }
-    requires fit { All (λ caller. MayCall (H.told caller)) callers.old }
+    requires fit { All (λ caller. MayCall (H.told caller) × H.ready caller) callers.old }
     ensures size { length callers.new ≡ length callers.old }
     ensures each { (k : ℕ) (d : _) → k < length callers.old
         → HasCalled (H.told (slice_index_or callers.old k d))
@@ -89,7 +99,7 @@ fn call_each<H: Calls, R: Threads + Sync>(rt: &R, callers: &mut [H])
         callers,
         count,
         &|_, caller: &mut H|
-            requires { MayCall (H.told caller.now) }
+            requires { MayCall (H.told caller.now) × H.ready caller.now }
         { caller.call() },
     );
 }
@@ -102,6 +112,7 @@ pub(crate) fn call_all<'a, O: Sink + Drop + Send, W: Writer, R: Threads + Wait +
     requires some { 0 < length callers.old.items }
     requires fit { All MayCall
         (map ⟦<Caller<Seat<'a, Press<O>, R>, W> as Calls>⟧.told callers.old.items) }
+    requires ready { All ⟦<Caller<Seat<'a, Press<O>, R>, W> as Calls>⟧.ready callers.old.items }
     ensures size { length callers.new.items ≡ length callers.old.items }
     ensures called { HaveCalled
         (map ⟦<Caller<Seat<'a, Press<O>, R>, W> as Calls>⟧.told callers.old.items)
@@ -114,7 +125,7 @@ pub(crate) fn call_all<'a, O: Sink + Drop + Send, W: Writer, R: Threads + Wait +
 }
 
 /// Sits down with each of these passes, which are numbered from 0, behind those who sat down
-/// before, and takes the work at the same place of the list, which has put nothing.
+/// before, and takes the work at the same place of the list. None of them has put a line.
 pub(crate) fn sit_all<'a, O: Sink + Drop + Send, W: Writer, R: Threads + Wait + Sync>(
     rt: &'a R,
     press: &'a Turn<Press<O>>,
@@ -126,10 +137,9 @@ pub(crate) fn sit_all<'a, O: Sink + Drop + Send, W: Writer, R: Threads + Wait + 
         → IsNew number pass press.now }
     requires few { length passes.items < 2 ^ 32 }
     requires size { length works.old.items ≡ length passes.items }
-    requires fresh { All (λ work. W.lines work ≡ []) works.old.items }
     requires room { vec_len callers.old + length passes.items ≤ vec_capacity callers.old }
     ensures callers { (more : List _) × (callers.new.items ≡ callers.old.items ++ more)
-        × AreCallers 0 (map ⟦<Caller<Seat<'a, Press<O>, R>, W> as Calls>⟧.told more)
+        × AreNewCallers 0 (map ⟦<Caller<Seat<'a, Press<O>, R>, W> as Calls>⟧.told more)
         (lock_told ⟦<Press<O> as Played>⟧.shape press.now)
         × (works.old.items ≡ map (λ caller. caller.work) more) }
     ensures taken { works.new.items ≡ [] }

@@ -52,11 +52,11 @@ fn work_at<'a, O: Sink + Drop + Send, W: Writer, R: Threads + Wait + Sync>(
     requires some_pass { 0 < length passes.items }
     requires few { length passes.items < 2 ^ 32 }
     requires size { length works.old.items ≡ length passes.items }
-    requires fresh { All (λ work. W.lines work ≡ []) works.old.items }
+    requires ready { All W.ready works.old.items }
     requires empty { (callers.items ≡ []) × (pile.items ≡ []) }
     requires room { length passes.items ≤ vec_capacity callers }
     requires pile_room { length passes.items ≤ vec_capacity pile }
-    ensures left { HaveLeft W.lines W.wrote (lock_told ⟦<Press<O> as Played>⟧.shape press.now)
+    ensures left { HaveLeft W.wrote (lock_told ⟦<Press<O> as Played>⟧.shape press.now)
         works.old.items works.new.items result.items }
     ensures count { length result.items ≡ length passes.items }
 {
@@ -80,10 +80,10 @@ fn work_all<O: Sink + Drop + Send, W: Writer, R: Threads + Wait + Sync>(
     requires some_pass { 0 < length passes.items }
     requires few { length passes.items < 2 ^ 32 }
     requires size { length works.old.items ≡ length passes.items }
-    requires fresh { All (λ work. W.lines work ≡ []) works.old.items }
+    requires ready { All W.ready works.old.items }
     requires empty { pile.items ≡ [] }
     requires room { length passes.items ≤ vec_capacity pile }
-    ensures left { IfOk result (λ pile. HaveLeft W.lines W.wrote
+    ensures left { IfOk result (λ pile. HaveLeft W.wrote
         (lock_told ⟦<Press<O> as Played>⟧.shape press.now) works.old.items works.new.items
         pile.items) }
     ensures count { IfOk result (λ pile. length pile.items ≡ length passes.items) }
@@ -108,10 +108,10 @@ fn work_and_close<O: Sink + Drop + Send, W: Writer, R: Threads + Wait + Sync>(
     requires some_pass { 0 < length passes.items }
     requires few { length passes.items < 2 ^ 32 }
     requires size { length works.old.items ≡ length passes.items }
-    requires fresh { All (λ work. W.lines work ≡ []) works.old.items }
+    requires ready { All W.ready works.old.items }
     requires empty { pile.items ≡ [] }
     requires room { length passes.items ≤ vec_capacity pile }
-    ensures written { IfOk result (λ closed. HaveWritten W.lines W.wrote
+    ensures written { IfOk result (λ closed. HaveWritten W.wrote
         (⟦<Press<O> as Played>⟧.shape (turn_value press)) closed.is_torn (O.taken closed.sink)
         (O.faults closed.sink) works.old.items works.new.items) }
     ensures kept { OnErr result (works.new.items ≡ works.old.items) }
@@ -133,8 +133,8 @@ pub fn write_at_once<O: Sink + Drop + Send, W: Writer, R: Threads + Wait + Sync>
 ) -> Result<Closed<O>, AllocError>
     requires some { 0 < length works.old.items }
     requires few { length works.old.items < 2 ^ 32 }
-    requires fresh { All (λ work. W.lines work ≡ []) works.old.items }
-    ensures written { IfOk result (λ closed. HaveWritten W.lines W.wrote
+    requires ready { All W.ready works.old.items }
+    ensures written { IfOk result (λ closed. HaveWritten W.wrote
         (record { taken = O.taken sink; faults = O.faults sink }) closed.is_torn
         (O.taken closed.sink) (O.faults closed.sink) works.old.items works.new.items) }
     ensures kept { OnErr result (works.new.items ≡ works.old.items) }

@@ -1,7 +1,5 @@
 //! Two callers put lines on one output, each in a thread of its own.
-ghost use Rattle.std.specs.Prelude.{◌≡◌, [], length, IfOk};
-ghost use Rattle.std.specs.List.{All};
-ghost use Rattle.caster_press_tests.specs.Scripts.{lines_put};
+ghost use Rattle.std.specs.Prelude.{◌≡◌, length, IfOk};
 
 use crate::making::{expect_eq, line_of, lines_of};
 use crate::script::Script;
@@ -18,7 +16,6 @@ const LINES: u64 = 40;
 // The works of two callers: so many lines that begin with `left`, and so many with `right`.
 fn works_of(alloc: Global, left: u64, right: u64) -> Result<Vec<Script>, Fail>
     ensures count { IfOk result (λ works. length works.items ≡ 2) }
-    ensures fresh { IfOk result (λ works. All (λ work. lines_put work ≡ []) works.items) }
 {
     let left = Script::new(lines_of(alloc, b"left", left)?);
     let right = Script::new(lines_of(alloc, b"right", right)?);

@@ -1,5 +1,6 @@
 //! A caller that puts lines of a list.
 ghost use Rattle.std.specs.Prelude.{◌≡◌, [], take};
+ghost use Rattle.caster_press_tests.specs.Scripts.{lines_put};
 
 use caster_press::{AtPress, Line, Writer};
 
@@ -13,23 +14,24 @@ pub struct Script {
 impl Script {
     /// The work of putting these lines, none of which was put.
     pub fn new(lines: Vec<Line>) -> Script
-        ensures { ⟦<Script as Writer>⟧.lines result ≡ [] }
+        ensures { lines_put result ≡ [] }
     {
         Script { lines, put: 0 }
     }
 
     /// How many lines were put.
     pub fn count(&self) -> usize
-        ensures { take result self.now.lines.items ≡ ⟦<Script as Writer>⟧.lines self.now }
+        ensures { take result self.now.lines.items ≡ lines_put self.now }
     {
         self.put
     }
 }
 
 impl Writer for Script {
-    ghost use Rattle.caster_press_tests.specs.Scripts.{HasWritten, lines_put};
+    ghost use Rattle.std.specs.Prelude.{⊤};
+    ghost use Rattle.caster_press_tests.specs.Scripts.{HasWritten};
 
-    ghost lines = { lines_put };
+    ghost ready = { λ script. ⊤ };
 
     ghost wrote = { HasWritten };
 

@@ -1,10 +1,10 @@
 -- The last sits down behind the others.
-use Rattle.std.proofs.Common.{◌≡◌, ◌∙◌, ℕ, [], length, refl, sym, ap, arith, append-nil}
+use Rattle.std.proofs.Common.{◌∙◌, ℕ, [], length, refl, sym, ap, arith, append-nil}
 use Rattle.turn_log.specs.History.{own}
 use Rattle.caster_press.specs.Callers.{IsNew}
 use Rattle.caster_press.proofs.CallerLemmas.{none_left, seated_more}
 use Rattle.caster_press.proofs.PlaceLemmas.{at_number}
-use Rattle.caster_press.proofs.ListLemmas.{all_front, all_last, each_front, each_last}
+use Rattle.caster_press.proofs.ListLemmas.{each_front, each_last}
 use Rattle.caster_press.proofs.callers.+sit_all.Goals as goal
 
 pub returns-in_default-clause-callers : goal.returns-in_default-clause-callers
@@ -21,11 +21,6 @@ sit_all-requires-clause-passes g t c κs within =
     each_front (λ (i : ℕ) (p : _). IsNew i p c.args.press.now) _ c.pop.new.self.items c.in-Some.pass
     c.in-Some.ensures.items c.requires.passes
 
-pub sit_all-requires-clause-fresh : goal.sit_all-requires-clause-fresh
-sit_all-requires-clause-fresh g t c κs within =
-    all_front (λ work. g.W.Writer.lines work ≡ []) _ _ c.in-Some-pop.work c.in-Some-pop.ensures.items
-    c.requires.fresh
-
 pub sit-requires-clause-pass : goal.sit-requires-clause-pass
 sit-requires-clause-pass g t c κs within =
     (each_last (λ (i : ℕ) (p : _). IsNew i p c.args.press.now) _ c.pop.new.self.items c.in-Some.pass
@@ -36,13 +31,10 @@ returns-clause-callers g t c =
     let so_far = c.sit_all.ensures.callers in
     let fresh = each_last (λ (i : ℕ) (p : _). IsNew i p c.args.press.now) _ c.pop.new.self.items c.in-Some.pass
     c.in-Some.ensures.items c.requires.passes in
-    let nothing = all_last (λ work. g.W.Writer.lines work ≡ []) _ _ c.in-Some-pop.work c.in-Some-pop.ensures.items
-    c.requires.fresh in
     seated_more _ (λ (caller : _). caller.work) c.args.works.now.items _ c.in-Some-pop.work c.args.callers.now.items _ _
     so_far.0 _ (length c.pop.new.self.items) _ c.in-Some-pop.ensures.items refl so_far.1 so_far.2 so_far.3
     c.push_reserved.ensures.items
     (omega (arith, c.sit_all.ensures.count, c.sit_all.new.callers.ok.0, c.args.callers.now.ok.0)) (record {
       numbered = omega (arith, c.len-number.ensures, c.pop.new.self.ok.0);
       at = at_number _ _ _ _ fresh.numbered c.sit.ensures.at;
-      mine = ap (own _) (c.sit.ensures.seen ∙ fresh.unseen) ∙ sym nothing;
-    })
+    }) (ap (own _) (c.sit.ensures.seen ∙ fresh.unseen))

@@ -1,11 +1,11 @@
 -- Each of them did its work.
 use Rattle.caster_press.specs.Callers.{MayCall}
-use Rattle.caster_press.proofs.CallerLemmas.{all_mapped, slice_called, slice_size, slice_wrote}
+use Rattle.caster_press.proofs.CallerLemmas.{all_both, slice_called, slice_size, slice_wrote}
 use Rattle.caster_press.proofs.callers.call_all.Goals as goal
 
 pub call_each-requires-clause-fit : goal.call_each-requires-clause-fit
 call_each-requires-clause-fit g c κs within =
-    all_mapped MayCall _ _ c.args.callers.now.items c.as_mut_slice.ensures.value c.requires.fit
+    all_both MayCall (λ (caller : _). g.W.Writer.ready caller.work) _ _ c.args.callers.now.items c.as_mut_slice.ensures.value c.requires.fit c.requires.ready
 
 pub returns-clause-size : goal.returns-clause-size
 returns-clause-size g c =

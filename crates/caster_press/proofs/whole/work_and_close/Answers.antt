@@ -9,5 +9,5 @@ close-requires-clause-pile g c κs within =
 
 pub returns-clause-written : goal.returns-clause-written
 returns-clause-written g c =
-    have_written g.W.Writer.lines g.W.Writer.wrote _ _ _ _ c.close.result.is_torn _ (g.O.Sink.taken c.close.result.sink)
+    have_written g.W.Writer.wrote _ _ _ _ c.close.result.is_torn _ (g.O.Sink.taken c.close.result.sink)
     (g.O.Sink.faults c.close.result.sink) c.in_ok-pile.ensures.left c.close.ensures

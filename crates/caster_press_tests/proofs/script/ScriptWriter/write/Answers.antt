@@ -1,6 +1,6 @@
 -- A line more was put.
 use Rattle.std.proofs.Common.{◌<◌, length, arith}
-use Rattle.caster_press_tests.proofs.ScriptLemmas.{worked_more}
+use Rattle.caster_press_tests.proofs.ScriptLemmas.{on_more}
 use Rattle.caster_press_tests.proofs.script.ScriptWriter.write.Goals as goal
 
 pub loop-self-preserved : goal.loop-self-preserved
@@ -9,6 +9,6 @@ loop-self-preserved g c =
     omega (arith, c.loop-self-test.true, c.len.ensures) in
     record {
       same = c.loop-self.invariant.same;
-      worked = worked_more _ _ _ _ _ _ _ _ c.index.result.now below c.index.ensures c.loop-self.invariant.worked c.put.ensures.same
+      on = on_more _ _ _ _ _ _ _ _ c.index.result.now below c.index.ensures c.loop-self.invariant.on c.put.ensures.same
           c.in-Ok.ensures.put;
     }
