@@ -39,7 +39,7 @@ links-append [] ys = refl
 links-append (at_door door ∷ xs) ys = links-append xs ys
 links-append (over_link number link ∷ xs) ys = ap (λ l. link ∷ l) (links-append xs ys)
 
-or_split : (a b : Bool) → (a || b) ≡ true → (a ≡ true) ⊎ (b ≡ true)
+pub or_split : (a b : Bool) → (a || b) ≡ true → (a ≡ true) ⊎ (b ≡ true)
 or_split true b h = inl refl
 or_split false b h = inr h
 
@@ -219,7 +219,7 @@ unserved_more end task old new fresh is all =
     (All-cons IsUnserved (unserved end) [] refl (All-nil IsUnserved)))
 
 -- a sum of nothing, by its parts
-abbrev sum_of : ℕ → ℕ → ℕ → Sum
+abbrev pub sum_of : ℕ → ℕ → ℕ → Sum
 sum_of sessions sent overrun = record { sessions = sessions; sent = sent; overrun = overrun }
 
 pub is_nothing : (sum : Sum) → sum.sessions ≡ 0 → sum.sent ≡ 0 → sum.overrun ≡ 0 → sum ≡ nothing

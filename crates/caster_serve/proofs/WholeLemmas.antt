@@ -36,7 +36,7 @@ use Rattle.caster_serve.proofs.CallersLemmas.{some_failed, tallies_are}
 
 -- ---- how many callers there are
 
-length_relays : (n : ℕ) (relays : List Relay) → length (relays_from n relays) ≡ length relays
+pub length_relays : (n : ℕ) (relays : List Relay) → length (relays_from n relays) ≡ length relays
 length_relays n [] = refl
 length_relays n (relay ∷ relays) = ap suc (length_relays (n + 1) relays)
 

@@ -27,13 +27,13 @@ use Rattle.caster_link.proofs.WornLemmas.{WearsOn, refused_on}
 -- ---- one link
 
 -- a list that was empty and grew is what it grew by
-told_since : {X : Type 0} (before after : Option (List X)) (more : List X)
+pub told_since : {X : Type 0} (before after : Option (List X)) (more : List X)
     → ((list : List X) → before ≡ Some list → list ≡ []) → Grew before after more → IsTold after more
 told_since before after more none grew is told =
     let from = grew is told in
     from.2 ∙ ap (λ list. list ++ more) (none from.0 from.1)
 
-pub record_goes : (c : Config) (opening : Opening) (me : ℕ) (wear : Wear) (start now : Histories)
+unfoldable pub record_goes : (c : Config) (opening : Opening) (me : ℕ) (wear : Wear) (start now : Histories)
     (before after : LinkTold) (receipt : Receipt) → IsNewLink before
     → LinkServed c opening me start now before after receipt → IsRefusedBy wear receipt
     → RecordGoes c opening me wear (record { link = after; receipt = receipt }) start now
@@ -49,7 +49,7 @@ record_goes c opening me wear start now before after receipt fresh served refuse
   published = source_published c opening me start now served.taken served.written served.last receipt served.goes;
 }
 
-pub link_counted : (c : Config) (opening : Opening) (me : ℕ) (wear : Wear) (start now : Histories)
+unfoldable pub link_counted : (c : Config) (opening : Opening) (me : ℕ) (wear : Wear) (start now : Histories)
     (before after : LinkTold) (receipt : Receipt) (old new : Sum) → IsNewLink before
     → LinkServed c opening me start now before after receipt → IsRefusedBy wear receipt
     → new ≡ tallied old receipt → LinkCounted c opening me wear start now after old new
@@ -77,24 +77,12 @@ count_for true true more same enters settles = refl
 count_for true false more same enters settles = absurd (let clash : false ≡ true = settles in cc)
 count_for false settled more same enters settles = absurd (let clash : false ≡ true = enters in cc)
 
-count_not : (entered settled : Bool) (more same : Sum) → (entered ≡ false) ⊎ (settled ≡ false)
-    → same ≡ (if entered && settled then more else same)
-count_not false settled more same none = refl
-count_not true false more same none = refl
-count_not true true more same (inl none) = absurd (let clash : true ≡ false = none in cc)
-count_not true true more same (inr none) = absurd (let clash : true ≡ false = none in cc)
-
 pub tallied_by : (sum : Sum) (receipt : Receipt) (sent overrun : ℕ) → receipt.entered ≡ true
     → receipt.settled ≡ true → sent ≡ receipt.sent → overrun ≡ receipt.overrun
     → with_sums sum sent overrun ≡ tallied sum receipt
 tallied_by sum receipt sent overrun enters settles is over =
     ap (λ (n : ℕ). with_sums sum n overrun) is ∙ ap (with_sums sum receipt.sent) over
     ∙ count_for receipt.entered receipt.settled (with_sums sum receipt.sent receipt.overrun) sum enters settles
-
-pub untallied : (sum : Sum) (receipt : Receipt) → (receipt.entered ≡ false) ⊎ (receipt.settled ≡ false)
-    → sum ≡ tallied sum receipt
-untallied sum receipt none =
-    count_not receipt.entered receipt.settled (with_sums sum receipt.sent receipt.overrun) sum none
 
 -- a receipt counts for one session at most
 one_session : (counts : Bool) (old new more : Sum) → more.sessions ≡ old.sessions + 1
@@ -263,7 +251,7 @@ went-snoc (first ∷ visits) visit before now went came goes =
     (went.0, went.1, went-snoc visits visit first.left now went.2 came goes)
 
 -- links are seen through what they tell
-link_come : {L : Type 0} (told : L → LinkTold) (link : L) (old new : DoorTold)
+pub link_come : {L : Type 0} (told : L → LinkTold) (link : L) (old new : DoorTold)
     → HasAccepted told old new (arrived.Link link) → HasCome (arrived.Link (told link)) old new
 link_come told link old new is =
     record {
@@ -275,7 +263,7 @@ link_come told link old new is =
       unharmed = is.unharmed;
     }
 
-none_come : {L : Type 0} (told : L → LinkTold) (old new : DoorTold) → HasAccepted told old new arrived.Idle
+pub none_come : {L : Type 0} (told : L → LinkTold) (old new : DoorTold) → HasAccepted told old new arrived.Idle
     → HasCome arrived.Idle old new
 none_come told old new is =
     record {

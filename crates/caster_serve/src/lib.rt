@@ -15,6 +15,6 @@ mod worker;
 pub use accept_loop::work_places;
 pub use caster_link::Role;
 pub use connection::serve_link;
-pub use tally::Tally;
+pub use tally::{Tally, count_receipt};
 pub use whole::{ServeFault, serve};
 pub use worker::{Worker, work};

@@ -6,20 +6,34 @@ ghost use Rattle.session_core.specs.Setups.{IsSetUp};
 ghost use Rattle.caster_places.specs.Known.{Fit, StayKnown};
 ghost use Rattle.caster_link.specs.Links.{opening_of};
 ghost use Rattle.caster_link.specs.Wear.{wear_of};
-ghost use Rattle.caster_serve.specs.Works.{IsWithin, LinkCounted};
+ghost use Rattle.caster_serve.specs.Works.{IsWithin, LinkCounted, tallied};
 
 use cast_io::Link;
 use caster_accounts::{Book, Sum};
 use caster_link::{Role, serve_places};
 use caster_places::AllPlaces;
 use mount_ring::Ring;
-use session_core::{Places, Setup};
+use session_core::{Places, Receipt, Setup};
 use std::sync::Wait;
 use turn_log::Turns;
 
 /// What the rovers add up to that entered an account and left it: how many they were, how many
 /// frames they were sent, and how many were overwritten before they could read them.
 pub type Tally = Sum;
+
+/// Counts a receipt, if it is one of a rover that entered an account and left it.
+pub fn count_receipt(tally: &mut Tally, receipt: &Receipt)
+    requires room { tally.old.sessions + 1 < 2 ^ 64 }
+    requires within { IsWithin tally.old }
+    ensures counted { tally.new ≡ tallied tally.old receipt.now }
+    ensures within { IsWithin tally.new }
+{
+    if receipt.entered && receipt.settled {
+        tally.sessions += 1;
+        tally.sent += u128::from(receipt.sent);
+        tally.overrun += u128::from(receipt.overrun);
+    }
+}
 
 /// Serves a new link in this role, and counts its receipt, if it is one of a rover that entered an
 /// account and left it.
@@ -52,9 +66,5 @@ pub(crate) fn serve_counted<T: Turns<Ring>, B: Turns<Book>, L: Link, R: Wait>(
         (⟦<Places<T, B> as AllPlaces>⟧.seen places.new) (L.told link.new) tally.old tally.new }
 {
     let receipt = serve_places(rt, setup, places, role, link);
-    if receipt.entered && receipt.settled {
-        tally.sessions += 1;
-        tally.sent += u128::from(receipt.sent);
-        tally.overrun += u128::from(receipt.overrun);
-    }
+    count_receipt(tally, &receipt);
 }
