@@ -1,0 +1,137 @@
+-- All keepers worked at the locks and at the press, and left both.
+use Rattle.std.proofs.Common.{◌≡◌, ◌∙◌, ◌+◌, ◌<◌, ◌≤◌, ◌++◌, ℕ, Bool, List, [], ◌∷◌, length, map, refl, sym, ap, subst, arith}
+use Rattle.std.specs.Prelude.{Option}
+use Rattle.std.specs.List.{All}
+use Rattle.std.proofs.lemmas.List.{length-map}
+use Rattle.std.proofs.lemmas.List.Elements.{All-nil, All-cons}
+use Rattle.turn_log.specs.History.{IsLegal, own}
+use Rattle.turn_log.specs.Lock.{turn_home, turn_value}
+use Rattle.cast_io.specs.Told.{DoorTold}
+use Rattle.cast_io.specs.Doors.{IsNewDoor}
+use Rattle.cast_io.specs.Yards.{NotesTold}
+use Rattle.caster_accounts.specs.History.{fits}
+use Rattle.caster_accounts.specs.Kept.{caps_of}
+use Rattle.cast_config.specs.declared.config.Config.{Config}
+use Rattle.session_model.specs.Run.{Histories}
+use Rattle.session_model.specs.Setting.{caps}
+use Rattle.caster_press.specs.declared.line.Line.{Line}
+use Rattle.caster_press.specs.declared.press.Start.{Start}
+use Rattle.caster_press.specs.Callers.{HaveWritten}
+use Rattle.caster_places.specs.Piles.{AreMatched}
+use Rattle.caster_places.specs.Rows.{ArePiles, AreWornWithin, RingLocks, BookLock}
+use Rattle.caster_places.specs.declared.piles.Piles.{Piles}
+use Rattle.caster_seats.specs.declared.shared.Shared.{Shared}
+use Rattle.caster_seats.specs.Hands.{HandTold}
+use Rattle.caster_seats.specs.Seated.{AreAllAt, AreBelow, AreLegal, AreSeated, HaveLeft, HavePlaces, rows_of, works_of}
+use Rattle.caster_seats.specs.Sharing.{IsReady}
+use Rattle.caster_keep.specs.declared.keeper.Keeper.{Keeper}
+use Rattle.caster_keep.specs.Gates.{roles_of}
+use Rattle.caster_keep.specs.Keeping.{seen_by}
+use Rattle.caster_keep.specs.Stations.{HasWorkedOn, PostTold, hand_at, posted}
+use Rattle.caster_keep.specs.Together.{HaveWorked, IsNewKeeper, IsToldBy, gate_at, role_at}
+use Rattle.caster_keep.proofs.TogetherLemmas.{AllWorked, Collected, Worked, all_worked, collected, seen_at_posts, works_at}
+
+-- ---- rows of callers that left
+
+legal_rows : {X : Type 0} (c : Config) (n : ℕ) (hands : List (HandTold X)) (rings : RingLocks) (book : BookLock)
+    → caps_of (turn_value book) ≡ caps c → AreAllAt n hands rings book → AreLegal hands
+    → All (λ (row : Histories). IsLegal (fits (caps c)) row.book) (rows_of hands)
+legal_rows c n [] rings book caps_are at legal = All-nil (λ (row : Histories). IsLegal (fits (caps c)) row.book)
+legal_rows c n (hand ∷ hands) rings book caps_are at legal =
+    All-cons (λ (row : Histories). IsLegal (fits (caps c)) row.book) hand.seen (rows_of hands)
+    (subst (λ (list : List ℕ). IsLegal (fits list) hand.seen.book) (at.0.caps ∙ caps_are) legal.0)
+    (legal_rows c (n + 1) hands rings book caps_are at.1 legal.1)
+
+-- callers at these locks have a place at each of them
+pub have_places : {X : Type 0} (mounts n : ℕ) (hands : List (HandTold X)) (rings : RingLocks) (book : BookLock)
+    → length rings ≡ mounts → AreAllAt n hands rings book → HavePlaces mounts hands
+have_places mounts n [] rings book long at = tt
+have_places mounts n (hand ∷ hands) rings book long at =
+    (ap length at.0.homes ∙ length-map rings turn_home ∙ long, have_places mounts (n + 1) hands rings book long at.1)
+
+module _ {G : Type 0} (told : G → DoorTold) (over : G → Bool) (peer : G → List ℕ) where
+  works_are : (posts : List (PostTold G)) → works_of (map hand_at posts) ≡ works_at posts
+  works_are [] = refl
+  works_are (post ∷ posts) = ap (λ l. post.hand.work ∷ l) (works_are posts)
+
+  rows_are : (posts : List (PostTold G)) → rows_of (map hand_at posts) ≡ seen_at_posts posts
+  rows_are [] = refl
+  rows_are (post ∷ posts) = ap (λ l. post.hand.seen ∷ l) (rows_are posts)
+
+  -- what the works of posts did at the press, by their posts as they are told
+  pub have_worked_on : {X : Type 0} (tell : X → PostTold G) (start : Start) (torn : Bool) (taken : Option (List ℕ))
+      (faults : ℕ) (olds news : List X)
+      → (written : HaveWritten (λ (old new : X) (lines : List Line) (worn : ℕ).
+      HasWorkedOn told over peer (tell old) (tell new) lines worn) start torn taken faults olds news)
+      → AllWorked told over peer written.whole 0 (map tell olds) (map tell news)
+  have_worked_on tell start torn taken faults olds news written =
+      all_worked told over peer tell written.whole 0 olds news written.count (λ k old new was now.
+      let did = written.each k old new was now in
+      subst (λ (i : ℕ). Worked told over peer written.whole i (tell old) (tell new)) (from_zero k)
+      (worked_of k (tell old) (tell new) did.0 did.1 did.2)) where
+        from_zero : (k : ℕ) → k ≡ 0 + k
+        from_zero k = omega arith
+
+        worked_of : (k : ℕ) (old new : PostTold G) (met : ℕ) → met ≤ length written.whole
+            → HasWorkedOn told over peer old new (own k written.whole) met
+            → Worked told over peer written.whole k old new
+        worked_of k old new met few does = record { met = met; few = few; does = does }
+
+  pub have_worked : {X : Type 0} (tell : X → PostTold G) (shared : Shared) (table : List ℕ) (start : Start)
+      (torn : Bool) (notes : NotesTold) (keepers after : List (Keeper G)) (olds hands : List (HandTold (Keeper G)))
+      (begun ended : List X) (old new : Piles) → IsReady shared → All IsNewKeeper keepers
+      → All (λ (keeper : Keeper G). IsNewDoor (told keeper.gate)) keepers
+      → map role_at keepers ≡ roles_of shared.config.now → AreSeated shared 0 keepers olds
+      → map tell begun ≡ map (posted shared.config.now table) olds → hands ≡ map hand_at (map tell ended)
+      → HaveWritten (λ (old new : X) (lines : List Line) (worn : ℕ).
+      HasWorkedOn told over peer (tell old) (tell new) lines worn) start torn notes.taken notes.faults begun ended
+      → after ≡ works_of hands → HaveLeft hands old new
+      → ((mounts : List ℕ) (book : ℕ) → AreWornWithin mounts book new
+      → AreWornWithin mounts book old × AreBelow (mounts ++ book ∷ []) hands)
+      → AreLegal hands → ArePiles [] old shared.rings.items shared.book → old.book.items ≡ []
+      → length new.book.items ≡ length old.book.items + length hands
+      → HaveWorked told over peer shared start torn notes (map gate_at keepers) after new
+  have_worked tell shared table start torn notes keepers after olds hands begun ended old new ready fresh unused
+      roles_are seated begun_is hands_are written after_is left worn legal empty no_pass passes =
+      let c = shared.config.now in
+      let whole = written.whole in
+      let posts = map tell ended in
+      let all : Collected told over peer shared whole 0 keepers posts =
+      collected told over peer shared table whole 0 keepers olds posts fresh unused seated
+      (subst (λ (l : List (PostTold G)). AllWorked told over peer whole 0 l posts) begun_is
+      (have_worked_on tell start torn notes.taken notes.faults begun ended written)) in
+      let seen : rows_of hands ≡ map seen_by all.tolds = ap rows_of hands_are ∙ rows_are posts ∙ sym all.seen in
+      let many : length all.tolds ≡ length hands =
+      omega (
+        arith,
+        ap length (sym seen),
+        length-map all.tolds seen_by,
+        length-map hands (λ (h : HandTold (Keeper G)). h.seen),
+      ) in
+      let as_many : length hands ≡ length ended =
+      omega (arith, ap length hands_are, length-map posts hand_at, length-map ended tell) in
+      record {
+        tolds = all.tolds;
+        lines = whole;
+        told = subst (AreMatched IsToldBy all.tolds) (sym (after_is ∙ ap works_of hands_are ∙ works_are posts)) all.are;
+        roles_are = all.roles_are ∙ roles_are;
+        firsts_are = all.firsts_are;
+        kept = λ mounts book within. all.kept (mounts ++ book ∷ [])
+            (subst (AreBelow (mounts ++ book ∷ [])) hands_are (worn mounts book within).1);
+        owns = λ k keeper at. ap (λ (i : ℕ). own i whole) (from_zero k) ∙ all.owns k keeper at;
+        nobody_else = subst (λ (n : ℕ). All (λ (entry : ℕ × Line). entry.0 < n) whole) (sym (many ∙ as_many))
+            written.nobody_else;
+        text = written.text;
+        piles_are = subst (λ (rows : List Histories). ArePiles rows new shared.rings.items shared.book) seen
+            (left [] shared.rings.items shared.book (at_hands all.at) empty);
+        legal = subst (All (λ (row : Histories). IsLegal (fits (caps c)) row.book)) seen
+            (legal_rows c 0 hands shared.rings.items shared.book ready.caps_are (at_hands all.at) legal);
+        passes = omega (arith, passes, ap length no_pass, many);
+      } where
+        from_zero : (k : ℕ) → k ≡ 0 + k
+        from_zero k = omega arith
+
+        at_hands : AreAllAt 0 (map hand_at (map tell ended)) shared.rings.items shared.book
+            → AreAllAt 0 hands shared.rings.items shared.book
+        at_hands at = subst (λ (l : List (HandTold (Keeper G))). AreAllAt 0 l shared.rings.items shared.book)
+            (sym hands_are) at

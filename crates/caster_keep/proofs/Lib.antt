@@ -1,0 +1,11 @@
+pub mod KeepLemmas
+pub mod GateLemmas
+pub mod TextLemmas
+pub mod TotalLemmas
+pub mod TogetherLemmas
+pub mod LeavingLemmas
+pub mod LockLemmas
+pub mod WholeLemmas
+pub mod LawLemmas
+pub mod ListLemmas
+pub mod FitLemmas

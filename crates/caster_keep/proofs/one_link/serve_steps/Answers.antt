@@ -1,0 +1,163 @@
+-- A connection is opened, goes step by step, and is closed; what it holds is told.
+use Rattle.std.proofs.Common.{◌≡◌, ◌∙◌, ◌∷◌, Option, None, true, false, refl, sym, ap, subst}
+use Rattle.std.specs.Prelude.{is_ok}
+use Rattle.std.specs.Option.{option_copied}
+use Rattle.session_core.specs.declared.asked.Asked.{Asked}
+use Rattle.session_core.specs.declared.held.Held.{Held}
+use Rattle.session_core.specs.declared.session.Session.{Session}
+use Rattle.session_core.specs.Asking.{AsksOn}
+use Rattle.session_core.specs.Beginnings.{worn_at}
+use Rattle.session_core.specs.Holding.{HoldsOn, IsHolding}
+use Rattle.session_core.specs.States.{session_holding}
+use Rattle.session_model.specs.Called.{seen_at}
+use Rattle.session_model.specs.declared.ending.Ending.{Ending}
+use Rattle.caster_link.specs.Links.{opening_of}
+use Rattle.caster_link.specs.Wear.{IsWornBy}
+use Rattle.caster_link.proofs.PlaceLemmas.{fit_kept}
+use Rattle.caster_link.proofs.WornLemmas.{not_ended, stay_both, stay_none}
+use Rattle.caster_press.proofs.PlaceLemmas.{same_as_it_is, same_then}
+use Rattle.caster_keep.specs.Links.{ArePut, asked_lines, told_lines}
+use Rattle.caster_keep.proofs.KeepLemmas.{closed_as, some_copied}
+use Rattle.caster_keep.proofs.one_link.serve_steps.Goals as goal
+
+pub returns-in-Err-clause-stay : goal.returns-in-Err-clause-stay
+returns-in-Err-clause-stay g c = stay_none _ _
+
+pub returns-in-Err-clause-closed : goal.returns-in-Err-clause-closed
+returns-in-Err-clause-closed g c =
+    let t = g.T.Turns in let b = g.B.Turns in (
+      None,
+      c.in-Err.ensures.unopened.closed (seen_at t.seen b.seen c.args.places.now.rings.items c.args.places.now.book)
+          (g.L.Link.told c.args.link.now),
+      λ first sheet told. told,
+    )
+
+pub returns-in-Err-clause-worn : goal.returns-in-Err-clause-worn
+returns-in-Err-clause-worn g c =
+    subst (λ (ending : Ending). IsWornBy (worn_at g.T.Turns.worn g.B.Turns.worn c.args.places.now.rings.items
+    c.args.places.now.book) ending) (sym c.in-Err.ensures.unopened.ending) tt
+
+pub returns-in-Err-clause-unsettled : goal.returns-in-Err-clause-unsettled
+returns-in-Err-clause-unsettled g c = λ is.
+    absurd (let clash : true ≡ false = sym c.in-Err.ensures.unopened.settled ∙ is in cc)
+
+pub loop-init : goal.loop-init
+loop-init g c =
+    let t = g.T.Turns in let b = g.B.Turns in
+    record {
+      can = tt;
+      finite = tt;
+      stay = stay_none _ _;
+      cause = not_ended (worn_at t.worn b.worn c.args.places.now.rings.items c.args.places.now.book)
+          _ c.in-Ok.ensures.opened.goes_on;
+      served = c.in-Ok.ensures.opened.served
+          (seen_at t.seen b.seen c.args.places.now.rings.items c.args.places.now.book) (g.L.Link.told c.args.link.now);
+      same = same_as_it_is _;
+      refused = c.requires.begun;
+      holds = tt;
+      asked = None;
+      is_asked = refl;
+      asks = tt;
+      still = λ holding. absurd holding;
+      put = λ first sheet told. told;
+    }
+
+pub step-requires-clause-fit : goal.step-requires-clause-fit
+step-requires-clause-fit g c =
+    let kept = c.loop.invariant in
+    fit_kept _ _ _ _ _ kept.served.serving.reached.caller kept.stay.known c.requires.fit
+
+pub step-requires-clause-served : goal.step-requires-clause-served
+step-requires-clause-served g c =
+    let t = g.T.Turns in let b = g.B.Turns in (
+      opening_of c.args.role,
+      c.args.setup.now.me,
+      seen_at t.seen b.seen c.args.places.now.rings.items c.args.places.now.book,
+      g.L.Link.told c.args.link.now,
+      c.loop.invariant.served,
+    )
+
+pub loop-preserved : goal.loop-preserved
+loop-preserved g c =
+    let t = g.T.Turns in let b = g.B.Turns in
+    let kept = c.loop.invariant in
+    let same : c.held-now.result ≡ session_holding c.loop.service.session =
+    c.held-now.ensures.value ∙ ap session_holding c.session-in-loop.ensures in
+    let is : option_copied c.asked-asked.result ≡ c.loop.service.session.asked =
+    c.asked-asked.ensures.value ∙ ap (λ (s : Session). s.asked) c.session.ensures in
+    let goes_on = c.in-None-step.ensures.goes_on in
+    let start = seen_at t.seen b.seen c.args.places.now.rings.items c.args.places.now.book in
+    let told = g.L.Link.told c.args.link.now in
+    record {
+      can = tt;
+      finite = tt;
+      stay = stay_both _ _ _ _ _ _ kept.stay c.step.ensures.stay;
+      cause = c.step.ensures.cause;
+      served = goes_on.served (opening_of c.args.role) c.args.setup.now.me start told kept.served;
+      same = same_then _ _ _ (same_then _ _ _ kept.same c.tell_asked-so_far.ensures.same)
+          c.tell_entered-so_far.ensures.same;
+      refused = c.tell_entered-so_far.ensures.worn (c.tell_asked-so_far.ensures.worn kept.refused);
+      holds = subst (λ (held : Held). HoldsOn held (session_holding c.step.new.self.session)) (sym same) goes_on.holds;
+      asked = option_copied c.asked-asked.result;
+      is_asked = c.is_some-is_asked.ensures ∙ some_copied c.asked-asked.result;
+      asks = subst (λ (asked : Option Asked). AsksOn asked c.step.new.self.session.asked) (sym is)
+          (goes_on.asks (opening_of c.args.role) c.args.setup.now.me start told kept.served);
+      still = λ holding. goes_on.asks_still (subst IsHolding same holding) ∙ sym is;
+      put = λ first sheet begun.
+          c.tell_entered-so_far.ensures.put (first ∷ asked_lines c.args.teller.number (option_copied c.asked-asked.result)) sheet
+          (subst (HoldsOn c.loop.held) (sym same) kept.holds)
+          (c.tell_asked-so_far.ensures.put c.args.setup.now.config.now kept.asked c.loop.held first sheet kept.is_asked
+          (subst (AsksOn kept.asked) (sym is) kept.asks) (λ holding. is ∙ kept.still holding) (kept.put first sheet begun));
+    }
+
+pub close-receipt-requires-clause-came : goal.close-receipt-requires-clause-came
+close-receipt-requires-clause-came g c =
+    let t = g.T.Turns in let b = g.B.Turns in
+    let start = seen_at t.seen b.seen c.args.places.now.rings.items c.args.places.now.book in
+    let told = g.L.Link.told c.args.link.now in
+    let kept = c.loop.invariant in
+    let stay = stay_both _ _ _ _ _ _ kept.stay c.step.ensures.stay in
+    record {
+      config = c.args.setup.now.config.now;
+      opening = opening_of c.args.role;
+      me = c.args.setup.now.me;
+      start = start;
+      before = told;
+      after = g.L.Link.told c.step.new.link;
+      fit = fit_kept _ _ _ _ _ refl stay.known c.requires.fit;
+      came = c.in-Some-step.ensures.closes.came (opening_of c.args.role) c.args.setup.now.me start told kept.served;
+    }
+
+pub returns-in-Some-step-clause-stay : goal.returns-in-Some-step-clause-stay
+returns-in-Some-step-clause-stay g c =
+    stay_both _ _ _ _ _ _ (stay_both _ _ _ _ _ _ c.loop.invariant.stay c.step.ensures.stay) c.close-receipt.ensures.stay
+
+pub returns-in-Some-step-clause-closed : goal.returns-in-Some-step-clause-closed
+returns-in-Some-step-clause-closed g c =
+    let t = g.T.Turns in let b = g.B.Turns in
+    let start = seen_at t.seen b.seen c.args.places.now.rings.items c.args.places.now.book in
+    let told = g.L.Link.told c.args.link.now in
+    let kept = c.loop.invariant in
+    let stay = stay_both _ _ _ _ _ _ kept.stay c.step.ensures.stay in
+    let same : c.held-now.result ≡ session_holding c.loop.service.session =
+    c.held-now.ensures.value ∙ ap session_holding c.session-in-loop.ensures in
+    let is : option_copied c.asked-asked.result ≡ c.loop.service.session.asked =
+    c.asked-asked.ensures.value ∙ ap (λ (s : Session). s.asked) c.session.ensures in
+    let closes = c.in-Some-step.ensures.closes in (
+      c.step.new.self.session.asked,
+      closed_as (session_holding c.step.new.self.session) c.held-now.result
+          (ap session_holding closes.still ∙ sym same)
+          (c.close-receipt.ensures.served c.args.setup.now.config.now (opening_of c.args.role) c.args.setup.now.me start told
+          (g.L.Link.told c.step.new.link) (fit_kept _ _ _ _ _ refl stay.known c.requires.fit)
+          (closes.came (opening_of c.args.role) c.args.setup.now.me start told kept.served)),
+      λ first sheet begun.
+          subst (λ (asked : Option Asked). ArePut (is_ok c.tell_entered-so_far.result) c.args.teller.by
+          (first ∷ told_lines c.args.setup.now.config.now c.args.teller.number asked c.held-now.result) sheet
+          (g.P.AtPress.told c.tell_entered-so_far.new.place).seen)
+          (is ∙ ap (λ (s : Session). s.asked) (sym closes.still))
+          (c.tell_entered-so_far.ensures.put (first ∷ asked_lines c.args.teller.number (option_copied c.asked-asked.result))
+          sheet (subst (HoldsOn c.loop.held) (sym same) kept.holds)
+          (c.tell_asked-so_far.ensures.put c.args.setup.now.config.now kept.asked c.loop.held first sheet kept.is_asked
+          (subst (AsksOn kept.asked) (sym is) kept.asks) (λ holding. is ∙ kept.still holding)
+          (kept.put first sheet begun))),
+    )

@@ -1,0 +1,63 @@
+-- A keeper at its post: at the seats of the locks, with its gate and its role, before and behind
+-- its work.
+use Rattle.std.specs.Prelude.{◌≡◌, ℕ, ◌<◌, List, length, map, None, Some, Bool}
+use Rattle.cast_io.specs.Told.{DoorTold}
+use Rattle.caster_accounts.specs.Sums.{nothing}
+use Rattle.cast_config.specs.declared.config.Config.{Config}
+use Rattle.cast_config.specs.Kept.{KeepsRules}
+use Rattle.session_model.specs.Setting.{table}
+use Rattle.caster_press.specs.declared.line.Line.{Line}
+use Rattle.caster_press.specs.Lines.{text_of}
+use Rattle.caster_places.specs.Known.{Fit}
+use Rattle.caster_link.specs.declared.role.Role.{Role}
+use Rattle.caster_link.specs.declared.role.Role.TheVariants as roles
+use Rattle.caster_link.specs.Wear.{wear_of}
+use Rattle.caster_seats.specs.Hands.{HandTold}
+use Rattle.caster_keep.specs.declared.keeper.Keeper.{Keeper}
+use Rattle.caster_keep.specs.declared.stop.Stop.{Stop}
+use Rattle.caster_keep.specs.Links.{Kept}
+use Rattle.caster_keep.specs.Keepers.{KeptOn}
+
+-- a keeper in this role at this gate, which has served nothing
+abbrev pub new_keeper : {G : Type 0} → Role → G → Keeper G
+new_keeper role gate =
+    record { gate = gate; role = role; tally = nothing; count = 0; stop = None }
+
+-- the role of a client, or that of a relay of the configuration
+abbrev pub IsRoleOf : Config → Role → Type 0
+IsRoleOf c role = (number : ℕ) → role ≡ roles.Relay number → number < length c.relay
+
+-- the configuration and the text of its sourcetable, and the keeper at its seats
+pub record PostTold (G : Type 0) : Type 0 where
+  pub config : Config
+  pub table : List ℕ
+  pub hand : HandTold (Keeper G)
+
+abbrev pub posted : {G : Type 0} → Config → List ℕ → HandTold (Keeper G) → PostTold G
+posted c table hand = record { config = c; table = table; hand = hand }
+
+abbrev pub hand_at : {G : Type 0} → PostTold G → HandTold (Keeper G)
+hand_at post = post.hand
+
+-- it has served nothing, and may keep serving here
+pub record MayKeep {G : Type 0} (post : PostTold G) : Type 0 where
+  pub kept : (cap : ℕ) × KeepsRules cap post.config
+  pub table_is : post.table ≡ table post.config
+  pub fit : Fit post.config post.hand.number post.hand.known
+  pub role : IsRoleOf post.config post.hand.work.role
+  pub fresh : post.hand.work ≡ new_keeper post.hand.work.role post.hand.work.gate
+
+-- It kept serving until it stopped, and put exactly these lines, which are those of its links. Its
+-- place at the press met the lock worn by so many turns of 2^62 or more, or 0.
+pub record HasWorkedOn {G : Type 0} (told : G → DoorTold) (over : G → Bool) (peer : G → List ℕ)
+    (old new : PostTold G) (lines : List Line) (worn : ℕ) : Type 0 where
+  pub config : new.config ≡ old.config
+  pub number : new.hand.number ≡ old.hand.number
+  pub known : new.hand.known ≡ old.hand.known
+  pub role : new.hand.work.role ≡ old.hand.work.role
+  pub stop : Stop
+  pub stop_is : new.hand.work.stop ≡ Some stop
+  pub links : List Kept
+  pub kept : KeptOn told over peer old.config old.hand.work.role old.hand.number
+      (wear_of new.hand.known new.hand.worn) old.hand.seen new.hand.seen old.hand.work.gate
+      new.hand.work.gate old.hand.work.tally new.hand.work.tally links (map text_of lines) worn stop

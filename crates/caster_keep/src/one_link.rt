@@ -1,0 +1,181 @@
+//! One link is kept: it is served to its receipt, and its lines are put.
+
+ghost use Rattle.std.specs.Prelude.{◌≡◌, ◌<◌, ◌≤◌, ◌+◌, ◌^◌, ℕ, Option, IsTrue, length, false, is_ok, OnErr};
+ghost use Rattle.cast_io.specs.Links.{IsNewLink};
+ghost use Rattle.session_core.specs.declared.asked.Asked.{Asked as AskedValue};
+ghost use Rattle.session_core.specs.Setups.{IsSetUp};
+ghost use Rattle.caster_places.specs.Known.{Fit, StayKnown};
+ghost use Rattle.caster_link.specs.Links.{opening_of};
+ghost use Rattle.caster_link.specs.Stepped.{HasClosed};
+ghost use Rattle.caster_link.specs.Wear.{IsWornBy, MayRefuse, wear_of};
+ghost use Rattle.caster_press.specs.Places.{IsSamePlace};
+ghost use Rattle.caster_serve.specs.Works.{IsWithin};
+ghost use Rattle.caster_keep.specs.Links.{ArePutBehind, LinkKept, told_lines};
+ghost use Rattle.caster_keep.specs.Stations.{IsRoleOf};
+
+use crate::first::{Teller, first_line, tell_asked, tell_entered, whose};
+use crate::keeper::Keeper;
+use cast_io::{Gate, Link};
+use caster_accounts::Book;
+use caster_link::{Role, Service};
+use caster_places::AllPlaces;
+use caster_press::{AtPress, Worn};
+use caster_serve::count_receipt;
+use keep_lines::{LinkNumber, put_receipt};
+use mount_ring::Ring;
+use session_core::{Held, Places, Receipt, Setup};
+use std::sync::Wait;
+use turn_log::Turns;
+
+/// What a link came to that was served.
+#[derive(Drop)]
+struct Served {
+    receipt: Receipt,
+    /// What its connection held before it was closed.
+    held: Held,
+    /// Whether all lines so far were put.
+    so_far: Result<(), Worn>,
+}
+
+/// Serves the connection of a link in this role, step by step, to its receipt, and puts the line of
+/// what its head asks, once it is read, and that of what it was let in as, once it was: not where a
+/// line of the link could not be put so far.
+fn serve_steps<T: Turns<Ring>, B: Turns<Book>, L: Link, P: AtPress, R: Wait>(
+    rt: &R,
+    setup: &Setup,
+    places: &mut Places<T, B>,
+    role: Role,
+    link: &mut L,
+    place: &mut P,
+    teller: Teller,
+    begun: Result<(), Worn>,
+) -> Served
+    requires ready { IsSetUp setup.now }
+    requires fit { Fit setup.now.config.now setup.now.me
+        (⟦<Places<T, B> as AllPlaces>⟧.known places.old) }
+    requires relay { (number : ℕ) → role ≡ Role.Relay number
+        → number < length setup.now.config.now.relay }
+    requires speaks { IsTrue ((P.told place.old).speaks teller.by) }
+    requires begun { OnErr begun (2 ^ 62 ≤ (P.told place.old).worn) }
+    ensures stay { StayKnown (⟦<Places<T, B> as AllPlaces>⟧.known places.old)
+        (⟦<Places<T, B> as AllPlaces>⟧.known places.new)
+        (⟦<Places<T, B> as AllPlaces>⟧.worn places.old)
+        (⟦<Places<T, B> as AllPlaces>⟧.worn places.new) }
+    ensures closed { (asked : Option AskedValue) × HasClosed setup.now.config.now (opening_of role)
+        setup.now.me (⟦<Places<T, B> as AllPlaces>⟧.seen places.old)
+        (⟦<Places<T, B> as AllPlaces>⟧.seen places.new) (L.told link.old) (L.told link.new)
+        result.held asked result.receipt
+        × ArePutBehind (is_ok begun) (is_ok result.so_far) teller.by
+        (told_lines setup.now.config.now teller.number asked result.held)
+        (P.told place.old).seen (P.told place.new).seen }
+    ensures worn { IsWornBy (⟦<Places<T, B> as AllPlaces>⟧.worn places.new)
+        result.receipt.ending }
+    ensures unsettled { result.receipt.settled ≡ false
+        → MayRefuse (wear_of (⟦<Places<T, B> as AllPlaces>⟧.known places.new)
+        (⟦<Places<T, B> as AllPlaces>⟧.worn places.new)) }
+    ensures same { IsSamePlace (P.told place.old) (P.told place.new) }
+    ensures refused { OnErr result.so_far (2 ^ 62 ≤ (P.told place.new).worn) }
+{
+    let mut held = Held::Nothing;
+    let mut is_asked = false;
+    let mut so_far = begun;
+    let mut service = match Service::open(setup, role) {
+        Ok(service) => service,
+        Err(receipt) => {
+            return Served {
+                receipt,
+                held,
+                so_far,
+            };
+        }
+    };
+    for _ in rt.forever() {
+        let asked = service.session().asked();
+        so_far = tell_asked(place, teller, is_asked, asked, so_far);
+        is_asked = asked.is_some();
+        let now = service.session().held();
+        so_far = tell_entered(place, setup.config, teller, held, now, so_far);
+        held = now;
+        match service.step(setup, places, link) {
+            None => {}
+            Some(last) => {
+                let receipt = service.close(last, places);
+                return Served {
+                    receipt,
+                    held,
+                    so_far,
+                };
+            }
+        }
+    }
+    unreachable!()
+}
+
+/// Keeps a link that the keeper's gate just gave, as the next of the keeper's: tells who is at its
+/// other end, serves its connection to its receipt and tells meanwhile as what it was let in, counts
+/// the receipt, hangs the link up, and puts the receipt. The lines are put as the caller `by`.
+///
+/// # Errors
+/// Where a line could not be put: then no further line of it is put, and the link is served and
+/// hung up all the same.
+pub(crate) fn keep_link<T: Turns<Ring>, B: Turns<Book>, G: Gate, P: AtPress, R: Wait>(
+    rt: &R,
+    setup: &Setup,
+    places: &mut Places<T, B>,
+    keeper: &mut Keeper<G>,
+    mut link: G::Link,
+    place: &mut P,
+    by: u32,
+) -> Result<(), Worn>
+    requires ready { IsSetUp setup.now }
+    requires fit { Fit setup.now.config.now setup.now.me
+        (⟦<Places<T, B> as AllPlaces>⟧.known places.old) }
+    requires role { IsRoleOf setup.now.config.now keeper.old.role }
+    requires fresh { IsNewLink (G.Link.told link) }
+    requires few { keeper.old.count < 2 ^ 62 }
+    requires room { keeper.old.tally.sessions + 1 < 2 ^ 64 }
+    requires within { IsWithin keeper.old.tally }
+    requires speaks { IsTrue ((P.told place.old).speaks by) }
+    ensures stay { StayKnown (⟦<Places<T, B> as AllPlaces>⟧.known places.old)
+        (⟦<Places<T, B> as AllPlaces>⟧.known places.new)
+        (⟦<Places<T, B> as AllPlaces>⟧.worn places.old)
+        (⟦<Places<T, B> as AllPlaces>⟧.worn places.new) }
+    ensures role { keeper.new.role ≡ keeper.old.role }
+    ensures stop { keeper.new.stop ≡ keeper.old.stop }
+    ensures count { keeper.new.count ≡ keeper.old.count + 1 }
+    ensures within { IsWithin keeper.new.tally }
+    ensures same { IsSamePlace (P.told place.old) (P.told place.new) }
+    ensures worn { OnErr result (2 ^ 62 ≤ (P.told place.new).worn) }
+    ensures kept { LinkKept setup.now.config.now keeper.old.role setup.now.me keeper.new.count
+        (wear_of (⟦<Places<T, B> as AllPlaces>⟧.known places.new)
+        (⟦<Places<T, B> as AllPlaces>⟧.worn places.new))
+        (⟦<Places<T, B> as AllPlaces>⟧.seen places.old)
+        (⟦<Places<T, B> as AllPlaces>⟧.seen places.new) (G.Link.told link)
+        (G.peer keeper.old.gate) (G.told keeper.old.gate) (G.told keeper.new.gate)
+        keeper.old.tally keeper.new.tally by (P.told place.old).seen (P.told place.new).seen
+        (is_ok result) }
+{
+    keeper.count += 1;
+    let number = LinkNumber {
+        caller: setup.me,
+        count: keeper.count,
+    };
+    let first = first_line(setup.config, number, keeper.role, keeper.gate.peer());
+    let begun = place.put(by, &first);
+    let teller = Teller { by, number };
+    let served = serve_steps(
+        rt,
+        setup,
+        places,
+        keeper.role,
+        &mut link,
+        place,
+        teller,
+        begun,
+    );
+    count_receipt(&mut keeper.tally, &served.receipt);
+    keeper.gate.hang_up(link);
+    served.so_far?;
+    let who = whose(setup.config, keeper.role, served.held);
+    put_receipt(place, by, setup.config, number, who, &served.receipt)
+}

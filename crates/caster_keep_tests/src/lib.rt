@@ -1,0 +1,15 @@
+//! Runs of casters that keep serving, over yards in memory.
+//!
+//! They stand in a crate of their own, so that the crate that they try is proved once.
+#![tactic(auto)]
+
+#[cfg(test)]
+mod entered_tests;
+#[cfg(test)]
+mod fakes;
+#[cfg(test)]
+mod keep_tests;
+#[cfg(test)]
+mod sum_tests;
+#[cfg(test)]
+mod torn_tests;
