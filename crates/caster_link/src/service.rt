@@ -21,7 +21,7 @@ use cast_io::{Got, Link};
 use caster_accounts::Book;
 use caster_places::AllPlaces;
 use mount_ring::Ring;
-use session_core::{Ending, Flow, Last, Places, Receipt, Segments, Session, Setup};
+use session_core::{Ending, Flow, Last, Places, Receipt, Segments, Session, Setup, Whereabouts};
 use std::alloc::{AllocError, Global};
 use turn_log::Turns;
 
@@ -150,10 +150,11 @@ impl Service {
             (⟦<Places<T, B> as AllPlaces>⟧.seen places.new) (L.told link.old) (L.told link.new)
             self.old self.new) }
     {
-        let Ok(()) = send(&self.session, link, &mut self.out, self.may_rest) else {
+        let Whereabouts { ended, mount } = self.session.whereabouts();
+        let Ok(()) = send(mount, link, &mut self.out, self.may_rest) else {
             return Some(Last::WriteFault);
         };
-        if self.session.ended() || self.given >= MOST {
+        if ended || self.given >= MOST {
             return Some(Last::End);
         }
         match link.read(&mut self.piece) {

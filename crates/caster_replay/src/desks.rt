@@ -58,8 +58,14 @@ fn rings_of<P: RingPlace>(alloc: Global, config: &Config) -> Result<Vec<P>, Allo
 {
     let mut rings = Vec::new(alloc);
     for number in 0..config.mount.as_slice().len() {
-        let place = P::open(alloc, config, number as u32)?;
-        rings.push(place)?;
+        let Ok(place) = P::open(alloc, config, number as u32) else {
+            drop(rings);
+            return Err(AllocError);
+        };
+        let Ok(()) = rings.push(place) else {
+            drop(rings);
+            return Err(AllocError);
+        };
     }
     Ok(rings)
 }

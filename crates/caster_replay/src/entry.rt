@@ -72,6 +72,7 @@ fn closed<P: RingPlace>(state: State, desks: &mut Desks<P>, last: Last) -> Resul
         State::Open(session) => {
             let receipt = desks.close(session, last);
             if !receipt.settled || is_halt(receipt.ending) {
+                drop(receipt);
                 return Err(AllocError);
             }
             Ok(State::Closed(receipt))

@@ -32,7 +32,10 @@ pub fn played(
 {
     let mut run = Run::new(alloc, config)?;
     for event in events {
-        run.play(alloc, config, event)?;
+        let Ok(()) = run.play(alloc, config, event) else {
+            drop(run);
+            return Err(AllocError);
+        };
     }
     Ok(run)
 }

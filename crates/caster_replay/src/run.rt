@@ -269,7 +269,10 @@ impl<P: RingPlace> Run<P> {
         let ended = close_down(alloc, config, &mut entries, &mut desks);
         drop(desks);
         let closed = ended?;
-        let connections = told_all(alloc, entries)?;
+        let Ok(connections) = told_all(alloc, entries) else {
+            drop(closed);
+            return Err(AllocError);
+        };
         Ok((connections, closed))
     }
 }

@@ -67,4 +67,5 @@ pub(crate) fn serve_counted<T: Turns<Ring>, B: Turns<Book>, L: Link, R: Wait>(
 {
     let receipt = serve_places(rt, setup, places, role, link);
     count_receipt(tally, &receipt);
+    drop(receipt);
 }

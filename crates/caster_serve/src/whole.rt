@@ -48,8 +48,17 @@ fn prepare<'c>(alloc: Global, config: &'c Config, callers: u32) -> Result<Ready<
     ensures prepared { IfOk result (IsPrepared callers) }
 {
     let (shared, passes) = Shared::new(alloc, config, callers)?;
-    let piles = Piles::with_room(alloc, config.mount.as_slice().len(), callers)?;
-    let totals = Totals::with_room(alloc, config)?;
+    let Ok(piles) = Piles::with_room(alloc, config.mount.as_slice().len(), callers) else {
+        drop(shared);
+        drop(passes);
+        return Err(AllocError);
+    };
+    let Ok(totals) = Totals::with_room(alloc, config) else {
+        drop(shared);
+        drop(passes);
+        drop(piles);
+        return Err(AllocError);
+    };
     Ok(Ready {
         shared,
         passes,
@@ -91,12 +100,16 @@ where
     let served = serve_tasks(rt, alloc, &shared, passes, &mut tasks, &mut piles, limit);
     give_back(street, tasks);
     let Ok(is_whole) = served else {
+        drop(shared);
+        drop(piles);
+        drop(totals);
         return Err(ServeFault::Memory);
     };
     let closed = shared.close(piles, totals);
     if is_whole {
         Ok(closed)
     } else {
+        drop(closed);
         Err(ServeFault::Network)
     }
 }

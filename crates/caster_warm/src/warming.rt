@@ -61,7 +61,11 @@ fn played(
 {
     let mut run = Run::new(alloc, config)?;
     let mut sent = BTreeMap::new(alloc);
-    play_all(alloc, config, &mut run, &mut sent, events)?;
+    let Ok(()) = play_all(alloc, config, &mut run, &mut sent, events) else {
+        drop(run);
+        drop(sent);
+        return Err(AllocError);
+    };
     Ok((run, sent))
 }
 
@@ -117,7 +121,10 @@ fn report_of(
         → IfOk result (λ report. IsWarmReport config.now script report) }
 {
     let (plain, closed) = run.parts(alloc, config)?;
-    let connections = told_all(alloc, plain, sent)?;
+    let Ok(connections) = told_all(alloc, plain, sent) else {
+        drop(closed);
+        return Err(AllocError);
+    };
     Ok(Report {
         connections: Connections::new(connections),
         closed,

@@ -23,6 +23,7 @@ use Rattle.ntrip_reply.specs.declared.kind.Reply.TheVariants.{BadHead}
 use Rattle.cast_config.specs.declared.config.Config.{Config}
 use Rattle.session_model.specs.declared.ending.Ending.{Ending}
 use Rattle.session_model.specs.declared.ending.Ending.TheVariants.{LongHead}
+use Rattle.session_core.specs.declared.asked.Asked.{Asked}
 use Rattle.session_core.specs.declared.begun.Begun.{Begun}
 use Rattle.session_core.specs.declared.session.Session.{Session}
 use Rattle.session_core.specs.declared.stage.Stage.{Stage}
@@ -305,13 +306,14 @@ fed_behind c alone old mid_h now me mid new opening text bytes steps sent head b
           (rw (sym (front_and_rest text head bytes count is.text_is)) (inl on.stands))));
     }
 
--- so it began by the bytes that its head is made of, and this is its stage
-pub begun_as : (c : Config) (alone : Bool) (old now : Histories) (me : ℕ) (head front : List ℕ) (begun : Begun)
-    (stage : Stage) (before after : List ℕ) → head ≡ front → stage ≡ begun.stage
+-- so it began by the bytes that its head is made of, and this is the session that was left
+pub begun_put : (c : Config) (alone : Bool) (old now : Histories) (me : ℕ) (head front : List ℕ) (begun : Begun)
+    (was session : Session) (asked : Option Asked) (before after : List ℕ) → head ≡ front
+    → session ≡ record was { stage = begun.stage; ended = begun.ended; asked = asked }
     → HasBegunFor c alone old now me head begun.stage begun.ended before after
-    → HasBegunFor c alone old now me front stage begun.ended before after
-begun_as c alone old now me head front begun stage before after same is has =
-    subst (λ (s : Stage). HasBegunFor c alone old now me front s begun.ended before after) (sym is)
+    → HasBegunFor c alone old now me front session.stage session.ended before after
+begun_put c alone old now me head front begun was session asked before after same is has =
+    subst (λ (s : Session). HasBegunFor c alone old now me front s.stage s.ended before after) (sym is)
     (subst (λ (l : List ℕ). HasBegunFor c alone old now me l begun.stage begun.ended before after) same has)
 
 -- ---- a connection that is behind its head

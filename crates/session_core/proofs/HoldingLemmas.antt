@@ -66,13 +66,6 @@ holds_so c session o heading text steps h sent is (inr lost) =
 
 -- ---- what is held stays
 
-pub holds_still : (held : Held) → HoldsOn held held
-holds_still holds.Nothing = tt
-holds_still (holds.Rover account) = refl
-holds_still (holds.Source mount claim) = refl
-holds_still (holds.Relay mount None) = (None, refl, tt)
-holds_still (holds.Relay mount (Some claim)) = (Some claim, refl, refl)
-
 -- a relay that had a claim has it still
 claim_on : (first second third : Option ℕ) → IfSome first (λ number. second ≡ Some number)
     → IfSome second (λ number. third ≡ Some number) → IfSome first (λ number. third ≡ Some number)

@@ -80,20 +80,24 @@ pub(crate) fn receipt_of(
         settled,
     };
     match stage {
-        Stage::Head(_head) => told,
+        Stage::Head(head) => {
+            drop(head);
+            told
+        }
         Stage::Over => told,
-        Stage::Source {
-            mount: _mount,
-            session: _session,
-        } => told,
-        Stage::Relay {
-            mount: _mount,
-            session: _session,
-        } => told,
+        Stage::Source { mount: _, session } => {
+            drop(session);
+            told
+        }
+        Stage::Relay { mount: _, session } => {
+            drop(session);
+            told
+        }
         Stage::Rover {
-            account: _account,
+            account: _,
             session,
         } => {
+            drop(told);
             let sent = session.sent();
             let overrun = session.overrun();
             Receipt {

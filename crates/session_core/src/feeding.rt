@@ -129,6 +129,19 @@ fn begin<T: Turns<Ring>, B: Turns<Book>>(
 }
 
 impl Session {
+    /// It goes on as it began, or is over, and this is what its head asked.
+    fn put(&mut self, begun: Begun, asked: Option<Asked>)
+        ensures { self.new ≡ record self.old {
+          stage = begun.stage;
+          ended = begun.ended;
+          asked = asked;
+        } }
+    {
+        drop(mem::replace(&mut self.stage, begun.stage));
+        drop(mem::replace(&mut self.asked, asked));
+        self.ended = begun.ended;
+    }
+
     /// Takes more bytes behind the head. Those of a source or of a relay come to calls at the ring
     /// of its mountpoint.
     fn feed_behind<T: Turns<Ring>, B: Turns<Book>>(
@@ -233,9 +246,7 @@ impl Session {
             me: self.me,
         };
         let (begun, asked) = begin(&setup, head, step, places, out);
-        drop(mem::replace(&mut self.stage, begun.stage));
-        drop(mem::replace(&mut self.asked, asked));
-        self.ended = begun.ended;
+        self.put(begun, asked);
         if self.ended.is_some() {
             return Flow::Ended;
         }

@@ -94,7 +94,11 @@ pub(crate) fn judge_rover<T: Turns<Ring>, B: Turns<Book>>(
     ensures cause { IfSome result.ended (IsCause (worn_in T.Turns B.Turns places.new)) }
 {
     match admit(setup.alloc, setup.config, auth, mount) {
-        Ok(admission) => begin_rover(setup, version, &admission, first, places, out),
+        Ok(admission) => {
+            let begun = begin_rover(setup, version, &admission, first, places, out);
+            drop(admission);
+            begun
+        }
         Err(AdmissionError::Denied(denial)) => { finish(version, denied(denial), setup.table, out) }
         Err(AdmissionError::Memory) => Begun::over(Ending::Memory),
     }

@@ -24,7 +24,7 @@ pub use asked::Asked;
 pub use ending::{Bare, Flow};
 pub use held::Held;
 pub use places::Places;
-pub use rover_state::RoverState;
+pub use rover_state::{RoverState, Whereabouts};
 pub use session::Session;
 pub use session_model::{
     Closed, Connection, Connections, Ending, Last, MountTotal, MountTotals, Receipt, Report,

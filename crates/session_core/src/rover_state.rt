@@ -1,6 +1,6 @@
 //! How far a rover is, and at which mountpoint a session is.
 
-ghost use Rattle.std.specs.Prelude.{◌≡◌};
+ghost use Rattle.std.specs.Prelude.{◌≡◌, is_some};
 ghost use Rattle.session_core.specs.States.{rover_state, session_mount, state_of};
 
 use crate::session::Session;
@@ -19,6 +19,16 @@ pub struct RoverState {
     pub next: u64,
     /// How many segments it has.
     pub segments: u64,
+}
+
+/// What whoever serves a session over a link is to know of it before each call of the link.
+#[derive(Clone, Copy)]
+pub struct Whereabouts {
+    /// Whether it ended by itself, or was halted.
+    pub ended: bool,
+    /// The number of the mountpoint at which it is: that of a source or a relay, and of a rover that
+    /// goes on the one of its newest segment.
+    pub mount: Option<u32>,
 }
 
 /// Where a rover's session stands, if it has a segment.
@@ -52,9 +62,8 @@ impl Session {
         }
     }
 
-    /// The number of the mountpoint at which it is: that of a source or a relay, and of a rover that
-    /// goes on the one of its newest segment.
-    pub fn mount(&self) -> Option<u32>
+    /// The number of the mountpoint at which it is.
+    fn mount(&self) -> Option<u32>
         ensures { result ≡ session_mount self.now }
     {
         match &self.stage {
@@ -66,6 +75,17 @@ impl Session {
                 account: _,
                 session: _,
             } => self.rover().map(|rover| rover.mount),
+        }
+    }
+
+    /// Whether it ended, and at which mountpoint it is.
+    pub fn whereabouts(&self) -> Whereabouts
+        ensures ended { result.ended ≡ is_some self.now.ended }
+        ensures mount { result.mount ≡ session_mount self.now }
+    {
+        Whereabouts {
+            ended: self.ended.is_some(),
+            mount: self.mount(),
         }
     }
 }

@@ -53,7 +53,10 @@ fn new_relay(alloc: Global, me: u32, relay: &Relay, out: &mut Vec<u8>) -> Result
     ensures stage { IfOk result (IsNewRelay me relay.now.mount) }
 {
     let session = RelaySession::new(alloc, me, relay)?;
-    session.request(out)?;
+    let Ok(()) = session.request(out) else {
+        drop(session);
+        return Err(AllocError);
+    };
     let mount = relay.mount;
     Ok(Stage::Relay { mount, session })
 }

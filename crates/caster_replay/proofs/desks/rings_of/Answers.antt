@@ -11,8 +11,8 @@ loop-number-preserved g c =
     let within : c.loop-number.number < length config.mount =
     omega (arith, c.loop-number-test.true, ap length c.as_slice-number-end.ensures) in
     first_next g.P.Turns.shape g.P.Turns.seen config c.loop-number.number c.loop-number.rings.items
-    c.push.new.self.items c.in_ok-place.place within c.in_ok-push.ensures.items (c.in_ok-place.ensures.shape no_shape)
-    c.in_ok-place.ensures.uncalled c.loop-number.invariant
+    c.push.new.self.items c.in-Ok.place within c.in-Ok-push.ensures.items (c.in-Ok.ensures.shape no_shape)
+    c.in-Ok.ensures.uncalled c.loop-number.invariant
 
 pub returns : goal.returns
 returns g c =

@@ -16,7 +16,7 @@ loop-event-preserved c =
     let so_far : List Event = take c.loop-event.event-index c.args.events.now in
     stands_next c.args.config.now c.args.events.now c.loop-event.event-index c.event-item.result c.play.new.self
     c.loop-event-test.true c.event-item.is
-    (c.in_ok-play.ensures.played so_far c.loop-event.invariant
+    (c.in-Ok.ensures.played so_far c.loop-event.invariant
     (comes_next c.args.config.now c.args.events.now c.loop-event.event-index c.event-item.result c.requires.script
     c.loop-event-test.true c.event-item.is))
 

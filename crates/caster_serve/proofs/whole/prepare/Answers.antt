@@ -11,10 +11,10 @@ returns-clause-prepared c =
       opened = shared.passes;
       count = shared.count;
       passes = shared.each;
-      room = c.in_ok-piles.ensures.room;
+      room = c.in-Ok.ensures.room;
       empty = piles_empty _ _ _ shared.ready (ap length c.as_slice.ensures
           ∙ ap (λ config. length config.mount) (sym shared.config))
-          c.in_ok-piles.ensures.empty;
-      none = c.in_ok-piles.ensures.none;
-      totals = subst (λ config. IsRoomFor config c.in_ok-totals.totals) (sym shared.config) c.in_ok-totals.ensures;
+          c.in-Ok.ensures.empty;
+      none = c.in-Ok.ensures.none;
+      totals = subst (λ config. IsRoomFor config c.in-Ok-with_room.totals) (sym shared.config) c.in-Ok-with_room.ensures;
     }

@@ -5,5 +5,5 @@ use Rattle.caster_warm.proofs.warming.report_of.Goals as goal
 pub returns : goal.returns
 returns c = λ script short stands bytes.
     warm_of c.args.config.now script (λ n. sent_to n c.args.sent.now) c.in_ok-plain.plain.items
-    c.in_ok-connections.connections.items c.new.result c.in_ok-plain.closed
-    (c.in_ok-plain.ensures.report script short stands) bytes c.in_ok-connections.ensures c.new.ensures
+    c.in-Ok.connections.items c.new.result c.in_ok-plain.closed
+    (c.in_ok-plain.ensures.report script short stands) bytes c.in-Ok.ensures c.new.ensures

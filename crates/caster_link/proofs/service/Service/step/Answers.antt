@@ -34,7 +34,7 @@ pub returns-then-ended-clause-closes : goal.returns-then-ended-clause-closes
 returns-then-ended-clause-closes g c =
     let enough : IsTrue (is_some c.args.self.now.session.ended) ⊎ (2 ^ 62 ≤ c.args.self.now.given) =
     elim c.then-ended.branch [
-      | then-ended-via-then-ended w ↦ inl (sym c.ended.ensures ∙ w.if-ended.true)
+      | then-ended-via-then-ended w ↦ inl (sym c.whereabouts-ended.ensures.ended ∙ w.if-ended.true)
       | then-ended-via-else-ended+then-self-ge-MOST w ↦ inr w.if-self-ge-MOST.true
     ] in record {
       stopped = inr (c.in-Ok.ensures.ok, enough);
@@ -50,7 +50,7 @@ returns-then-ended-clause-stay g c = stay_none _ _
 -- ---- bytes
 
 pub feed-requires-clause-goes_on : goal.feed-requires-clause-goes_on
-feed-requires-clause-goes_on g c = going_by _ _ c.if-ended.false c.ended.ensures
+feed-requires-clause-goes_on g c = going_by _ _ c.if-ended.false c.whereabouts-ended.ensures.ended
 
 pub feed-requires-clause-rings : goal.feed-requires-clause-rings
 feed-requires-clause-rings g c =
@@ -79,7 +79,7 @@ returns-in-Ended-clause-goes_on g c =
     let count = c.in-Bytes.count in
     let buf = c.read.new.buf in
     let now = seen_at t.seen b.seen c.args.places.now.rings.items c.args.places.now.book in
-    let going : c.args.self.now.session.ended ≡ None = going_by _ _ c.if-ended.false c.ended.ensures in
+    let going : c.args.self.now.session.ended ≡ None = going_by _ _ c.if-ended.false c.whereabouts-ended.ensures.ended in
     let long : length (take count buf) ≡ count =
     omega (arith, length-take count buf, c.in-Bytes.ensures.bound.1, c.read.auto.buf) in
     record {
@@ -141,7 +141,7 @@ returns-in-Open-clause-goes_on g c =
     let count = c.in-Bytes.count in
     let buf = c.read.new.buf in
     let now = seen_at t.seen b.seen c.args.places.now.rings.items c.args.places.now.book in
-    let going : c.args.self.now.session.ended ≡ None = going_by _ _ c.if-ended.false c.ended.ensures in
+    let going : c.args.self.now.session.ended ≡ None = going_by _ _ c.if-ended.false c.whereabouts-ended.ensures.ended in
     let config = c.args.setup.now.config.now in
     let new = c.feed.new.places in
     let long : length (take count buf) ≡ count =
@@ -177,7 +177,7 @@ returns-in-Open-clause-goes_on g c =
 -- ---- nothing there
 
 pub take_turn-self-requires-clause-goes_on : goal.take_turn-self-requires-clause-goes_on
-take_turn-self-requires-clause-goes_on g c = going_by _ _ c.if-ended.false c.ended.ensures
+take_turn-self-requires-clause-goes_on g c = going_by _ _ c.if-ended.false c.whereabouts-ended.ensures.ended
 
 pub take_turn-self-requires-clause-ready : goal.take_turn-self-requires-clause-ready
 take_turn-self-requires-clause-ready g c = (
@@ -189,7 +189,7 @@ take_turn-self-requires-clause-ready g c = (
 pub returns-in-Idle-clause-goes_on : goal.returns-in-Idle-clause-goes_on
 returns-in-Idle-clause-goes_on g c =
     let buf = c.read.new.buf in
-    let going : c.args.self.now.session.ended ≡ None = going_by _ _ c.if-ended.false c.ended.ensures in
+    let going : c.args.self.now.session.ended ≡ None = going_by _ _ c.if-ended.false c.whereabouts-ended.ensures.ended in
     record {
       was = record { goes_on = going; few = omega (arith, c.if-self-ge-MOST.false) };
       took = took.Idle;
@@ -217,7 +217,7 @@ pub returns-in-End-clause-closes : goal.returns-in-End-clause-closes
 returns-in-End-clause-closes g c = record {
   stopped = inl (
     record {
-      goes_on = going_by _ _ c.if-ended.false c.ended.ensures;
+      goes_on = going_by _ _ c.if-ended.false c.whereabouts-ended.ensures.ended;
       few = omega (arith, c.if-self-ge-MOST.false);
     },
     link_step _ _ _ [] _ got.End _ c.in-Ok.ensures.ok c.in-End.ensures.read,
@@ -232,7 +232,7 @@ pub returns-in-Failed-clause-closes : goal.returns-in-Failed-clause-closes
 returns-in-Failed-clause-closes g c = record {
   stopped = (
     record {
-      goes_on = going_by _ _ c.if-ended.false c.ended.ensures;
+      goes_on = going_by _ _ c.if-ended.false c.whereabouts-ended.ensures.ended;
       few = omega (arith, c.if-self-ge-MOST.false);
     },
     link_step _ _ _ [] _ got.Failed _ c.in-Ok.ensures.ok c.in-Failed.ensures.read,

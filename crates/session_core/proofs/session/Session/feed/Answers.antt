@@ -3,14 +3,16 @@ use Rattle.std.proofs.Common.{◌≡◌, ◌∙◌, ◌-◌, ◌++◌, List, ℕ
 use Rattle.std.proofs.lemmas.List.{take_all}
 use Rattle.ntrip_head.specs.declared.buffer.HeadStep.TheVariants.{More}
 use Rattle.ntrip_head.specs.Steps.{IsStep}
+use Rattle.session_calls.specs.Rings.{AllSpeak}
 use Rattle.session_calls.proofs.PlaceLemmas.{speak_same}
 use Rattle.session_model.specs.Judged.{sends_head}
 use Rattle.session_core.specs.declared.session.Session.{Session}
 use Rattle.session_core.specs.declared.stage.Stage.TheVariants.{Head}
 use Rattle.session_core.specs.Feeding.{FedOn, IsBehindHead}
+use Rattle.session_core.specs.Asking.{TellsBehind}
 use Rattle.session_core.specs.Places.{alone_in, seen_in}
 use Rattle.session_core.specs.Standing.{Follows}
-use Rattle.session_core.proofs.FeedHeadLemmas.{alone_as, begun_as, begun_behind, begun_follows, fed_behind, fed_ended, fed_on, fed_open, is_awaited, none_of, rest_of, some_of}
+use Rattle.session_core.proofs.FeedHeadLemmas.{alone_as, begun_behind, begun_follows, begun_put, fed_behind, fed_ended, fed_on, fed_open, is_awaited, none_of, rest_of, some_of}
 use Rattle.session_core.proofs.AskingLemmas.{awaited_on, same_on, tells_begun, tells_ended, tells_open, tells_rest}
 use Rattle.session_core.proofs.HoldingLemmas.{head_on}
 use Rattle.session_core.proofs.session.Session.feed.Goals as goal
@@ -54,11 +56,7 @@ returns-then-is_some-clause-fed g c = λ opening text steps histories sent stand
     let config = c.args.config.now in
     let was = c.args.self.now in
     let begun = c.begin-begun in
-    let session : Session = record c.args.self.now {
-      stage = c.replace.new.dest;
-      asked = c.replace-2.new.dest;
-      ended = begun.result.0.ended;
-    } in
+    let session : Session = c.put.new.self in
     let old = seen_in g.T.Turns g.B.Turns c.args.places.now in
     let now = seen_in g.T.Turns g.B.Turns begun.new.places in
     let alone = alone_in g.T.Turns g.B.Turns c.args.places.now in
@@ -68,43 +66,37 @@ returns-then-is_some-clause-fed g c = λ opening text steps histories sent stand
     fed_ended config alone old now was.me session opening text c.args.bytes.now steps sent c.in-Head.head
     c.args.out.now.items begun.new.out.items count end.0
     (is_awaited config was opening text steps histories sent c.in-Head.head c.in-Head.is c.requires.goes_on stands)
-    refl end.1
-    (begun_as config alone old now was.me c.take-count.new.self front begun.result.0 session.stage
-    c.args.out.now.items begun.new.out.items c.take-count.ensures.bytes c.replace.ensures.after begun.ensures.begun)
+    (ap (λ (s : Session). s.me) c.put.ensures) end.1
+    (begun_put config alone old now was.me c.take-count.new.self front begun.result.0 was session begun.result.1
+    c.args.out.now.items begun.new.out.items c.take-count.ensures.bytes c.put.ensures begun.ensures.begun)
 
 pub feed_behind-requires-2-clause-behind : goal.feed_behind-requires-2-clause-behind
 feed_behind-requires-2-clause-behind g c =
     let was = c.args.self.now in
     let begun = c.begin-begun in
-    let session : Session = record c.args.self.now {
-      stage = c.replace.new.dest;
-      asked = c.replace-2.new.dest;
-      ended = begun.result.0.ended;
-    } in
+    let session : Session = c.put.new.self in
     let old = seen_in g.T.Turns g.B.Turns c.args.places.now in
     let now = seen_in g.T.Turns g.B.Turns begun.new.places in
     let alone = alone_in g.T.Turns g.B.Turns c.args.places.now in
     let front : List ℕ = c.in-Head.head ++ take c.take-count.result.0 c.args.bytes.now in
     begun_behind c.args.config.now alone old now was.me front session.stage session.ended
     c.args.out.now.items begun.new.out.items (none_of session.ended (sym c.is_some.ensures ∙ c.if-is_some.false))
-    (begun_as c.args.config.now alone old now was.me c.take-count.new.self front begun.result.0 session.stage
-    c.args.out.now.items begun.new.out.items c.take-count.ensures.bytes c.replace.ensures.after begun.ensures.begun)
+    (begun_put c.args.config.now alone old now was.me c.take-count.new.self front begun.result.0 was session
+    begun.result.1 c.args.out.now.items begun.new.out.items c.take-count.ensures.bytes c.put.ensures
+    begun.ensures.begun)
 
 pub feed_behind-requires-2-clause-rings : goal.feed_behind-requires-2-clause-rings
 feed_behind-requires-2-clause-rings g c =
-    speak_same g.T.Turns.speaks c.args.places.now.rings.items c.begin-begun.new.places.rings.items
-    c.args.self.now.me c.begin-begun.ensures.stay.at_rings.same.1 c.requires.rings
+    subst (λ (s : Session). AllSpeak g.T.Turns.speaks c.begin-begun.new.places.rings.items s.me) (sym c.put.ensures)
+    (speak_same g.T.Turns.speaks c.args.places.now.rings.items c.begin-begun.new.places.rings.items
+    c.args.self.now.me c.begin-begun.ensures.stay.at_rings.same.1 c.requires.rings)
 
 pub feed_behind-requires-2-clause-follows : goal.feed_behind-requires-2-clause-follows
 feed_behind-requires-2-clause-follows g c =
     let config = c.args.config.now in
     let was = c.args.self.now in
     let begun = c.begin-begun in
-    let session : Session = record c.args.self.now {
-      stage = c.replace.new.dest;
-      asked = c.replace-2.new.dest;
-      ended = begun.result.0.ended;
-    } in
+    let session : Session = c.put.new.self in
     let follows = c.requires.follows in
     let bytes = c.args.bytes.now in
     let taken = c.take-count in
@@ -121,10 +113,10 @@ feed_behind-requires-2-clause-follows g c =
           follows.4 c.in-Head.head c.args.out.now.items begun.new.out.items count
           (is_awaited config was follows.0 follows.1 follows.2 follows.3 follows.4 c.in-Head.head
           c.in-Head.is c.requires.goes_on follows.5)
-          refl
+          (ap (λ (s : Session). s.me) c.put.ensures)
           (none_of session.ended (sym c.is_some.ensures ∙ c.if-is_some.false)) taken.ensures.within follows.7
-          (begun_as config alone old now was.me taken.new.self front begun.result.0 session.stage
-          c.args.out.now.items begun.new.out.items taken.ensures.bytes c.replace.ensures.after begun.ensures.begun)),
+          (begun_put config alone old now was.me taken.new.self front begun.result.0 was session begun.result.1
+          c.args.out.now.items begun.new.out.items taken.ensures.bytes c.put.ensures begun.ensures.begun)),
     )
 
 pub returns-clause-fed : goal.returns-clause-fed
@@ -132,11 +124,7 @@ returns-clause-fed g c = λ opening text steps histories sent stands others.
     let config = c.args.config.now in
     let was = c.args.self.now in
     let begun = c.begin-begun in
-    let session : Session = record c.args.self.now {
-      stage = c.replace.new.dest;
-      asked = c.replace-2.new.dest;
-      ended = begun.result.0.ended;
-    } in
+    let session : Session = c.put.new.self in
     let bytes = c.args.bytes.now in
     let taken = c.take-count in
     let count = taken.result.0 in
@@ -152,11 +140,11 @@ returns-clause-fed g c = λ opening text steps histories sent stands others.
     fed_behind config alone old mid now was.me session c.feed_behind-2.new.self opening text
     bytes steps sent c.in-Head.head c.args.out.now.items begun.new.out.items count
     (is_awaited config was opening text steps histories sent c.in-Head.head c.in-Head.is c.requires.goes_on stands)
-    refl
+    (ap (λ (s : Session). s.me) c.put.ensures)
     (none_of session.ended (sym c.is_some.ensures ∙ c.if-is_some.false))
-    c.feed_behind-2.ensures.me
-    (begun_as config alone old mid was.me taken.new.self front begun.result.0 session.stage
-    c.args.out.now.items begun.new.out.items taken.ensures.bytes c.replace.ensures.after begun.ensures.begun)
+    (c.feed_behind-2.ensures.me ∙ ap (λ (s : Session). s.me) c.put.ensures)
+    (begun_put config alone old mid was.me taken.new.self front begun.result.0 was session begun.result.1
+    c.args.out.now.items begun.new.out.items taken.ensures.bytes c.put.ensures begun.ensures.begun)
     (λ o before ss h so_far s between.
     subst (λ l. FedOn config alone mid now c.feed_behind-2.new.self o (before ++ l) ss so_far)
     (rest_of bytes count taken.ensures.within)
@@ -197,17 +185,20 @@ returns-then-is_some-clause-asks g c = λ opening text tells.
     let config = c.args.config.now in
     let was = c.args.self.now in
     let begun = c.begin-begun in
+    let session : Session = c.put.new.self in
     let old = seen_in g.T.Turns g.B.Turns c.args.places.now in
     let now = seen_in g.T.Turns g.B.Turns begun.new.places in
     let alone = alone_in g.T.Turns g.B.Turns c.args.places.now in
     let count = c.take-count.result.0 in
     let front : List ℕ = c.in-Head.head ++ take count c.args.bytes.now in
-    tells_ended config alone old now was.me c.take-count.new.self c.replace.new.dest begun.result.0.ended
-    c.args.out.now.items begun.new.out.items c.replace-2.new.dest begun.result.1 was opening text c.args.bytes.now
-    c.in-Head.head count c.take-count.ensures.bytes c.replace-2.ensures.after
-    (begun_as config alone old now was.me c.take-count.new.self front begun.result.0 c.replace.new.dest
-    c.args.out.now.items begun.new.out.items c.take-count.ensures.bytes c.replace.ensures.after begun.ensures.begun)
-    begun.ensures.asks c.in-Head.is tells
+    tells_ended config alone old now was.me c.take-count.new.self session.stage session.ended
+    c.args.out.now.items begun.new.out.items session.asked begun.result.1 was opening text c.args.bytes.now
+    c.in-Head.head count c.take-count.ensures.bytes (ap (λ (s : Session). s.asked) c.put.ensures)
+    (begun_put config alone old now was.me c.take-count.new.self front begun.result.0 was session begun.result.1
+    c.args.out.now.items begun.new.out.items c.take-count.ensures.bytes c.put.ensures begun.ensures.begun)
+    (subst (λ (s : Session). TellsBehind sends_head c.take-count.new.self begun.result.1 s.ended) (sym c.put.ensures)
+    begun.ensures.asks)
+    c.in-Head.is tells
 
 pub returns-then-is_some-clause-asks_on : goal.returns-then-is_some-clause-asks_on
 returns-then-is_some-clause-asks_on g c = λ opening text tells.
@@ -218,6 +209,7 @@ returns-clause-asks g c = λ opening text tells.
     let config = c.args.config.now in
     let was = c.args.self.now in
     let begun = c.begin-begun in
+    let session : Session = c.put.new.self in
     let bytes = c.args.bytes.now in
     let old = seen_in g.T.Turns g.B.Turns c.args.places.now in
     let now = seen_in g.T.Turns g.B.Turns begun.new.places in
@@ -227,12 +219,13 @@ returns-clause-asks g c = λ opening text tells.
     tells_rest was c.feed_behind-2.new.self opening text bytes c.in-Head.head count c.take-count.ensures.within
     c.in-Head.is tells
     (c.feed_behind-2.ensures.asks sends_head front
-    (tells_begun config alone old now was.me front c.take-count.new.self c.replace.new.dest begun.result.0.ended
-    c.args.out.now.items begun.new.out.items c.replace-2.new.dest begun.result.1 c.take-count.ensures.bytes
-    c.replace-2.ensures.after
-    (begun_as config alone old now was.me c.take-count.new.self front begun.result.0 c.replace.new.dest
-    c.args.out.now.items begun.new.out.items c.take-count.ensures.bytes c.replace.ensures.after begun.ensures.begun)
-    begun.ensures.asks))
+    (tells_begun config alone old now was.me front c.take-count.new.self session.stage session.ended
+    c.args.out.now.items begun.new.out.items session.asked begun.result.1 c.take-count.ensures.bytes
+    (ap (λ (s : Session). s.asked) c.put.ensures)
+    (begun_put config alone old now was.me c.take-count.new.self front begun.result.0 was session begun.result.1
+    c.args.out.now.items begun.new.out.items c.take-count.ensures.bytes c.put.ensures begun.ensures.begun)
+    (subst (λ (s : Session). TellsBehind sends_head c.take-count.new.self begun.result.1 s.ended) (sym c.put.ensures)
+    begun.ensures.asks)))
 
 pub returns-clause-asks_on : goal.returns-clause-asks_on
 returns-clause-asks_on g c = λ opening text tells.
