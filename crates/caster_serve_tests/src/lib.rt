@@ -32,5 +32,3 @@ mod street_tests;
 mod telling;
 #[cfg(test)]
 mod thread_tests;
-#[cfg(test)]
-mod timed;

@@ -7,7 +7,6 @@ use crate::fakes::{door_with, link_of};
 use crate::one_caller::{serve_as, work_at};
 use crate::setting::{ADDRESS, FRAME_A, FRAMES_AB, ROVER_ALPHA, SOURCE_ALPHA};
 use crate::thread_tests::{NONE, timed_door};
-use crate::timed::{Stop, TimedLink, TimedStreet};
 use cast_config::read_config;
 use cast_io::{Arrived, Door, MemDoor, MemLink};
 use caster_serve::{Role, serve};
@@ -17,6 +16,7 @@ use std::sync::atomic::AtomicBool;
 use std::test::Fail;
 use std::thread::Threads;
 use std::time::Clock;
+use timed_io::{Stop, TimedLink, TimedStreet};
 
 // Two workers, and a ring that holds more frames than a turn takes.
 const FILE: &[u8] = b"version = 1

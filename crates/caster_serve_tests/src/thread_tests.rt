@@ -3,7 +3,6 @@
 use crate::casting::{Answer, cast, is_closed, mount, sum};
 use crate::fakes::{Failing, failing_link, link_of};
 use crate::setting::{ICY, ROVER_ALPHA, ROVER_BRAVO, SOURCE_ALPHA};
-use crate::timed::{Stop, TimedDoor, TimedLink, TimedStreet};
 use cast_io::MemLink;
 use caster_accounts::Sum;
 use std::alloc::Global;
@@ -12,6 +11,7 @@ use std::sync::atomic::AtomicBool;
 use std::test::Fail;
 use std::thread::Threads;
 use std::time::Clock;
+use timed_io::{Stop, TimedDoor, TimedLink, TimedStreet};
 
 /// No flag.
 pub(crate) const NONE: usize = 2;

@@ -1,6 +1,6 @@
 //! The caster that connections are tried at, and what is wanted of them.
 
-ghost use Rattle.std.specs.Prelude.{◌≡◌, ◌≤◌, ℕ, IfOk, map};
+ghost use Rattle.std.specs.Prelude.{◌≡◌, ◌≤◌, ℕ, IfOk, length, map};
 ghost use Rattle.cast_config.specs.Kept.{KeepsRules};
 ghost use Rattle.session_model.specs.Setting.{anonymous_cap, caps, shapes};
 ghost use Rattle.session_model.specs.Setting as setting;
@@ -76,6 +76,9 @@ pub(crate) const ROVER: &[u8] =
 
 /// What a source and a rover of NTRIP 1.0 are told that are let in.
 pub(crate) const ICY: &[u8] = b"ICY 200 OK\r\n\r\n";
+
+/// The rings and the book of the caster.
+type AllPlaces = Places<Tired<Desk<Ring>>, Tired<Desk<Book>>>;
 
 /// Which turn is refused at the ring of ALPHA and which at the book, counted from 0.
 #[derive(Clone, Copy)]
@@ -200,6 +203,43 @@ fn book_place(alloc: Global, config: &Config, refused: u64) -> Result<Tired<Desk
     Ok(Tired::new(Desk::new(book), refused, BOOK_WORN))
 }
 
+/// The places of a configuration, of which the first ring and the book refuse these turns.
+fn places_of(alloc: Global, config: &Config, refused: Refused) -> Result<AllPlaces, AllocError>
+    requires { (cap : ℕ) × KeepsRules cap config.now }
+    ensures rings { IfOk result (λ places. map ⟦<Tired<Desk<Ring>> as Turns<Ring>>⟧.shape
+        places.rings.items ≡ shapes config.now) }
+    ensures book { IfOk result (λ places. ⟦<Tired<Desk<Book>> as Turns<Book>>⟧.shape places.book
+        ≡ caps config.now) }
+{
+    let rings = ring_places(alloc, config, refused.ring)?;
+    let book = book_place(alloc, config, refused.book)?;
+    Ok(Places { rings, book })
+}
+
+/// What became of two connections at these places of a configuration, of which the first starts so
+/// and the second sends a head.
+fn served_at(
+    alloc: Global,
+    config: &Config,
+    how: Start,
+    script: &[(Who, Act)],
+    last: Last,
+    places: &mut AllPlaces,
+) -> Result<(Told, Told), Fail>
+    requires kept { (cap : ℕ) × KeepsRules cap config.now }
+    requires relay { 1 ≤ length config.now.relay }
+    requires rings { map ⟦<Tired<Desk<Ring>> as Turns<Ring>>⟧.shape places.old.rings.items
+        ≡ shapes config.now }
+    requires book { ⟦<Tired<Desk<Book>> as Turns<Book>>⟧.shape places.old.book
+        ≡ caps config.now }
+{
+    let table = table_text(alloc, config)?;
+    let second = start_head(alloc, 2)?;
+    let first = start_as(alloc, config, 1, how, places)?;
+    let two = Two { first, second };
+    Ok(serve_two(config, &table, two, script, last, places))
+}
+
 /// What became of two connections at the caster, of which the first starts so and the second sends
 /// a head.
 pub(crate) fn served(
@@ -213,16 +253,8 @@ pub(crate) fn served(
     if config.relay.as_slice().is_empty() {
         return Err(Fail::from("no relay"));
     }
-    let table = table_text(alloc, &config)?;
-    let mut places = Places {
-        rings: ring_places(alloc, &config, refused.ring)?,
-        book: book_place(alloc, &config, refused.book)?,
-    };
-    let two = Two {
-        first: start_as(alloc, &config, 1, how, &mut places)?,
-        second: start_head(alloc, 2)?,
-    };
-    Ok(serve_two(&config, &table, two, script, last, &mut places))
+    let mut places = places_of(alloc, &config, refused)?;
+    served_at(alloc, &config, how, script, last, &mut places)
 }
 
 /// How a connection ended, its junk, whether it entered its account and holds nothing in the end,

@@ -9,6 +9,7 @@ use crate::{Act, Start, Who};
 use cast_text::MountName;
 use session_core::{Bare, Ending, Last};
 use std::alloc::Global;
+use std::process::Abort;
 use std::test::Fail;
 
 const BAD: &[u8] = b"HTTP/1.1 400 Bad Request\r
@@ -325,14 +326,24 @@ fn faults_end_what_goes_on(rt: HostRuntime) -> Result<(), Fail> {
     Ok(())
 }
 
+/// A connection without head at the mountpoint of this name, to which a frame comes, came to what
+/// was wanted.
+fn expect_bare(
+    rt: &impl Abort,
+    alloc: Global,
+    role: Bare,
+    name: &[u8],
+    wanted: Wanted,
+) -> Result<(), Fail> {
+    let mount = MountName::new(alloc, name)?;
+    let how = Start::Bare(role, &mount);
+    expect_closed(rt, alloc, how, &[FRAME_A], Last::End, wanted)
+}
+
 // ALPHA has a password, which a bare source is not asked for; BRAVO may be heard without
 // credentials.
 #[test]
 fn bare_connections_are_sent_no_reply(rt: HostRuntime) -> Result<(), Fail> {
-    let alloc = rt.alloc();
-    let alpha = MountName::new(alloc, b"ALPHA")?;
-    let bravo = MountName::new(alloc, b"BRAVO")?;
-    let charlie = MountName::new(alloc, b"CHARLIE")?;
     let claimed = ends(Ending::SourceEnd { claim: 1 }, b"");
     let with_password = ends(Ending::SourceEnd { claim: 1 }, b"");
     let refused = ends(Ending::NoMount, b"");
@@ -341,15 +352,14 @@ fn bare_connections_are_sent_no_reply(rt: HostRuntime) -> Result<(), Fail> {
         ..ends(Ending::RoverEnd, b"")
     };
     let denied = ends(Ending::Denied { group: 1 }, b"");
-    for (role, mount, wanted) in [
-        (Bare::Source, &bravo, claimed),
-        (Bare::Source, &alpha, with_password),
-        (Bare::Source, &charlie, refused),
-        (Bare::Rover, &bravo, entered),
-        (Bare::Rover, &alpha, denied),
+    for (role, name, wanted) in [
+        (Bare::Source, b"BRAVO".as_slice(), claimed),
+        (Bare::Source, b"ALPHA", with_password),
+        (Bare::Source, b"CHARLIE", refused),
+        (Bare::Rover, b"BRAVO", entered),
+        (Bare::Rover, b"ALPHA", denied),
     ] {
-        let how = Start::Bare(role, mount);
-        expect_closed(&rt, alloc, how, &[FRAME_A], Last::End, wanted)?;
+        expect_bare(&rt, rt.alloc(), role, name, wanted)?;
     }
     Ok(())
 }

@@ -1,5 +1,5 @@
 //! Stations at desks, by their public calls.
-ghost use Rattle.std.specs.Prelude.{◌<◌, [], length, IsTrue, IfOk, OnOk};
+ghost use Rattle.std.specs.Prelude.{◌≡◌, ◌<◌, [], length, IsTrue, IfOk, OnOk};
 ghost use Rattle.mount_ring.specs.History.{state_of, is_holder};
 ghost use Rattle.turn_log.specs.Turn.{SamePlace};
 
@@ -7,7 +7,6 @@ use last_frames::{Hall, Station, StationPlace};
 use mount_ring::{Outbox, Ring, RingAnswer, RingCall};
 use rtcm_frame::Frame;
 use std::alloc::Global;
-use std::process::Abort;
 use std::test::Fail;
 use turn_log::{Desk, Played, TurnFault, Turns};
 use type_filter::{Filter, Filters};
@@ -108,19 +107,33 @@ pub(crate) fn new_station(alloc: Global, filter: Filter) -> Result<Station, Fail
     Ok(Station::new(alloc, 2, &Filters::new(list))?)
 }
 
+/// These frames are published at a new place, and one joins.
+fn publish_and_join(place: &mut StationPlace<Desk<Station>>, frames: &[[u8; 8]]) -> Result<(), Fail>
+    requires filter { 0 < length (⟦<StationPlace<Desk<Station>> as Turns<Ring>>⟧.shape
+        place.old).filters }
+    ensures filter { 0 < length (⟦<StationPlace<Desk<Station>> as Turns<Ring>>⟧.shape
+        place.new).filters }
+{
+    publish_all(place, 1, frames)?;
+    if place.greeting().is_some() {
+        return Err("a greeting before a Join".into());
+    }
+    join_first(place, 2)?;
+    Ok(())
+}
+
 /// A place at such a station, at which these frames were published and one joined.
 fn joined_place(
     alloc: Global,
     filter: Filter,
     frames: &[[u8; 8]],
-) -> Result<StationPlace<Desk<Station>>, Fail> {
+) -> Result<StationPlace<Desk<Station>>, Fail>
+    ensures filter { IfOk result (λ place.
+        0 < length (⟦<StationPlace<Desk<Station>> as Turns<Ring>>⟧.shape place).filters) }
+{
     let station = new_station(alloc, filter)?;
     let mut place = StationPlace::new(Desk::new(station));
-    publish_all(&mut place, 1, frames)?;
-    if place.greeting().is_some() {
-        return Err("a greeting before a Join".into());
-    }
-    join_first(&mut place, 2)?;
+    publish_and_join(&mut place, frames)?;
     Ok(place)
 }
 
@@ -130,30 +143,32 @@ const ALL: [[u8; 8]; 10] = [
     FRAME_1077, FRAME_1077,
 ];
 
-/// The greeting at a place.
-fn greeting_of(alloc: Global, place: &StationPlace<Desk<Station>>) -> Result<Vec<Frame>, Fail> {
-    let greeting = place.greeting().ok_or("nobody joined")?;
-    Ok(Vec::from_slice(alloc, greeting)?)
-}
-
-/// The greeting of one who joins such a station once these frames were published.
-fn greeted(alloc: Global, filter: Filter, frames: &[[u8; 8]]) -> Result<Vec<Frame>, Fail> {
-    greeting_of(alloc, &joined_place(alloc, filter, frames)?)
-}
-
-/// A greeting has these frames.
-fn expect_greeting(
-    rt: &impl Abort,
-    alloc: Global,
-    greeting: &[Frame],
-    frames: &[[u8; 8]],
-) -> Result<(), Fail> {
-    let mut wanted = Vec::new(alloc);
-    for bytes in frames {
-        wanted.push(Frame::of(bytes).ok_or("no frame")?)?;
+/// The greeting at a place has these frames. Where nobody joined there is none.
+fn greets(place: &StationPlace<Desk<Station>>, frames: &[Frame]) -> bool {
+    match place.greeting() {
+        Some(greeting) => greeting == frames,
+        None => false,
     }
-    assert_eq!(rt; greeting, wanted.as_slice());
-    Ok(())
+}
+
+/// These frames.
+fn frames_of(alloc: Global, list: &[[u8; 8]]) -> Result<Vec<Frame>, Fail> {
+    let mut frames = Vec::new(alloc);
+    for bytes in list {
+        frames.push(Frame::of(bytes).ok_or("no frame")?)?;
+    }
+    Ok(frames)
+}
+
+/// One who joins such a station once these frames were published is greeted by these ones.
+fn is_greeted(
+    alloc: Global,
+    filter: Filter,
+    published: &[[u8; 8]],
+    greeting: &[[u8; 8]],
+) -> Result<bool, Fail> {
+    let wanted = frames_of(alloc, greeting)?;
+    Ok(greets(&joined_place(alloc, filter, published)?, &wanted))
 }
 
 // The last frame of each number that stations are known by.
@@ -163,35 +178,42 @@ const LAST: [[u8; 8]; 6] = [
 
 #[test]
 fn one_who_joins_is_greeted_by_the_last_frame_of_each_number(rt: HostRuntime) -> Result<(), Fail> {
-    let greeting = greeted(rt.alloc(), Filter::all(), &ALL)?;
-    expect_greeting(&rt, rt.alloc(), &greeting, &LAST)
+    assert!(rt; is_greeted(rt.alloc(), Filter::all(), &ALL, &LAST)?);
+    Ok(())
 }
 
 #[test]
 fn the_filter_permits_some_of_the_greeting(rt: HostRuntime) -> Result<(), Fail> {
     let filter = Filter::list(rt.alloc(), &[1077, 1230, 1005])?;
-    let greeting = greeted(rt.alloc(), filter, &ALL)?;
-    expect_greeting(&rt, rt.alloc(), &greeting, &[LATER_1005, FRAME_1230])
+    assert!(rt; is_greeted(rt.alloc(), filter, &ALL, &[LATER_1005, FRAME_1230])?);
+    Ok(())
 }
 
-/// The greeting at a place behind the look of another caller, whether there is one once it was
-/// cleared, and the greeting behind one more join.
-fn greetings(alloc: Global) -> Result<(Vec<Frame>, bool, Vec<Frame>), Fail> {
-    let mut place = joined_place(alloc, Filter::all(), &[FRAME_1077, FRAME_1005])?;
+/// Whether the greeting at a place is this frame behind the look of another caller, whether there
+/// is one once it was cleared, and whether it is this frame again behind one more join.
+fn greetings(place: &mut StationPlace<Desk<Station>>, frame: Frame) -> Result<[bool; 3], TurnFault>
+    requires filter { 0 < length (⟦<StationPlace<Desk<Station>> as Turns<Ring>>⟧.shape
+        place.old).filters }
+{
     place.turn(3, RingCall::Look, &mut Outbox::new())?;
-    let before = greeting_of(alloc, &place)?;
+    let before = greets(place, &[frame]);
     place.clear();
     let is_greeted = place.greeting().is_some();
-    join_first(&mut place, 2)?;
-    Ok((before, is_greeted, greeting_of(alloc, &place)?))
+    join_first(place, 2)?;
+    Ok([before, is_greeted, greets(place, &[frame])])
+}
+
+/// The same of a new place at which this frame was published last, and one joined.
+fn new_greetings(alloc: Global, frame: Frame) -> Result<[bool; 3], Fail> {
+    let mut place = joined_place(alloc, Filter::all(), &[FRAME_1077, FRAME_1005])?;
+    Ok(greetings(&mut place, frame)?)
 }
 
 #[test]
 fn a_greeting_stands_until_it_is_cleared(rt: HostRuntime) -> Result<(), Fail> {
-    let (before, is_greeted, behind) = greetings(rt.alloc())?;
-    assert!(rt; !is_greeted);
-    expect_greeting(&rt, rt.alloc(), &before, &[FRAME_1005])?;
-    expect_greeting(&rt, rt.alloc(), &behind, &[FRAME_1005])
+    let frame = Frame::of(&FRAME_1005).ok_or("no frame")?;
+    assert!(rt; new_greetings(rt.alloc(), frame)? == [true, false, true]);
+    Ok(())
 }
 
 /// How many frames were published at the station that a place gives back.
@@ -207,47 +229,44 @@ fn a_place_gives_its_station_back(rt: HostRuntime) -> Result<(), Fail> {
     Ok(())
 }
 
-/// The frames that a hall has.
-#[derive(Drop)]
-struct Frames {
-    read: Vec<Frame>,
-    greeting: Vec<Frame>,
+/// At a new station itself caller 2 joins, caller 1 publishes a frame, and caller 2 reads it.
+fn read_new(desk: &mut Desk<Station>, hall: &mut Hall, frame: Frame) -> Result<(), Fail>
+    requires new { ⟦<Desk<Station> as Turns<Station>>⟧.seen desk.old ≡ [] }
+    requires filter { 0 < length (⟦<Desk<Station> as Turns<Station>>⟧.shape desk.old).filters }
+    ensures shape { ⟦<Desk<Station> as Turns<Station>>⟧.shape desk.new
+        ≡ ⟦<Desk<Station> as Turns<Station>>⟧.shape desk.old }
+{
+    let RingAnswer::Joined(cursor) = desk.turn(2, RingCall::Join(0), hall)? else {
+        unreachable!();
+    };
+    let RingAnswer::Given(claim) = desk.turn(1, RingCall::Claim, hall)? else {
+        unreachable!();
+    };
+    desk.turn(1, RingCall::Publish(claim, frame), hall)?;
+    desk.turn(2, RingCall::Read { cursor, budget: 16 }, hall)?;
+    Ok(())
 }
 
-/// The frames that a hall has.
-fn frames_in(alloc: Global, hall: &Hall) -> Result<Frames, Fail> {
-    Ok(Frames {
-        read: Vec::from_slice(alloc, hall.outbox().frames())?,
-        greeting: Vec::from_slice(alloc, hall.greeting())?,
-    })
+/// The frames of a hall that were read are these, and so are those of its greeting.
+fn has(hall: &Hall, read: &[Frame], greeting: &[Frame]) -> bool {
+    hall.outbox().frames() == read && hall.greeting() == greeting
 }
 
-/// At a station itself caller 2 joins, caller 1 publishes a frame, and caller 2 reads it and joins
-/// again: what its hall has before it joins again and behind.
-fn hall_frames(alloc: Global, frame: Frame) -> Result<(Frames, Frames), Fail> {
+/// Whether the hall has what was read and no more before caller 2 joins again, and behind that the
+/// same and the greeting.
+fn hall_has(alloc: Global, frame: Frame) -> Result<[bool; 2], Fail> {
     let mut desk = Desk::new(new_station(alloc, Filter::all())?);
     let mut hall = Hall::new();
-    let RingAnswer::Joined(cursor) = desk.turn(2, RingCall::Join(0), &mut hall)? else {
-        unreachable!();
-    };
-    let RingAnswer::Given(claim) = desk.turn(1, RingCall::Claim, &mut hall)? else {
-        unreachable!();
-    };
-    desk.turn(1, RingCall::Publish(claim, frame), &mut hall)?;
-    desk.turn(2, RingCall::Read { cursor, budget: 16 }, &mut hall)?;
-    let before = frames_in(alloc, &hall)?;
+    read_new(&mut desk, &mut hall, frame)?;
+    let before = has(&hall, &[frame], &[]);
     desk.turn(2, RingCall::Join(0), &mut hall)?;
-    Ok((before, frames_in(alloc, &hall)?))
+    Ok([before, has(&hall, &[frame], &[frame])])
 }
 
 #[test]
 fn a_hall_has_what_was_read_and_the_greeting(rt: HostRuntime) -> Result<(), Fail> {
     let frame = Frame::of(&FRAME_1005).ok_or("no frame")?;
-    let (before, behind) = hall_frames(rt.alloc(), frame)?;
-    assert!(rt; before.greeting.is_empty());
-    for read in [&before.read, &behind.read, &behind.greeting] {
-        assert_eq!(rt; read.as_slice(), [frame].as_slice());
-    }
+    assert!(rt; hall_has(rt.alloc(), frame)? == [true, true]);
     Ok(())
 }
 

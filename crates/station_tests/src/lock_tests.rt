@@ -12,7 +12,7 @@ use std::alloc::Global;
 use std::sync::Wait;
 use std::test::Fail;
 use std::thread::{Threads, join};
-use turn_log::{Pass, Turn, Turns};
+use turn_log::{Pass, Turn, TurnFault, Turns};
 use type_filter::Filter;
 
 /// Publishes a frame with this pass.
@@ -48,14 +48,14 @@ fn look_at<R: Wait + Sync>(
     seat.leave()
 }
 
-/// Joins with this pass, and gives the greeting.
-fn greeting_at<R: Wait + Sync>(
-    alloc: Global,
+/// Joins with this pass, and tells whether the greeting is this frame.
+fn is_greeted<R: Wait + Sync>(
     turn: &Turn<Station>,
     rt: &R,
     pass: Pass<Station>,
     me: u32,
-) -> Result<Vec<Frame>, Fail>
+    frame: Frame,
+) -> Result<bool, TurnFault>
     requires pass { IsPassOf pass turn.now }
     requires me { (me == pass_number pass) ≡ true }
     requires filter { 0 < length (ring_shape (turn_value turn.now).ring).filters }
@@ -63,8 +63,8 @@ fn greeting_at<R: Wait + Sync>(
     let mut place = StationPlace::new(turn.seat(rt, pass));
     join_first(&mut place, me)?;
     match place.greeting() {
-        Some(frames) => Ok(Vec::from_slice(alloc, frames)?),
-        None => Err("nobody joined".into()),
+        Some(frames) => Ok(frames == [frame].as_slice()),
+        None => Ok(false),
     }
 }
 
@@ -92,15 +92,15 @@ fn publish_beside<R: Threads + Wait + Sync>(
     )
 }
 
-/// The second pass is told of what the first published, and joins: its greeting.
+/// The second pass is told of the frame that the first published, and joins: whether it is greeted
+/// by that frame.
 fn tell<R: Threads + Wait + Sync>(
-    alloc: Global,
     turn: &Turn<Station>,
     rt: &R,
     first: Pass<Station>,
     second: Pass<Station>,
     frame: Frame,
-) -> Result<Vec<Frame>, Fail>
+) -> Result<bool, Fail>
     requires first { IsPassOf first turn.now × (pass_number first ≡ 0) }
     requires second { IsPassOf second turn.now × (pass_number second ≡ 1) }
     requires filter { 0 < length (ring_shape (turn_value turn.now).ring).filters }
@@ -109,7 +109,7 @@ fn tell<R: Threads + Wait + Sync>(
     let mut first = first?;
     let note = turn.note(&mut first);
     turn.meet(&mut second, note);
-    greeting_at(alloc, turn, rt, second, 1)
+    Ok(is_greeted(turn, rt, second, 1, frame)?)
 }
 
 /// A lock of a station that permits every frame, with two passes.
@@ -132,21 +132,16 @@ fn open_two(alloc: Global) -> Result<(Turn<Station>, Pass<Station>, Pass<Station
     Ok((turn, first, second))
 }
 
-/// The greeting of the second pass, which met the note that the first wrote once it had published a
-/// frame.
-fn told_greeting<R: Threads + Wait + Sync>(
-    alloc: Global,
-    rt: &R,
-    frame: Frame,
-) -> Result<Vec<Frame>, Fail> {
+/// Whether the second pass, which met the note that the first wrote once it had published a frame,
+/// is greeted by that frame.
+fn is_told<R: Threads + Wait + Sync>(alloc: Global, rt: &R, frame: Frame) -> Result<bool, Fail> {
     let (turn, first, second) = open_two(alloc)?;
-    tell(alloc, &turn, rt, first, second, frame)
+    tell(&turn, rt, first, second, frame)
 }
 
 #[test]
 fn who_met_a_note_is_greeted_by_what_its_writer_published(rt: HostRuntime) -> Result<(), Fail> {
     let frame = Frame::of(&FRAME_1005).ok_or("no frame")?;
-    let greeting = told_greeting(rt.alloc(), &rt, frame)?;
-    assert_eq!(rt; greeting.as_slice(), [frame].as_slice());
+    assert!(rt; is_told(rt.alloc(), &rt, frame)?);
     Ok(())
 }

@@ -8,7 +8,7 @@ use caster_replay::replay;
 use caster_warm::warm;
 use session_core::Report;
 use session_script::{Event, ScriptKind, parse};
-use std::alloc::Global;
+use std::alloc::{AllocError, Global};
 use std::process::Abort;
 use std::test::Fail;
 
@@ -52,31 +52,44 @@ group = \"survey\"
 cap = 8
 ";
 
+/// Appends the bytes of a character of a text, in which `|` is a line's end, CR LF, and `^` is LF
+/// alone.
+fn push_character(bytes: &mut Vec<u8>, byte: u8) -> Result<(), AllocError> {
+    match byte {
+        b'|' => bytes.extend_from_slice(b"\r\n"),
+        b'^' => bytes.extend_from_slice(b"\n"),
+        other => bytes.extend_from_slice(&[other]),
+    }
+}
+
+/// The bytes of such a text.
+fn bytes_of(alloc: Global, text: &str) -> Result<Vec<u8>, AllocError> {
+    let mut bytes = Vec::new(alloc);
+    for byte in text.bytes() {
+        push_character(&mut bytes, byte)?;
+    }
+    Ok(bytes)
+}
+
+/// Appends these pieces, and a line's end.
+fn push_pieces(script: &mut Vec<u8>, pieces: &[&str]) -> Result<(), AllocError> {
+    for piece in pieces {
+        script.extend_from_slice(piece.as_bytes())?;
+    }
+    script.extend_from_slice(b"\n")
+}
+
 /// Appends a line of a script. A line `text K TEXT` stands for the line `in K` with the bytes of
-/// that text, in which `|` is a line's end, CR LF, and `^` is LF alone.
-fn push_line(alloc: Global, script: &mut Vec<u8>, line: &str) -> Result<(), Fail> {
+/// that text.
+fn push_line(alloc: Global, script: &mut Vec<u8>, line: &str) -> Result<(), AllocError> {
     let Some((number, text)) = line
         .strip_prefix("text ")
         .and_then(|line| line.split_once(' '))
     else {
-        script.extend_from_slice(line.as_bytes())?;
-        script.push(b'\n')?;
-        return Ok(());
+        return push_pieces(script, &[line]);
     };
-    let mut bytes = Vec::new(alloc);
-    for byte in text.bytes() {
-        match byte {
-            b'|' => bytes.extend_from_slice(b"\r\n")?,
-            b'^' => bytes.push(b'\n')?,
-            other => bytes.push(other)?,
-        }
-    }
-    script.extend_from_slice(b"in ")?;
-    script.extend_from_slice(number.as_bytes())?;
-    script.push(b' ')?;
-    script.extend_from_slice(hex::encode(alloc, &bytes)?.as_bytes())?;
-    script.push(b'\n')?;
-    Ok(())
+    let digits = hex::encode(alloc, bytes_of(alloc, text)?)?;
+    push_pieces(script, &["in ", number, " ", &digits])
 }
 
 /// The events of a script of these lines.
@@ -111,20 +124,18 @@ fn heard_in(alloc: Global, report: &Report, place: usize) -> Result<Heard, Fail>
     Ok((hex::encode(alloc, body)?, last))
 }
 
-/// The same of a run without greetings of these lines.
-fn heard_plain(alloc: Global, lines: &str, place: usize) -> Result<Heard, Fail> {
+/// The report of a run without greetings of these lines.
+fn plain_report(alloc: Global, lines: &str) -> Result<Report, Fail> {
     let config = read_config(alloc, CONFIG)?;
     let events = events_of(alloc, lines)?;
-    let report = replay(alloc, &config, &events)?;
-    heard_in(alloc, &report, place)
+    Ok(replay(alloc, &config, &events)?)
 }
 
-/// The same of a run with greetings of these lines.
-fn heard_warm(alloc: Global, lines: &str, place: usize) -> Result<Heard, Fail> {
+/// The report of a run with greetings of these lines.
+fn warm_report(alloc: Global, lines: &str) -> Result<Report, Fail> {
     let config = read_config(alloc, CONFIG)?;
     let events = events_of(alloc, lines)?;
-    let report = warm(alloc, &config, &events)?;
-    heard_in(alloc, &report, place)
+    Ok(warm(alloc, &config, &events)?)
 }
 
 /// A rover was sent these bytes and ended with this segment.
@@ -133,7 +144,7 @@ fn expect_heard(rt: &impl Abort, heard: &Heard, digits: &str, last: [u64; 4]) {
     assert!(rt; heard.1 == last);
 }
 
-/// The same of a run with greetings of these lines.
+/// The same of the rover at this place of a run with greetings of these lines.
 fn expect_warm(
     rt: &impl Abort,
     alloc: Global,
@@ -142,7 +153,8 @@ fn expect_warm(
     digits: &str,
     last: [u64; 4],
 ) -> Result<(), Fail> {
-    expect_heard(rt, &heard_warm(alloc, lines, place)?, digits, last);
+    let heard = heard_in(alloc, &warm_report(alloc, lines)?, place)?;
+    expect_heard(rt, &heard, digits, last);
     Ok(())
 }
 
@@ -166,7 +178,7 @@ fn a_rover_is_greeted_before_its_frames(rt: HostRuntime) -> Result<(), Fail> {
 
 #[test]
 fn the_same_run_without_greetings_sends_the_frames_alone(rt: HostRuntime) -> Result<(), Fail> {
-    let heard = heard_plain(rt.alloc(), JOINS_LATE, 1)?;
+    let heard = heard_in(rt.alloc(), &plain_report(rt.alloc(), JOINS_LATE)?, 1)?;
     expect_heard(&rt, &heard, "d3000047ea4b", [2, 3, 1, 0]);
     Ok(())
 }

@@ -2,8 +2,8 @@
 use Rattle.std.proofs.Common.{◌∙◌}
 use Rattle.station_tests.proofs.lock_tests.tell.Goals as goal
 
-pub greeting_at-requires-clause-pass : goal.greeting_at-requires-clause-pass
-greeting_at-requires-clause-pass g c κs within =
+pub is_greeted-requires-clause-pass : goal.is_greeted-requires-clause-pass
+is_greeted-requires-clause-pass g c κs within =
     let same = c.meet.ensures.same in
     let is = c.publish_beside-first.ensures.second.here in
     (same.2 ∙ is.0, (is.1.0, same.3 ∙ is.1.1, is.1.2))

@@ -4,7 +4,7 @@ use Rattle.session_script.specs.declared.Event.{Event}
 use Rattle.session_script.specs.declared.ScriptKind.TheVariants.{Replay}
 use Rattle.session_script.specs.Script.{IsSession}
 use Rattle.caster_replay.specs.Scripts.{IsShort}
-use Rattle.station_tests.proofs.warm_tests.heard_plain.Goals as goal
+use Rattle.station_tests.proofs.warm_tests.plain_report.Goals as goal
 
 pub replay-requires-clause-script : goal.replay-requires-clause-script
 replay-requires-clause-script c = (

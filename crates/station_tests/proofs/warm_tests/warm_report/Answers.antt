@@ -4,7 +4,7 @@ use Rattle.session_script.specs.declared.Event.{Event}
 use Rattle.session_script.specs.declared.ScriptKind.TheVariants.{Replay}
 use Rattle.session_script.specs.Script.{IsSession}
 use Rattle.caster_replay.specs.Scripts.{IsShort}
-use Rattle.station_tests.proofs.warm_tests.heard_warm.Goals as goal
+use Rattle.station_tests.proofs.warm_tests.warm_report.Goals as goal
 
 pub warm-requires-clause-script : goal.warm-requires-clause-script
 warm-requires-clause-script c = (

@@ -1,6 +1,7 @@
--- What links, doors and streets tell of themselves that tell nothing but how often they failed.
+-- What fakes tell of themselves that tell nothing but how often they failed.
 use Rattle.std.specs.Prelude.{ℕ, None}
 use Rattle.cast_io.specs.Told.{LinkTold, DoorTold, StreetTold}
+use Rattle.cast_io.specs.Yards.{YardTold}
 
 -- a link that failed so often
 abbrev pub counted_link : ℕ → LinkTold
@@ -15,3 +16,8 @@ untold_door = record { left = None; back = None; faults = 0 }
 abbrev pub counted_street : ℕ → StreetTold
 counted_street count =
     record { asked = None; doors = None; links = None; faults = 0; link_faults = count }
+
+-- a yard that never fails, to which notes came back so often that did
+abbrev pub counted_yard : ℕ → YardTold
+counted_yard count =
+    record { asked = None; gates = None; notes = None; faults = 0; note_faults = count }
