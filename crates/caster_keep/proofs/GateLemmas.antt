@@ -75,10 +75,6 @@ asked_one wanted a b one = record {
   note_faults = one.note_faults;
 }
 
-pub asked_none : (a : YardTold) → HasAsked [] a a
-asked_none a =
-    record { asked = grew_none a.asked; gates = refl; notes = refl; later = omega arith; note_faults = refl }
-
 pub asked_both : (xs ys : List YardAsked) (a b c : YardTold) → HasAsked xs a b → HasAsked ys b c
     → HasAsked (xs ++ ys) a c
 asked_both xs ys a b c first second = record {

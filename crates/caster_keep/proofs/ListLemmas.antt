@@ -2,14 +2,7 @@
 use Rattle.std.proofs.Common.{◌≡◌, ◌∙◌, ◌++◌, List, [], ◌∷◌, map, sym, ap, append_assoc}
 use Rattle.std.proofs.lemmas.List.{map-append}
 
--- the last of a list came behind those before it
-pub last_behind : {X Y : Type 0} (f : X → Y) (front all : List X) (last : X) (old mid new : List Y)
-    → all ≡ front ++ last ∷ [] → mid ≡ old ++ map f front → new ≡ mid ++ f last ∷ [] → new ≡ old ++ map f all
-last_behind f front all last old mid new split before behind =
-    behind ∙ ap (λ l. l ++ f last ∷ []) before ∙ append_assoc old (map f front) (f last ∷ [])
-    ∙ ap (λ l. old ++ l) (sym (map-append f front (last ∷ [])) ∙ ap (map f) (sym split))
-
--- the same of a list that is told of as what is told of another
+-- the last of a list came behind those before it, told of as what is told of another list
 pub last_told : {X Y Z W : Type 0} (g : X → W) (f : W → Z) (tell : Y → Z) (front all : List X) (last : X)
     (old mid new : List Y) (y : Y) → all ≡ front ++ last ∷ [] → map tell mid ≡ map tell old ++ map f (map g front)
     → new ≡ mid ++ y ∷ [] → tell y ≡ f (g last) → map tell new ≡ map tell old ++ map f (map g all)

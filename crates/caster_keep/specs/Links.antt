@@ -180,9 +180,8 @@ ArePutBehind begun whole by texts old new = (first : List ℕ) (sheet : History 
 
 -- A link that its gate had given came back to it behind its connection, which was served to its
 -- receipt, asked what is told of it, and held this before it was closed; the tally counts the
--- receipt. The link is the one of
--- this number, its peer was told so, and all of its lines were put, or some first ones of them and
--- not all.
+-- receipt. The link is the one of this number, its peer was told so, and all of its lines were put,
+-- or some first ones of them and not all.
 pub record LinkKept (c : Config) (role : Role) (me count : ℕ) (wear : Wear) (start now : Histories)
     (given : LinkTold) (peer : List ℕ) (before after : DoorTold) (old new : Sum)
     (by : ℕ) (sheet later : History Line) (whole : Bool) : Type 0 where

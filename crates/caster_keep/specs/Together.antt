@@ -78,9 +78,9 @@ pub record IsToldBy {G : Type 0} (told : KeeperTold G) (keeper : Keeper G) : Typ
   pub tally : keeper.tally ≡ told.tally
   pub stop : keeper.stop ≡ Some told.stop
 
--- All keepers kept serving from these gates on, and left the locks, with the passes of all in the piles of their locks.
--- Their lines are those of one history, which was written from this start on, or torn. What they
--- were refused was refused as worn as these passes met the locks.
+-- All keepers kept serving from these gates on, and left the locks, with the passes of all in the
+-- piles of their locks. Their lines are those of one history, which was written from this start on,
+-- or torn. What they were refused was refused as worn as these passes met the locks.
 pub record HaveWorked {G : Type 0} (door : G → DoorTold) (over : G → Bool) (peer : G → List ℕ)
     (shared : Shared) (start : Start) (torn : Bool) (notes : NotesTold)
     (firsts : List G) (keepers : List (Keeper G)) (piles : Piles) : Type 0 where

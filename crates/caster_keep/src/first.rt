@@ -9,6 +9,7 @@ ghost use Rattle.session_core.specs.declared.asked.Asked.{Asked as AskedValue};
 ghost use Rattle.session_core.specs.declared.held.Held.{Held as HeldValue};
 ghost use Rattle.session_core.specs.Asking.{AsksOn};
 ghost use Rattle.session_core.specs.Holding.{HoldsOn, IsHolding};
+ghost use Rattle.session_core.specs.States.{session_holding};
 ghost use Rattle.caster_press.specs.declared.line.Line.{Line as LineValue};
 ghost use Rattle.caster_press.specs.Lines.{text_of};
 ghost use Rattle.caster_press.specs.Places.{IsSamePlace};
@@ -22,7 +23,7 @@ use cast_text::Text;
 use caster_link::Role;
 use caster_press::{AtPress, Line, Worn};
 use keep_lines::{Asks, Entered, LinkNumber, Peer, Wants, Who, asks_line, entered_line, link_line};
-use session_core::{Asked, Held};
+use session_core::{Asked, Held, Session};
 
 /// Who tells of which link.
 #[derive(Clone, Copy)]
@@ -92,7 +93,7 @@ fn asked_line(number: LinkNumber, asked: &Asked) -> Line
 ///
 /// # Errors
 /// Where a line of the link could not be put, this one or one before it.
-pub(crate) fn tell_asked<P: AtPress>(
+fn tell_asked<P: AtPress>(
     place: &mut P,
     teller: Teller,
     was_told: bool,
@@ -147,7 +148,7 @@ fn entered_of(held: Held) -> Option<Entered>
 ///
 /// # Errors
 /// Where a line of the link could not be put, this one or one before it.
-pub(crate) fn tell_entered<P: AtPress>(
+fn tell_entered<P: AtPress>(
     place: &mut P,
     config: &Config,
     teller: Teller,
@@ -173,6 +174,51 @@ pub(crate) fn tell_entered<P: AtPress>(
         return Ok(());
     };
     place.put(teller.by, &entered_line(config, teller.number, entered))
+}
+
+/// What was told of a connection: whether what its head asks, what it held then, and whether all
+/// lines of its link were put so far.
+#[derive(Drop)]
+pub(crate) struct Told {
+    pub is_asked: bool,
+    pub held: Held,
+    pub so_far: Result<(), Worn>,
+}
+
+/// Puts what is known of a connection now and was not told before: what its head asks, and as what
+/// it was let in. Where a line of the link could not be put so far, none is.
+pub(crate) fn tell_session<P: AtPress>(
+    place: &mut P,
+    config: &Config,
+    teller: Teller,
+    told: Told,
+    session: &Session,
+) -> Told
+    requires { IsTrue ((P.told place.old).speaks teller.by) }
+    ensures same { IsSamePlace (P.told place.old) (P.told place.new) }
+    ensures worn { OnErr told.so_far (2 ^ 62 ≤ (P.told place.old).worn)
+        → OnErr result.so_far (2 ^ 62 ≤ (P.told place.new).worn) }
+    ensures asked { result.is_asked ≡ is_some session.now.asked }
+    ensures held { result.held ≡ session_holding session.now }
+    ensures put { (before : Option AskedValue) (first : List ℕ) (sheet : History LineValue)
+        → told.is_asked ≡ is_some before → AsksOn before session.now.asked
+        → HoldsOn told.held (session_holding session.now)
+        → (IsHolding told.held → session.now.asked ≡ before)
+        → ArePut (is_ok told.so_far) teller.by
+        (first ∷ told_lines config.now teller.number before told.held)
+        sheet (P.told place.old).seen
+        → ArePut (is_ok result.so_far) teller.by
+        (first ∷ told_lines config.now teller.number session.now.asked result.held)
+        sheet (P.told place.new).seen }
+{
+    let asked = session.asked();
+    let so_far = tell_asked(place, teller, told.is_asked, asked, told.so_far);
+    let held = session.held();
+    Told {
+        is_asked: asked.is_some(),
+        held,
+        so_far: tell_entered(place, config, teller, told.held, held, so_far),
+    }
 }
 
 /// Who holds this.

@@ -1,7 +1,6 @@
-//! A caster that serves until it is told to stop. Each worker keeps serving the links that its gate
-//! accepts, and each relay those that its gate dials, until the gate is over. The lines of each
-//! link go to one output of all of them, those of its receipt once it has ended. Behind the last of
-//! them the totals are written.
+//! A caster that serves until its gates are over. Each worker keeps serving the links that its gate
+//! accepts, and each relay those that its gate dials. The lines of each link go to one output of all
+//! of them, those of its receipt once it has ended. Behind the last of them the totals are written.
 #![tactic(auto)]
 
 mod first;

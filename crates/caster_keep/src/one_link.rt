@@ -1,6 +1,7 @@
 //! One link is kept: it is served to its receipt, and its lines are put.
 
-ghost use Rattle.std.specs.Prelude.{◌≡◌, ◌<◌, ◌≤◌, ◌+◌, ◌^◌, ℕ, Option, IsTrue, length, false, is_ok, OnErr};
+ghost use Rattle.std.specs.Prelude.{◌≡◌, ◌<◌, ◌≤◌, ◌+◌, ◌∷◌, ◌^◌, ℕ, List, Option, IsTrue, length, false, is_ok, OnErr};
+ghost use Rattle.turn_log.specs.History.{History};
 ghost use Rattle.cast_io.specs.Links.{IsNewLink};
 ghost use Rattle.session_core.specs.declared.asked.Asked.{Asked as AskedValue};
 ghost use Rattle.session_core.specs.Setups.{IsSetUp};
@@ -8,13 +9,16 @@ ghost use Rattle.caster_places.specs.Known.{Fit, StayKnown};
 ghost use Rattle.caster_link.specs.Links.{opening_of};
 ghost use Rattle.caster_link.specs.Stepped.{HasClosed};
 ghost use Rattle.caster_link.specs.Wear.{IsWornBy, MayRefuse, wear_of};
+ghost use Rattle.caster_press.specs.declared.line.Line.{Line as LineValue};
+ghost use Rattle.caster_press.specs.Lines.{text_of};
 ghost use Rattle.caster_press.specs.Places.{IsSamePlace};
 ghost use Rattle.caster_serve.specs.Works.{IsWithin};
-ghost use Rattle.caster_keep.specs.Links.{ArePutBehind, LinkKept, told_lines};
+ghost use Rattle.caster_keep.specs.Links.{ArePut, ArePutBehind, LinkKept, first_line, link_lines, told_lines};
 ghost use Rattle.caster_keep.specs.Stations.{IsRoleOf};
 
-use crate::first::{Teller, first_line, tell_asked, tell_entered, whose};
+use crate::first::{Teller, Told, first_line, tell_session, whose};
 use crate::keeper::Keeper;
+use cast_config::Config;
 use cast_io::{Gate, Link};
 use caster_accounts::Book;
 use caster_link::{Role, Service};
@@ -31,10 +35,8 @@ use turn_log::Turns;
 #[derive(Drop)]
 struct Served {
     receipt: Receipt,
-    /// What its connection held before it was closed.
-    held: Held,
-    /// Whether all lines so far were put.
-    so_far: Result<(), Worn>,
+    /// What was told of its connection, before that was closed.
+    told: Told,
 }
 
 /// Serves the connection of a link in this role, step by step, to its receipt, and puts the line of
@@ -64,9 +66,9 @@ fn serve_steps<T: Turns<Ring>, B: Turns<Book>, L: Link, P: AtPress, R: Wait>(
     ensures closed { (asked : Option AskedValue) × HasClosed setup.now.config.now (opening_of role)
         setup.now.me (⟦<Places<T, B> as AllPlaces>⟧.seen places.old)
         (⟦<Places<T, B> as AllPlaces>⟧.seen places.new) (L.told link.old) (L.told link.new)
-        result.held asked result.receipt
-        × ArePutBehind (is_ok begun) (is_ok result.so_far) teller.by
-        (told_lines setup.now.config.now teller.number asked result.held)
+        result.told.held asked result.receipt
+        × ArePutBehind (is_ok begun) (is_ok result.told.so_far) teller.by
+        (told_lines setup.now.config.now teller.number asked result.told.held)
         (P.told place.old).seen (P.told place.new).seen }
     ensures worn { IsWornBy (⟦<Places<T, B> as AllPlaces>⟧.worn places.new)
         result.receipt.ending }
@@ -74,41 +76,57 @@ fn serve_steps<T: Turns<Ring>, B: Turns<Book>, L: Link, P: AtPress, R: Wait>(
         → MayRefuse (wear_of (⟦<Places<T, B> as AllPlaces>⟧.known places.new)
         (⟦<Places<T, B> as AllPlaces>⟧.worn places.new)) }
     ensures same { IsSamePlace (P.told place.old) (P.told place.new) }
-    ensures refused { OnErr result.so_far (2 ^ 62 ≤ (P.told place.new).worn) }
+    ensures refused { OnErr result.told.so_far (2 ^ 62 ≤ (P.told place.new).worn) }
 {
-    let mut held = Held::Nothing;
-    let mut is_asked = false;
-    let mut so_far = begun;
+    let mut told = Told {
+        is_asked: false,
+        held: Held::Nothing,
+        so_far: begun,
+    };
     let mut service = match Service::open(setup, role) {
         Ok(service) => service,
-        Err(receipt) => {
-            return Served {
-                receipt,
-                held,
-                so_far,
-            };
-        }
+        Err(receipt) => return Served { receipt, told },
     };
     for _ in rt.forever() {
-        let asked = service.session().asked();
-        so_far = tell_asked(place, teller, is_asked, asked, so_far);
-        is_asked = asked.is_some();
-        let now = service.session().held();
-        so_far = tell_entered(place, setup.config, teller, held, now, so_far);
-        held = now;
-        match service.step(setup, places, link) {
-            None => {}
-            Some(last) => {
-                let receipt = service.close(last, places);
-                return Served {
-                    receipt,
-                    held,
-                    so_far,
-                };
-            }
+        told = tell_session(place, setup.config, teller, told, service.session());
+        if let Some(last) = service.step(setup, places, link) {
+            let receipt = service.close(last, places);
+            return Served { receipt, told };
         }
     }
     unreachable!()
+}
+
+/// Puts the receipt of a link that was served, behind its other lines: not where one of these could
+/// not be put.
+///
+/// # Errors
+/// Where a line of the link could not be put.
+fn tell_receipt<P: AtPress>(
+    place: &mut P,
+    by: u32,
+    config: &Config,
+    number: LinkNumber,
+    role: Role,
+    served: &Served,
+) -> Result<(), Worn>
+    requires role { IsRoleOf config.now role }
+    requires speaks { IsTrue ((P.told place.old).speaks by) }
+    ensures same { IsSamePlace (P.told place.old) (P.told place.new) }
+    ensures worn { OnErr served.now.told.so_far (2 ^ 62 ≤ (P.told place.old).worn)
+        → OnErr result (2 ^ 62 ≤ (P.told place.new).worn) }
+    ensures put { (peer : List ℕ) (asked : Option AskedValue) (first : LineValue)
+        (sheet : History LineValue) → text_of first ≡ first_line config.now number role peer
+        → ArePut (is_ok served.now.told.so_far) by
+        (text_of first ∷ told_lines config.now number asked served.now.told.held)
+        sheet (P.told place.old).seen
+        → ArePut (is_ok result) by
+        (link_lines config.now number role peer asked served.now.told.held served.now.receipt)
+        sheet (P.told place.new).seen }
+{
+    served.told.so_far?;
+    let who = whose(config, role, served.told.held);
+    put_receipt(place, by, config, number, who, &served.receipt)
 }
 
 /// Keeps a link that the keeper's gate just gave, as the next of the keeper's: tells who is at its
@@ -175,7 +193,5 @@ pub(crate) fn keep_link<T: Turns<Ring>, B: Turns<Book>, G: Gate, P: AtPress, R: 
     );
     count_receipt(&mut keeper.tally, &served.receipt);
     keeper.gate.hang_up(link);
-    served.so_far?;
-    let who = whose(setup.config, keeper.role, served.held);
-    put_receipt(place, by, setup.config, number, who, &served.receipt)
+    tell_receipt(place, by, setup.config, number, keeper.role, &served)
 }

@@ -89,7 +89,7 @@ fn steps_of(alloc: Global, pieces: Pieces) -> Result<Vec<LinkStep>, AllocError>
 }
 
 /// A link that sends these pieces.
-fn link_of(alloc: Global, pieces: Pieces) -> Result<MemLink, AllocError>
+pub(crate) fn link_of(alloc: Global, pieces: Pieces) -> Result<MemLink, AllocError>
     ensures { IfOk result (λ link. IsTrue (is_new_link link)) }
 {
     Ok(MemLink::new(alloc, steps_of(alloc, pieces)?, Vec::new(alloc)))

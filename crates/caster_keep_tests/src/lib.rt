@@ -8,6 +8,8 @@ mod entered_tests;
 #[cfg(test)]
 mod fakes;
 #[cfg(test)]
+mod full_tests;
+#[cfg(test)]
 mod keep_tests;
 #[cfg(test)]
 mod sum_tests;

@@ -1,7 +1,6 @@
 -- A connection is opened, goes step by step, and is closed; what it holds is told.
 use Rattle.std.proofs.Common.{◌≡◌, ◌∙◌, ◌∷◌, Option, None, true, false, refl, sym, ap, subst}
-use Rattle.std.specs.Prelude.{is_ok}
-use Rattle.std.specs.Option.{option_copied}
+use Rattle.std.specs.Prelude.{is_ok, is_some}
 use Rattle.session_core.specs.declared.asked.Asked.{Asked}
 use Rattle.session_core.specs.declared.held.Held.{Held}
 use Rattle.session_core.specs.declared.session.Session.{Session}
@@ -16,8 +15,8 @@ use Rattle.caster_link.specs.Wear.{IsWornBy}
 use Rattle.caster_link.proofs.PlaceLemmas.{fit_kept}
 use Rattle.caster_link.proofs.WornLemmas.{not_ended, stay_both, stay_none}
 use Rattle.caster_press.proofs.PlaceLemmas.{same_as_it_is, same_then}
-use Rattle.caster_keep.specs.Links.{ArePut, asked_lines, told_lines}
-use Rattle.caster_keep.proofs.KeepLemmas.{closed_as, some_copied}
+use Rattle.caster_keep.specs.Links.{ArePut, told_lines}
+use Rattle.caster_keep.proofs.KeepLemmas.{closed_as}
 use Rattle.caster_keep.proofs.one_link.serve_steps.Goals as goal
 
 pub returns-in-Err-clause-stay : goal.returns-in-Err-clause-stay
@@ -81,11 +80,11 @@ pub loop-preserved : goal.loop-preserved
 loop-preserved g c =
     let t = g.T.Turns in let b = g.B.Turns in
     let kept = c.loop.invariant in
-    let same : c.held-now.result ≡ session_holding c.loop.service.session =
-    c.held-now.ensures.value ∙ ap session_holding c.session-in-loop.ensures in
-    let is : option_copied c.asked-asked.result ≡ c.loop.service.session.asked =
-    c.asked-asked.ensures.value ∙ ap (λ (s : Session). s.asked) c.session.ensures in
-    let goes_on = c.in-None-step.ensures.goes_on in
+    let it : c.session.result.now ≡ c.loop.service.session = c.session.ensures in
+    let tells = c.tell_session-told.ensures in
+    let same : c.tell_session-told.result.held ≡ session_holding c.loop.service.session =
+    tells.held ∙ ap session_holding it in
+    let goes_on = c.in_default.ensures.goes_on in
     let start = seen_at t.seen b.seen c.args.places.now.rings.items c.args.places.now.book in
     let told = g.L.Link.told c.args.link.now in
     record {
@@ -94,20 +93,22 @@ loop-preserved g c =
       stay = stay_both _ _ _ _ _ _ kept.stay c.step.ensures.stay;
       cause = c.step.ensures.cause;
       served = goes_on.served (opening_of c.args.role) c.args.setup.now.me start told kept.served;
-      same = same_then _ _ _ (same_then _ _ _ kept.same c.tell_asked-so_far.ensures.same)
-          c.tell_entered-so_far.ensures.same;
-      refused = c.tell_entered-so_far.ensures.worn (c.tell_asked-so_far.ensures.worn kept.refused);
+      same = same_then _ _ _ kept.same tells.same;
+      refused = tells.worn kept.refused;
       holds = subst (λ (held : Held). HoldsOn held (session_holding c.step.new.self.session)) (sym same) goes_on.holds;
-      asked = option_copied c.asked-asked.result;
-      is_asked = c.is_some-is_asked.ensures ∙ some_copied c.asked-asked.result;
-      asks = subst (λ (asked : Option Asked). AsksOn asked c.step.new.self.session.asked) (sym is)
-          (goes_on.asks (opening_of c.args.role) c.args.setup.now.me start told kept.served);
-      still = λ holding. goes_on.asks_still (subst IsHolding same holding) ∙ sym is;
+      asked = c.loop.service.session.asked;
+      is_asked = tells.asked ∙ ap (λ (s : Session). is_some s.asked) it;
+      asks = goes_on.asks (opening_of c.args.role) c.args.setup.now.me start told kept.served;
+      still = λ holding. goes_on.asks_still (subst IsHolding same holding);
       put = λ first sheet begun.
-          c.tell_entered-so_far.ensures.put (first ∷ asked_lines c.args.teller.number (option_copied c.asked-asked.result)) sheet
-          (subst (HoldsOn c.loop.held) (sym same) kept.holds)
-          (c.tell_asked-so_far.ensures.put c.args.setup.now.config.now kept.asked c.loop.held first sheet kept.is_asked
-          (subst (AsksOn kept.asked) (sym is) kept.asks) (λ holding. is ∙ kept.still holding) (kept.put first sheet begun));
+          subst (λ (asked : Option Asked). ArePut (is_ok c.tell_session-told.result.so_far) c.args.teller.by
+          (first ∷ told_lines c.args.setup.now.config.now c.args.teller.number asked c.tell_session-told.result.held) sheet
+          (g.P.AtPress.told c.tell_session-told.new.place).seen)
+          (ap (λ (s : Session). s.asked) it)
+          (tells.put kept.asked first sheet kept.is_asked
+          (subst (λ (s : Session). AsksOn kept.asked s.asked) (sym it) kept.asks)
+          (subst (λ (s : Session). HoldsOn c.loop.told.held (session_holding s)) (sym it) kept.holds)
+          (λ holding. ap (λ (s : Session). s.asked) it ∙ kept.still holding) (kept.put first sheet begun));
     }
 
 pub close-receipt-requires-clause-came : goal.close-receipt-requires-clause-came
@@ -138,26 +139,23 @@ returns-in-Some-step-clause-closed g c =
     let start = seen_at t.seen b.seen c.args.places.now.rings.items c.args.places.now.book in
     let told = g.L.Link.told c.args.link.now in
     let kept = c.loop.invariant in
+    let it : c.session.result.now ≡ c.loop.service.session = c.session.ensures in
+    let tells = c.tell_session-told.ensures in
     let stay = stay_both _ _ _ _ _ _ kept.stay c.step.ensures.stay in
-    let same : c.held-now.result ≡ session_holding c.loop.service.session =
-    c.held-now.ensures.value ∙ ap session_holding c.session-in-loop.ensures in
-    let is : option_copied c.asked-asked.result ≡ c.loop.service.session.asked =
-    c.asked-asked.ensures.value ∙ ap (λ (s : Session). s.asked) c.session.ensures in
     let closes = c.in-Some-step.ensures.closes in (
       c.step.new.self.session.asked,
-      closed_as (session_holding c.step.new.self.session) c.held-now.result
-          (ap session_holding closes.still ∙ sym same)
+      closed_as (session_holding c.step.new.self.session) c.tell_session-told.result.held
+          (ap session_holding (closes.still ∙ sym it) ∙ sym tells.held)
           (c.close-receipt.ensures.served c.args.setup.now.config.now (opening_of c.args.role) c.args.setup.now.me start told
           (g.L.Link.told c.step.new.link) (fit_kept _ _ _ _ _ refl stay.known c.requires.fit)
           (closes.came (opening_of c.args.role) c.args.setup.now.me start told kept.served)),
       λ first sheet begun.
-          subst (λ (asked : Option Asked). ArePut (is_ok c.tell_entered-so_far.result) c.args.teller.by
-          (first ∷ told_lines c.args.setup.now.config.now c.args.teller.number asked c.held-now.result) sheet
-          (g.P.AtPress.told c.tell_entered-so_far.new.place).seen)
-          (is ∙ ap (λ (s : Session). s.asked) (sym closes.still))
-          (c.tell_entered-so_far.ensures.put (first ∷ asked_lines c.args.teller.number (option_copied c.asked-asked.result))
-          sheet (subst (HoldsOn c.loop.held) (sym same) kept.holds)
-          (c.tell_asked-so_far.ensures.put c.args.setup.now.config.now kept.asked c.loop.held first sheet kept.is_asked
-          (subst (AsksOn kept.asked) (sym is) kept.asks) (λ holding. is ∙ kept.still holding)
-          (kept.put first sheet begun))),
+          subst (λ (asked : Option Asked). ArePut (is_ok c.tell_session-told.result.so_far) c.args.teller.by
+          (first ∷ told_lines c.args.setup.now.config.now c.args.teller.number asked c.tell_session-told.result.held) sheet
+          (g.P.AtPress.told c.tell_session-told.new.place).seen)
+          (ap (λ (s : Session). s.asked) (it ∙ sym closes.still))
+          (tells.put kept.asked first sheet kept.is_asked
+          (subst (λ (s : Session). AsksOn kept.asked s.asked) (sym it) kept.asks)
+          (subst (λ (s : Session). HoldsOn c.loop.told.held (session_holding s)) (sym it) kept.holds)
+          (λ holding. ap (λ (s : Session). s.asked) it ∙ kept.still holding) (kept.put first sheet begun)),
     )

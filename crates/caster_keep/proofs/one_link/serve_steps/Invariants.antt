@@ -29,13 +29,13 @@ invariant-loop g l = let t = g.T.Turns in let b = g.B.Turns in record {
       (seen_at t.seen b.seen l.places.rings.items l.places.book) (g.L.Link.told l.fn.link) (g.L.Link.told l.link)
       l.service;
   same : IsSamePlace (g.P.AtPress.told l.fn.place) (g.P.AtPress.told l.place);
-  refused : OnErr l.so_far (2 ^ 62 ≤ (g.P.AtPress.told l.place).worn);
-  holds : HoldsOn l.held (session_holding l.service.session);
+  refused : OnErr l.told.so_far (2 ^ 62 ≤ (g.P.AtPress.told l.place).worn);
+  holds : HoldsOn l.told.held (session_holding l.service.session);
   asked : Option Asked;
-  is_asked : l.is_asked ≡ is_some asked;
+  is_asked : l.told.is_asked ≡ is_some asked;
   asks : AsksOn asked l.service.session.asked;
-  still : IsHolding l.held → l.service.session.asked ≡ asked;
-  put : ArePutBehind (is_ok l.fn.begun) (is_ok l.so_far) l.fn.teller.by
-      (told_lines l.setup.config.now l.fn.teller.number asked l.held) (g.P.AtPress.told l.fn.place).seen
+  still : IsHolding l.told.held → l.service.session.asked ≡ asked;
+  put : ArePutBehind (is_ok l.fn.begun) (is_ok l.told.so_far) l.fn.teller.by
+      (told_lines l.setup.config.now l.fn.teller.number asked l.told.held) (g.P.AtPress.told l.fn.place).seen
       (g.P.AtPress.told l.place).seen;
 }
