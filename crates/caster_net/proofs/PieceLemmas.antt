@@ -3,17 +3,12 @@ use Rattle.std.proofs.Common.{ℕ, ◌+◌, ◌≤◌, List, [], ◌++◌, take,
 use Rattle.std.proofs.Math.Seq.{take-add}
 use Rattle.std.proofs.lemmas.List.{take-take}
 use Rattle.std.specs.Io.KnownBytes.{Appends}
+use Rattle.cast_io.proofs.PieceLemmas.{Appends-append}
 use Rattle.caster_net.specs.Honest.{BothTake}
 
 Appends-none : (a : Option (List ℕ)) → Appends a a []
 Appends-none None = tt
 Appends-none (Some a) = sym (append-nil a)
-
-Appends-append : (a b c : Option (List ℕ)) (xs ys : List ℕ) → Appends a b xs → Appends b c ys → Appends a c (xs ++ ys)
-Appends-append None b c xs ys p q = tt
-Appends-append (Some a) None c xs ys p q = absurd p
-Appends-append (Some a) (Some b) None xs ys p q = absurd q
-Appends-append (Some a) (Some b) (Some c) xs ys p q = q ∙ ap (λ l. l ++ ys) p ∙ append_assoc a xs ys
 
 -- nothing yet
 pub none_taken : (a : Option (List ℕ)) (noted : List ℕ) → BothTake a a noted noted []

@@ -5,7 +5,7 @@ ghost use Rattle.std.specs.Prelude.{◌≡◌, ◌<◌, ◌≤◌, [], Some, Non
 ghost use Rattle.std.specs.Io.{ReadsAtMost};
 ghost use Rattle.std.specs.Io.KnownBytes.{Appends, ReadConsumes};
 ghost use Rattle.cast_io.specs.Causes.{HasCause, next_count};
-ghost use Rattle.cast_io.specs.Logs.{step_of_read};
+ghost use Rattle.cast_io.specs.Logs.{step_of_open, step_of_read};
 ghost use Rattle.cast_io.specs.Pieces.{AppendsPrefix};
 ghost use Rattle.cast_io.specs.Told.{Grew};
 ghost use Rattle.caster_net.specs.Honest.{BothTake, IsHonestRead, IsHonestWrite, got_of_read};
@@ -103,6 +103,15 @@ impl<W> Model for WriterSink<W> {
     ghost view = { λ s. record { writer = s.writer; taken = s.taken; faults = s.faults } };
 }
 
+impl<W> WriterSink<W> {
+    /// How often a write failed.
+    pub(crate) fn faults(&self) -> u64
+        ensures { result ≡ self.now.faults }
+    {
+        self.faults
+    }
+}
+
 impl<W: Write> WriterSink<W> {
     /// A sink that was not written to yet.
     pub fn new(writer: W) -> Self
@@ -138,7 +147,8 @@ impl<W: Write> Sink for WriterSink<W> {
     ghost faults = { λ s. s.faults };
 
     fn write(&mut self, piece: &[u8]) -> Result<(), Failed>
-        ensures whole { OnOk result (Appends (Some self.old.taken) (Some self.new.taken) piece.now) }
+        ensures whole { OnOk result
+            (Appends (Some self.old.taken) (Some self.new.taken) piece.now) }
         ensures torn { OnErr result
             (AppendsPrefix (Some self.old.taken) (Some self.new.taken) piece.now) }
         ensures cause { HasCause self.old.faults self.new.faults result }
@@ -199,6 +209,20 @@ impl<'a> FileStore<'a> {
             faults: 0,
         }
     }
+
+    // Opens the file of this path, and counts a failure. The one that was open is closed.
+    fn open_file(&mut self, path: &str) -> Result<(), Failed>
+        ensures cause { HasCause self.old.faults self.new.faults result }
+        ensures same { self.new ≡ record self.old { faults = self.new.faults } }
+    {
+        self.file = None;
+        let Ok(file) = File::open(self.rt, path) else {
+            self.faults = self.faults.saturating_add(1);
+            return Err(Failed);
+        };
+        self.file = Some(file);
+        Ok(())
+    }
 }
 
 impl Source for FileStore<'_> {
@@ -231,16 +255,9 @@ impl Source for FileStore<'_> {
 impl Store for FileStore<'_> {
     fn open(&mut self, path: &str) -> Result<(), Failed> {
         self.asked.add(&Journal::of_bytes(path.as_bytes()));
-        self.file = None;
-        let Ok(file) = File::open(self.rt, path) else {
-            self.log.add(&SourceStep::Failed);
-            self.faults = self.faults.saturating_add(1);
-            return Err(Failed);
-        };
-        self.log
-            .add(&SourceStep::Opened(Journal::of_bytes(path.as_bytes())));
-        self.file = Some(file);
-        Ok(())
+        let answer = self.open_file(path);
+        self.log.add(&step_of_opening(answer, path));
+        answer
     }
 }
 
@@ -265,6 +282,16 @@ fn step_of(answer: Result<usize, Failed>, buf: &[u8]) -> SourceStep<Journal<u8>>
     match answer {
         Ok(0) => SourceStep::End,
         Ok(count) => SourceStep::Bytes(Journal::of_bytes(&buf[..count])),
+        Err(Failed) => SourceStep::Failed,
+    }
+}
+
+// The step of an open of this path that answered this.
+fn step_of_opening(answer: Result<(), Failed>, path: &str) -> SourceStep<Journal<u8>>
+    ensures { result ≡ step_of_open answer path.now }
+{
+    match answer {
+        Ok(()) => SourceStep::Opened(Journal::of_bytes(path.as_bytes())),
         Err(Failed) => SourceStep::Failed,
     }
 }

@@ -10,11 +10,12 @@ use std::{io, thread};
 // How many bells there are. Where there are more mountpoints, some share one.
 const BELLS: u32 = 64;
 
-// How often a link looks for a bell that another one is making, with a millisecond between two looks.
+// How often a link looks for a bell that another one is making, with a millisecond between two
+// looks.
 const LOOKS: u32 = 20;
 
-/// The bells that all links of a street share, one for each mountpoint. It is made when a link first
-/// is to wait for it. Where it cannot be made, rests are short.
+/// The bells that all links of a street share, one for each mountpoint. It is made when a link
+/// first is to wait for it. Where it cannot be made, rests are short.
 #[derive(Drop)]
 pub struct Bells {
     // Fewer where memory lacks.
@@ -23,8 +24,8 @@ pub struct Bells {
     is_short: AtomicBool,
 }
 
-// What is written to its rope comes to its ear, where links wait for it at their rests. Nobody takes
-// what has come, as each byte more wakes them anew.
+// What is written to its rope comes to its ear, where links wait for it at their rests. Nobody
+// takes what has come, as each byte more wakes them anew.
 #[derive(Drop)]
 struct Bell {
     rope: UnixStream,
@@ -87,8 +88,8 @@ impl Bells {
 }
 
 impl Bell {
-    // A bell that was rung once: who comes to wait for it looks once more. So nothing is missed that
-    // happened while nobody could ring it yet.
+    // A bell that was rung once: who comes to wait for it looks once more. So nothing is missed
+    // that happened while nobody could ring it yet.
     fn new(rt: &HostRuntime) -> io::Result<Bell> {
         let (rope, ear) = UnixStream::pair(rt)?;
         rope.set_nonblocking(true)?;

@@ -5,22 +5,23 @@ ghost use Rattle.caster_net.specs.Told.{new_door, new_wire};
 
 use crate::bells::Bells;
 use crate::link::TcpLink;
+use crate::options::limit_accepts;
 use crate::waiting::{SHORT, failed, rest};
 use crate::watch::Watch;
-use cast_io::{Arrived, Door, Journal};
+use cast_io::{Arrived, Door, Journal, StreetFault};
 use libc::net::{SHUT_RD, shutdown};
 use std::alloc::{AllocError, Global};
 use std::io;
 use std::io::ErrorKind;
 use std::marker::Model;
-use std::net::{TcpListener, TcpStream};
+use std::net::{SocketAddr, TcpListener, TcpStream};
 use std::os::fd::AsRawFd;
 use std::sync::Arc;
 use std::sync::atomic::{AtomicBool, Ordering};
 use std::time::{Duration, Instant};
 
 // How long the end of one connection may take, in milliseconds.
-const LONGEST_END: u64 = 500;
+pub(crate) const LONGEST_END: u64 = 500;
 
 // How long the ends of all connections together may take that come one after another, with no
 // connection accepted between them, in milliseconds.
@@ -30,8 +31,8 @@ const LONGEST_ENDS: u64 = 2_000;
 #[derive(Drop)]
 pub(crate) struct Porch {
     pub(crate) listener: TcpListener,
-    // A rest waits for a connection and nothing else: of several doors the system wakes one for each.
-    // One door alone rests for a short while, since its worker may have more to do.
+    // A rest waits for a connection and nothing else: of several doors the system wakes one for
+    // each. One door alone rests for a short while, since its worker may have more to do.
     waits: bool,
     // No connection is taken any more.
     is_shut: AtomicBool,
@@ -49,8 +50,42 @@ impl Porch {
         })
     }
 
+    /// The place of gates at this listener, each of which waits for a connection for so many
+    /// milliseconds at most. Of several the system wakes one for each.
+    pub(crate) fn of_gates(listener: TcpListener, limit: u64) -> io::Result<Porch> {
+        limit_accepts(listener.as_raw_fd(), limit)?;
+        Ok(Porch {
+            listener,
+            waits: true,
+            is_shut: AtomicBool::new(false),
+        })
+    }
+
+    /// The next connection at the listener, and its peer. While there is no descriptor for it, the
+    /// bells tell links.
+    pub(crate) fn take(&self, bells: &Bells) -> io::Result<(TcpStream, SocketAddr)> {
+        match self.listener.accept() {
+            Ok(came) => {
+                bells.note_short(false);
+                Ok(came)
+            }
+            Err(fault) => {
+                bells.note_short(is_short(&fault));
+                Err(fault)
+            }
+        }
+    }
+
     fn is_shut(&self) -> bool {
         self.is_shut.load(Ordering::SeqCst)
+    }
+}
+
+/// This place, for all of its doors.
+pub(crate) fn shared(rt: &HostRuntime, porch: Porch) -> Result<Arc<Porch, Global>, StreetFault> {
+    match Arc::new(rt.alloc(), porch) {
+        Ok(porch) => Ok(porch),
+        Err(_) => Err(StreetFault::Memory),
     }
 }
 
@@ -69,8 +104,8 @@ impl DoorBell {
     }
 }
 
-/// One of the doors at an address, and how often an accept of it failed for good. For contracts alone
-/// it has a record of the links that came back to it.
+/// One of the doors at an address, and how often an accept of it failed for good. For contracts
+/// alone it has a record of the links that came back to it.
 #[derive(Drop)]
 pub struct TcpDoor<'a> {
     rt: &'a HostRuntime,
@@ -125,18 +160,10 @@ impl<'a> TcpDoor<'a> {
         Ok(DoorBell { porch })
     }
 
-    // The next connection at the listener. While there is no descriptor for it, the bell tells links.
+    // The next connection at the listener.
     fn take(&self) -> io::Result<TcpStream> {
-        match self.porch.listener.accept() {
-            Ok((stream, _)) => {
-                self.bells.note_short(false);
-                Ok(stream)
-            }
-            Err(fault) => {
-                self.bells.note_short(is_short(&fault));
-                Err(fault)
-            }
-        }
+        let (stream, _) = self.porch.take(self.bells)?;
+        Ok(stream)
     }
 
     // A link over this connection, for whose bytes one door alone waits too.
@@ -236,8 +263,8 @@ fn alone_at(rt: &HostRuntime, porch: &Porch) -> Option<Watch> {
     Watch::over(rt, porch.listener.as_raw_fd()).ok()
 }
 
-// The listener is no listener any more.
-fn is_dead(fault: &io::Error) -> bool {
+/// The listener is no listener any more.
+pub(crate) fn is_dead(fault: &io::Error) -> bool {
     matches!(
         fault.raw_os_error(),
         Some(libc::EBADF | libc::EINVAL | libc::ENOTSOCK)

@@ -1,22 +1,37 @@
 //! What the program runs on: the readers, the writers, the files and the sockets of std as the
-//! sources, sinks, stores, links, doors and streets of `cast_io`. For contracts alone each has a
-//! record of what those gave and took, which takes no memory. That a call of std did what its answer
-//! says is outside of every proof.
+//! sources, sinks, stores, links, doors, gates and streets of `cast_io`. For contracts alone each
+//! has a record of what those gave and took, which takes no memory. That a call of std did what its
+//! answer says is outside of every proof.
 #![tactic(auto)]
 
 mod adapters;
 mod bells;
+mod dial;
 mod door;
+mod gate;
+mod halt;
+mod keep;
 mod link;
+mod note_out;
+mod note_sink;
 mod notes;
+mod options;
+mod quiet;
+mod redial;
 mod street;
 mod waiting;
 mod watch;
 mod wire;
+mod words;
+mod yard;
 
 pub use adapters::{FileStore, ReaderSource, WriterSink};
 pub use bells::Bells;
 pub use door::{DoorBell, TcpDoor};
+pub use gate::TcpGate;
+pub use halt::Halt;
 pub use link::TcpLink;
+pub use note_out::NoteOut;
+pub use note_sink::NoteSink;
 pub use street::TcpStreet;
 pub use wire::Wire;

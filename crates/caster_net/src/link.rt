@@ -3,7 +3,9 @@ ghost use Rattle.std.specs.Prelude.{◌≡◌, IfOk};
 ghost use Rattle.caster_net.specs.Told.{link_told, new_wire};
 
 use crate::bells::Bells;
-use crate::waiting::{LONGEST, SHORT, rest, wait_ready};
+use crate::keep::{Cut, Keep};
+use crate::options::keep_alive;
+use crate::waiting::{LONGEST, LONGEST_KEPT, SHORT, rest, wait_ready};
 use crate::watch::{Watch, Woken};
 use crate::wire::Wire;
 use cast_io::{Failed, Got, Link};
@@ -11,7 +13,7 @@ use libc::net::POLLIN;
 use std::io::Read;
 use std::marker::Model;
 use std::net::{Shutdown, TcpStream};
-use std::os::fd::RawFd;
+use std::os::fd::{AsRawFd, RawFd};
 use std::time::{Duration, Instant};
 use std::{io, thread};
 
@@ -24,12 +26,13 @@ const LONGEST_PAUSE: u64 = 16;
 // The most that is taken of what a peer sends after its connection has ended, in bytes.
 const MOST_DRAINED: usize = 64 * 1024;
 
-/// A TCP connection, and how often it failed. A read does not wait for the peer; a write waits while
-/// the peer takes nothing. Contracts see the wire below it: a rest leaves that as it was.
+/// A TCP connection, and how often it failed. A read does not wait for the peer; a write waits
+/// while the peer takes nothing. Contracts see the wire below it: a rest leaves that as it was.
 ///
-/// A link that gave the first byte of a frame is a source: it waits for no bell at its rests, and rings
-/// that of its mountpoint where frames that it gave may have been published. Any other link waits for the
-/// bell of the mountpoint that it was told last, and while it was told none, for its peer alone.
+/// A link that gave the first byte of a frame is a source: it waits for no bell at its rests, and
+/// rings that of its mountpoint where frames that it gave may have been published. Any other link
+/// waits for the bell of the mountpoint that it was told last, and while it was told none, for its
+/// peer alone.
 #[derive(Drop)]
 pub struct TcpLink<'a> {
     rt: &'a HostRuntime,
@@ -46,6 +49,8 @@ pub struct TcpLink<'a> {
     // It gave bytes, and no bell was rung for them yet.
     gave: bool,
     has_ended: bool,
+    // What a link of a gate heeds.
+    keep: Option<Keep<'a>>,
 }
 
 impl<'a> Model for TcpLink<'a> {
@@ -59,12 +64,13 @@ impl<'a> Model for TcpLink<'a> {
 
 impl<'a> TcpLink<'a> {
     /// A link over this connection, whose reads and writes do not wait from now on, and whose
-    /// small pieces are sent at once.
+    /// small pieces are sent at once. The system finds out where its peer is gone.
     pub(crate) fn over(rt: &'a HostRuntime, bells: &'a Bells, stream: TcpStream) -> io::Result<Self>
         ensures { IfOk result (λ link. link ≡ new_wire stream) }
     {
         stream.set_nonblocking(true)?;
         stream.set_nodelay(true)?;
+        keep_alive(stream.as_raw_fd());
         Ok(TcpLink {
             rt,
             bells,
@@ -76,7 +82,23 @@ impl<'a> TcpLink<'a> {
             mount: None,
             gave: false,
             has_ended: false,
+            keep: None,
         })
+    }
+
+    /// The same as a link of a gate. It ends where the stop is asked for, and fails where it is
+    /// quiet for too long.
+    pub(crate) fn kept(
+        rt: &'a HostRuntime,
+        bells: &'a Bells,
+        stream: TcpStream,
+        keep: Keep<'a>,
+    ) -> io::Result<Self>
+        ensures { IfOk result (λ link. link ≡ new_wire stream) }
+    {
+        let mut link = TcpLink::over(rt, bells, stream)?;
+        link.keep = Some(keep);
+        Ok(link)
     }
 
     /// Whether small pieces are sent at once.
@@ -106,8 +128,8 @@ impl<'a> TcpLink<'a> {
         }
     }
 
-    /// Rings for what this link gave since it last did. Where it was told no mountpoint, as one that
-    /// came to its end with its first bytes, it rings all bells.
+    /// Rings for what this link gave since it last did. Where it was told no mountpoint, as one
+    /// that came to its end with its first bytes, it rings all bells.
     pub(crate) fn tell_last(&mut self)
         ensures { self.new ≡ self.old }
     {
@@ -131,10 +153,18 @@ impl<'a> TcpLink<'a> {
         }
     }
 
+    // Whether it is read no more, and why.
+    fn cut(&self) -> Option<Cut> {
+        self.keep.as_ref()?.cut()
+    }
+
     // Notes what the peer gave.
     fn hear(&mut self, bytes: &[u8])
         ensures { self.new ≡ self.old }
     {
+        if let Some(keep) = &mut self.keep {
+            keep.give();
+        }
         if !self.is_source && bytes.contains(&PREAMBLE) {
             self.is_source = true;
             self.pause = 0;
@@ -142,8 +172,8 @@ impl<'a> TcpLink<'a> {
         self.gave = self.is_source;
     }
 
-    // Makes the watch at the first rest, if there is a descriptor for it. Where a door has none, the
-    // link gives its own back for good: connections come first.
+    // Makes the watch at the first rest, if there is a descriptor for it. Where a door has none,
+    // the link gives its own back for good: connections come first.
     fn prepare(&mut self)
         ensures { self.new ≡ self.old }
     {
@@ -176,13 +206,40 @@ impl<'a> TcpLink<'a> {
         }
     }
 
+    // Notes that a read found nothing.
+    fn miss(&mut self)
+        ensures { self.new ≡ self.old }
+    {
+        if let Some(keep) = &mut self.keep {
+            keep.find_nothing();
+        }
+    }
+
+    // Notes that the peer took bytes.
+    fn feed(&mut self)
+        ensures { self.new ≡ self.old }
+    {
+        if let Some(keep) = &mut self.keep {
+            keep.take();
+        }
+    }
+
+    // How long its longest rest is.
+    fn longest(&self) -> Duration {
+        Duration::from_millis(match self.keep {
+            Some(_) => LONGEST_KEPT,
+            None => LONGEST,
+        })
+    }
+
     // Waits for the peer and the bell; with no watch, a short while for the peer alone.
     fn wait(&mut self) -> Woken
         ensures { self.new ≡ self.old }
     {
+        let longest = self.longest();
         match &mut self.watch {
             Some(watch) => {
-                if let Ok(woken) = watch.wait(Duration::from_millis(LONGEST)) {
+                if let Ok(woken) = watch.wait(longest) {
                     return woken;
                 }
                 rest(self.rt);
@@ -203,11 +260,15 @@ impl Link for TcpLink<'_> {
 
     fn read(&mut self, buf: &mut [u8]) -> Got {
         self.tell();
-        let got = self.wire.read(buf);
+        let got = match self.cut() {
+            Some(cut) => self.wire.cut(cut, buf),
+            None => self.wire.read(buf),
+        };
         match got {
             Got::Bytes(count) => self.hear(&buf[..count]),
             Got::End => self.has_ended = true,
-            Got::Idle | Got::Failed => {}
+            Got::Idle => self.miss(),
+            Got::Failed => {}
         }
         got
     }
@@ -215,11 +276,15 @@ impl Link for TcpLink<'_> {
     fn write(&mut self, piece: &[u8]) -> Result<(), Failed> {
         self.pause = 1;
         let fd = self.wire.fd();
-        self.wire.write(self.rt, fd, piece)
+        self.wire.write(self.rt, fd, piece)?;
+        if !piece.is_empty() {
+            self.feed();
+        }
+        Ok(())
     }
 
-    // While the bell is rung for nothing, the pause before a rest grows: so links that have nothing to
-    // send are not woken by each frame of others.
+    // While the bell is rung for nothing, the pause before a rest grows: so links that have nothing
+    // to send are not woken by each frame of others.
     fn rest(&mut self)
         ensures { self.new ≡ self.old }
     {

@@ -3,7 +3,7 @@ ghost use Rattle.std.specs.Prelude.{◌≡◌, length};
 ghost use Rattle.cast_io.specs.Links.{IsGot, step_of};
 ghost use Rattle.caster_net.specs.Notes.{step_noted};
 
-use cast_io::{Got, Journal};
+use cast_io::{Got, Journal, Origin};
 
 /// A step that a link took: what a read answered, or a write that failed.
 #[derive(Drop)]
@@ -27,6 +27,15 @@ pub(crate) enum AskedNote {
     Open(Journal<u8>, u32),
     /// To dial an address.
     Dial(Journal<u8>),
+}
+
+/// What a street was asked for as a yard.
+#[derive(Drop)]
+pub(crate) enum CallNote {
+    /// Gates, which are made for this.
+    Gates(Origin),
+    /// A place for notes.
+    Notes,
 }
 
 /// The step of a read that answered this, with its buffer after it.

@@ -2,12 +2,18 @@
 ghost use Rattle.std.specs.Prelude.{◌≡◌, ◌≤◌, [], vec_len, vec_capacity, IfOk, OnOk};
 ghost use Rattle.std.specs.List.{All};
 ghost use Rattle.cast_io.specs.Logged.{street_logged};
-ghost use Rattle.caster_net.specs.Told.{IsUnused, new_door, new_street};
+ghost use Rattle.caster_net.specs.Gates.{new_net};
+ghost use Rattle.caster_net.specs.Told.{IsUnused, new_door};
 
 use crate::bells::Bells;
-use crate::door::{Porch, TcpDoor};
+use crate::dial::LONGEST_DIAL;
+use crate::door::{Porch, TcpDoor, shared};
+use crate::gate::{Ground, TcpGate};
+use crate::halt::Halt;
 use crate::link::TcpLink;
-use crate::notes::AskedNote;
+use crate::note_out::NoteOut;
+use crate::note_sink::NoteSink;
+use crate::notes::{AskedNote, CallNote};
 use crate::waiting::failed;
 use cast_io::{Journal, Street, StreetFault};
 use std::alloc::{AllocError, Global};
@@ -18,52 +24,83 @@ use std::net::{SocketAddr, TcpListener, TcpStream, ToSocketAddrs};
 use std::sync::Arc;
 use std::time::{Duration, Instant};
 
-// How long a dial may take, all addresses of a name together, in seconds.
-const LONGEST_DIAL: u64 = 5;
-
-/// The network, how often it failed, and how many links were hung up after a fault. For contracts
-/// alone it has a record of what it was asked, and of the doors and the links that came back to it.
+/// The network, how often it failed, and how many links were hung up after a fault; and the same as
+/// a yard, with how many places for notes came back after a fault. For contracts alone it has a
+/// record of what it was asked, and of the doors, the links, the gates and the notes that came back
+/// to it.
 #[derive(Drop)]
 pub struct TcpStreet<'a> {
     rt: &'a HostRuntime,
     bells: &'a Bells,
+    halt: &'a Halt,
     asked: Journal<AskedNote>,
     doors: Journal<TcpDoor<'a>>,
     links: Journal<TcpLink<'a>>,
     faults: u64,
     link_faults: u64,
+    // What it was asked as a yard, and what came back.
+    pub(crate) calls: Journal<CallNote>,
+    pub(crate) gates: Journal<TcpGate<'a>>,
+    pub(crate) notes: Journal<NoteSink<'a, NoteOut>>,
+    pub(crate) yard_faults: u64,
+    pub(crate) note_faults: u64,
 }
 
 impl<'a> Model for TcpStreet<'a> {
     ghost use Rattle.std.specs.Prelude.{map};
-    ghost use Rattle.cast_io.specs.Logged.{StreetLog};
     ghost use Rattle.caster_net.specs.Notes.{asked_noted};
+    ghost use Rattle.caster_net.specs.Gates.{NetLog, call_noted, notes_logged};
     ghost use Rattle.caster_net.specs.Told.{link_log};
 
-    ghost Value = { StreetLog };
+    ghost Value = { NetLog };
 
     ghost view = { λ s. record {
-      asked = map asked_noted s.asked;
-      doors = s.doors;
-      links = map link_log s.links;
-      faults = s.faults;
-      link_faults = s.link_faults;
+      street = record {
+        asked = map asked_noted s.asked;
+        doors = s.doors;
+        links = map link_log s.links;
+        faults = s.faults;
+        link_faults = s.link_faults;
+      };
+      yard = record {
+        asked = map call_noted s.calls;
+        gates = s.gates;
+        notes = map notes_logged s.notes;
+        faults = s.yard_faults;
+        note_faults = s.note_faults;
+      };
     } };
 }
 
 impl<'a> TcpStreet<'a> {
-    /// The network, which has not failed yet, with the bells that its links ring and wait for.
-    pub fn new(rt: &'a HostRuntime, bells: &'a Bells) -> Self
-        ensures { result ≡ new_street }
+    /// The network, which has not failed yet, with the bells that its links ring and wait for, and
+    /// the stop that its gates and their links heed.
+    pub fn new(rt: &'a HostRuntime, bells: &'a Bells, halt: &'a Halt) -> Self
+        ensures { result ≡ new_net }
     {
         TcpStreet {
             rt,
             bells,
+            halt,
             asked: Journal::new(),
             doors: Journal::new(),
             links: Journal::new(),
             faults: 0,
             link_faults: 0,
+            calls: Journal::new(),
+            gates: Journal::new(),
+            notes: Journal::new(),
+            yard_faults: 0,
+            note_faults: 0,
+        }
+    }
+
+    /// What its gates share.
+    pub(crate) fn ground(&self) -> Ground<'a> {
+        Ground {
+            rt: self.rt,
+            bells: self.bells,
+            halt: self.halt,
         }
     }
 }
@@ -73,22 +110,13 @@ impl<'a> Street for TcpStreet<'a> {
 
     type Door = TcpDoor<'a>;
 
-    ghost told = { street_logged };
+    ghost told = { λ s. street_logged s.street };
 
     fn open(&mut self, addr: &str, doors: u32) -> Result<Vec<TcpDoor<'a>>, StreetFault> {
         self.asked.add(&AskedNote::Open(Journal::of_bytes(addr.as_bytes()), doors));
-        let Ok(mut opened) = Vec::with_capacity(self.rt.alloc(), doors as usize) else {
-            return Err(StreetFault::Memory);
-        };
-        let Ok(porch) = porch_at(self.rt, addr, doors) else {
-            return failed(&mut self.faults, Err(StreetFault::Failed));
-        };
-        let Ok(porch) = Arc::new(self.rt.alloc(), porch) else {
-            return Err(StreetFault::Memory);
-        };
-        match open_all(self.rt, self.bells, &porch, doors, &mut opened) {
-            Ok(()) => Ok(opened),
-            Err(AllocError) => Err(StreetFault::Memory),
+        match opened_at(self.rt, self.bells, addr, doors) {
+            Err(StreetFault::Failed) => failed(&mut self.faults, Err(StreetFault::Failed)),
+            answer => answer,
         }
     }
 
@@ -113,8 +141,36 @@ impl<'a> Street for TcpStreet<'a> {
     }
 }
 
-// A place for so many doors at this address.
-fn porch_at(rt: &HostRuntime, addr: &str, doors: u32) -> io::Result<Porch> {
+// So many doors at this address.
+fn opened_at<'a>(
+    rt: &'a HostRuntime,
+    bells: &'a Bells,
+    addr: &str,
+    doors: u32,
+) -> Result<Vec<TcpDoor<'a>>, StreetFault>
+    ensures count { IfOk result (λ given. vec_len given ≡ doors) }
+    ensures each { IfOk result (λ given. All (λ door. door ≡ new_door) given.items) }
+{
+    let Ok(mut opened) = Vec::with_capacity(rt.alloc(), doors as usize) else {
+        return Err(StreetFault::Memory);
+    };
+    let porch = porch_at(rt, addr, doors)?;
+    match open_all(rt, bells, &porch, doors, &mut opened) {
+        Ok(()) => Ok(opened),
+        Err(AllocError) => Err(StreetFault::Memory),
+    }
+}
+
+// A place for so many doors at this address, which they share.
+fn porch_at(rt: &HostRuntime, addr: &str, doors: u32) -> Result<Arc<Porch, Global>, StreetFault> {
+    match bound_at(rt, addr, doors) {
+        Ok(porch) => shared(rt, porch),
+        Err(_) => Err(StreetFault::Failed),
+    }
+}
+
+// The place itself.
+fn bound_at(rt: &HostRuntime, addr: &str, doors: u32) -> io::Result<Porch> {
     Porch::over(TcpListener::bind(rt, addr)?, doors)
 }
 

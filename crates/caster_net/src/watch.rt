@@ -21,8 +21,8 @@ pub(crate) enum Woken {
     Late,
 }
 
-/// Waits for what comes to sockets, and for a bell. It has a descriptor of its own. What comes while
-/// nobody waits ends the next wait.
+/// Waits for what comes to sockets, and for a bell. It has a descriptor of its own. What comes
+/// while nobody waits ends the next wait.
 #[derive(Drop)]
 pub(crate) struct Watch {
     poll: Poll,
@@ -53,8 +53,8 @@ impl Watch {
         registry.register(&mut SourceFd(&socket), PEER, Interest::READABLE)
     }
 
-    /// From now on waits for the bell that is heard here, and for no other. One that was rung before
-    /// ends the next wait.
+    /// From now on waits for the bell that is heard here, and for no other. One that was rung
+    /// before ends the next wait.
     pub(crate) fn hear(&mut self, ear: Option<RawFd>) -> io::Result<()> {
         if ear == self.ear {
             return Ok(());

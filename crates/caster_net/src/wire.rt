@@ -4,6 +4,7 @@ ghost use Rattle.cast_io.specs.Links.{IsGot, HasRead, HasWritten};
 ghost use Rattle.caster_net.specs.Honest.{IsHonestRead, IsHonestWrite, Means};
 ghost use Rattle.caster_net.specs.Told.{link_told, new_wire};
 
+use crate::keep::Cut;
 use crate::notes::{StepNote, step_of_read};
 use crate::waiting::{LONGEST, failed, wait_ready, would_wait};
 use cast_io::{Failed, Got, Journal};
@@ -18,8 +19,8 @@ use std::time::{Duration, Instant};
 // How long a write waits for room with no byte taken, in seconds.
 const LONGEST_WRITE: u64 = 10;
 
-/// A stream, and how often it failed. For contracts alone it has a record of what its reads answered
-/// and of the bytes that its writes took, which costs nothing.
+/// A stream, and how often it failed. For contracts alone it has a record of what its reads
+/// answered and of the bytes that its writes took, which costs nothing.
 #[derive(Drop)]
 pub struct Wire<S> {
     stream: S,
@@ -97,19 +98,46 @@ impl<S: Read> Wire<S> {
             result buf.new }
     {
         let got = read_once(&mut self.stream, buf);
+        self.note(got, buf);
+        got
+    }
+}
+
+impl<S> Wire<S> {
+    /// A read of a wire that is read no more: at a stop the end is answered, as if the peer had
+    /// ended, and else a failure. The stream is left as it is.
+    pub(crate) fn cut(&mut self, cut: Cut, buf: &[u8]) -> Got
+        ensures read { HasRead (link_told self.old) (link_told self.new) result buf.now }
+        ensures stream { self.new.stream ≡ self.old.stream }
+        ensures stopped { cut ≡ Cut.Stopped → result ≡ Got.End }
+        ensures quiet { cut ≡ Cut.Quiet → result ≡ Got.Failed }
+    {
+        let got = match cut {
+            Cut::Stopped => Got::End,
+            Cut::Quiet => Got::Failed,
+        };
+        self.note(got, buf);
+        got
+    }
+
+    // Notes what a read answered, with its buffer after it.
+    fn note(&mut self, got: Got, buf: &[u8])
+        requires { IsGot got (length buf.now) }
+        ensures read { HasRead (link_told self.old) (link_told self.new) got buf.now }
+        ensures stream { self.new.stream ≡ self.old.stream }
+    {
         if got == Got::Failed {
             self.faults = self.faults.saturating_add(1);
         }
         self.steps.add(&step_of_read(got, buf));
-        got
     }
 }
 
 impl<S: Write> Wire<S> {
     ghost use Rattle.caster_net.specs.Told.{Took, count_of};
 
-    /// Writes the whole piece, and waits at this descriptor, that of the stream, while there is no room
-    /// for it. After `Failed` some first bytes of it were taken, none to all.
+    /// Writes the whole piece, and waits at this descriptor, that of the stream, while there is no
+    /// room for it. After `Failed` some first bytes of it were taken, none to all.
     pub fn write(&mut self, rt: &HostRuntime, fd: RawFd, piece: &[u8]) -> Result<(), Failed>
         ensures written { HasWritten (link_told self.old) (link_told self.new) result piece.now }
         ensures honest { IsHonestWrite (S.contents self.old.stream) (S.contents self.new.stream)
@@ -139,22 +167,14 @@ impl<S: Write> Wire<S> {
         }
     }
 
-    // Waits for room and writes some first bytes then, in so many seconds. Between two tries it waits
-    // for half a second at most: there may be room for some bytes, while the socket is called writable
-    // only when a good part of its buffer is free.
+    // Waits for room and writes some first bytes then, in so many seconds.
     fn write_late(&mut self, rt: &HostRuntime, fd: RawFd, piece: &[u8]) -> Option<usize>
         ensures bound { IfSome result (λ count. (0 < count) × (count ≤ length piece.now)) }
         ensures took { Took S.contents self.old self.new (take (unwrap_or result 0) piece.now) }
     {
-        let limit = Duration::from_secs(LONGEST_WRITE);
         let begun = Instant::now(rt).ok()?;
         for _ in 0..u64::MAX {
-            let left = limit.saturating_sub(begun.elapsed(rt).ok()?);
-            if left.is_zero() {
-                return None;
-            }
-            let pause = left.min(Duration::from_millis(LONGEST));
-            wait_ready(rt, fd, POLLOUT, pause);
+            wait_ready(rt, fd, POLLOUT, pause_in(rt, &begun)?);
             match self.write_once(piece) {
                 Got::Bytes(count) => return Some(count),
                 Got::Idle => {}
@@ -197,4 +217,16 @@ fn got_of(answer: io::Result<usize>) -> Got
         Err(fault) if would_wait(fault.kind()) => Got::Idle,
         Err(_) => Got::Failed,
     }
+}
+
+// How long a write that has waited for room since then waits before its next try: None once that is
+// long enough. It is half a second at most: there may be room for some bytes, while the socket is
+// called writable only when a good part of its buffer is free.
+fn pause_in(rt: &HostRuntime, begun: &Instant) -> Option<Duration> {
+    let waited = begun.elapsed(rt).ok()?;
+    let left = Duration::from_secs(LONGEST_WRITE).saturating_sub(waited);
+    if left.is_zero() {
+        return None;
+    }
+    Some(left.min(Duration::from_millis(LONGEST)))
 }

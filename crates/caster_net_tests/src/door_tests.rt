@@ -1,6 +1,6 @@
 //! Doors at a loopback address, and what their rests end with.
 use cast_io::{Arrived, Door, Got, Link, Street, StreetFault};
-use caster_net::{Bells, TcpDoor, TcpLink, TcpStreet};
+use caster_net::{Bells, Halt, TcpDoor, TcpLink, TcpStreet};
 use std::io::{ErrorKind, Read, Write};
 use std::net::{TcpListener, TcpStream};
 use std::test::Fail;
@@ -87,7 +87,8 @@ fn lives_of<R: Threads>(
     place: &str,
 ) -> Result<(([bool; 3], usize), (usize, bool, bool)), Fail> {
     let bells = Bells::new(host);
-    let mut street = TcpStreet::new(host, &bells);
+    let halt = Halt::new(host);
+    let mut street = TcpStreet::new(host, &bells, &halt);
     let (mut doors, is_taken) = two_doors(host, &mut street, place);
     let Some(mut door) = doors.pop() else {
         return Err(Fail::from("no doors"));
@@ -178,7 +179,8 @@ fn rests_alone(rt: &HostRuntime, door: &mut TcpDoor<'_>, place: &str) -> io::Res
 // The same of a street's one door, which is shut then.
 fn rests_of_one(rt: &HostRuntime, place: &str) -> Result<[u128; 3], Fail> {
     let bells = Bells::new(rt);
-    let mut street = TcpStreet::new(rt, &bells);
+    let halt = Halt::new(rt);
+    let mut street = TcpStreet::new(rt, &bells, &halt);
     let Ok(mut doors) = street.open(place, 1) else {
         return Err(Fail::from("no doors"));
     };

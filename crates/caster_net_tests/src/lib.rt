@@ -1,5 +1,5 @@
 //! Readers, writers and files of std as sources, sinks and stores, and loopback sockets as links,
-//! doors and streets, by the public calls of `caster_net`.
+//! doors, gates and streets, by the public calls of `caster_net`.
 //!
 //! They stand in a crate of their own, so that the crate that they try is proved once.
 #![tactic(auto)]
@@ -7,7 +7,15 @@
 #[cfg(test)]
 mod adapter_tests;
 #[cfg(test)]
+mod alive_tests;
+#[cfg(test)]
+mod dial_tests;
+#[cfg(test)]
 mod door_tests;
+#[cfg(test)]
+mod gate_tests;
+#[cfg(test)]
+mod lack_tests;
 #[cfg(test)]
 mod link_tests;
 #[cfg(test)]

@@ -1,6 +1,6 @@
 //! Links over loopback connections, and what their rests end with.
 use cast_io::{Got, Link, Street};
-use caster_net::{Bells, TcpLink, TcpStreet};
+use caster_net::{Bells, Halt, TcpLink, TcpStreet};
 use std::io;
 use std::io::{Read, Write};
 use std::net::{TcpListener, TcpStream};
@@ -47,7 +47,8 @@ fn traffic_of(
 // The same of a link that was dialled, which is hung up then.
 fn traffic(rt: &HostRuntime) -> Result<([Got; 3], [u8; 2], bool), Fail> {
     let bells = Bells::new(rt);
-    let mut street = TcpStreet::new(rt, &bells);
+    let halt = Halt::new(rt);
+    let mut street = TcpStreet::new(rt, &bells, &halt);
     let (mut link, peer) = pair(rt, &mut street)?;
     let traffic = traffic_of(&mut link, peer);
     street.hang_up(link);
@@ -65,18 +66,15 @@ fn a_link_reads_what_comes_and_writes_at_once(rt: HostRuntime) -> Result<(), Fai
 // Two links that were dialled, each with its peer: of a rover that reports, and of a source with
 // its base.
 #[derive(Drop)]
-pub(crate) struct Pairs<'a> {
-    pub(crate) rover: TcpLink<'a>,
-    pub(crate) reports: TcpStream,
-    pub(crate) source: TcpLink<'a>,
-    pub(crate) base: TcpStream,
+struct Pairs<'a> {
+    rover: TcpLink<'a>,
+    reports: TcpStream,
+    source: TcpLink<'a>,
+    base: TcpStream,
 }
 
 // Dials twice.
-pub(crate) fn dial_twice<'a>(
-    rt: &HostRuntime,
-    street: &mut TcpStreet<'a>,
-) -> Result<Pairs<'a>, Fail> {
+fn dial_twice<'a>(rt: &HostRuntime, street: &mut TcpStreet<'a>) -> Result<Pairs<'a>, Fail> {
     let (rover, reports) = pair(rt, street)?;
     let (source, base) = pair(rt, street)?;
     Ok(Pairs {
@@ -121,7 +119,8 @@ fn rests_at_one(rt: &HostRuntime, two: &mut Pairs<'_>) -> io::Result<[bool; 4]> 
 // The same of two links that were dialled, which are hung up then.
 fn rests_of(rt: &HostRuntime) -> Result<[bool; 4], Fail> {
     let bells = Bells::new(rt);
-    let mut street = TcpStreet::new(rt, &bells);
+    let halt = Halt::new(rt);
+    let mut street = TcpStreet::new(rt, &bells, &halt);
     let mut two = dial_twice(rt, &mut street)?;
     let rests = rests_at_one(rt, &mut two);
     street.hang_up(two.rover);
@@ -154,7 +153,8 @@ fn rests_at_two(rt: &HostRuntime, two: &mut Pairs<'_>) -> io::Result<[bool; 4]> 
 // The same of two links that were dialled, which are hung up then.
 fn rests_apart(rt: &HostRuntime) -> Result<[bool; 4], Fail> {
     let bells = Bells::new(rt);
-    let mut street = TcpStreet::new(rt, &bells);
+    let halt = Halt::new(rt);
+    let mut street = TcpStreet::new(rt, &bells, &halt);
     let mut two = dial_twice(rt, &mut street)?;
     let rests = rests_at_two(rt, &mut two);
     street.hang_up(two.rover);
@@ -183,7 +183,8 @@ fn rest_beside(rt: &HostRuntime, two: &mut Pairs<'_>) -> io::Result<bool> {
 // up.
 fn rests_untold(rt: &HostRuntime) -> Result<[bool; 2], Fail> {
     let bells = Bells::new(rt);
-    let mut street = TcpStreet::new(rt, &bells);
+    let halt = Halt::new(rt);
+    let mut street = TcpStreet::new(rt, &bells, &halt);
     let mut two = dial_twice(rt, &mut street)?;
     let untold = rest_beside(rt, &mut two);
     street.hang_up(two.source);
@@ -202,7 +203,8 @@ fn a_link_without_a_mountpoint_rings_at_its_end(rt: HostRuntime) -> Result<(), F
 // Whether a link that was dialled sends small pieces at once.
 fn is_prompt(rt: &HostRuntime) -> Result<bool, Fail> {
     let bells = Bells::new(rt);
-    let mut street = TcpStreet::new(rt, &bells);
+    let halt = Halt::new(rt);
+    let mut street = TcpStreet::new(rt, &bells, &halt);
     let (link, _peer) = pair(rt, &mut street)?;
     let is_prompt = link.is_prompt();
     street.hang_up(link);

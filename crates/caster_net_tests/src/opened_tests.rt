@@ -3,7 +3,7 @@
 //! opened.
 use crate::records::{dialled, opened, opened_at, read_on};
 use cast_io::{Arrived, Door, Failed, Street};
-use caster_net::{Bells, FileStore, TcpDoor, TcpStreet};
+use caster_net::{Bells, FileStore, Halt, TcpDoor, TcpStreet};
 use std::net::{TcpListener, TcpStream};
 use std::test::Fail;
 use std::{fs, io, process};
@@ -59,7 +59,8 @@ fn listener_of(rt: &HostRuntime) -> Result<(TcpListener, String), Fail> {
 // Whether a link is dialled at this address. It is hung up then.
 fn is_dialled(rt: &HostRuntime, place: &str) -> bool {
     let bells = Bells::new(rt);
-    let mut street = TcpStreet::new(rt, &bells);
+    let halt = Halt::new(rt);
+    let mut street = TcpStreet::new(rt, &bells, &halt);
     match dialled(&mut street, place) {
         Ok(link) => {
             street.hang_up(link);
@@ -109,7 +110,8 @@ fn is_reached(door: &mut TcpDoor<'_>) -> bool {
 // address of the second.
 fn are_reached(rt: &HostRuntime) -> Result<[bool; 2], Fail> {
     let bells = Bells::new(rt);
-    let mut street = TcpStreet::new(rt, &bells);
+    let halt = Halt::new(rt);
+    let mut street = TcpStreet::new(rt, &bells, &halt);
     let (one, _) = door_of(rt, &mut street)?;
     let (two, place) = door_of(rt, &mut street)?;
     let (Some(mut one), Some(mut two)) = (one, two) else {

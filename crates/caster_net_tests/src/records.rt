@@ -5,11 +5,16 @@ ghost use Rattle.cast_io.specs.Links.{step_of};
 ghost use Rattle.cast_io.specs.Logs.{step_of_open, step_of_read};
 ghost use Rattle.cast_io.specs.declared.link.Got.TheVariants as got;
 ghost use Rattle.cast_io.specs.declared.steps.Asked.TheVariants as asked;
+ghost use Rattle.cast_io.specs.declared.yard_asked.YardAsked.TheVariants as calls;
 ghost use Rattle.cast_io.specs.Logged.{door_logged, link_logged};
+ghost use Rattle.caster_net.specs.Gates.{gate_logged, notes_logged};
 ghost use Rattle.caster_net.specs.Told.{link_told};
 
-use cast_io::{Door, Failed, Got, Link, Sink, Source, Store, Street, StreetFault};
-use caster_net::{FileStore, ReaderSource, TcpDoor, TcpLink, TcpStreet, Wire, WriterSink};
+use cast_io::{Door, Failed, Gate, Got, Link, Sink, Source, Store, Street, StreetFault, Yard};
+use caster_net::{
+    FileStore, NoteOut, NoteSink, ReaderSource, TcpDoor, TcpGate, TcpLink, TcpStreet, Wire,
+    WriterSink,
+};
 use std::io::{Read, Write};
 use std::os::fd::RawFd;
 
@@ -63,14 +68,14 @@ pub fn opened<'a>(
     addr: &str,
     doors: u32,
 ) -> Result<Vec<TcpDoor<'a>>, StreetFault>
-    ensures { street.new.asked ≡ street.old.asked ++ asked.Open addr.now doors ∷ [] }
+    ensures { street.new.street.asked ≡ street.old.street.asked ++ asked.Open addr.now doors ∷ [] }
 {
     street.open(addr, doors)
 }
 
 /// An address is dialled.
 pub fn dialled<'a>(street: &mut TcpStreet<'a>, addr: &str) -> Result<TcpLink<'a>, StreetFault>
-    ensures asked { street.new.asked ≡ street.old.asked ++ asked.Dial addr.now ∷ [] }
+    ensures asked { street.new.street.asked ≡ street.old.street.asked ++ asked.Dial addr.now ∷ [] }
     ensures none_yet { IfOk result (λ link. (link.taken ≡ []) × (link.bytes ≡ [])) }
 {
     street.dial(addr)
@@ -78,18 +83,82 @@ pub fn dialled<'a>(street: &mut TcpStreet<'a>, addr: &str) -> Result<TcpLink<'a>
 
 /// A link is given back to its street.
 pub fn left<'a>(street: &mut TcpStreet<'a>, link: TcpLink<'a>)
-    ensures { map link_logged street.new.links
-        ≡ map link_logged street.old.links ++ link_told link.entry ∷ [] }
+    ensures { map link_logged street.new.street.links
+        ≡ map link_logged street.old.street.links ++ link_told link.entry ∷ [] }
 {
     street.hang_up(link);
 }
 
 /// A door is given back to its street.
 pub fn shut<'a>(street: &mut TcpStreet<'a>, door: TcpDoor<'a>)
-    ensures { map door_logged street.new.doors
-        ≡ map door_logged street.old.doors ++ door_logged door.entry ∷ [] }
+    ensures { map door_logged street.new.street.doors
+        ≡ map door_logged street.old.street.doors ++ door_logged door.entry ∷ [] }
 {
     street.shut(door);
+}
+
+/// A link is given back to its gate.
+pub fn hung_up_at<'a>(gate: &mut TcpGate<'a>, link: TcpLink<'a>)
+    ensures { map link_logged gate.new.door.back
+        ≡ map link_logged gate.old.door.back ++ link_told link.entry ∷ [] }
+{
+    gate.hang_up(link);
+}
+
+/// A gate is asked whether it is over.
+pub fn is_over(gate: &mut TcpGate<'_>) -> bool
+    ensures { result ≡ gate.new.over }
+{
+    gate.is_over()
+}
+
+/// Gates are opened at an address.
+pub fn gates_opened<'a>(
+    street: &mut TcpStreet<'a>,
+    addr: &str,
+    gates: u32,
+    quiet: u32,
+) -> Result<Vec<TcpGate<'a>>, StreetFault>
+    ensures { street.new.yard.asked
+        ≡ street.old.yard.asked ++ calls.OpenGates addr.now gates quiet ∷ [] }
+{
+    street.open_gates(addr, gates, quiet)
+}
+
+/// A gate is made that dials an address.
+pub fn reached<'a>(
+    street: &mut TcpStreet<'a>,
+    addr: &str,
+    quiet: u32,
+) -> Result<TcpGate<'a>, StreetFault>
+    ensures asked { street.new.yard.asked
+        ≡ street.old.yard.asked ++ calls.Reach addr.now quiet ∷ [] }
+    ensures made { IfOk result (λ gate. gate.origin ≡ calls.Reach addr.now quiet) }
+{
+    street.reach(addr, quiet)
+}
+
+/// A place for notes is made.
+pub fn notes_of<'a>(street: &mut TcpStreet<'a>) -> Result<NoteSink<'a, NoteOut>, StreetFault>
+    ensures asked { street.new.yard.asked ≡ street.old.yard.asked ++ calls.Notes ∷ [] }
+    ensures none_yet { IfOk result (λ notes. notes.taken ≡ []) }
+{
+    street.notes()
+}
+
+/// A gate is given back to its street.
+pub fn gate_shut<'a>(street: &mut TcpStreet<'a>, gate: TcpGate<'a>)
+    ensures { map gate_logged street.new.yard.gates
+        ≡ map gate_logged street.old.yard.gates ++ gate_logged gate.entry ∷ [] }
+{
+    street.shut_gate(gate);
+}
+
+/// A place for notes is given back to its street.
+pub fn notes_back<'a>(street: &mut TcpStreet<'a>, notes: NoteSink<'a, NoteOut>)
+    ensures { street.new.yard.notes ≡ street.old.yard.notes ++ notes_logged notes.entry ∷ [] }
+{
+    street.take_notes(notes);
 }
 
 /// One read of a source.

@@ -1,25 +1,24 @@
 //! Peers that take little, and nothing.
-use crate::link_tests::{Pairs, dial_twice};
-use cast_io::{Link, Street};
-use caster_net::{Bells, TcpLink, TcpStreet};
+use caster_net::Wire;
 use std::io::Read;
-use std::net::TcpStream;
+use std::os::fd::AsRawFd;
+use std::os::unix::net::UnixStream;
 use std::test::Fail;
 use std::thread::Threads;
 use std::time::{Duration, Instant};
 use std::{io, thread};
 
-// More bytes than the system keeps of a connection.
-const PIECE: usize = 32 << 20;
+// More bytes than the system keeps of a pair of sockets, about 200 KiB, and the peer takes slowly.
+const PIECE: usize = 1 << 20;
 
 // How much a peer takes now and then, in bytes, and how often it does before it takes all, with
 // half a second between two times: eleven seconds together.
-const LITTLE: usize = 128 << 10;
+const LITTLE: usize = 16 << 10;
 
 const TIMES: u32 = 22;
 
 // Takes a little now and then. Answers how much came.
-fn take_slowly(rt: &HostRuntime, peer: &mut TcpStream, room: &mut [u8]) -> io::Result<usize> {
+fn take_slowly(rt: &HostRuntime, peer: &mut UnixStream, room: &mut [u8]) -> io::Result<usize> {
     let mut came: usize = 0;
     for _ in 0..TIMES {
         thread::sleep(rt, Duration::from_millis(500));
@@ -29,7 +28,7 @@ fn take_slowly(rt: &HostRuntime, peer: &mut TcpStream, room: &mut [u8]) -> io::R
 }
 
 // Takes all that is left of a piece of which so much came. Answers how much came in all.
-fn take_rest(peer: &mut TcpStream, room: &mut [u8], before: usize) -> io::Result<usize> {
+fn take_rest(peer: &mut UnixStream, room: &mut [u8], before: usize) -> io::Result<usize> {
     let mut came = before;
     for _ in before..PIECE {
         if came >= PIECE {
@@ -41,61 +40,42 @@ fn take_rest(peer: &mut TcpStream, room: &mut [u8], before: usize) -> io::Result
 }
 
 // Takes a little now and then, and what is left behind it.
-fn take_all(rt: &HostRuntime, peer: &mut TcpStream, room: &mut [u8]) -> io::Result<usize> {
+fn take_all(rt: &HostRuntime, peer: &mut UnixStream, room: &mut [u8]) -> io::Result<usize> {
     let before = take_slowly(rt, peer, room)?;
     take_rest(peer, room, before)
 }
 
-// Whether a write fails, and after how many seconds.
-fn write_fails(rt: &HostRuntime, link: &mut TcpLink<'_>, piece: &[u8]) -> io::Result<(bool, u64)> {
+// Whether a write over this socket fails, and after how many seconds.
+fn write_fails(rt: &HostRuntime, socket: &UnixStream, piece: &[u8]) -> io::Result<(bool, u64)> {
+    socket.set_nonblocking(true)?;
+    let mut wire = Wire::over(socket);
     let begun = Instant::now(rt)?;
-    let fails = link.write(piece).is_err();
+    let fails = wire.write(rt, socket.as_raw_fd(), piece).is_err();
     Ok((fails, begun.elapsed(rt)?.as_secs()))
 }
 
 // What comes of writes side by side, to a peer that takes little and to one that takes nothing; and
 // how much the first one got.
-fn writes_at<R: Threads>(
-    rt: &R,
-    host: &HostRuntime,
-    two: &mut Pairs<'_>,
-    piece: &[u8],
-    room: &mut [u8],
-) -> io::Result<([(bool, u64); 2], usize)> {
-    let Pairs {
-        rover: slow,
-        reports: taker,
-        source: stuck,
-        base: _,
-    } = two;
-    let (to_slow, (to_stuck, came)) = thread::join(
-        rt,
-        || write_fails(host, slow, piece),
-        || {
-            thread::join(
-                rt,
-                || write_fails(host, stuck, piece),
-                || take_all(host, taker, room),
-            )
-        },
-    );
-    Ok(([to_slow?, to_stuck?], came?))
-}
-
-// The same of two links that were dialled, which are hung up then.
 fn writes_of<R: Threads>(
     rt: &R,
     host: &HostRuntime,
     piece: &[u8],
     room: &mut [u8],
-) -> Result<([(bool, u64); 2], usize), Fail> {
-    let bells = Bells::new(host);
-    let mut street = TcpStreet::new(host, &bells);
-    let mut two = dial_twice(host, &mut street)?;
-    let writes = writes_at(rt, host, &mut two, piece, room);
-    street.hang_up(two.rover);
-    street.hang_up(two.source);
-    Ok(writes?)
+) -> io::Result<([(bool, u64); 2], usize)> {
+    let (slow, mut taker) = UnixStream::pair(host)?;
+    let (stuck, _idle) = UnixStream::pair(host)?;
+    let (to_slow, (to_stuck, came)) = thread::join(
+        rt,
+        || write_fails(host, &slow, piece),
+        || {
+            thread::join(
+                rt,
+                || write_fails(host, &stuck, piece),
+                || take_all(host, &mut taker, room),
+            )
+        },
+    );
+    Ok(([to_slow?, to_stuck?], came?))
 }
 
 #[test]

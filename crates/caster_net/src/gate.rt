@@ -1,0 +1,281 @@
+//! A gate over sockets: at a listener, or one that dials its peer.
+ghost use Rattle.std.specs.Prelude.{◌≡◌, IfOk};
+ghost use Rattle.cast_io.specs.Doors.{HasAccepted, HasHungUp};
+ghost use Rattle.cast_io.specs.Logged.{door_logged};
+ghost use Rattle.caster_net.specs.Gates.{new_gate, quiet_of};
+ghost use Rattle.caster_net.specs.Told.{link_told, new_wire};
+
+use crate::bells::Bells;
+use crate::door::{LONGEST_END, Porch, is_dead};
+use crate::halt::Halt;
+use crate::keep::Keep;
+use crate::link::TcpLink;
+use crate::redial::Redial;
+use crate::waiting::{LONGEST_KEPT, failed, rest, would_wait};
+use cast_io::{Arrived, Door, Gate, Journal, Origin, PeerAddr};
+use std::alloc::Global;
+use std::fmt::InlineText;
+use std::io::ErrorKind;
+use std::marker::Model;
+use std::net::{SocketAddr, TcpStream};
+use std::sync::Arc;
+use std::time::Duration;
+use std::{io, thread};
+
+/// What the gates of a street share.
+#[derive(Clone, Copy)]
+pub(crate) struct Ground<'a> {
+    pub(crate) rt: &'a HostRuntime,
+    pub(crate) bells: &'a Bells,
+    pub(crate) halt: &'a Halt,
+}
+
+// Where the links of a gate come from.
+#[derive(Drop)]
+enum Way {
+    // They arrive here, where other gates wait for some too.
+    Porch(Arc<Porch, Global>),
+    // This peer is dialled.
+    Peer(Redial),
+}
+
+/// A gate at an address, or one that dials the peer there, and how often an accept of it failed for
+/// good. It is over once the stop was asked for, and so are its links. For contracts alone it has a
+/// record of the links that came back to it.
+#[derive(Drop)]
+pub struct TcpGate<'a> {
+    ground: Ground<'a>,
+    way: Way,
+    // For how many seconds a link may be quiet; 0 is for ever.
+    quiet: u32,
+    // What ended a rest at the porch, for the next accept.
+    came: Option<io::Result<(TcpStream, SocketAddr)>>,
+    peer: PeerAddr,
+    is_over: bool,
+    origin: Origin,
+    back: Journal<TcpLink<'a>>,
+    faults: u64,
+}
+
+impl<'a> Model for TcpGate<'a> {
+    ghost use Rattle.std.specs.Prelude.{map};
+    ghost use Rattle.caster_net.specs.Gates.{GateLog};
+    ghost use Rattle.caster_net.specs.Told.{link_log};
+
+    ghost Value = { GateLog };
+
+    ghost view = { λ g. record {
+      door = record { back = map link_log g.back; faults = g.faults };
+      over = g.is_over;
+      peer = g.peer;
+      origin = g.origin;
+      quiet = g.quiet;
+    } };
+}
+
+impl<'a> TcpGate<'a> {
+    ghost use Rattle.cast_io.specs.declared.yard_asked.YardAsked.TheVariants as asked;
+
+    /// One of so many gates at this place, which is at this address.
+    pub(crate) fn opened(
+        ground: Ground<'a>,
+        porch: Arc<Porch, Global>,
+        addr: &str,
+        gates: u32,
+        quiet: u32,
+    ) -> Self
+        ensures { result ≡ new_gate (asked.OpenGates addr.now gates quiet) }
+    {
+        TcpGate::over(
+            ground,
+            Way::Porch(porch),
+            Origin::opened(addr, gates, quiet),
+            quiet,
+        )
+    }
+
+    /// A gate that dials this peer, which is at this address.
+    pub(crate) fn reached(ground: Ground<'a>, peer: Redial, addr: &str, quiet: u32) -> Self
+        ensures { result ≡ new_gate (asked.Reach addr.now quiet) }
+    {
+        TcpGate::over(ground, Way::Peer(peer), Origin::reached(addr, quiet), quiet)
+    }
+
+    // A gate that was made for this, of which it is a part for how many seconds its links may be
+    // quiet.
+    fn over(ground: Ground<'a>, way: Way, origin: Origin, seconds: u32) -> Self
+        requires { seconds ≡ quiet_of origin }
+        ensures { result ≡ new_gate origin }
+    {
+        TcpGate {
+            ground,
+            way,
+            quiet: seconds,
+            came: None,
+            peer: PeerAddr::unknown(),
+            is_over: false,
+            origin,
+            back: Journal::new(),
+            faults: 0,
+        }
+    }
+
+    /// How often an accept failed for good.
+    pub(crate) fn faults(&self) -> u64
+        ensures { result ≡ self.now.door.faults }
+    {
+        self.faults
+    }
+
+    // The connection that ended the last rest, or one to the peer where it may be dialled now, and
+    // the address of the peer.
+    fn next(&mut self) -> io::Result<(TcpStream, SocketAddr)>
+        ensures { self.new ≡ self.old }
+    {
+        match &mut self.way {
+            Way::Porch(_) => match self.came.take() {
+                Some(came) => came,
+                None => Err(nothing_yet()),
+            },
+            Way::Peer(peer) => dialled(self.ground, peer),
+        }
+    }
+
+    // A link over this connection with this peer, which is named then.
+    fn welcome(&mut self, stream: TcpStream, peer: SocketAddr) -> io::Result<TcpLink<'a>>
+        ensures link { IfOk result (λ link. link ≡ new_wire stream) }
+        ensures same { self.new ≡ record self.old { peer = self.new.peer } }
+    {
+        let Ground { rt, bells, halt } = self.ground;
+        let keep = Keep::from_now(rt, halt, self.quiet)?;
+        let link = TcpLink::kept(rt, bells, stream, keep)?;
+        self.peer = word_of(peer);
+        Ok(link)
+    }
+
+    // No link came of a connection: the peer, where it is dialled, is not at once again.
+    fn put_off(&mut self)
+        ensures { self.new ≡ self.old }
+    {
+        if let Way::Peer(peer) = &mut self.way {
+            peer.put_off(self.ground.rt);
+        }
+    }
+}
+
+impl<'a> Door for TcpGate<'a> {
+    type Link = TcpLink<'a>;
+
+    ghost told = { λ g. door_logged g.door };
+
+    // An accept that fails is one that found nothing, but where the listener itself is gone, as at
+    // a door. A dial that fails is one too.
+    fn accept(&mut self) -> Arrived<TcpLink<'a>>
+        ensures accepted { HasAccepted link_told
+            (door_logged self.old.door) (door_logged self.new.door) result }
+        ensures same { self.new ≡ record self.old { door = self.new.door; peer = self.new.peer } }
+    {
+        match self.next() {
+            Ok((stream, peer)) => match self.welcome(stream, peer) {
+                Ok(link) => Arrived::Link(link),
+                Err(_) => {
+                    self.put_off();
+                    Arrived::Idle
+                }
+            },
+            Err(fault) if is_dead(&fault) => failed(&mut self.faults, Arrived::Failed),
+            Err(_) => Arrived::Idle,
+        }
+    }
+
+    // At a porch it ends with a connection, and so late at most that a stop is seen in time.
+    fn rest(&mut self)
+        ensures { self.new ≡ self.old }
+    {
+        if self.came.is_none() {
+            self.came = what_comes(self.ground, &self.way);
+        }
+    }
+
+    fn hang_up(&mut self, link: TcpLink<'a>)
+        ensures left { HasHungUp (link_told link.entry)
+            (door_logged self.old.door) (door_logged self.new.door) }
+        ensures same { self.new ≡ record self.old { door = self.new.door } }
+    {
+        self.back.add(&link);
+        link.close(Duration::from_millis(LONGEST_END));
+        if let Way::Peer(peer) = &mut self.way {
+            peer.end(self.ground.rt);
+        }
+    }
+}
+
+impl Gate for TcpGate<'_> {
+    ghost over = { λ g. g.over };
+
+    ghost peer = { λ g. g.peer };
+
+    ghost origin = { λ g. g.origin };
+
+    fn is_over(&mut self) -> bool
+        ensures over { result ≡ self.new.over }
+        ensures same { self.new ≡ record self.old { over = self.new.over } }
+    {
+        self.ground.halt.look(self.ground.rt);
+        self.is_over = self.ground.halt.is_asked();
+        self.is_over
+    }
+
+    fn peer(&self) -> &PeerAddr
+        ensures { result.now ≡ self.now.peer }
+    {
+        &self.peer
+    }
+}
+
+// What comes in a while, if anything does. Where the peer is dialled, nothing comes.
+fn what_comes(ground: Ground<'_>, way: &Way) -> Option<io::Result<(TcpStream, SocketAddr)>> {
+    match way {
+        Way::Porch(porch) => taken(ground, porch),
+        Way::Peer(_) => {
+            thread::sleep(ground.rt, Duration::from_millis(LONGEST_KEPT));
+            None
+        }
+    }
+}
+
+// What comes to the porch in a while, if anything does. An accept that failed for a while may do so
+// again at once: so it is tried again after a short rest.
+fn taken(ground: Ground<'_>, porch: &Porch) -> Option<io::Result<(TcpStream, SocketAddr)>> {
+    match porch.take(ground.bells) {
+        Err(fault) if would_wait(fault.kind()) => None,
+        Err(fault) if !is_dead(&fault) => {
+            rest(ground.rt);
+            None
+        }
+        came => Some(came),
+    }
+}
+
+// A connection to this peer and its address, where it may be dialled now and could be.
+fn dialled(ground: Ground<'_>, peer: &mut Redial) -> io::Result<(TcpStream, SocketAddr)> {
+    let Some(stream) = peer.dial(ground.rt, ground.halt) else {
+        return Err(nothing_yet());
+    };
+    let Ok(addr) = stream.peer_addr() else {
+        peer.put_off(ground.rt);
+        return Err(nothing_yet());
+    };
+    Ok((stream, addr))
+}
+
+// The error of a call that would have to wait.
+fn nothing_yet() -> io::Error {
+    io::Error::from(ErrorKind::WouldBlock)
+}
+
+// The word for the peer at this address.
+fn word_of(peer: SocketAddr) -> PeerAddr {
+    let text = InlineText::<64>::of(peer);
+    PeerAddr::new(text.as_str().as_bytes())
+}

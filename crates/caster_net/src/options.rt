@@ -1,0 +1,59 @@
+//! Options of sockets for which std has no call.
+use libc::net::{
+    IPPROTO_TCP, SO_KEEPALIVE, SO_RCVTIMEO, SOL_SOCKET, TCP_KEEPCNT, TCP_KEEPIDLE, TCP_KEEPINTVL,
+    setsockopt,
+};
+use std::io;
+use std::os::fd::RawFd;
+
+// After how many seconds without a byte the system asks whether the peer is still there.
+const IDLE: i32 = 60;
+
+// After how many seconds it asks again.
+const INTERVAL: i32 = 10;
+
+// After how many questions with no answer the connection has failed.
+const PROBES: i32 = 3;
+
+/// Has the system find out that the peer of this connection is gone, where nothing is sent. Where
+/// it cannot, the connection is as good without.
+pub(crate) fn keep_alive(fd: RawFd) {
+    // SAFETY: a call of `setsockopt` needs an option whose value holds no pointer, and a length of
+    // at most the 16 bytes of its value. Each of the four names such an option where it stands, and
+    // the length is that of an `i32`. The check proves both.
+    unsafe {
+        setsockopt(fd, SOL_SOCKET, SO_KEEPALIVE, &number(1), 4);
+        setsockopt(fd, IPPROTO_TCP, TCP_KEEPIDLE, &number(IDLE), 4);
+        setsockopt(fd, IPPROTO_TCP, TCP_KEEPINTVL, &number(INTERVAL), 4);
+        setsockopt(fd, IPPROTO_TCP, TCP_KEEPCNT, &number(PROBES), 4);
+    }
+}
+
+/// An accept of this listener waits for so many milliseconds at most, which are above 0. Then it
+/// finds nothing.
+pub(crate) fn limit_accepts(fd: RawFd, millis: u64) -> io::Result<()> {
+    let limit = time(millis);
+    // SAFETY: the value of `SO_RCVTIMEO` holds no pointer, and all 16 bytes of `limit` are there.
+    // The check proves both conditions of the call.
+    let status = unsafe { setsockopt(fd, SOL_SOCKET, SO_RCVTIMEO, &limit, 16) };
+    if status == 0 {
+        Ok(())
+    } else {
+        Err(io::Error::from(io::ErrorKind::Other))
+    }
+}
+
+// A number as the system reads it.
+fn number(number: i32) -> [u8; 16] {
+    let mut value = [0; 16];
+    value[..4].copy_from_slice(&number.to_ne_bytes());
+    value
+}
+
+// So many milliseconds as the system reads them: seconds, and microseconds.
+fn time(millis: u64) -> [u8; 16] {
+    let mut value = [0; 16];
+    value[..8].copy_from_slice(&(millis / 1000).to_ne_bytes());
+    value[8..].copy_from_slice(&(millis % 1000 * 1000).to_ne_bytes());
+    value
+}
