@@ -4,6 +4,7 @@ ghost use Rattle.std.specs.List.{list_all};
 ghost use Rattle.cast_io.specs.FakeLinks.{has_bytes, is_new_link};
 ghost use Rattle.cast_io.specs.FakeDoors.{is_new_arrival, is_new_door};
 
+use crate::gates::yard_of;
 use crate::numbers::{number, numbers};
 use crate::parts::Case;
 use cast_io::{ByteString, LinkStep, MemDoor, MemLink, MemStreet};
@@ -14,7 +15,8 @@ pub fn street_of(alloc: Global, case: &Case<'_>) -> Result<MemStreet, AllocError
     let doors = doors_of(alloc, case)?;
     let links = links_of(alloc, case)?;
     let calls = numbers(alloc, case.setting("street").unwrap_or(""))?;
-    MemStreet::new(alloc, doors, links, calls)
+    let street = MemStreet::new(alloc, doors, links, calls)?;
+    Ok(street.with_yard(yard_of(alloc, case)?))
 }
 
 /// Its doors.
@@ -44,7 +46,7 @@ fn links_of(alloc: Global, case: &Case<'_>) -> Result<Vec<MemLink>, AllocError>
 }
 
 /// A door: the numbers of the accepts that fail, and the links that arrive.
-fn door_of(alloc: Global, case: &Case<'_>, text: &str) -> Result<MemDoor, AllocError>
+pub fn door_of(alloc: Global, case: &Case<'_>, text: &str) -> Result<MemDoor, AllocError>
     ensures { IfOk result (λ door. IsTrue (is_new_door door)) }
 {
     let (fails, links) = text.split_once(';').unwrap_or((text, ""));
@@ -77,7 +79,7 @@ fn link_of(alloc: Global, case: &Case<'_>, text: &str) -> Result<MemLink, AllocE
 }
 
 /// The writes `!N:M` that fail, each after so many bytes.
-fn writes_of(alloc: Global, text: &str) -> Result<Vec<(u64, u64)>, AllocError> {
+pub fn writes_of(alloc: Global, text: &str) -> Result<Vec<(u64, u64)>, AllocError> {
     let mut writes = Vec::new(alloc);
     for word in text.split_whitespace() {
         if let Some((write, most)) = word.strip_prefix('!').and_then(|word| word.split_once(':')) {

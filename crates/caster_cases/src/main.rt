@@ -22,6 +22,11 @@
 //! | `door N.. ; LINK; LINK..` | a door whose accepts N fail, and the links that arrive at it |
 //! | `dial LINK` | a link to be dialled |
 //! | `street N..` | these calls of the street fail |
+//! | `gate N.. ; LINK; LINK..` | a gate, as a door; it is over once its links have come |
+//! | `over N` | each gate is over at the N-th time that it is asked, or at the first |
+//! | `peers PEER..` | the peers of the first links of each gate; those of others are not told |
+//! | `yard N..` | these calls for gates and for the place for lines fail |
+//! | `notes !N:M..` | these writes to the place for lines fail, each after M bytes |
 //! | `keep` | the text is kept and not printed |
 //! | `against PART..` | how the text compares to these parts is printed |
 //! | `among PAIR, PAIR..` | and `#` in them stands for one of these pairs of numbers |
@@ -34,10 +39,12 @@
 //!
 //! Of each call its status is printed; its text, each line behind `| `, with CR as `\r`, a sign `\`
 //! as `\\`, a byte that is no sign of ASCII as `\x` and its digits, and `\` where the last line has
-//! no end; the files that were asked for; and what the street was asked for. In place of a text
+//! no end; the lines that came back with the place for them, each behind `> `; the files that were
+//! asked for; and what the street and its yard were asked for. In place of a text
 //! that is compared stands `whole`, or `first N` where it is the first N bytes.
 #![tactic(auto)]
 
+mod gates;
 mod given;
 mod links;
 mod numbers;

@@ -1,7 +1,7 @@
 //! What is printed of a call.
 use crate::given::Given;
 use crate::parts::Case;
-use cast_io::{Asked, MemStore, MemStreet};
+use cast_io::{Asked, MemStore, MemStreet, YardAsked};
 use std::alloc::{AllocError, Global};
 
 /// What came of a call.
@@ -11,8 +11,10 @@ pub struct Came {
     pub status: u8,
     /// What was written.
     pub text: Vec<u8>,
-    /// The files that the store was asked for, and what the street was asked for, as they are
-    /// printed.
+    /// What came back with the place for lines.
+    pub lines: Vec<u8>,
+    /// The files that the store was asked for, and what the street and its yard were asked for, as
+    /// they are printed.
     pub asked: Vec<u8>,
     /// How often the street failed, and how many of its links did.
     pub faults: (u64, u64),
@@ -23,9 +25,11 @@ pub fn came_of(alloc: Global, status: u8, given: &Given) -> Result<Came, AllocEr
     let mut asked = Vec::new(alloc);
     push_files(&mut asked, &given.store)?;
     push_street(alloc, &mut asked, &given.street)?;
+    push_yard(alloc, &mut asked, &given.street)?;
     Ok(Came {
         status,
         text: given.out.bytes().to_vec(alloc)?,
+        lines: lines_of(alloc, &given.street)?,
         asked,
         faults: (given.street.faults(), given.street.link_faults()),
     })
@@ -76,6 +80,49 @@ fn push_asked(alloc: Global, lines: &mut Vec<u8>, asked: &Asked) -> Result<(), A
     Ok(())
 }
 
+/// Appends a line for each call of the street's yard.
+fn push_yard(alloc: Global, lines: &mut Vec<u8>, street: &MemStreet) -> Result<(), AllocError> {
+    let Some(all) = street.yard().asked() else {
+        return lines.extend_from_slice(b"yard is told no longer\n");
+    };
+    for asked in all {
+        push_yard_asked(alloc, lines, asked)?;
+    }
+    Ok(())
+}
+
+/// Appends the line of this call of the yard.
+fn push_yard_asked(
+    alloc: Global,
+    lines: &mut Vec<u8>,
+    asked: &YardAsked,
+) -> Result<(), AllocError> {
+    match asked {
+        YardAsked::OpenGates { addr, gates, quiet } => {
+            let front = format!(in alloc; "gates {gates} quiet {quiet} ")?;
+            lines.extend_from_slice(front.as_bytes())?;
+            lines.extend_from_slice(addr.as_slice())?;
+        }
+        YardAsked::Reach { addr, quiet } => {
+            let front = format!(in alloc; "gate to quiet {quiet} ")?;
+            lines.extend_from_slice(front.as_bytes())?;
+            lines.extend_from_slice(addr.as_slice())?;
+        }
+        YardAsked::Notes => lines.extend_from_slice(b"place for lines")?,
+    }
+    lines.push(b'\n')?;
+    Ok(())
+}
+
+/// What came back with the place for lines, nothing where none did.
+fn lines_of(alloc: Global, street: &MemStreet) -> Result<Vec<u8>, AllocError> {
+    let notes = street.yard().notes_back().unwrap_or(&[]);
+    match notes.first() {
+        Some(notes) => notes.bytes().to_vec(alloc),
+        None => Ok(Vec::new(alloc)),
+    }
+}
+
 /// Appends what is printed of the call.
 pub fn push_came(
     alloc: Global,
@@ -88,6 +135,7 @@ pub fn push_came(
     if !case.keeps() {
         push_text(alloc, out, case, &came.text)?;
     }
+    push_lines(alloc, out, b"> ", &came.lines)?;
     out.extend_from_slice(&came.asked)?;
     if case.setting("faults").is_some() {
         let (street, links) = came.faults;
@@ -105,7 +153,7 @@ fn push_text(
     text: &[u8],
 ) -> Result<(), AllocError> {
     let Some(wanted) = case.content(alloc, "against")? else {
-        return push_lines(alloc, out, text);
+        return push_lines(alloc, out, b"| ", text);
     };
     for pair in case.setting("among").unwrap_or("").split(", ") {
         let wanted = with_pair(alloc, &wanted, pair)?;
@@ -117,7 +165,7 @@ fn push_text(
             return out.extend_from_slice(format!(in alloc; "first {size}\n")?.as_bytes());
         }
     }
-    push_lines(alloc, out, text)
+    push_lines(alloc, out, b"| ", text)
 }
 
 /// These bytes with the pair in place of each `#`.
@@ -132,12 +180,17 @@ fn with_pair(alloc: Global, bytes: &[u8], pair: &str) -> Result<Vec<u8>, AllocEr
     Ok(out)
 }
 
-/// Appends each line of the text behind `| `.
-fn push_lines(alloc: Global, out: &mut Vec<u8>, text: &[u8]) -> Result<(), AllocError> {
+/// Appends each line of the text behind these signs.
+fn push_lines(
+    alloc: Global,
+    out: &mut Vec<u8>,
+    front: &[u8],
+    text: &[u8],
+) -> Result<(), AllocError> {
     let mut begins = true;
     for byte in text {
         if begins {
-            out.extend_from_slice(b"| ")?;
+            out.extend_from_slice(front)?;
         }
         push_sign(alloc, out, *byte)?;
         begins = *byte == b'\n';

@@ -4,11 +4,12 @@
 
 mod shipped;
 
-use caster_net::{Bells, FileStore, ReaderSource, TcpStreet, WriterSink};
+use caster_net::{Bells, FileStore, Halt, ReaderSource, TcpStreet, WriterSink};
 use caster_top::refuse_for_memory;
 use shipped::caster_over;
 use std::alloc::AllocError;
 use std::env;
+use std::fs::File;
 use std::io::ErrorKind;
 use std::process::ExitCode;
 
@@ -28,12 +29,24 @@ fn words(rt: &HostRuntime) -> Result<Vec<String>, AllocError> {
     }
 }
 
+// Files that take the places of standard input, output and error where the program was started
+// without them. Else a socket could be given such a place, and be written the lines of others.
+fn stand_ins(rt: &HostRuntime) -> [Option<File>; 3] {
+    [
+        File::open(rt, "/dev/null").ok(),
+        File::open(rt, "/dev/null").ok(),
+        File::open(rt, "/dev/null").ok(),
+    ]
+}
+
 fn main(rt: HostRuntime) -> ExitCode {
+    let _stand_ins = stand_ins(&rt);
     let mut store = FileStore::new(&rt);
     let mut input = ReaderSource::new(rt.stdin());
     let mut out = WriterSink::new(rt.stdout());
     let bells = Bells::new(&rt);
-    let mut street = TcpStreet::new(&rt, &bells);
+    let halt = Halt::new(&rt);
+    let mut street = TcpStreet::new(&rt, &bells, &halt);
     let status = match words(&rt) {
         Ok(words) => caster_over(
             &rt,

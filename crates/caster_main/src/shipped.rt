@@ -91,17 +91,18 @@ pub fn caster_over<R: Threads + Wait + Sync>(
         → AreServe (texts words.now) config addr limit
         → (c : Config) × (closed : Closed)
         × IsConfigFrom (HasReadFile store.old.log store.new.log) config c
-        × HasServedAll c addr limit street.old street.new closed
+        × HasServedAll c addr limit street.old.street street.new.street closed
         × (out.new.taken ≡ out.old.taken ++ closed_text c closed) }
     ensures recorded { result ≡ 0 → (config addr : List ℕ) (limit : ℕ)
         → AreRecord (texts words.now) config addr limit
         → (c : Config) × (events : List Event)
         × IsConfigFrom (HasReadFile store.old.log store.new.log) config c
-        × HasRecordedAll c addr limit street.old street.new events
+        × HasRecordedAll c addr limit street.old.street street.new.street events
         × (out.new.taken ≡ out.old.taken ++ script_text events) }
     ensures fetched { (result ≡ 0) ⊎ (result ≡ 9) → (frames : ℕ) (targets : List Target)
         → AreFetch (texts words.now) frames targets
-        → HasFetchedAll frames targets street.old street.new out.old.taken out.new.taken result }
+        → HasFetchedAll frames targets street.old.street street.new.street
+        out.old.taken out.new.taken result }
 {
     run_logged(rt, alloc, words, store, input, out, street)
 }
@@ -119,14 +120,15 @@ fn run_logged<R: Threads + Wait + Sync>(
 ) -> u8
     ensures done { result ≡ 0 → WasDone (texts words.now)
         (HasRead input.old.log input.new.log) (HasReadFile store.old.log store.new.log)
-        (street_logged street.old) (street_logged street.new)
+        (street_logged street.old.street) (street_logged street.new.street)
         (Some out.old.taken) (Some out.new.taken) }
     ensures made { result ≡ 0 → (seed frames rovers : ℕ)
         → AreMake (texts words.now) seed frames rovers
         → out.new.taken ≡ out.old.taken ++ made_text seed frames rovers }
     ensures fetched { (result ≡ 0) ⊎ (result ≡ 9) → (frames : ℕ) (targets : List Target)
         → AreFetch (texts words.now) frames targets
-        → HasFetched frames targets (street_logged street.old) (street_logged street.new)
+        → HasFetched frames targets
+        (street_logged street.old.street) (street_logged street.new.street)
         (Some out.old.taken) (Some out.new.taken) result }
 {
     caster(rt, alloc, words, store, input, out, street)

@@ -25,7 +25,7 @@ use Rattle.caster_top.specs.declared.answers.Answer.TheVariants.{Done, Valid, No
 use Rattle.caster_top.specs.declared.command.Aim.{Aim}
 use Rattle.caster_top.specs.declared.command.Start.{Start}
 use Rattle.caster_top.specs.declared.command.Start.TheVariants.{Cold}
-use Rattle.caster_top.specs.Command.{Form, bare, over, replay, made, casting, fetching, AreBare, AreOver, ArePlayed, AreMake, form_of}
+use Rattle.caster_top.specs.Command.{Form, bare, over, replay, made, casting, keeping, fetching, AreBare, AreOver, ArePlayed, AreMake, form_of}
 use Rattle.caster_top.specs.Reading.{config_in}
 use Rattle.caster_top.specs.Outcome.{Exit, Ending, exactly, EndsSo, Came, usage_exit, long_exit, read_fault_exit, memory_exit, whole_exit, session_in, exit_of_config_fault, ending_of_script, ending_of_config, ending_of_read, ending_of_bytes, ending_of, outcome}
 use Rattle.caster_top.specs.Told.{Files, Input, IsConfigFrom, ComesFrom, HasCome, IsOutcome}
@@ -340,6 +340,8 @@ come_from_more (replay start config session) input more_input files more_files c
     (each config came.config is.0, (λ c there. each session came.script (is.1 c there)))
 come_from_more (made seed frames rovers) input more_input files more_files came inputs each is = tt
 come_from_more (casting task config addr limit) input more_input files more_files came inputs each is =
+    each config came.config is
+come_from_more (keeping config addr quiet) input more_input files more_files came inputs each is =
     each config came.config is
 come_from_more (fetching frames targets) input more_input files more_files came inputs each is = tt
 

@@ -1,5 +1,5 @@
 -- What follows from the clauses of a call that has ended.
-use Rattle.std.proofs.Common.{◌≡◌, ℕ, ◌⊎◌, List, Some, Ok, inl, inr}
+use Rattle.std.proofs.Common.{◌≡◌, ℕ, ◌⊎◌, List, Some, Ok, inl, inr, refl}
 use Rattle.std.proofs.lemmas.Bool.{cases_eq}
 use Rattle.std.specs.Io.KnownBytes.{Appends}
 use Rattle.session_script.specs.declared.Event.{Event}
@@ -17,13 +17,14 @@ use Rattle.caster_top.specs.declared.command.Aim.{Aim}
 use Rattle.caster_top.specs.declared.command.Start.{Start}
 use Rattle.caster_top.specs.declared.command.Task.{Task}
 use Rattle.caster_top.specs.declared.command.Task.TheVariants.{Record, Serve}
-use Rattle.caster_top.specs.Command.{AreBare, AreCasting, AreMake, AreOver, ArePlayed, AreRecord, AreServe}
+use Rattle.caster_top.specs.Command.{bare, over, replay, made, AreBare, AreCasting, AreMake, AreOver, ArePlayed, AreRecord, AreServe, KeepNothing}
 use Rattle.caster_top.specs.Outcome.{IsReportText}
 use Rattle.caster_top.specs.Told.{HaveFault, Holds, IsConfigAt, Tells}
 use Rattle.caster_top.specs.Calls.{CallTold, Follows, HasRisen, IsCalm, MeetsCasting, MeetsOutcome, MeetsUndisturbed, TellConfig, TellSession}
 use Rattle.caster_top.specs.Recording.{HasRecorded}
 use Rattle.caster_top.proofs.ClauseLemmas.{bare_fault, config_run, held_only, made_run, make_fault, over_fault, replay_fault, script_run, session_run}
 use Rattle.caster_top.proofs.CastingLemmas.{complete_run, recorded_run, served_run}
+use Rattle.caster_top.proofs.KeepClauseLemmas.{keeps_nothing}
 use Rattle.caster_top.proofs.GivenLemmas.{told_only}
 use Rattle.caster_top.proofs.OutcomeLemmas.{Decided}
 
@@ -37,11 +38,11 @@ decided_call call meets = record { follows = λ read write memory. meets read wr
 
 module _ (call : CallTold) (meets : MeetsUndisturbed call) where
   -- the outcome follows, or there was no memory
-  calm : (HaveFault call.words (HasRisen call.input_faults) (HasRisen call.store_faults) → ⊥)
+  calm : KeepNothing call.words → (HaveFault call.words (HasRisen call.input_faults) (HasRisen call.store_faults) → ⊥)
       → IsCalm call.output_faults → (call.status ≡ 7) ⊎ Follows call
-  calm read write = elim (cases_eq call.status 7) [
+  calm nothing read write = elim (cases_eq call.status 7) [
     | inl seven ↦ inl seven
-    | inr memory ↦ inr (meets read write memory)
+    | inr memory ↦ inr (meets nothing read write memory)
   ]
 
   pub complete_bare : (capacity : ℕ) (bytes : List ℕ) (events : List Event) → AreBare call.words capacity
@@ -50,7 +51,7 @@ module _ (call : CallTold) (meets : MeetsUndisturbed call) where
       → (call.status ≡ 7)
       ⊎ ((call.status ≡ 0) × Appends call.old call.new (report (settings.bare capacity) events))
   complete_bare capacity bytes events are told script read write =
-      elim (calm (bare_fault call.words (HasRisen call.input_faults) (HasRisen call.store_faults) capacity are read)
+      elim (calm (keeps_nothing call.words (bare capacity) are refl) (bare_fault call.words (HasRisen call.input_faults) (HasRisen call.store_faults) capacity are read)
       write) [
         | inl seven ↦ inl seven
         | inr follows ↦
@@ -62,7 +63,7 @@ module _ (call : CallTold) (meets : MeetsUndisturbed call) where
       → TellConfig call.files path c → IsCalm call.store_faults → IsCalm call.output_faults
       → (call.status ≡ 7) ⊎ (call.status ≡ 0)
   complete_over aim path c are is read write =
-      elim (calm (over_fault call.words (HasRisen call.input_faults) (HasRisen call.store_faults) aim path are read)
+      elim (calm (keeps_nothing call.words (over aim path) are refl) (over_fault call.words (HasRisen call.input_faults) (HasRisen call.store_faults) aim path are read)
       write) [
         | inl seven ↦ inl seven
         | inr follows ↦
@@ -76,7 +77,7 @@ module _ (call : CallTold) (meets : MeetsUndisturbed call) where
       → (call.status ≡ 7)
       ⊎ ((call.status ≡ 0) × (text : List ℕ) × IsReportText start c events text × Appends call.old call.new text)
   complete_played start config session c events are is played read write =
-      elim (calm (replay_fault call.words (HasRisen call.input_faults) (HasRisen call.store_faults) start config session
+      elim (calm (keeps_nothing call.words (replay start config session) are refl) (replay_fault call.words (HasRisen call.input_faults) (HasRisen call.store_faults) start config session
       are read) write) [
         | inl seven ↦ inl seven
         | inr follows ↦
@@ -90,7 +91,7 @@ module _ (call : CallTold) (meets : MeetsUndisturbed call) where
       → (call.status ≡ 7)
       ⊎ ((call.status ≡ 0) × Appends call.old call.new (made_text seed frames rovers))
   complete_make seed frames rovers are write =
-      elim (calm (make_fault call.words (HasRisen call.input_faults) (HasRisen call.store_faults) seed frames rovers are)
+      elim (calm (keeps_nothing call.words (made seed frames rovers) are refl) (make_fault call.words (HasRisen call.input_faults) (HasRisen call.store_faults) seed frames rovers are)
       write) [
         | inl seven ↦ inl seven
         | inr follows ↦

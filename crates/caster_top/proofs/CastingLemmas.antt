@@ -18,10 +18,10 @@ use Rattle.caster_serve.specs.declared.whole.ServeFault.TheVariants as faults
 use Rattle.caster_top.specs.declared.answers.Answer.{Answer}
 use Rattle.caster_top.specs.declared.command.Task.{Task}
 use Rattle.caster_top.specs.declared.command.Task.TheVariants.{Serve, Record}
-use Rattle.caster_top.specs.Command.{Form, casting, AreCasting, CastNothing, form_of}
+use Rattle.caster_top.specs.Command.{Form, casting, keeping, AreCasting, CastNothing, KeepNothing, form_of}
 use Rattle.caster_top.specs.Outcome.{Exit, exactly, EndsSo, Came, whole_exit, usage_exit, network_exit, ending_of_casting, ending_of_bytes, session_in}
 use Rattle.caster_top.specs.Told.{Files, FilesTold, Input, IsConfigFrom, IsConfigIn, IsAsked, IsOutcome, HaveCome}
-use Rattle.caster_top.specs.Answers.{exit_of, IsRefused, IsRefusedAt, IsAnswer, Writes}
+use Rattle.caster_top.specs.Answers.{exit_of, IsRefusal, IsRefused, IsRefusedAt, IsAnswer, Writes}
 use Rattle.caster_top.specs.Recording.{HasRecorded}
 use Rattle.caster_top.specs.Casting.{CameTo, a_text, no_network, no_memory, HasCast, GivesCame, GivesServed, IsCastingAnswer, CastEnd, RefusedEnd, CastingEnd, HasCasting, IsUnserved}
 use Rattle.caster_top.proofs.ReadingLemmas.{config_in-ok}
@@ -32,7 +32,7 @@ use Rattle.caster_top.proofs.StatusLemmas.{status-ends, too_many, read, faulty, 
 
 -- ---- the answer is one to the words
 
-abbrev failed_came : List ℕ → Came
+abbrev pub failed_came : List ℕ → Came
 failed_came config = record { script = []; config = config; failed = true }
 
 -- a text that a caster came to is such an end
@@ -126,15 +126,18 @@ cast_end task (a_text text) answer given =
 cast_end task no_network answer given = ap exit_of given
 cast_end task no_memory answer given = ap exit_of given
 
+-- so it ends where there is no configuration to be had
+pub refused_end : (files : Files) (config : List ℕ) (fault : Type 0) (answer : Answer)
+    → IsRefusal config files fault answer → RefusedEnd config files fault (exit_of answer)
+refused_end files config fault answer refused =
+    given_end (IsRefusedAt config files) (RefusedEnd config files fault) (λ memory. inl refl)
+    (λ counted. inr (inl (counted, refl))) (λ end is. inr (inr is)) answer refused
+
 casting_end : (task : Task) (files : Files) (config addr : List ℕ) (limit : ℕ) (before after : StreetTold)
     (fault : Type 0) (answer : Answer) → IsCastingAnswer task files config addr limit before after fault answer
     → CastingEnd task files config addr limit before after fault (exit_of answer)
 casting_end task files config addr limit before after fault answer (inl (same, refused)) =
-    inl (
-      same,
-      given_end (IsRefusedAt config files) (RefusedEnd config files fault) (λ memory. inl refl)
-          (λ counted. inr (inl (counted, refl))) (λ end is. inr (inr is)) answer refused,
-    )
+    inl (same, refused_end files config fault answer refused)
 casting_end task files config addr limit before after fault answer (inr has) = inr (record {
   c = has.c;
   came_to = has.came_to;
@@ -400,11 +403,14 @@ unserved_run words files before after fault old new first now status is alone ca
     ]
 
 -- with 6 the words ask for a caster
-pub of_caster : (words : List (List ℕ)) (input : Input) (files : Files)
+pub of_caster : (words : List (List ℕ)) (input : Input) (files : Files) → KeepNothing words
     → HaveCome IsOfCaster words input files
     → (task : Task) × (config addr : List ℕ) × (limit : ℕ) × AreCasting task words config addr limit
-of_caster words input files (casting task config addr limit, came, are, told, is) = (task, config, addr, limit, are)
-of_caster words input files (form, came, are, told, is) = absurd is
+of_caster words input files nothing (casting task config addr limit, came, are, told, is) =
+    (task, config, addr, limit, are)
+of_caster words input files nothing (keeping config addr quiet, came, are, told, is) =
+    absurd (nothing config addr quiet are)
+of_caster words input files nothing (form, came, are, told, is) = absurd is
 
 -- ---- from more
 

@@ -28,7 +28,7 @@ script_short kind bytes events is = elim (cases_lt 8388608 (length bytes)) [
 ]
 
 -- what is read is not too long
-config_more : (files more : Files) (path : List ℕ) (c : Config)
+pub config_more : (files more : Files) (path : List ℕ) (c : Config)
     → ((path bytes : List ℕ) → length bytes ≤ 8388608 → files path bytes → more path bytes)
     → IsConfigFrom files path c → IsConfigFrom more path c
 config_more files more path c each is = (is.0, each path is.0 is.2 is.1, is.2, is.3)

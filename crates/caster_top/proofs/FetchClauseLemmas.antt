@@ -9,7 +9,7 @@ use Rattle.ntrip_fetch.specs.declared.target.Target.{Target}
 use Rattle.ntrip_fetch.specs.Tries.{HasStopped, frames_of_all}
 use Rattle.caster_top.specs.declared.answers.Answer.{Answer}
 use Rattle.caster_top.specs.declared.answers.Answer.TheVariants.{Done, Valid, NoConfig, NoSession, Usage, Long, ReadFault, NetworkFault, Memory}
-use Rattle.caster_top.specs.Command.{Form, bare, over, replay, made, casting, fetching, AreFetch, AreOf, form_of}
+use Rattle.caster_top.specs.Command.{Form, bare, over, replay, made, casting, keeping, fetching, AreFetch, AreOf, form_of}
 use Rattle.caster_top.specs.Outcome.{Exit, Came}
 use Rattle.caster_top.specs.Told.{Files, FilesTold, Input, IsAsked, FollowsOutcome}
 use Rattle.caster_top.specs.Answers.{exit_of, Writes}
@@ -29,6 +29,7 @@ is_fetch (over aim config) = false
 is_fetch (replay start config session) = false
 is_fetch (made seed frames rovers) = false
 is_fetch (casting task config addr limit) = false
+is_fetch (keeping config addr quiet) = false
 is_fetch (fetching frames targets) = true
 
 abbrev is_read_fetch : Option Form → Bool

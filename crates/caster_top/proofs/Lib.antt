@@ -2,6 +2,7 @@ pub mod SliceLemmas
 pub mod TargetLemmas
 pub mod FetchingLemmas
 pub mod WordLemmas
+pub mod KeepWordLemmas
 pub mod ReadingLemmas
 pub mod GivenLemmas
 pub mod AnswerLemmas
@@ -10,6 +11,8 @@ pub mod ScriptLemmas
 pub mod StatusLemmas
 pub mod ClauseLemmas
 pub mod FetchClauseLemmas
+pub mod KeepClauseLemmas
+pub mod KeepEndLemmas
 pub mod PieceLemmas
 pub mod CastingLemmas
 pub mod OfflineLemmas

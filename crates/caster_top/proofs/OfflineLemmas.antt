@@ -4,7 +4,7 @@ use Rattle.caster_top.specs.declared.answers.Answer.{Answer}
 use Rattle.caster_top.specs.declared.command.Offline.{Offline}
 use Rattle.caster_top.specs.declared.command.Offline.TheVariants as offline
 use Rattle.caster_top.specs.declared.command.Task.{Task}
-use Rattle.caster_top.specs.Command.{Form, bare, over, replay, made, casting, fetching, AreCasting, AreOf, IsWithin, NameNoFile, NamesNoFile, ReadNoInput, ReadsNoInput, form_of, offline_form}
+use Rattle.caster_top.specs.Command.{Form, bare, over, replay, made, casting, keeping, fetching, AreCasting, AreOf, IsWithin, NameNoFile, NamesNoFile, ReadNoInput, ReadsNoInput, form_of, offline_form}
 use Rattle.caster_top.specs.Told.{Files, Input}
 use Rattle.caster_top.specs.Answers.{IsAnswer, IsOfflineAnswer}
 use Rattle.caster_top.proofs.AnswerLemmas.{input_answer, file_answer, files_answer, made_answer}
@@ -18,6 +18,7 @@ within_limits words (replay start config session) are = tt
 within_limits words (made seed frames rovers) are =
     (are.frames_are.0, are.frames_are.1, are.rovers_are.0, are.rovers_are.1)
 within_limits words (casting task config addr limit) are = tt
+within_limits words (keeping config addr quiet) are = tt
 within_limits words (fetching frames targets) are = tt
 
 -- what is said of the words is said of their form
@@ -27,6 +28,7 @@ reads_nothing words (over aim path) are none = tt
 reads_nothing words (replay start config session) are none = tt
 reads_nothing words (made seed frames rovers) are none = tt
 reads_nothing words (casting task config addr limit) are none = tt
+reads_nothing words (keeping config addr quiet) are none = tt
 reads_nothing words (fetching frames targets) are none = tt
 
 pub names_nothing : (words : List (List ℕ)) (form : Form) → AreOf words form → NameNoFile words → NamesNoFile form
@@ -35,6 +37,7 @@ names_nothing words (over aim path) are none = none.0 aim path are
 names_nothing words (replay start config session) are none = none.1 start config session are
 names_nothing words (made seed frames rovers) are none = tt
 names_nothing words (casting task config addr limit) are none = none.2 task config addr limit are
+names_nothing words (keeping config addr quiet) are none = none.3 config addr quiet are
 names_nothing words (fetching frames targets) are none = tt
 
 -- the answer to the command is the answer to the words
@@ -50,6 +53,7 @@ offline_answer words input files of_input of_store (replay start config session)
 offline_answer words input files of_input of_store (made seed frames rovers) answer h are is =
     made_answer words input files of_input of_store seed frames rovers answer h are is
 offline_answer words input files of_input of_store (casting task config addr limit) answer h are is = absurd is
+offline_answer words input files of_input of_store (keeping config addr quiet) answer h are is = absurd is
 offline_answer words input files of_input of_store (fetching frames targets) answer h are is = absurd is
 
 -- such words ask for no caster

@@ -17,7 +17,7 @@ use Rattle.caster_top.specs.declared.command.Aim.TheVariants.{Check, Table, Migr
 use Rattle.caster_top.specs.declared.command.Start.{Start}
 use Rattle.caster_top.specs.declared.command.Start.TheVariants.{Cold}
 use Rattle.caster_top.specs.declared.command.Task.{Task}
-use Rattle.caster_top.specs.Command.{Form, AreBare, AreCasting, AreMake, AreOfNoForm, AreOver, ArePlayed, form_of}
+use Rattle.caster_top.specs.Command.{Form, AreBare, AreCasting, AreMake, AreOfNoForm, AreOver, ArePlayed, form_of, KeepNothing}
 use Rattle.caster_top.specs.Outcome.{Exit, Came, IsReportText, ending_of, ending_of_form, one_line}
 use Rattle.caster_top.specs.Told.{Files, Input, FollowsOutcome, HaveCome, IsConfigFrom, IsFaultyConfig, IsFaultyScript, IsSessionFrom, IsStatus, IsTooLong, IsWhole}
 use Rattle.caster_top.specs.Promised.{IsPromisedText}
@@ -95,10 +95,10 @@ module _ {words : List (List ℕ)} {input : Input} {files : Files} {old new : Op
       (decided 1 is (λ e. omega (arith, e)) (λ e. omega (arith, e)) (λ e. omega (arith, e))) is
 
   -- with 6 the words ask for a caster
-  pub Decided-network : status ≡ 6
+  pub Decided-network : KeepNothing words → status ≡ 6
       → (task : Task) × (config addr : List ℕ) × (limit : ℕ) × AreCasting task words config addr limit
-  Decided-network six =
-      of_caster words input files
+  Decided-network nothing six =
+      of_caster words input files nothing
       (said IsOfCaster 6 six (λ e. omega (arith, e)) (λ e. omega (arith, e)) (λ e. omega (arith, e))
       (λ e. omega (arith, e)) network_form)
 

@@ -8,6 +8,7 @@ use Rattle.session_model.specs.Text.{closed_text}
 use Rattle.cast_io.specs.Causes.{Rose}
 use Rattle.cast_io.specs.Pieces.{AppendsPrefix}
 use Rattle.cast_io.specs.Told.{StreetTold}
+use Rattle.cast_io.specs.Yards.{YardTold}
 use Rattle.cast_config.specs.declared.config.Config.{Config}
 use Rattle.caster_serve.specs.Caster.{HasServed}
 use Rattle.serve_promise.proofs.CallerLemmas.{all_promised}
@@ -19,22 +20,25 @@ use Rattle.caster_top.specs.declared.answers.Answer.TheVariants.{Done, ReadFault
 use Rattle.caster_top.specs.declared.command.Start.TheVariants.{Cold, Warm}
 use Rattle.caster_top.specs.declared.command.Task.{Task}
 use Rattle.caster_top.specs.declared.command.Task.TheVariants.{Serve, Record}
-use Rattle.caster_top.specs.Command.{casting, fetching, AreCasting, AreFetch, AreOfNoForm, AreRecord, AreServe, WriteAtEnd}
+use Rattle.caster_top.specs.Command.{casting, fetching, keeping, AreCasting, AreFetch, AreKeep, AreOfNoForm, AreRecord, AreServe, KeepNothing, WriteAtEnd}
 use Rattle.caster_top.specs.Outcome.{memory_exit, network_exit, read_fault_exit}
 use Rattle.caster_top.specs.Told.{Files, FilesTold, Holds, Input, EndsWith, FollowsOutcome, HaveFault, IsConfigFrom, Tells, WritesPart}
 use Rattle.caster_top.specs.Answers.{exit_of, IsAnswer, Writes}
 use Rattle.caster_top.specs.Casting.{HasCast, HasCasting, IsUnserved, no_network}
 use Rattle.caster_top.specs.Recording.{HasRecorded}
 use Rattle.caster_top.specs.Fetching.{HasFetched, HasFetching}
+use Rattle.caster_top.specs.Keeping.{HasKeeping, Keeps}
 use Rattle.caster_top.specs.Promised.{KeepPromise, WasPromised}
 use Rattle.caster_top.specs.Done.{WasDone}
-use Rattle.caster_top.specs.Running.{HasRun}
+use Rattle.caster_top.specs.Running.{EndsByAnswer, HasRun}
 use Rattle.caster_top.proofs.ClauseLemmas.{decided_run, no_form_run}
 use Rattle.caster_top.proofs.PromiseLemmas.{bare_promised, replay_promised, warm_promised, record_promised}
 use Rattle.caster_top.proofs.AnswerLemmas.{answer_more}
 use Rattle.caster_top.proofs.GivenLemmas.{told_only}
 use Rattle.caster_top.proofs.OutcomeLemmas.{Decided, Decided-bare, Decided-checked, Decided-migrated, Decided-network, Decided-played, Decided-promised_report, Decided-reported, Decided-tabled}
 use Rattle.caster_top.proofs.CastingLemmas.{casting_more, casting_written, served_run, recorded_run, lost_run, network_rose, unserved_run}
+use Rattle.caster_top.proofs.KeepClauseLemmas.{keep_alone, keep_follows, keep_four, keep_not_nine, keep_of_words, keeping_more}
+use Rattle.caster_top.proofs.KeepEndLemmas.{keep_part, keep_seven}
 use Rattle.caster_top.proofs.FetchClauseLemmas.{fetch_alone, fetch_follows, fetch_never, fetch_of_words, fetch_rose, fetch_unserved, fetched_run, never_nine, torn_run, wanting_run}
 
 -- ---- an answer that was written
@@ -89,18 +93,30 @@ part_of words input files of_input of_store old new Memory is part = inr (inr pa
 part_of words input files of_input of_store old new ReadFault is part = inr (inl (is, part))
 part_of words input files of_input of_store old new answer is part = inl (exit_of answer, is, part)
 
+-- what the street tells stays as it was where the status says that there was no caster
+pub answered_unserved : {words : List (List ℕ)} {input : Input} {files : Files} {of_input of_store : Type 0}
+    {before after : StreetTold} {old new : Option (List ℕ)} {first now status : ℕ}
+    → EndsByAnswer words input files of_input of_store before after old new first now status → IsUnserved status
+    → after ≡ before
+answered_unserved {words} {input} {files} {of_input} {of_store} {before} {after} {old} {new} {first} {now} {status} a is =
+    unserved_run words files before after of_store old new first now status is a.alone
+    (λ task config addr limit are. casting_written task files config addr limit before after of_store old new first now
+    status a.answer (a.casting task config addr limit are) a.written)
+
 -- ---- each clause
 
-module _ {words : List (List ℕ)} {input : Input} {files : Files} {of_input of_store : Type 0}
-    {before after : StreetTold} {old new : Option (List ℕ)} {first now status : ℕ}
-    (run : HasRun words input files of_input of_store before after old new first now status) where
+module _ {kept : Keeps} {words : List (List ℕ)} {input : Input} {files : Files} {of_input of_store : Type 0}
+    {was is : YardTold} {before after : StreetTold} {old new : Option (List ℕ)} {first now status : ℕ}
+    (run : HasRun kept words input files of_input of_store was is before after old new first now status) where
   pub HasRun-outcome : (status ≡ 4 → ⊥) → (status ≡ 5 → ⊥) → (status ≡ 7 → ⊥)
       → FollowsOutcome words input files status old new
   HasRun-outcome read write memory = elim run.ends [
     | inl a ↦ decided_run words input files of_input of_store old new first now status a.answer a.is a.written
         read write memory
-    | inr f ↦ fetch_follows words input files f.frames f.targets before after old new first now status f.are f.fetching
+    | inr (inl f) ↦ fetch_follows words input files f.frames f.targets before after old new first now status f.are f.fetching
         write memory
+    | inr (inr k) ↦ keep_follows kept words input files k.config k.addr k.quiet was is of_store old new first now status k.are
+        k.keeping read write memory
   ]
 
   pub HasRun-decided : Decided words input files old new status
@@ -114,7 +130,8 @@ module _ {words : List (List ℕ)} {input : Input} {files : Files} {of_input of_
     | inl a ↦
         casting_written task files config addr limit before after of_store old new first now status a.answer
         (a.casting task config addr limit are) a.written
-    | inr f ↦ fetch_alone words f.frames f.targets (casting task config addr limit) f.are are refl
+    | inr (inl f) ↦ fetch_alone words f.frames f.targets (casting task config addr limit) f.are are refl
+    | inr (inr k) ↦ keep_alone words k.config k.addr k.quiet (casting task config addr limit) k.are are refl
   ]
 
   pub HasRun-served : status ≡ 0 → (config addr : List ℕ) (limit : ℕ) → AreServe words config addr limit
@@ -191,12 +208,12 @@ module _ {words : List (List ℕ)} {input : Input} {files : Files} {of_input of_
         );
   }
 
-  pub HasRun-network_fault : status ≡ 6 → (task : Task) × (config addr : List ℕ) × (limit : ℕ) × (c : Config)
+  pub HasRun-network_fault : status ≡ 6 → KeepNothing words → (task : Task) × (config addr : List ℕ) × (limit : ℕ) × (c : Config)
       × AreCasting task words config addr limit × IsConfigFrom files config c
       × HasCast task c addr limit before after no_network × Rose before.faults after.faults
       × Appends old new network_exit.text
-  HasRun-network_fault six =
-      let asked = Decided-network HasRun-decided six in
+  HasRun-network_fault six nothing =
+      let asked = Decided-network HasRun-decided nothing six in
       let lost = lost_run asked.0 files asked.1 asked.2 asked.3 before after of_store old new first now status six
       (HasRun-casting asked.0 asked.1 asked.2 asked.3 asked.4) in (
         asked.0,
@@ -213,10 +230,20 @@ module _ {words : List (List ℕ)} {input : Input} {files : Files} {of_input of_
 
   pub HasRun-unserved : IsUnserved status → after ≡ before
   HasRun-unserved is = elim run.ends [
-    | inl a ↦
-        unserved_run words files before after of_store old new first now status is a.alone
-        (λ task config addr limit are. HasRun-casting task config addr limit are)
-    | inr f ↦ fetch_unserved f.frames f.targets before after old new first now status f.fetching is
+    | inl a ↦ answered_unserved a is
+    | inr (inl f) ↦ fetch_unserved f.frames f.targets before after old new first now status f.fetching is
+    | inr (inr k) ↦ k.street
+  ]
+
+  -- ---- a caster that keeps serving
+
+  pub HasRun-keeping : (config addr : List ℕ) (quiet : ℕ) → AreKeep words config addr quiet
+      → HasKeeping kept files config addr quiet was is of_store old new first now status
+  HasRun-keeping config addr quiet are = elim run.ends [
+    | inl a ↦ absurd (a.no_keep config addr quiet are)
+    | inr (inl f) ↦ keep_alone words config addr quiet (fetching f.frames f.targets) are f.are refl
+    | inr (inr k) ↦ keep_of_words kept words files k.config config k.addr addr k.quiet quiet was is of_store old new
+        first now status k.are are k.keeping
   ]
 
   -- ---- a fetch
@@ -225,8 +252,9 @@ module _ {words : List (List ℕ)} {input : Input} {files : Files} {of_input of_
       → HasFetching frames targets before after old new first now status
   HasRun-fetching frames targets are = elim run.ends [
     | inl a ↦ absurd (a.no_fetch frames targets are)
-    | inr f ↦
+    | inr (inl f) ↦
         fetch_of_words words f.frames frames f.targets targets before after old new first now status f.are are f.fetching
+    | inr (inr k) ↦ keep_alone words k.config k.addr k.quiet (fetching frames targets) k.are are refl
   ]
 
   pub HasRun-fetched : (status ≡ 0) ⊎ (status ≡ 9) → (frames : ℕ) (targets : List Target)
@@ -247,36 +275,41 @@ module _ {words : List (List ℕ)} {input : Input} {files : Files} {of_input of_
   pub HasRun-too_few : status ≡ 9 → (frames : ℕ) × (targets : List Target) × AreFetch words frames targets
   HasRun-too_few nine = elim run.ends [
     | inl a ↦ never_nine a.answer old new first now status a.written nine
-    | inr f ↦ (f.frames, f.targets, f.are)
+    | inr (inl f) ↦ (f.frames, f.targets, f.are)
+    | inr (inr k) ↦ keep_not_nine kept files k.config k.addr k.quiet was is of_store old new first now status k.keeping nine
   ]
 
   pub HasRun-no_form : AreOfNoForm words → (status ≡ 1) ⊎ (status ≡ 5)
   HasRun-no_form none = elim run.ends [
     | inl a ↦
         no_form_run words input files of_input of_store old new first now status a.answer a.is a.written none
-    | inr f ↦ absurd (none (fetching f.frames f.targets) f.are)
+    | inr (inl f) ↦ absurd (none (fetching f.frames f.targets) f.are)
+    | inr (inr k) ↦ absurd (none (keeping k.config k.addr k.quiet) k.are)
   ]
 
   four : status ≡ 4 → HaveFault words of_input of_store × Appends old new read_fault_exit.text
-  four is = elim run.ends [
-    | inl a ↦ four_written words input files of_input of_store old new first now status a.answer a.is a.written is
-    | inr f ↦ fetch_never 4 f.frames f.targets before after old new first now status f.fetching is refl
+  four at = elim run.ends [
+    | inl a ↦ four_written words input files of_input of_store old new first now status a.answer a.is a.written at
+    | inr (inl f) ↦ fetch_never 4 f.frames f.targets before after old new first now status f.fetching at refl
+    | inr (inr k) ↦ keep_four kept words files of_input of_store k.config k.addr k.quiet was is old new first now status k.are
+        k.keeping at
   ]
 
   pub HasRun-read_fault : status ≡ 4 → HaveFault words of_input of_store
   HasRun-read_fault is = (four is).0
 
-  pub HasRun-write_fault : status ≡ 5 → Rose first now
-  HasRun-write_fault five = elim run.ends [
+  pub HasRun-write_fault : status ≡ 5 → KeepNothing words → Rose first now
+  HasRun-write_fault five nothing = elim run.ends [
     | inl a ↦ (five_torn a.answer old new first now status a.written five).0
-    | inr f ↦ fetch_rose f.frames f.targets before after old new first now status f.fetching five
+    | inr (inl f) ↦ fetch_rose f.frames f.targets before after old new first now status f.fetching five
+    | inr (inr k) ↦ absurd (nothing k.config k.addr k.quiet k.are)
   ]
 
   -- where no count rose, the status is neither
-  pub HasRun-undisturbed : (HaveFault words of_input of_store → ⊥) → (Rose first now → ⊥) → (status ≡ 7 → ⊥)
+  pub HasRun-undisturbed : KeepNothing words → (HaveFault words of_input of_store → ⊥) → (Rose first now → ⊥) → (status ≡ 7 → ⊥)
       → FollowsOutcome words input files status old new
-  HasRun-undisturbed read write memory =
-      HasRun-outcome (λ four. read (HasRun-read_fault four)) (λ five. write (HasRun-write_fault five)) memory
+  HasRun-undisturbed nothing read write memory =
+      HasRun-outcome (λ four. read (HasRun-read_fault four)) (λ five. write (HasRun-write_fault five nothing)) memory
 
   -- ---- what was written
 
@@ -286,7 +319,8 @@ module _ {words : List (List ℕ)} {input : Input} {files : Files} {of_input of_
   pub HasRun-memory_line : WriteAtEnd words → status ≡ 7 → Appends old new memory_exit.text
   HasRun-memory_line at_end seven = elim run.ends [
     | inl a ↦ seven_written old new first now status a.answer a.written seven
-    | inr f ↦ absurd (at_end f.frames f.targets f.are)
+    | inr (inl f) ↦ absurd (at_end f.frames f.targets f.are)
+    | inr (inr k) ↦ keep_seven kept files k.config k.addr k.quiet was is of_store old new first now status k.keeping seven
   ]
 
   pub HasRun-torn : WriteAtEnd words → status ≡ 5 → WritesPart words input files of_input of_store old new
@@ -294,24 +328,28 @@ module _ {words : List (List ℕ)} {input : Input} {files : Files} {of_input of_
     | inl a ↦
         part_of words input files of_input of_store old new a.answer a.is
         (five_torn a.answer old new first now status a.written five).1
-    | inr f ↦ absurd (at_end f.frames f.targets f.are)
+    | inr (inl f) ↦ absurd (at_end f.frames f.targets f.are)
+    | inr (inr k) ↦
+        keep_part kept words input files of_input of_store k.config k.addr k.quiet was is old new first now status k.are
+        k.keeping five
   ]
 
 -- ---- over what may have come from more
 
 -- a run over what came from less is one over what came from more
-pub run_more : (words : List (List ℕ)) (input more_input : Input) (files more_files : Files) (of_input of_store : Type 0)
-    (before after : StreetTold) (old new : Option (List ℕ)) (first now status : ℕ)
+pub run_more : (kept : Keeps) (words : List (List ℕ)) (input more_input : Input) (files more_files : Files) (of_input of_store : Type 0)
+    (was is : YardTold) (before after : StreetTold) (old new : Option (List ℕ)) (first now status : ℕ)
     → ((bytes : List ℕ) → input bytes → more_input bytes)
     → ((path bytes : List ℕ) → files path bytes → more_files path bytes)
-    → HasRun words input files of_input of_store before after old new first now status
-    → HasRun words more_input more_files of_input of_store before after old new first now status
-run_more words input more_input files more_files of_input of_store before after old new first now status inputs each
+    → HasRun kept words input files of_input of_store was is before after old new first now status
+    → HasRun kept words more_input more_files of_input of_store was is before after old new first now status
+run_more kept words input more_input files more_files of_input of_store was is before after old new first now status inputs each
     run = record {
       ends = elim run.ends [
         | inl a ↦ inl (record {
           answer = a.answer;
           no_fetch = a.no_fetch;
+          no_keep = a.no_keep;
           is = answer_more words input more_input files more_files of_input of_store a.answer inputs each a.is;
           written = a.written;
           casting = λ task config addr limit are.
@@ -319,17 +357,26 @@ run_more words input more_input files more_files of_input of_store before after 
               (a.casting task config addr limit are);
           alone = a.alone;
         })
-        | inr f ↦ inr f
+        | inr (inl f) ↦ inr (inl f)
+        | inr (inr k) ↦ inr (inr (record {
+          config = k.config;
+          addr = k.addr;
+          quiet = k.quiet;
+          are = k.are;
+          keeping = keeping_more kept files more_files k.config k.addr k.quiet was is of_store old new first now status
+              each k.keeping;
+          street = k.street;
+        }))
       ];
     }
 
 -- ---- where input and files tell their bytes
 
-pub HasRun-promised : (words : List (List ℕ)) (left : Option (List ℕ)) (files : FilesTold)
-    (of_input of_store : Type 0) (before after : StreetTold) (old new : Option (List ℕ)) (first now status : ℕ)
-    → HasRun words (Tells left) (Holds files) of_input of_store before after old new first now status → status ≡ 0
+pub HasRun-promised : (kept : Keeps) (words : List (List ℕ)) (left : Option (List ℕ)) (files : FilesTold)
+    (of_input of_store : Type 0) (was is : YardTold) (before after : StreetTold) (old new : Option (List ℕ)) (first now status : ℕ)
+    → HasRun kept words (Tells left) (Holds files) of_input of_store was is before after old new first now status → status ≡ 0
     → KeepPromise words left files before after old new
-HasRun-promised words left files of_input of_store before after old new first now status run zero =
+HasRun-promised kept words left files of_input of_store was is before after old new first now status run zero =
     let was = HasRun-done_promised run zero in record {
       bare = λ capacity bytes events are told read.
           Decided-promised_report (HasRun-decided run) zero capacity bytes events are (told_only left bytes told) read;

@@ -18,9 +18,9 @@ use Rattle.caster_top.specs.declared.command.Start.{Start}
 use Rattle.caster_top.specs.declared.command.Start.TheVariants.{Cold}
 use Rattle.caster_top.specs.declared.command.Task.{Task}
 use Rattle.caster_top.specs.declared.command.Task.TheVariants.{Serve, Record}
-use Rattle.caster_top.specs.Command.{Form, bare, over, replay, made, casting, fetching}
+use Rattle.caster_top.specs.Command.{Form, bare, over, replay, made, casting, keeping, fetching}
 use Rattle.caster_top.specs.Reading.{config_in}
-use Rattle.caster_top.specs.Outcome.{Exit, Ending, exactly, document_of, report_of, closing_of, script_over, enough_of, fewer_than, EndsSo, Came, session_in, ending_of_script, ending_of_config, ending_of_casting, ending_of_fetching, ending_of_read, ending_of_bytes, ending_of_form, ending_of}
+use Rattle.caster_top.specs.Outcome.{Exit, Ending, exactly, document_of, report_of, closing_of, script_over, enough_of, fewer_than, EndsSo, Came, session_in, ending_of_script, ending_of_config, ending_of_casting, ending_of_keeping, ending_of_fetching, ending_of_read, ending_of_bytes, ending_of_form, ending_of}
 use Rattle.caster_top.specs.Told.{IsConfigIn, IsNoConfig, IsStatus, IsWhole, IsFaultyConfig, IsFaultyScript, IsTooLong}
 use Rattle.caster_top.proofs.AnswerLemmas.{ending_of_bytes-long, ending_of_bytes-short}
 use Rattle.caster_top.proofs.ScriptLemmas.{status_of, whole_script, script_not_usage, script_not_config, script_not_network, faulty_script, long_script}
@@ -47,6 +47,12 @@ casting_status : (task : Task) (failed : Bool) (c : Config)
 casting_status task true c = inr refl
 casting_status Serve false c = inl refl
 casting_status Record false c = inl refl
+
+-- and so does one that keeps serving
+keeping_status : (failed : Bool) (c : Config)
+    → (status_of (ending_of_keeping failed c) ≡ 0) ⊎ (status_of (ending_of_keeping failed c) ≡ 6)
+keeping_status true c = inr refl
+keeping_status false c = inl refl
 
 read_cases : (next : Config → Ending) (read : Result Config ConfigFault)
     → ((c : Config) × (read ≡ Ok c) × (ending_of_read next read ≡ next c))
@@ -160,12 +166,21 @@ whole_form (replay start config session) came h =
 whole_form (made seed frames rovers) came h = tt
 whole_form (casting task config addr limit) came h =
     let whole = whole_bytes (ending_of_casting task came.failed) came.config h in is_whole came.config whole.0 whole.1
+whole_form (keeping config addr quiet) came h =
+    let whole = whole_bytes (ending_of_keeping came.failed) came.config h in is_whole came.config whole.0 whole.1
 whole_form (fetching frames targets) came h = tt
 
 -- and with no other status
 not_cast : (task : Task) (failed : Bool) (c : Config) (status : ℕ)
     → status_of (ending_of_casting task failed c) ≡ status → (status ≡ 0 → ⊥) → (status ≡ 6 → ⊥) → ⊥
 not_cast task failed c status h whole lost = elim (casting_status task failed c) [
+  | inl ended ↦ whole (sym h ∙ ended)
+  | inr ended ↦ lost (sym h ∙ ended)
+]
+
+not_kept : (failed : Bool) (c : Config) (status : ℕ) → status_of (ending_of_keeping failed c) ≡ status
+    → (status ≡ 0 → ⊥) → (status ≡ 6 → ⊥) → ⊥
+not_kept failed c status h whole lost = elim (keeping_status failed c) [
   | inl ended ↦ whole (sym h ∙ ended)
   | inr ended ↦ lost (sym h ∙ ended)
 ]
@@ -188,11 +203,15 @@ no_usage_form (made seed frames rovers) came h = omega (arith, h)
 no_usage_form (casting task config addr limit) came h =
     let usage = usage_bytes (ending_of_casting task came.failed) came.config h in
     not_cast task came.failed usage.0 1 usage.1 (omega arith) (omega arith)
+no_usage_form (keeping config addr quiet) came h =
+    let usage = usage_bytes (ending_of_keeping came.failed) came.config h in
+    not_kept came.failed usage.0 1 usage.1 (omega arith) (omega arith)
 no_usage_form (fetching frames targets) came h = not_fetched came.failed frames 1 h (omega arith) (omega arith)
 
 -- only a caster can end with 6
 abbrev pub IsOfCaster : Form → Came → Type 0
 IsOfCaster (casting task config addr limit) came = ⊤
+IsOfCaster (keeping config addr quiet) came = ⊤
 IsOfCaster form came = ⊥
 
 pub network_form : (form : Form) (came : Came) → status_of (ending_of_form form came) ≡ 6 → IsOfCaster form came
@@ -206,6 +225,7 @@ network_form (replay start config session) came h =
     script_not_network start lost.0 (session_in lost.0 came.script) lost.1
 network_form (made seed frames rovers) came h = omega (arith, h)
 network_form (casting task config addr limit) came h = tt
+network_form (keeping config addr quiet) came h = tt
 network_form (fetching frames targets) came h = not_fetched came.failed frames 6 h (omega arith) (omega arith)
 
 pub faulty_config_form : (form : Form) (came : Came) → status_of (ending_of_form form came) ≡ 2
@@ -221,6 +241,9 @@ faulty_config_form (made seed frames rovers) came h = omega (arith, h)
 faulty_config_form (casting task config addr limit) came h =
     faulty_bytes (ending_of_casting task came.failed) came.config
     (λ c two. not_cast task came.failed c 2 two (omega arith) (omega arith)) h
+faulty_config_form (keeping config addr quiet) came h =
+    faulty_bytes (ending_of_keeping came.failed) came.config
+    (λ c two. not_kept came.failed c 2 two (omega arith) (omega arith)) h
 faulty_config_form (fetching frames targets) came h =
     absurd (not_fetched came.failed frames 2 h (omega arith) (omega arith))
 
@@ -237,6 +260,9 @@ faulty_script_form (made seed frames rovers) came h = omega (arith, h)
 faulty_script_form (casting task config addr limit) came h =
     let faulty = session_bytes (ending_of_casting task came.failed) came.config h in
     absurd (not_cast task came.failed faulty.0 3 faulty.2 (omega arith) (omega arith))
+faulty_script_form (keeping config addr quiet) came h =
+    let faulty = session_bytes (ending_of_keeping came.failed) came.config h in
+    absurd (not_kept came.failed faulty.0 3 faulty.2 (omega arith) (omega arith))
 faulty_script_form (fetching frames targets) came h =
     absurd (not_fetched came.failed frames 3 h (omega arith) (omega arith))
 
@@ -264,6 +290,14 @@ only_long_casting task failed came (inl long) = long
 only_long_casting task failed came (inr (c, is, status)) =
     absurd (not_cast task failed c 8 status (omega arith) (omega arith))
 
+only_long_keeping : (failed : Bool) (came : Came)
+    → (8388608 < length came.config)
+    ⊎ ((c : Config) × IsConfigIn came.config c × (status_of (ending_of_keeping failed c) ≡ 8))
+    → 8388608 < length came.config
+only_long_keeping failed came (inl long) = long
+only_long_keeping failed came (inr (c, is, status)) =
+    absurd (not_kept failed c 8 status (omega arith) (omega arith))
+
 pub too_long_form : (form : Form) (came : Came) → status_of (ending_of_form form came) ≡ 8 → IsTooLong form came
 too_long_form (bare capacity) came h = long_script Cold (settings.bare capacity) Bare came.script h
 too_long_form (over aim path) came h = only_long aim came (long_bytes (ending_of_config aim) came.config h)
@@ -272,6 +306,8 @@ too_long_form (replay start config session) came h = long_after start came
 too_long_form (made seed frames rovers) came h = omega (arith, h)
 too_long_form (casting task config addr limit) came h =
     only_long_casting task came.failed came (long_bytes (ending_of_casting task came.failed) came.config h)
+too_long_form (keeping config addr quiet) came h =
+    only_long_keeping came.failed came (long_bytes (ending_of_keeping came.failed) came.config h)
 too_long_form (fetching frames targets) came h =
     absurd (not_fetched came.failed frames 8 h (omega arith) (omega arith))
 
@@ -299,6 +335,10 @@ cast_status task failed c = elim (casting_status task failed c) [
   | inr ended ↦ inr (inr (inr (inr (inr (inr (inl ended))))))
 ]
 
+keep_status : (failed : Bool) (c : Config) → IsStatus (status_of (ending_of_keeping failed c))
+keep_status true c = inr (inr (inr (inr (inr (inr (inl refl))))))
+keep_status false c = inl refl
+
 fetched_status : (failed : Bool) (frames : ℕ) → IsStatus (status_of (ending_of_fetching failed frames))
 fetched_status true frames = inr (inr (inr (inr (inr (inr (inr (inr (inr refl))))))))
 fetched_status false frames = inl refl
@@ -313,6 +353,8 @@ form_status (replay start config session) came =
 form_status (made seed frames rovers) came = inl refl
 form_status (casting task config addr limit) came =
     bytes_status (ending_of_casting task came.failed) came.config (λ c. cast_status task came.failed c)
+form_status (keeping config addr quiet) came =
+    bytes_status (ending_of_keeping came.failed) came.config (λ c. keep_status came.failed c)
 form_status (fetching frames targets) came = fetched_status came.failed frames
 
 pub ending_status : (read : Option Form) (came : Came) → IsStatus (status_of (ending_of read came))

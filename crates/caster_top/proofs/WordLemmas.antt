@@ -20,7 +20,7 @@ use Rattle.caster_top.specs.declared.fetch_words.Fetch.{Fetch}
 use Rattle.std.specs.Global.{Global}
 use Rattle.std.specs.List.{All, flat_map, list_all}
 use Rattle.ntrip_fetch.specs.declared.target.Target.{Target}
-use Rattle.caster_top.specs.Command.{Form, bare, over, replay, made, casting, fetching, AreBare, AreOver, ArePlayed, AreMake, AreCasting, AreFetch, AreOf, AreOfNoForm, FetchNothing, IsTarget, aim_name, aim_of, are_few_targets, are_targets, fetching_form, is_path, form_of_two, form_of_three, seed_of, start_name, start_of, made_form, casting_form, task_name, task_of, most_of, form_of_four, form_of_more, form_of, fetch_form, form, target_words, targets_of, texts}
+use Rattle.caster_top.specs.Command.{Form, bare, over, replay, made, casting, keeping, fetching, AreBare, AreOver, ArePlayed, AreMake, AreCasting, AreFetch, AreKeep, AreOf, AreOfNoForm, FetchNothing, IsTarget, aim_name, aim_of, are_few_targets, are_targets, fetching_form, is_path, form_of_two, form_of_three, seed_of, up_to, start_name, start_of, made_form, casting_form, task_name, task_of, most_of, form_of_four, form_of_caster, keeping_form, form_of_more, form_of, fetch_form, form, target_words, targets_of, texts}
 use Rattle.caster_top.proofs.SliceLemmas.{two_words}
 use Rattle.caster_top.proofs.TargetLemmas.{targets_are, targets_read, targets_length, targets_each, targets_said, targets_count}
 
@@ -194,10 +194,10 @@ form_of-bare words capacity are =
 
 -- ---- a name and a path
 
-name_is : (name text : List ℕ) → bytes_eq name text ≡ true → name ≡ text
+pub name_is : (name text : List ℕ) → bytes_eq name text ≡ true → name ≡ text
 name_is name text h = (bytes_eq-Decides name text).0 h
 
-is_path-true : (word : List ℕ) → 1 ≤ length word → length word ≤ 255 → is_path word ≡ true
+pub is_path-true : (word : List ℕ) → 1 ≤ length word → length word ≤ 255 → is_path word ≡ true
 is_path-true word least most =
     let some : nat_le 1 (length word) ≡ true = le-leb 1 (length word) least in
     let few : nat_le (length word) 255 ≡ true = le-leb (length word) 255 most in
@@ -244,18 +244,21 @@ not_nought n least small = elim (cases_Bool (bytes_eq (decimal n) (codes "0"))) 
 nought_text : decimal 0 ≡ codes "0"
 nought_text = decimal_digit 0 (omega arith)
 
-nought_read : seed_of (codes "0") ≡ Some 0
-nought_read = refl
+nought_read : (most : ℕ) → up_to most (codes "0") ≡ Some 0
+nought_read most = refl
+
+pub up_to-decimal : (most n : ℕ) → n ≤ most → most < 2 ^ 64 → up_to most (decimal n) ≡ Some n
+up_to-decimal most n within small = elim (zero_or_more n) [
+  | inl nought ↦
+      subst (λ (m : ℕ). up_to most (decimal m) ≡ Some m) (sym nought) (ap (up_to most) nought_text ∙ nought_read most)
+  | inr more ↦
+      let other = not_nought n more (omega (arith, within, small)) in
+      let e : up_to most (decimal n) ≡ at_most most (number_of (decimal n)) = rw other refl in
+      e ∙ decimal_read most n more within small
+]
 
 seed_of-decimal : (n : ℕ) → n < 2 ^ 64 → seed_of (decimal n) ≡ Some n
-seed_of-decimal n small = elim (zero_or_more n) [
-  | inl nought ↦
-      subst (λ (m : ℕ). seed_of (decimal m) ≡ Some m) (sym nought) (ap seed_of nought_text ∙ nought_read)
-  | inr more ↦
-      let other = not_nought n more small in
-      let e : seed_of (decimal n) ≡ at_most (2 ^ 64 - 1) (number_of (decimal n)) = rw other refl in
-      e ∙ decimal_read (2 ^ 64 - 1) n more (omega (arith, small)) (omega arith)
-]
+seed_of-decimal n small = up_to-decimal (2 ^ 64 - 1) n (omega (arith, small)) (omega arith)
 
 made_form-all : (seed frames rovers : Option ℕ) (s f r : ℕ) → seed ≡ Some s → frames ≡ Some f → rovers ≡ Some r
     → made_form seed frames rovers ≡ Some (made s f r)
@@ -287,6 +290,18 @@ form_of-cast words task config addr limit are =
     (is_path-true addr are.addr_is.0 are.addr_is.1)
     ∙ ap (λ v. option_map (λ n. casting task config addr n) v)
     (decimal_read (most_of task) limit are.limit_is.0 are.limit_is.1 (most_small task))
+
+form_of_four-keep : (config addr quiet : List ℕ) → is_path config ≡ true → is_path addr ≡ true
+    → form_of_four (codes "keep") config addr quiet ≡ keeping_form config addr quiet
+form_of_four-keep config addr quiet first second = rw (first, second) refl
+
+form_of-keep : (words : List (List ℕ)) (config addr : List ℕ) (quiet : ℕ) → AreKeep words config addr quiet
+    → form_of words ≡ Some (keeping config addr quiet)
+form_of-keep words config addr quiet are =
+    ap form_of are.parts
+    ∙ form_of_four-keep config addr (decimal quiet) (is_path-true config are.config_is.0 are.config_is.1)
+    (is_path-true addr are.addr_is.0 are.addr_is.1)
+    ∙ ap (λ v. option_map (λ n. keeping config addr n) v) (up_to-decimal 86400 quiet are.quiet_is (omega arith))
 
 -- ---- the words of a fetch
 
@@ -331,6 +346,7 @@ form_of-form words (over aim config) are =
 form_of-form words (replay start config session) are = form_of-replay words start config session are
 form_of-form words (made seed frames rovers) are = form_of-make words seed frames rovers are
 form_of-form words (casting task config addr limit) are = form_of-cast words task config addr limit are
+form_of-form words (keeping config addr quiet) are = form_of-keep words config addr quiet are
 form_of-form words (fetching frames targets) are = form_of-fetch words frames targets are
 
 -- ---- back
@@ -457,17 +473,24 @@ form_of_three-form name first second form h = elim (cases_Bool (is_path first &&
       absurd cc
 ]
 
--- a word that is read as a seed is its decimal text
-read_seed : (word : List ℕ) (n : ℕ) → seed_of word ≡ Some n → (n < 2 ^ 64) × (word ≡ decimal n)
-read_seed word n h = elim (cases_Bool (bytes_eq word (codes "0"))) [
+-- a word that is read as a number up to this one is its decimal text
+read_up_to : (most : ℕ) (word : List ℕ) (n : ℕ) → most < 2 ^ 64 → up_to most word ≡ Some n
+    → (n ≤ most) × (word ≡ decimal n)
+read_up_to most word n small h = elim (cases_Bool (bytes_eq word (codes "0"))) [
   | inl nought ↦
       let none : 0 ≡ n = some_number 0 n (sym (rw nought refl) ∙ h) in
       let text : word ≡ decimal 0 = name_is word (codes "0") nought ∙ sym nought_text in
       (omega (arith, none), text ∙ ap decimal none)
   | inr other ↦
-      let read = read_decimal (2 ^ 64 - 1) word n (omega arith) (sym (rw other refl) ∙ h) in
-      (omega (arith, read.most), read.text)
+      let read = read_decimal most word n small (sym (rw other refl) ∙ h) in
+      (read.most, read.text)
 ]
+
+read_seed : (word : List ℕ) (n : ℕ) → seed_of word ≡ Some n → (n < 2 ^ 64) × (word ≡ decimal n)
+read_seed word n h =
+    let read = read_up_to (2 ^ 64 - 1) word n (omega arith) h in
+    let within : n ≤ 2 ^ 64 - 1 = read.0 in
+    (omega (arith, within), read.1)
 
 record AreAll (seed frames rovers : Option ℕ) (form : Form) : Type 0 where
   s : ℕ
@@ -535,12 +558,44 @@ cast_form name first second third (Some task) form named paths h =
     subst (λ f. AreOf (name ∷ first ∷ second ∷ third ∷ []) f) read.2
     (are_cast task name first second third read.0 (task_of-name name task named) paths read.1)
 
+pub are_keep : (name config addr quiet : List ℕ) (n : ℕ) → bytes_eq name (codes "keep") ≡ true
+    → (is_path config && is_path addr) ≡ true → up_to 86400 quiet ≡ Some n
+    → AreKeep (name ∷ config ∷ addr ∷ quiet ∷ []) config addr n
+are_keep name config addr quiet n same paths h =
+    let named : name ≡ codes "keep" = name_is name (codes "keep") same in
+    let both = and_parts (is_path config) (is_path addr) paths in
+    let read = read_up_to 86400 quiet n (omega arith) h in
+    record {
+      config_is = is_path-parts config both.0;
+      addr_is = is_path-parts addr both.1;
+      quiet_is = read.0;
+      parts = ap (λ w. w ∷ config ∷ addr ∷ quiet ∷ []) named
+          ∙ ap (λ w. codes "keep" ∷ config ∷ addr ∷ w ∷ []) read.1;
+    }
+
+-- the words of a caster that keeps serving
+pub keep_form_is : (name config addr quiet : List ℕ) (form : Form) → bytes_eq name (codes "keep") ≡ true
+    → (is_path config && is_path addr) ≡ true → keeping_form config addr quiet ≡ Some form
+    → AreOf (name ∷ config ∷ addr ∷ quiet ∷ []) form
+keep_form_is name config addr quiet form same paths h =
+    let read = mapped (λ n. keeping config addr n) (up_to 86400 quiet) form h in
+    subst (λ f. AreOf (name ∷ config ∷ addr ∷ quiet ∷ []) f) read.2
+    (are_keep name config addr quiet read.0 same paths read.1)
+
+-- a caster's words, by their name
+form_of_caster-form : (name first second third : List ℕ) (form : Form) → (is_path first && is_path second) ≡ true
+    → form_of_caster name first second third ≡ Some form → AreOf (name ∷ first ∷ second ∷ third ∷ []) form
+form_of_caster-form name first second third form is h = elim (cases_Bool (bytes_eq name (codes "keep"))) [
+  | inl same ↦ keep_form_is name first second third form same is (sym (rw same refl) ∙ h)
+  | inr other ↦ cast_form name first second third (task_of name) form refl is (sym (rw other refl) ∙ h)
+]
+
 form_of_casting-form : (name first second third : List ℕ) (form : Form)
     → bytes_eq name (codes "make") ≡ false → form_of_four name first second third ≡ Some form
     → AreOf (name ∷ first ∷ second ∷ third ∷ []) form
 form_of_casting-form name first second third form other h =
     elim (cases_Bool (is_path first && is_path second)) [
-      | inl is ↦ cast_form name first second third (task_of name) form refl is (sym (rw (other, is) refl) ∙ h)
+      | inl is ↦ form_of_caster-form name first second third form is (sym (rw (other, is) refl) ∙ h)
       | inr none ↦
           let e : form_of_four name first second third ≡ None = rw (other, none) refl in
           absurd cc
@@ -635,6 +690,12 @@ no_fetch_read name first words none frames targets are =
     rw (named, number, others) refl in
     absurd cc
 
+-- fewer words than two are of none
+pub few_words : (words : List (List ℕ)) → length words < 2 → None ≡ form_of words
+few_words [] few = refl
+few_words (a ∷ []) few = refl
+few_words (a ∷ b ∷ more) few = absurd (omega (arith, few))
+
 -- more than four words are those of a fetch, or of no form
 pub many_words : (words : List (List ℕ)) (read : Option Form) → form_of words ≡ read → 5 ≤ length words
     → FetchNothing words → None ≡ form_of words
@@ -651,6 +712,8 @@ many_words words (Some (made seed frames rovers)) h five nothing =
 many_words words (Some (casting task config addr limit)) h five nothing =
     let size = ap length (form-form_of words (casting task config addr limit) h).parts in
     absurd (omega (arith, five, size))
+many_words words (Some (keeping config addr quiet)) h five nothing =
+    let size = ap length (form-form_of words (keeping config addr quiet) h).parts in absurd (omega (arith, five, size))
 many_words words (Some (fetching frames targets)) h five nothing =
     absurd (nothing frames targets (form-form_of words (fetching frames targets) h))
 

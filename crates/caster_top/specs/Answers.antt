@@ -14,7 +14,7 @@ use Rattle.caster_top.specs.declared.answers.Answer.TheVariants.{Done, Valid, No
 use Rattle.caster_top.specs.declared.command.Aim.{Aim}
 use Rattle.caster_top.specs.declared.command.Start.{Start}
 use Rattle.caster_top.specs.declared.command.Start.TheVariants.{Cold}
-use Rattle.caster_top.specs.Command.{Form, bare, over, replay, made, casting, fetching}
+use Rattle.caster_top.specs.Command.{Form, bare, over, replay, made, casting, keeping, fetching}
 use Rattle.caster_top.specs.Outcome.{Exit, Ending, exactly, EndsSo, Came, ending_of_bytes, ending_of_config, ending_of_form, ending_of_script, session_in, one_line, whole_exit, usage_exit, long_exit, read_fault_exit, network_exit, memory_exit}
 use Rattle.caster_top.specs.Told.{Files, Input, IsConfigIn, IsOutcome, EndsWith, HaveForm, HaveFault}
 
@@ -105,6 +105,7 @@ IsOfflineAnswer (replay start config session) input files of_input of_store answ
 IsOfflineAnswer (made seed frames rovers) input files of_input of_store answer =
     GivesEnd (exactly (whole_exit (made_text seed frames rovers))) answer
 IsOfflineAnswer (casting task config addr limit) input files of_input of_store answer = ⊥
+IsOfflineAnswer (keeping config addr quiet) input files of_input of_store answer = ⊥
 IsOfflineAnswer (fetching frames targets) input files of_input of_store answer = ⊥
 
 -- the answer to these words, this input and these files: want of memory, a fault of reading that

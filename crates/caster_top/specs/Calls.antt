@@ -8,7 +8,7 @@ use Rattle.session_script.specs.declared.Event.{Event}
 use Rattle.cast_config.specs.declared.config.Config.{Config}
 use Rattle.cast_config.specs.Document.{IsRead}
 use Rattle.caster_top.specs.declared.command.Task.{Task}
-use Rattle.caster_top.specs.Command.{AreCasting}
+use Rattle.caster_top.specs.Command.{AreCasting, KeepNothing}
 use Rattle.caster_top.specs.Outcome.{session_in}
 use Rattle.caster_top.specs.Told.{FilesTold, FollowsOutcome, HaveFault, Holds, Tells}
 use Rattle.caster_top.specs.Casting.{HasCasting}
@@ -54,8 +54,8 @@ MeetsOutcome call = call.status ≢ 4 → call.status ≢ 5 → call.status ≢ 
 
 -- the clause `undisturbed`
 abbrev pub MeetsUndisturbed : CallTold → Type 0
-MeetsUndisturbed call =
-    ¬ HaveFault call.words (HasRisen call.input_faults) (HasRisen call.store_faults)
+MeetsUndisturbed call = KeepNothing call.words
+    → ¬ HaveFault call.words (HasRisen call.input_faults) (HasRisen call.store_faults)
     → IsCalm call.output_faults → call.status ≢ 7 → Follows call
 
 -- the clause `casting`

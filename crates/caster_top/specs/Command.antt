@@ -15,6 +15,7 @@ use Rattle.caster_top.specs.declared.command.Task.{Task}
 use Rattle.caster_top.specs.declared.command.Task.TheVariants.{Serve, Record}
 use Rattle.caster_top.specs.declared.command.Command.{Command}
 use Rattle.caster_top.specs.declared.fetch_words.Fetch.{Fetch}
+use Rattle.caster_top.specs.declared.keep_words.Keep.{Keep}
 use Rattle.caster_top.specs.declared.command.Command.TheVariants as commands
 use Rattle.caster_top.specs.declared.command.Casting.{Casting}
 use Rattle.caster_top.specs.declared.command.Offline.{Offline}
@@ -38,6 +39,9 @@ pub data Form : Type 0 where
   -- a caster over the configuration in the file of this path, at this address: its task, and how
   -- many connections each worker serves, or how many are recorded
   casting : Task → List ℕ → List ℕ → ℕ → Form
+  -- a caster over the configuration in the file of this path, at this address, that serves until
+  -- its gates are over; links that are silent for so many seconds are cut, with 0 none
+  keeping : List ℕ → List ℕ → ℕ → Form
   -- so many frames are fetched from these targets
   fetching : ℕ → List Target → Form
 
@@ -112,6 +116,14 @@ AreServe words config addr limit = AreCasting Serve words config addr limit
 abbrev pub AreRecord : List (List ℕ) → List ℕ → List ℕ → ℕ → Type 0
 AreRecord words config addr limit = AreCasting Record words config addr limit
 
+-- the words `keep CONFIG ADDR QUIET`: CONFIG and ADDR have 1 to 255 bytes each, QUIET is a decimal
+-- number of seconds from 0 to 86,400 without a sign or leading zeros
+pub record AreKeep (words : List (List ℕ)) (config addr : List ℕ) (quiet : ℕ) : Type 0 where
+  pub config_is : (1 ≤ length config) × (length config ≤ 255)
+  pub addr_is : (1 ≤ length addr) × (length addr ≤ 255)
+  pub quiet_is : quiet ≤ 86400
+  pub parts : words ≡ codes "keep" ∷ config ∷ addr ∷ decimal quiet ∷ []
+
 -- ---- the targets of a fetch
 
 -- a byte of an address: no CR and no LF
@@ -167,6 +179,7 @@ AreOf words (over aim config) = AreOver aim words config
 AreOf words (replay start config session) = ArePlayed start words config session
 AreOf words (made seed frames rovers) = AreMake words seed frames rovers
 AreOf words (casting task config addr limit) = AreCasting task words config addr limit
+AreOf words (keeping config addr quiet) = AreKeep words config addr quiet
 AreOf words (fetching frames targets) = AreFetch words frames targets
 
 -- the words are of no form that there is
@@ -183,6 +196,7 @@ NameNoFile words =
     × ((start : Start) (config session : List ℕ) → ArePlayed start words config session → ⊥)
     × ((task : Task) (config addr : List ℕ) (limit : ℕ)
     → AreCasting task words config addr limit → ⊥)
+    × ((config addr : List ℕ) (quiet : ℕ) → AreKeep words config addr quiet → ⊥)
 
 -- the same of the words' form
 abbrev pub ReadsNoInput : Form → Type 0
@@ -193,6 +207,7 @@ abbrev pub NamesNoFile : Form → Type 0
 NamesNoFile (over aim config) = ⊥
 NamesNoFile (replay start config session) = ⊥
 NamesNoFile (casting task config addr limit) = ⊥
+NamesNoFile (keeping config addr quiet) = ⊥
 NamesNoFile form = ⊤
 
 -- the numbers of the form are within their limits
@@ -211,9 +226,13 @@ CastNothing words =
 abbrev pub FetchNothing : List (List ℕ) → Type 0
 FetchNothing words = (frames : ℕ) (targets : List Target) → AreFetch words frames targets → ⊥
 
--- the words ask nothing of the street: neither a caster nor a fetch
+-- the words ask for no caster that keeps serving
+abbrev pub KeepNothing : List (List ℕ) → Type 0
+KeepNothing words = (config addr : List ℕ) (quiet : ℕ) → AreKeep words config addr quiet → ⊥
+
+-- the words ask nothing of the street: neither a caster of any kind nor a fetch
 abbrev pub AskNoStreet : List (List ℕ) → Type 0
-AskNoStreet words = CastNothing words × FetchNothing words
+AskNoStreet words = CastNothing words × FetchNothing words × KeepNothing words
 
 -- what the words ask for is written once it is decided: it is no fetch, which writes frames as they
 -- come
@@ -254,10 +273,13 @@ form_of_three name first second =
     if is_path first && is_path second
     then option_map (λ start. replay start first second) (start_of name) else None
 
+-- any number up to this one, 0 too
+abbrev pub up_to : ℕ → List ℕ → Option ℕ
+up_to most word = if bytes_eq word (codes "0") then Some 0 else at_most most (number_of word)
+
 -- any number below 2^64
 abbrev pub seed_of : List ℕ → Option ℕ
-seed_of word =
-    if bytes_eq word (codes "0") then Some 0 else at_most (2 ^ 64 - 1) (number_of word)
+seed_of word = up_to (2 ^ 64 - 1) word
 
 abbrev pub made_form : Option ℕ → Option ℕ → Option ℕ → Option Form
 made_form None frames rovers = None
@@ -277,13 +299,33 @@ casting_form None config addr limit = None
 casting_form (Some task) config addr limit =
     option_map (λ n. casting task config addr n) (at_most (most_of task) (number_of limit))
 
+abbrev pub keeping_form : List ℕ → List ℕ → List ℕ → Option Form
+keeping_form config addr quiet =
+    option_map (λ n. keeping config addr n) (up_to 86400 quiet)
+
+-- the words behind it, both of which can be paths, by the name of a caster
+abbrev pub form_of_caster : List ℕ → List ℕ → List ℕ → List ℕ → Option Form
+form_of_caster name config addr third =
+    if bytes_eq name (codes "keep") then keeping_form config addr third
+    else casting_form (task_of name) config addr third
+
+-- the same of words that have this name
+abbrev pub keep_of_four : List ℕ → List ℕ → List ℕ → List ℕ → Option Form
+keep_of_four name config addr quiet =
+    if bytes_eq name (codes "keep") && (is_path config && is_path addr)
+    then keeping_form config addr quiet else None
+
+abbrev pub keep_of : List (List ℕ) → Option Form
+keep_of (name ∷ config ∷ addr ∷ quiet ∷ []) = keep_of_four name config addr quiet
+keep_of words = None
+
 -- a name and three words
 abbrev pub form_of_four : List ℕ → List ℕ → List ℕ → List ℕ → Option Form
 form_of_four name first second third =
     if bytes_eq name (codes "make")
     then made_form (seed_of first) (at_most 10000 (number_of second)) (at_most 64 (number_of third))
     else if is_path first && is_path second
-    then casting_form (task_of name) first second third else None
+    then form_of_caster name first second third else None
 
 -- the word is a version of NTRIP
 abbrev pub is_protocol : List ℕ → Bool
@@ -365,6 +407,7 @@ files_of (Some (over aim config)) = config ∷ []
 files_of (Some (replay start config session)) = config ∷ session ∷ []
 files_of (Some (made seed frames rovers)) = []
 files_of (Some (casting task config addr limit)) = config ∷ []
+files_of (Some (keeping config addr quiet)) = config ∷ []
 files_of (Some (fetching frames targets)) = []
 
 -- the command that the code has read: one that files and input decide alone, a caster, or any
@@ -380,6 +423,10 @@ cast_form cast = casting cast.task cast.config.now cast.addr.now cast.limit
 abbrev pub form : Command → Form
 form (commands.Offline command) = offline_form command
 form (commands.Cast cast) = cast_form cast
+
+-- and the caster that keeps serving
+abbrev pub keep_form : Keep → Form
+keep_form keep = keeping keep.config.now keep.addr.now keep.quiet
 
 -- and the fetch
 abbrev pub fetch_form : Fetch → Form

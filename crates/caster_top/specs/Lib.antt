@@ -9,6 +9,7 @@ pub mod Kept
 pub mod Calls
 pub mod Recording
 pub mod Fetching
+pub mod Keeping
 pub mod Done
 pub mod Running
 pub mod Promised

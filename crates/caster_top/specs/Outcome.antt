@@ -27,7 +27,7 @@ use Rattle.caster_top.specs.declared.command.Start.{Start}
 use Rattle.caster_top.specs.declared.command.Start.TheVariants.{Cold, Warm}
 use Rattle.caster_top.specs.declared.command.Task.{Task}
 use Rattle.caster_top.specs.declared.command.Task.TheVariants.{Serve, Record}
-use Rattle.caster_top.specs.Command.{Form, bare, over, replay, made, casting, fetching, form_of}
+use Rattle.caster_top.specs.Command.{Form, bare, over, replay, made, casting, keeping, fetching, form_of}
 use Rattle.caster_top.specs.Reading.{config_in}
 
 -- how the program ends: its status and what it writes
@@ -143,6 +143,12 @@ ending_of_casting task true c = exactly network_exit
 ending_of_casting Serve false c = closing_of c
 ending_of_casting Record false c = script_over c
 
+-- a caster that keeps serving, where the network failed or not: its lines and its totals are
+-- written already
+abbrev pub ending_of_keeping : Bool → Config → Ending
+ending_of_keeping true c = exactly network_exit
+ending_of_keeping false c = exactly (whole_exit [])
+
 -- a fetch of so many frames, where too few came or not
 abbrev pub ending_of_fetching : Bool → ℕ → Ending
 ending_of_fetching true frames = fewer_than frames
@@ -179,6 +185,8 @@ ending_of_form (made seed frames rovers) came =
     exactly (whole_exit (made_text seed frames rovers))
 ending_of_form (casting task config addr limit) came =
     ending_of_bytes (ending_of_casting task came.failed) came.config
+ending_of_form (keeping config addr quiet) came =
+    ending_of_bytes (ending_of_keeping came.failed) came.config
 ending_of_form (fetching frames targets) came = ending_of_fetching came.failed frames
 
 abbrev pub ending_of : Option Form → Came → Ending

@@ -14,7 +14,7 @@ use Rattle.cast_config.specs.declared.config.Config.{Config}
 use Rattle.cast_config.specs.declared.fault.ConfigFault.{ConfigFault}
 use Rattle.cast_config.specs.declared.fault.ConfigFault.TheVariants as configs
 use Rattle.cast_config.specs.Document.{IsRead}
-use Rattle.caster_top.specs.Command.{Form, bare, over, replay, made, casting, fetching, AreOf, form_of}
+use Rattle.caster_top.specs.Command.{Form, bare, over, replay, made, casting, keeping, fetching, AreOf, form_of}
 use Rattle.caster_top.specs.Reading.{config_in}
 use Rattle.caster_top.specs.Outcome.{Exit, Came, EndsSo, read_fault_exit, memory_exit, outcome, session_in}
 
@@ -74,6 +74,7 @@ ComesFrom (replay start config session) input files came =
     × ((c : Config) → IsConfigIn came.config c → files session came.script)
 ComesFrom (made seed frames rovers) input files came = ⊤
 ComesFrom (casting task config addr limit) input files came = files config came.config
+ComesFrom (keeping config addr quiet) input files came = files config came.config
 ComesFrom (fetching frames targets) input files came = ⊤
 
 abbrev pub HasCome : Option Form → Input → Files → Came → Type 0
@@ -93,6 +94,7 @@ AreAsked (Some (replay start config session)) files paths =
     ⊎ ((paths ≡ config ∷ session ∷ []) × (c : Config) × IsConfigAt files config c)
 AreAsked (Some (made seed frames rovers)) files paths = paths ≡ []
 AreAsked (Some (casting task config addr limit)) files paths = paths ≡ config ∷ []
+AreAsked (Some (keeping config addr quiet)) files paths = paths ≡ config ∷ []
 AreAsked (Some (fetching frames targets)) files paths = paths ≡ []
 
 -- by what it was asked before and now, the store was asked for these, and for no other
@@ -143,6 +145,7 @@ IsWhole (replay start config session) came =
     (c : Config) × IsConfigIn came.config c × IsOk (session_in c came.script)
 IsWhole (made seed frames rovers) came = ⊤
 IsWhole (casting task config addr limit) came = IsOk (config_in came.config)
+IsWhole (keeping config addr quiet) came = IsOk (config_in came.config)
 IsWhole (fetching frames targets) came = ⊤
 
 -- the bytes break a rule of configurations, or are no document
@@ -159,6 +162,8 @@ IsFaultyConfig (replay start config session) came =
     (length came.config ≤ 8388608) × IsNoConfig (config_in came.config)
 IsFaultyConfig (made seed frames rovers) came = ⊥
 IsFaultyConfig (casting task config addr limit) came =
+    (length came.config ≤ 8388608) × IsNoConfig (config_in came.config)
+IsFaultyConfig (keeping config addr quiet) came =
     (length came.config ≤ 8388608) × IsNoConfig (config_in came.config)
 IsFaultyConfig (fetching frames targets) came = ⊥
 
@@ -178,6 +183,7 @@ IsFaultyScript (replay start config session) came =
     (c : Config) × IsConfigIn came.config c × IsNoSession (session_in c came.script)
 IsFaultyScript (made seed frames rovers) came = ⊥
 IsFaultyScript (casting task config addr limit) came = ⊥
+IsFaultyScript (keeping config addr quiet) came = ⊥
 IsFaultyScript (fetching frames targets) came = ⊥
 
 -- more bytes than a script or a configuration may have
@@ -189,6 +195,7 @@ IsTooLong (replay start config session) came =
     ⊎ ((c : Config) × IsConfigIn came.config c × (8388608 < length came.script))
 IsTooLong (made seed frames rovers) came = ⊥
 IsTooLong (casting task config addr limit) came = 8388608 < length came.config
+IsTooLong (keeping config addr quiet) came = 8388608 < length came.config
 IsTooLong (fetching frames targets) came = ⊥
 
 -- the words are of a form, and the fault is of what is read for it: the input's for a bare session,
@@ -200,6 +207,7 @@ FaultFor (over aim config) of_input of_store = of_store
 FaultFor (replay start config session) of_input of_store = of_store
 FaultFor (made seed frames rovers) of_input of_store = ⊥
 FaultFor (casting task config addr limit) of_input of_store = of_store
+FaultFor (keeping config addr quiet) of_input of_store = of_store
 FaultFor (fetching frames targets) of_input of_store = ⊥
 
 abbrev pub HaveFault : List (List ℕ) → Type 0 → Type 0 → Type 0

@@ -3,7 +3,7 @@ ghost use Rattle.std.specs.Prelude.{◌≡◌, ◌≤◌, ◌+◌, ◌*◌, ℕ,
 ghost use Rattle.cast_io.specs.Causes.{Rose};
 ghost use Rattle.cast_io.specs.Pieces.{Loses};
 ghost use Rattle.caster_top.specs.declared.command.Task.{Task};
-ghost use Rattle.caster_top.specs.Command.{AreCasting, CastNothing, FetchNothing, IsWithin, NamesNoFile, ReadsNoInput, files_of, form_of, offline_form, texts};
+ghost use Rattle.caster_top.specs.Command.{AreCasting, CastNothing, FetchNothing, IsWithin, KeepNothing, NamesNoFile, ReadsNoInput, files_of, form_of, offline_form, texts};
 ghost use Rattle.caster_top.specs.Outcome.{exactly, whole_exit};
 ghost use Rattle.caster_top.specs.Given.{FileCame, InputCame};
 ghost use Rattle.caster_top.specs.Kept.{KeepsFiles, LeavesInput, LeavesStore};
@@ -91,9 +91,9 @@ impl Answer {
     }
 }
 
-/// The answer to these words, which ask for no fetch, this input, these files and this street. The
-/// input is read only for a bare session, the store is asked only for the files that the words
-/// name, and the street only by a caster.
+/// The answer to these words, which ask for no fetch and no caster that keeps serving, this input,
+/// these files and this street. The input is read only for a bare session, the store is asked only
+/// for the files that the words name, and the street only by a caster.
 pub fn answer_to<R: Threads + Wait + Sync, S: Store, I: Source, N: Street>(
     rt: &R,
     alloc: Global,
@@ -105,7 +105,8 @@ pub fn answer_to<R: Threads + Wait + Sync, S: Store, I: Source, N: Street>(
 where
     N::Door: Send,
     N::Link: Send,
-    requires { FetchNothing (texts words.now) }
+    requires fetch { FetchNothing (texts words.now) }
+    requires keep { KeepNothing (texts words.now) }
     ensures answer { IsAnswer (texts words.now)
         (InputCame (I.left input.old) (I.log input.old) (I.log input.new))
         (FileCame (S.store store.old).files (S.log store.old) (S.log store.new))

@@ -1,8 +1,8 @@
 //! The words of the command line.
-ghost use Rattle.std.specs.Prelude.{◌≡◌, ◌&&◌, ◌-◌, ◌^◌, ℕ, List, Some, IfSome, IfNone, option_map};
+ghost use Rattle.std.specs.Prelude.{◌≡◌, ◌&&◌, ◌-◌, ◌^◌, ◌∷◌, [], ℕ, List, Some, IfSome, IfNone, option_map};
 ghost use Rattle.std.specs.List.{list_all};
 ghost use Rattle.session_script.specs.Digits.{is_digit, is_number, number_of, at_most};
-ghost use Rattle.caster_top.specs.Command.{AreOf, AreOfNoForm, FetchNothing, Form, aim_of, form, form_of, form_of_four, form_of_three, form_of_two, is_path, casting_form, made_form, most_of, seed_of, start_of, task_of, texts};
+ghost use Rattle.caster_top.specs.Command.{AreOf, AreOfNoForm, FetchNothing, Form, KeepNothing, aim_of, form, form_of, form_of_four, form_of_three, form_of_two, is_path, casting_form, made_form, most_of, seed_of, start_of, task_of, texts};
 
 // The most frames that a ring keeps.
 const LARGEST_RING: u32 = 4096;
@@ -113,9 +113,11 @@ pub enum Command<'a> {
     Cast(Casting<'a>),
 }
 
-/// The command that the words are, which ask for no fetch, and None where they are of no form.
+/// The command that the words are, which ask for no fetch and for no caster that keeps serving, and
+/// None where they are of no form.
 pub fn command_of(words: &[String]) -> Option<Command<'_>>
-    requires { FetchNothing (texts words.now) }
+    requires fetch { FetchNothing (texts words.now) }
+    requires keep { KeepNothing (texts words.now) }
     ensures command { option_map form result ≡ form_of (texts words.now) }
     ensures form { IfSome result (λ command. AreOf (texts words.now) (form command)) }
     ensures none { IfNone result (AreOfNoForm (texts words.now)) }
@@ -133,7 +135,8 @@ pub fn words_are_read_by_their_form()
 
 // The same, by the reading of its words.
 fn command_in(words: &[String]) -> Option<Command<'_>>
-    requires { FetchNothing (texts words.now) }
+    requires fetch { FetchNothing (texts words.now) }
+    requires keep { KeepNothing (texts words.now) }
     ensures { option_map form result ≡ form_of (texts words.now) }
 {
     match words {
@@ -193,10 +196,14 @@ fn command_of_four<'a>(
     second: &'a str,
     third: &str,
 ) -> Option<Command<'a>>
+    requires { KeepNothing (name.now ∷ first.now ∷ second.now ∷ third.now ∷ []) }
     ensures { option_map form result ≡ form_of_four name.now first.now second.now third.now }
 {
     if name == "make" {
         return make_of(first, second, third);
+    }
+    if name == "keep" {
+        return None;
     }
     if !are_paths(first, second) {
         return None;
@@ -284,8 +291,8 @@ fn is_path(word: &str) -> bool
     1 <= word.len() && word.len() <= LONGEST_PATH
 }
 
-// Both words can be paths.
-fn are_paths(first: &str, second: &str) -> bool
+/// Both words can be paths.
+pub fn are_paths(first: &str, second: &str) -> bool
     ensures { result ≡ (is_path first.now && is_path second.now) }
 {
     is_path(first) && is_path(second)

@@ -8,6 +8,8 @@ mod command;
 mod config_answers;
 mod fetch_words;
 mod fetching;
+mod keep_words;
+mod keeping;
 pub mod laws;
 mod recording;
 mod session_answers;

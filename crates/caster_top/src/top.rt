@@ -10,13 +10,15 @@ ghost use Rattle.cast_io.specs.Pieces.{AppendsPrefix};
 ghost use Rattle.cast_config.specs.declared.config.Config.{Config};
 ghost use Rattle.cast_config.specs.Bare.{bare};
 ghost use Rattle.caster_top.specs.declared.command.Task.{Task};
-ghost use Rattle.caster_top.specs.Command.{AreBare, AreCasting, AreFetch, AreMake, AreOfNoForm, AreReplay, AreWarm, CastNothing, FetchNothing, WriteAtEnd, form_of, texts};
+ghost use Rattle.caster_top.specs.Command.{AreBare, AreCasting, AreFetch, AreKeep, AreMake, AreOfNoForm, AreReplay, AreWarm, CastNothing, FetchNothing, KeepNothing, WriteAtEnd, form_of, texts};
 ghost use Rattle.caster_top.specs.Outcome.{memory_exit, network_exit, read_fault_exit};
 ghost use Rattle.caster_top.specs.Told.{FollowsOutcome, HaveCome, HaveFault, Holds, IsAsked, IsConfigAt, IsFaultyConfig, IsFaultyScript, IsSessionAt, IsTooLong, Tells, WritesPart};
 ghost use Rattle.caster_top.specs.Answers.{exit_of, Writes};
 ghost use Rattle.caster_top.specs.Casting.{HasCast, HasCasting, no_network};
 ghost use Rattle.caster_top.specs.Done.{WasDone};
 ghost use Rattle.caster_top.specs.Given.{FileCame, FileGave, InputCame, InputGave};
+ghost use Rattle.caster_keep.specs.Keeping.{HasKept};
+ghost use Rattle.caster_top.specs.Keeping.{HasKeeping, KeptToItsEnd};
 ghost use Rattle.caster_top.specs.Kept.{LeavesInput, LeavesOutput, LeavesStore, LeavesStreet};
 ghost use Rattle.caster_top.specs.Promised.{KeepPromise, WasPromised};
 ghost use Rattle.caster_top.specs.Fetching.{HasFetched, HasFetching};
@@ -28,7 +30,9 @@ ghost use Rattle.ntrip_fetch.specs.declared.target.Target.{Target};
 use crate::answers::{Answer, answer_to};
 use crate::fetch_words::fetch_in;
 use crate::fetching::fetch_frames;
-use cast_io::{Failed, Sink, Source, Store, Street};
+use crate::keep_words::keep_in;
+use crate::keeping::keep_serving;
+use cast_io::{Door, Failed, Gate, Sink, Source, Store, Street, Yard};
 use std::alloc::Global;
 use std::sync::Wait;
 use std::thread::Threads;
@@ -53,16 +57,17 @@ const PIECE: usize = 65_536;
 /// | `make SEED FRAMES ROVERS` | makes a session of the number SEED and plays it | its laps and sums |
 /// | `serve CONFIG ADDR LIMIT` | serves at ADDR, each worker LIMIT connections | what it came to |
 /// | `record CONFIG ADDR LIMIT` | serves LIMIT connections at ADDR by one thread | the script of what happened |
+/// | `keep CONFIG ADDR QUIET` | serves at ADDR until its gates are over, by links that may be silent for QUIET seconds | nothing more: lines of its links and what it came to stand in its place for lines |
 /// | `fetch FRAMES TARGET..` | asks the targets in order for frames, until there are FRAMES | the frames |
 ///
 /// C is from 1 to 4,096, CONFIG, SESSION and ADDR have 1 to 255 bytes. SEED is below 2^64, FRAMES
-/// from 1 to 10,000, ROVERS from 1 to 64 and LIMIT from 1 to 1,000,000, or for a record to 256.
-/// Numbers are decimal, without signs and leading zeros. A session that is made is played over one
-/// mountpoint `A` with a ring of 64 frames. A fetch has FRAMES from 1 to 1,000,000 and 1 to 8
-/// targets of five words each, `PROTOCOL ADDR MOUNT USER PASSWORD`: the version of NTRIP, 1 or 2,
-/// the caster's address of 1 to 100 bytes without CR and LF, the mountpoint, the user or `-` for
-/// none, and a password of at most 100 bytes without CR, LF and `;`. Where what is asked for is not
-/// to be had, one line says why; a fetch writes none:
+/// from 1 to 10,000, ROVERS from 1 to 64, LIMIT from 1 to 1,000,000, or for a record to 256, and
+/// QUIET to 86,400, where 0 cuts no link. Numbers are decimal, without signs and leading zeros. A
+/// session that is made is played over one mountpoint `A` with a ring of 64 frames. A fetch has
+/// FRAMES from 1 to 1,000,000 and 1 to 8 targets of five words each, `PROTOCOL ADDR MOUNT USER
+/// PASSWORD`: the version of NTRIP, 1 or 2, the caster's address of 1 to 100 bytes without CR and
+/// LF, the mountpoint, the user or `-` for none, and a password of at most 100 bytes without CR, LF
+/// and `;`. Where what is asked for is not to be had, one line says why; a fetch writes none:
 ///
 /// | Status | Line | Comes |
 /// |---|---|---|
@@ -71,7 +76,7 @@ const PIECE: usize = 65_536;
 /// | 3 | `session: line N`, `session: state N`, `session: no stop` | where the script is none |
 /// | 4 | `read fault` | only where a read of the input, or a call of the store, failed |
 /// | 5 | | only where a write failed |
-/// | 6 | `network fault` | where the network failed a caster that serves or records |
+/// | 6 | `network fault` | where the network failed a caster |
 /// | 7 | `memory` | where there is no memory |
 /// | 8 | `too long` | where the script or the configuration has more than 8 MiB |
 /// | 9 | | where a fetch tried every target, and there were fewer frames |
@@ -79,11 +84,13 @@ const PIECE: usize = 65_536;
 /// The words are tested first, then come the reading of the configuration, its size and its rules,
 /// the reading of the script, its size, its grammar and the run. Nothing is written before the run
 /// has ended, and the text is written in pieces of 65,536 bytes. A fetch writes each frame as it
-/// comes, and nothing else.
+/// comes, and nothing else. A caster that keeps serving writes its lines and its totals to the
+/// place for lines that the street gives, and to the output at most the line that says why it
+/// ended.
 ///
 /// What follows from the clauses `outcome`, `undisturbed` and `casting` alone is said by the laws
 /// `outcome_says`, `undisturbed_says` and `casting_says` (`src/laws.rt`).
-pub fn caster<R: Threads + Wait + Sync, S: Store, I: Source, O: Sink, N: Street>(
+pub fn caster<R: Threads + Wait + Sync, S: Store, I: Source, O: Sink, N: Yard>(
     rt: &R,
     alloc: Global,
     words: &[String],
@@ -95,6 +102,8 @@ pub fn caster<R: Threads + Wait + Sync, S: Store, I: Source, O: Sink, N: Street>
 where
     N::Door: Send,
     N::Link: Send,
+    N::Gate: Send,
+    N::Notes: Drop + Send,
     ensures report { result ≡ 0 → (capacity : ℕ) (bytes : List ℕ) (events : List Event)
         → AreBare (texts words.now) capacity
         → I.left input.old ≡ Some bytes → script_of Bare bytes ≡ Ok events
@@ -149,7 +158,8 @@ where
         result (O.taken out.old) (O.taken out.new) }
 
     // Where the network failed a caster.
-    ensures network_fault { result ≡ 6 → (task : Task) × (config addr : List ℕ) × (limit : ℕ)
+    ensures network_fault { result ≡ 6 → KeepNothing (texts words.now)
+        → (task : Task) × (config addr : List ℕ) × (limit : ℕ)
         × (c : Config) × AreCasting task (texts words.now) config addr limit
         × IsConfigAt (S.store store.old).files config c
         × HasCast task c addr limit (N.told street.old) (N.told street.new) no_network
@@ -177,6 +187,30 @@ where
     ensures too_few { result ≡ 9 → (frames : ℕ) × (targets : List Target)
         × AreFetch (texts words.now) frames targets }
 
+    // What a caster does that keeps serving: the whole of it, the same over what was read, and what
+    // that says with 0.
+    ensures keeping { (config addr : List ℕ) (quiet : ℕ)
+        → AreKeep (texts words.now) config addr quiet
+        → HasKeeping (HasKept N.Gate.told N.Gate.over N.Gate.peer N.Gate.origin
+        N.Notes.taken N.Notes.faults)
+        (Holds (S.store store.old).files) config addr quiet (N.kept street.old) (N.kept street.new)
+        (Rose (S.faults store.old) (S.faults store.new))
+        (O.taken out.old) (O.taken out.new) (O.faults out.old) (O.faults out.new) result }
+    ensures done_keeping { (config addr : List ℕ) (quiet : ℕ)
+        → AreKeep (texts words.now) config addr quiet
+        → HasKeeping (HasKept N.Gate.told N.Gate.over N.Gate.peer N.Gate.origin
+        N.Notes.taken N.Notes.faults)
+        (FileCame (S.store store.old).files (S.log store.old) (S.log store.new)) config addr quiet
+        (N.kept street.old) (N.kept street.new)
+        (Rose (S.faults store.old) (S.faults store.new))
+        (O.taken out.old) (O.taken out.new) (O.faults out.old) (O.faults out.new) result }
+    ensures kept_to_its_end { result ≡ 0 → (config addr : List ℕ) (quiet : ℕ)
+        → AreKeep (texts words.now) config addr quiet
+        → KeptToItsEnd N.Gate.told N.Gate.over N.Gate.peer N.Gate.origin
+        N.Notes.taken N.Notes.faults
+        (FileGave (S.store store.old).files (S.log store.old) (S.log store.new)) config addr quiet
+        (N.kept street.old) (N.kept street.new) (O.taken out.old) (O.taken out.new) }
+
     // When each status comes.
     ensures usage { result ≡ 1 → AreOfNoForm (texts words.now) }
     ensures no_form { AreOfNoForm (texts words.now) → (result ≡ 1) ⊎ (result ≡ 5) }
@@ -187,7 +221,8 @@ where
     ensures read_fault { result ≡ 4 → HaveFault (texts words.now)
         (Rose (I.faults input.old) (I.faults input.new))
         (Rose (S.faults store.old) (S.faults store.new)) }
-    ensures write_fault { result ≡ 5 → Rose (O.faults out.old) (O.faults out.new) }
+    ensures write_fault { result ≡ 5 → KeepNothing (texts words.now)
+        → Rose (O.faults out.old) (O.faults out.new) }
     ensures too_long { result ≡ 8 → HaveCome IsTooLong
         (texts words.now) (Tells (I.left input.old)) (Holds (S.store store.old).files) }
 
@@ -207,7 +242,7 @@ where
     ensures outcome { result ≢ 4 → result ≢ 5 → result ≢ 7
         → FollowsOutcome (texts words.now) (Tells (I.left input.old))
         (Holds (S.store store.old).files) result (O.taken out.old) (O.taken out.new) }
-    ensures undisturbed { ¬ HaveFault (texts words.now)
+    ensures undisturbed { KeepNothing (texts words.now) → ¬ HaveFault (texts words.now)
         (Rose (I.faults input.old) (I.faults input.new))
         (Rose (S.faults store.old) (S.faults store.new))
         → ¬ Rose (O.faults out.old) (O.faults out.new) → result ≢ 7
@@ -227,7 +262,7 @@ where
 }
 
 // The same, and how the run of the words ended.
-fn run_words<R: Threads + Wait + Sync, S: Store, I: Source, O: Sink, N: Street>(
+fn run_words<R: Threads + Wait + Sync, S: Store, I: Source, O: Sink, N: Yard>(
     rt: &R,
     alloc: Global,
     words: &[String],
@@ -239,18 +274,24 @@ fn run_words<R: Threads + Wait + Sync, S: Store, I: Source, O: Sink, N: Street>(
 where
     N::Door: Send,
     N::Link: Send,
-    ensures run { HasRun (texts words.now)
+    N::Gate: Send,
+    N::Notes: Drop + Send,
+    ensures run { HasRun
+        (HasKept N.Gate.told N.Gate.over N.Gate.peer N.Gate.origin N.Notes.taken N.Notes.faults)
+        (texts words.now)
         (InputCame (I.left input.old) (I.log input.old) (I.log input.new))
         (FileCame (S.store store.old).files (S.log store.old) (S.log store.new))
         (Rose (I.faults input.old) (I.faults input.new))
         (Rose (S.faults store.old) (S.faults store.new))
-        (N.told street.old) (N.told street.new) (O.taken out.old) (O.taken out.new)
-        (O.faults out.old) (O.faults out.new) result }
-    ensures told { HasRun (texts words.now) (Tells (I.left input.old)) (Holds (S.store store.old).files)
+        (N.kept street.old) (N.kept street.new) (N.told street.old) (N.told street.new)
+        (O.taken out.old) (O.taken out.new) (O.faults out.old) (O.faults out.new) result }
+    ensures told { HasRun
+        (HasKept N.Gate.told N.Gate.over N.Gate.peer N.Gate.origin N.Notes.taken N.Notes.faults)
+        (texts words.now) (Tells (I.left input.old)) (Holds (S.store store.old).files)
         (Rose (I.faults input.old) (I.faults input.new))
         (Rose (S.faults store.old) (S.faults store.new))
-        (N.told street.old) (N.told street.new) (O.taken out.old) (O.taken out.new)
-        (O.faults out.old) (O.faults out.new) result }
+        (N.kept street.old) (N.kept street.new) (N.told street.old) (N.told street.new)
+        (O.taken out.old) (O.taken out.new) (O.faults out.old) (O.faults out.new) result }
     ensures asked { IsAsked (form_of (texts words.now)) (S.store store.old).files
         (S.store store.old).asked (S.store store.new).asked }
     ensures kept_input { LeavesInput I.left I.faults I.reads (texts words.now) input.old input.new }
@@ -261,11 +302,50 @@ where
 {
     match fetch_in(words) {
         Some(fetch) => fetch_frames(rt, alloc, fetch.frames, fetch.targets, street, out),
-        None => answer_words(rt, alloc, words, store, input, out, street),
+        None => keep_or_answer(rt, alloc, words, store, input, out, street),
     }
 }
 
 // The same for words that ask for no fetch.
+fn keep_or_answer<R: Threads + Wait + Sync, S: Store, I: Source, O: Sink, N: Yard>(
+    rt: &R,
+    alloc: Global,
+    words: &[String],
+    store: &mut S,
+    input: &mut I,
+    out: &mut O,
+    street: &mut N,
+) -> u8
+where
+    N::Door: Send,
+    N::Link: Send,
+    N::Gate: Send,
+    N::Notes: Drop + Send,
+    requires { FetchNothing (texts words.now) }
+    ensures run { HasRun
+        (HasKept N.Gate.told N.Gate.over N.Gate.peer N.Gate.origin N.Notes.taken N.Notes.faults)
+        (texts words.now)
+        (InputCame (I.left input.old) (I.log input.old) (I.log input.new))
+        (FileCame (S.store store.old).files (S.log store.old) (S.log store.new))
+        (Rose (I.faults input.old) (I.faults input.new))
+        (Rose (S.faults store.old) (S.faults store.new))
+        (N.kept street.old) (N.kept street.new) (N.told street.old) (N.told street.new)
+        (O.taken out.old) (O.taken out.new) (O.faults out.old) (O.faults out.new) result }
+    ensures asked { IsAsked (form_of (texts words.now)) (S.store store.old).files
+        (S.store store.old).asked (S.store store.new).asked }
+    ensures kept_input { LeavesInput I.left I.faults I.reads (texts words.now) input.old input.new }
+    ensures kept_store { LeavesStore S.store S.faults S.reads (texts words.now)
+        store.old store.new }
+    ensures kept_street { LeavesStreet N.told (texts words.now) result street.old street.new }
+    ensures kept_output { LeavesOutput (O.faults out.old) (O.faults out.new) result }
+{
+    match keep_in(words) {
+        Some(keep) => keep_serving(rt, alloc, keep, store, street, out),
+        None => answer_words(rt, alloc, words, store, input, out, street),
+    }
+}
+
+// The same for words that ask for no fetch, and for no caster that keeps serving.
 fn answer_words<R: Threads + Wait + Sync, S: Store, I: Source, O: Sink, N: Street>(
     rt: &R,
     alloc: Global,
@@ -278,7 +358,8 @@ fn answer_words<R: Threads + Wait + Sync, S: Store, I: Source, O: Sink, N: Stree
 where
     N::Door: Send,
     N::Link: Send,
-    requires { FetchNothing (texts words.now) }
+    requires fetch { FetchNothing (texts words.now) }
+    requires keep { KeepNothing (texts words.now) }
     ensures run { EndsByAnswer (texts words.now)
         (InputCame (I.left input.old) (I.log input.old) (I.log input.new))
         (FileCame (S.store store.old).files (S.log store.old) (S.log store.new))
@@ -307,8 +388,8 @@ pub fn refuse_for_memory<O: Sink>(out: &mut O) -> u8
     write_answer(&Answer::Memory, out)
 }
 
-// Writes the text of the answer, which is let go, and gives its status, or that of a failed write.
-fn end_with<O: Sink>(answer: Answer, out: &mut O) -> u8
+/// Writes the text of the answer, which is let go, and gives its status, or that of a failed write.
+pub(crate) fn end_with<O: Sink>(answer: Answer, out: &mut O) -> u8
     ensures writes { Writes (exit_of answer) (O.taken out.old) (O.taken out.new)
         (O.faults out.old) (O.faults out.new) result }
     ensures kept_output { LeavesOutput (O.faults out.old) (O.faults out.new) result }
@@ -316,8 +397,8 @@ fn end_with<O: Sink>(answer: Answer, out: &mut O) -> u8
     write_answer(&answer, out)
 }
 
-// Writes the answer's text and gives its status, or that of a failed write.
-fn write_answer<O: Sink>(answer: &Answer, out: &mut O) -> u8
+/// Writes the answer's text and gives its status, or that of a failed write.
+pub(crate) fn write_answer<O: Sink>(answer: &Answer, out: &mut O) -> u8
     ensures writes { Writes (exit_of answer.now) (O.taken out.old) (O.taken out.new)
         (O.faults out.old) (O.faults out.new) result }
     ensures kept_output { LeavesOutput (O.faults out.old) (O.faults out.new) result }

@@ -23,15 +23,15 @@ returns-clause-warmed g c zero = over_warmed (c.run_logged.ensures.done zero)
 
 pub returns-clause-served : goal.returns-clause-served
 returns-clause-served g c zero =
-    over_served _ _ _ c.args.street.now c.run_logged.new.street c.args.out.now.taken c.run_logged.new.out.taken
-    (c.run_logged.ensures.done zero)
+    over_served _ _ _ c.args.street.now.street c.run_logged.new.street.street
+    c.args.out.now.taken c.run_logged.new.out.taken (c.run_logged.ensures.done zero)
 
 pub returns-clause-recorded : goal.returns-clause-recorded
 returns-clause-recorded g c zero =
-    over_recorded _ _ _ c.args.street.now c.run_logged.new.street c.args.out.now.taken c.run_logged.new.out.taken
-    (c.run_logged.ensures.done zero)
+    over_recorded _ _ _ c.args.street.now.street c.run_logged.new.street.street
+    c.args.out.now.taken c.run_logged.new.out.taken (c.run_logged.ensures.done zero)
 
 pub returns-clause-fetched : goal.returns-clause-fetched
 returns-clause-fetched g c is frames targets are =
-    fetched_logged frames targets c.args.street.now c.run_logged.new.street c.args.out.now.taken
+    fetched_logged frames targets c.args.street.now.street c.run_logged.new.street.street c.args.out.now.taken
     c.run_logged.new.out.taken _ (c.run_logged.ensures.fetched is frames targets are)

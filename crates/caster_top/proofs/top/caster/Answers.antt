@@ -1,7 +1,8 @@
 -- The clauses of the call, from how the run of its words ended.
 use Rattle.caster_top.specs.declared.command.Start.TheVariants.{Cold, Warm}
 use Rattle.caster_top.proofs.OutcomeLemmas.{Decided-made, Decided-no_config, Decided-no_session, Decided-played, Decided-report, Decided-too_long, Decided-usage}
-use Rattle.caster_top.proofs.RunLemmas.{HasRun-casting, HasRun-decided, HasRun-done, HasRun-done_promised, HasRun-fault_line, HasRun-fetch_memory, HasRun-fetch_torn, HasRun-fetched, HasRun-fetching, HasRun-memory_line, HasRun-network_fault, HasRun-no_form, HasRun-outcome, HasRun-promised, HasRun-read_fault, HasRun-too_few, HasRun-torn, HasRun-undisturbed, HasRun-write_fault}
+use Rattle.caster_top.proofs.RunLemmas.{HasRun-casting, HasRun-decided, HasRun-done, HasRun-done_promised, HasRun-fault_line, HasRun-fetch_memory, HasRun-fetch_torn, HasRun-fetched, HasRun-fetching, HasRun-keeping, HasRun-memory_line, HasRun-network_fault, HasRun-no_form, HasRun-outcome, HasRun-promised, HasRun-read_fault, HasRun-too_few, HasRun-torn, HasRun-undisturbed, HasRun-write_fault}
+use Rattle.caster_top.proofs.KeepEndLemmas.{keep_whole}
 use Rattle.caster_top.proofs.DoneLemmas.{done_more, promised_more}
 use Rattle.caster_top.proofs.GivenLemmas.{file_short, input_short, told_only}
 use Rattle.caster_top.proofs.top.caster.Goals as goal
@@ -26,7 +27,20 @@ returns-clause-casting g c = HasRun-casting c.run_words.ensures.told
 
 pub returns-clause-promised : goal.returns-clause-promised
 returns-clause-promised g c =
-    HasRun-promised _ _ _ _ _ _ _ _ _ _ _ _ c.run_words.ensures.told
+    HasRun-promised _ _ _ _ _ _ _ _ _ _ _ _ _ _ _ c.run_words.ensures.told
+
+pub returns-clause-keeping : goal.returns-clause-keeping
+returns-clause-keeping g c = HasRun-keeping c.run_words.ensures.told
+
+pub returns-clause-done_keeping : goal.returns-clause-done_keeping
+returns-clause-done_keeping g c = HasRun-keeping c.run_words.ensures.run
+
+pub returns-clause-kept_to_its_end : goal.returns-clause-kept_to_its_end
+returns-clause-kept_to_its_end g c zero config addr quiet are =
+    let store = g.S.Source in
+    keep_whole
+    (file_short (store.store c.args.store.now).files (store.log c.args.store.now) (store.log c.run_words.new.store))
+    (HasRun-keeping c.run_words.ensures.run config addr quiet are) zero
 
 pub returns-clause-network_fault : goal.returns-clause-network_fault
 returns-clause-network_fault g c = HasRun-network_fault c.run_words.ensures.told

@@ -1,27 +1,27 @@
--- The run ended as a fetch, or with the answer that was written.
+-- The run ended as a fetch, or as it does for words that ask for none.
 use Rattle.std.proofs.Common.{inl, inr}
 use Rattle.caster_top.proofs.FetchClauseLemmas.{fetch_asked, fetch_unserved}
-use Rattle.caster_top.proofs.RunLemmas.{HasRun-unserved, run_more}
+use Rattle.caster_top.proofs.RunLemmas.{run_more}
 use Rattle.caster_top.proofs.top.run_words.Goals as goal
 
 pub returns-in-Some-clause-run : goal.returns-in-Some-clause-run
 returns-in-Some-clause-run g c = record {
-  ends = inr (record {
+  ends = inr (inl (record {
     frames = c.in-Some.fetch.frames;
     targets = _;
     are = c.in-Some.ensures.fetch;
     fetching = c.fetch_frames.ensures.fetching;
-  });
+  }));
 }
 
 pub returns-in-Some-clause-told : goal.returns-in-Some-clause-told
 returns-in-Some-clause-told g c = record {
-  ends = inr (record {
+  ends = inr (inl (record {
     frames = c.in-Some.fetch.frames;
     targets = _;
     are = c.in-Some.ensures.fetch;
     fetching = c.fetch_frames.ensures.fetching;
-  });
+  }));
 }
 
 pub returns-in-Some-clause-asked : goal.returns-in-Some-clause-asked
@@ -34,17 +34,7 @@ returns-in-Some-clause-kept_street g c = record {
   faults = c.fetch_frames.ensures.street_faults;
 }
 
-pub returns-in-None-clause-run : goal.returns-in-None-clause-run
-returns-in-None-clause-run g c = record { ends = inl c.answer_words.ensures.run }
-
 pub returns-in-None-clause-told : goal.returns-in-None-clause-told
 returns-in-None-clause-told g c =
-    run_more _ _ _ _ _ _ _ _ _ _ _ _ _ _ (λ bytes came. came.0) (λ path bytes came. came.0)
-    (record { ends = inl c.answer_words.ensures.run })
-
-pub returns-in-None-clause-kept_street : goal.returns-in-None-clause-kept_street
-returns-in-None-clause-kept_street g c = record {
-  alone = λ nothing. c.answer_words.ensures.alone nothing.0;
-  unserved = λ is. HasRun-unserved (record { ends = inl c.answer_words.ensures.run }) is;
-  faults = c.answer_words.ensures.street_faults;
-}
+    run_more _ _ _ _ _ _ _ _ _ _ _ _ _ _ _ _ _ (λ bytes came. came.0) (λ path bytes came. came.0)
+    c.keep_or_answer.ensures.run
