@@ -1,5 +1,5 @@
-"""Cases of clients and proxies that others wrote, against `caster serve` on loopback. Each is a function
-whose text says what it tries; it is wrong where it raises something.
+"""Cases of clients and proxies that others wrote, against `caster serve` or `caster keep` on loopback. Each is
+a function whose text says what it tries; it is wrong where it raises something.
 
 Clients come through a tap, which keeps what passed. What is awaited is asked for again and again within
 a limit; nothing else waits. As in tests/serve each worker serves one connection where nothing else is
@@ -29,6 +29,9 @@ LONGEST = 170
 # The Debian package of each program.
 PACKAGES = {'str2str': 'rtklib', 'gpsd': 'gpsd', 'gpspipe': 'gpsd-clients', 'curl': 'curl',
             'haproxy': 'haproxy', 'nginx': 'nginx-light and libnginx-mod-stream', 'openssl': 'openssl'}
+
+# The commands of the program that the cases are run over.
+COMMAND, PROGRAMS = 'serve', {'serve': Caster, 'keep': Keeping}
 
 STREAM_MODULE = '/usr/lib/nginx/modules/ngx_stream_module.so'
 
@@ -180,7 +183,7 @@ class Case:
 
     def serve(self, workers, relays='', limit=1):
         """The program over the example, whose account may have nine sessions at a time."""
-        caster = Caster(example(workers, relays).replace('cap = 2 ', 'cap = 9 '), limit)
+        caster = PROGRAMS[COMMAND](example(workers, relays).replace('cap = 2 ', 'cap = 9 '), limit)
         self.casters.append(caster)
         until(lambda: is_listening(caster.port) or caster.process.poll() is not None, 'the program')
         return caster
@@ -833,9 +836,10 @@ def give_up(why):
 
 
 def main(words):
-    global tell
+    global tell, COMMAND
     tell = '--tell' in words
-    names = [word for word in words if word != '--tell']
+    COMMAND = 'keep' if '--keep' in words else 'serve'
+    names = [word for word in words if word not in ('--tell', '--keep')]
     os.environ['PATH'] += ':/usr/sbin:/sbin'
     watch = threading.Timer(LONGEST, give_up, ('the cases took more than %d seconds' % LONGEST,))
     watch.daemon = True

@@ -3,6 +3,7 @@ raises something, and left out where it raises Missing."""
 import os
 import re
 import shutil
+import socket
 import ssl
 import subprocess
 import sys
@@ -97,15 +98,18 @@ def manual():
 
 
 def unit():
-    """systemd takes the unit, with the program at another place, since it wants one that is there."""
+    """systemd takes both units, with the programs at another place, since it wants ones that are there."""
     need('systemd-analyze')
-    program = os.path.abspath(os.environ.get('CASTER', 'caster'))
-    path = write('caster.service', replaced(text_of('dist/caster.service'), [('/usr/local/bin/caster', program)]))
-    passes('systemd-analyze', 'verify', '--man=no', path)
+    for name in ('caster.service', 'caster-limit.service'):
+        path = write(name, replaced(text_of('dist/' + name), [('ExecStart=/usr/local/bin/', 'ExecStart=%s/bin/' % WORK)]))
+        os.makedirs(WORK + '/bin', exist_ok=True)
+        for program in ('caster', 'caster-run'):
+            shutil.copy('dist/caster-run', WORK + '/bin/' + program)
+        passes('systemd-analyze', 'verify', '--man=no', path)
 
 
 def installed():
-    """The line of docs/OPERATING.md installs six files, and the program runs from there."""
+    """The line of docs/OPERATING.md installs these files, and the programs run from there."""
     line, = re.findall(r'^    (install -D .*DESTDIR.*)$', text_of('docs/OPERATING.md'), re.M)
     folder = os.path.join(WORK, 'root')
     built = 'dist/caster-x86_64-linux'
@@ -114,14 +118,17 @@ def installed():
     passes('sh', '-euc', line, env=dict(os.environ, DESTDIR=folder))
     found = sorted(os.path.relpath(os.path.join(at, name), folder)
                    for at, _, names in os.walk(folder) for name in names)
-    wanted = ['etc/systemd/system/caster.service', 'usr/local/bin/caster', 'usr/local/bin/draw-report',
-              'usr/local/share/doc/caster/caster.toml', 'usr/local/share/doc/caster/two-workers.toml',
-              'usr/local/share/man/man1/caster.1']
+    wanted = ['etc/systemd/system/caster-limit.service', 'etc/systemd/system/caster.service']
+    wanted += ['usr/local/bin/caster' + name for name in ('', '-bill', '-keep-metrics', '-run', '-who')]
+    wanted += ['usr/local/bin/draw-report', 'usr/local/share/doc/caster/caster.toml',
+               'usr/local/share/doc/caster/two-workers.toml', 'usr/local/share/man/man1/caster.1']
     if found != wanted:
         raise Wrong('installed: %s' % found)
     said = passes(folder + '/usr/local/bin/caster', 'check', 'examples/caster.toml')
     if said != b'ok\n':
         raise Wrong('check: %s' % show(said))
+    for name in ('who', 'bill', 'keep-metrics'):
+        passes(folder + '/usr/local/bin/caster-' + name, input=b'')
 
 
 # ---- pictures
@@ -184,6 +191,154 @@ def cut_pictures():
             raise Wrong('%s: status %d, %s' % (show(wrong), done.returncode, show(done.stderr)))
         if wrong in cuts and b'cut short' not in done.stderr:
             raise Wrong('%s: %s' % (show(wrong), show(done.stderr)))
+
+
+def picture_of_links():
+    """The lines of `caster keep` as a picture: of each link its receipt, each line of which is a title."""
+    second = plain(journal('keep.journal', 'keep.totals')).split('3.1 from', 1)
+    lines = ('3.1 from' + second[1]).splitlines()
+    picture = drawn('\n'.join(lines + ['']).encode())
+    if picture.returncode:
+        raise Wrong(show(picture.stderr))
+    text = picture.stdout.decode()
+    xml.dom.minidom.parseString(text)
+    titles = '\n'.join(re.findall(r'<title>(.*?)</title>', text, re.S))
+    before = ('from', 'to', 'asks', 'rover', 'source', 'relay')
+    wanted = [line for line in lines if line.split(' ')[1] not in before]
+    if sorted(unescape(titles).split('\n')) != sorted(wanted):
+        raise Wrong('the titles are\n%s' % titles)
+    for cut in ('\n'.join(lines[:-1]), '\n'.join(lines), '0.1 what 5\n', '0.1 end rover:a 1 2\n'):
+        if drawn(cut.encode()).returncode != 1:
+            raise Wrong('it drew %r' % cut[-50:])
+
+
+# ---- the lines of a caster that keeps serving
+
+def journal(*names):
+    """These parts of a journal, written by hand: a run that is killed, and one that goes on, or is stopped."""
+    return ''.join(text_of('tests/dist/' + name) for name in names)
+
+
+def plain(text):
+    """The same lines without their times, as they stand in a file."""
+    return ''.join(line + '\n' for line in re.findall(r'^\S+ field caster\[[0-9]+\]: (.*)$', text, re.M))
+
+
+def prints(tool, text, wanted):
+    got = passes('dist/' + tool, input=text.encode()).decode()
+    if got != wanted:
+        raise Wrong('%s: wanted\n%sand got\n%s' % (tool, wanted, got))
+
+
+def who_is_on():
+    """In a run that goes on, behind a run that was killed; when only the first one had begun; and behind totals.
+    The same without times, where the lines of a run that was killed count until their workers have others."""
+    prints('who', journal('keep.journal'),
+           '0.1 source - ALPHA 203.0.113.1:50022 31 2026-11-29T00:01:06+0000\n'
+           '3.2 rover rover"2\\ ALPHA 203.0.113.7:50025 42 2026-11-29T00:02:01+0000\n')
+    killed = journal('keep.journal').split('2026-11-29T00:01:05')[0]
+    on = [('4.1 relay - CHARLIE 198.51.100.9:2101', 3, 1, '2026-11-28T23:58:01+0000'),
+          ('0.1 source - ALPHA 203.0.113.1:50001', 5, 3, '2026-11-28T23:58:02+0000'),
+          ('1.2 rover rover1 BRAVO 203.0.113.2:50010', 21, 19, '2026-11-29T00:00:01+0000'),
+          ('2.3 - - - -', 26, 24, '2026-11-29T00:00:09+0000')]
+    prints('who', killed, ''.join('%s %d %s\n' % (link, line, when) for link, line, _, when in on))
+    prints('who', plain(killed), ''.join('%s %d -\n' % (link, line) for link, _, line, _ in on))
+    # As `ts` puts the time before a line.
+    stamped = ''.join('2026-11-29T12:00:00 %s\n' % line for line in plain(killed).splitlines())
+    prints('who', stamped, ''.join('%s %d 2026-11-29T12:00:00\n' % (link, line) for link, _, line, _ in on))
+    second = plain(journal('keep.journal'))
+    prints('who', second, '0.1 source - ALPHA 203.0.113.1:50022 28 -\n3.2 rover rover"2\\ ALPHA 203.0.113.7:50025 39 -\n')
+    prints('who', journal('keep.journal', 'keep.totals'), '')
+    prints('who', plain(journal('keep.journal', 'keep.totals')), '')
+    prints('who', '', '')
+
+
+def bill():
+    """Sessions, frames sent and lost by the day of their ends, with times and without; the closing lines, which
+    are sums of the same, count nothing."""
+    prints('bill', journal('keep.journal', 'keep.totals'),
+           '2026-11-28 rover:rover1 1 87 10\n'
+           '2026-11-29 anonymous 1 3 0\n'
+           '2026-11-29 rover:rover"2\\ 1 19 0\n'
+           '2026-11-29 rover:rover1 2 42 0\n')
+    prints('bill', plain(journal('keep.journal', 'keep.totals')),
+           '- anonymous 1 3 0\n- rover:rover"2\\ 1 19 0\n- rover:rover1 3 129 10\n')
+    # Sums above 2^31.
+    prints('bill', '0.%d end rover:a 4000000000 3000000000 0 rover-end\n' * 3 % (1, 2, 3),
+           '- rover:a 3 12000000000 9000000000\n')
+    # A line that was cut, with the first line of the next run behind it.
+    cuts = ['0.1 end rover:a 5 0 0 rover-end'[:cut] + '0.1 from 127.0.0.1:9' for cut in range(18, 32)]
+    prints('bill', '\n'.join(cuts + ['0.1 end rover:a 5 0 0 rover-end unsettled', '0.2 end rover:b 7']),
+           '- rover:a 1 5 0\n')
+    prints('bill', '', '')
+
+
+METRICS = '''# HELP caster_mount_held Whether a source or relay holds the mountpoint.
+# TYPE caster_mount_held gauge
+caster_mount_held{mount="ALPHA"} %d
+caster_mount_held{mount="CHARLIE"} 0
+# HELP caster_mount_claims_total Claims that were given.
+# TYPE caster_mount_claims_total counter
+caster_mount_claims_total{mount="ALPHA"} 2
+caster_mount_claims_total{mount="CHARLIE"} 1
+# HELP caster_mount_published Frames published in this run, as far as the lines tell.
+# TYPE caster_mount_published gauge
+caster_mount_published{mount="ALPHA"} %d
+caster_mount_published{mount="BRAVO"} 0
+%s# HELP caster_links Links that are open.
+# TYPE caster_links gauge
+caster_links{kind="other"} 0
+caster_links{kind="relay"} 0
+caster_links{kind="rover"} %d
+caster_links{kind="source"} %d
+# HELP caster_sessions_total Sessions of rovers that ended.
+# TYPE caster_sessions_total counter
+caster_sessions_total{account=""} 1
+%scaster_sessions_total{account="rover1"} 3
+# HELP caster_sent_total Frames sent in these.
+# TYPE caster_sent_total counter
+caster_sent_total{account=""} 3
+%scaster_sent_total{account="rover1"} 129
+# HELP caster_overrun_total Frames lost in these.
+# TYPE caster_overrun_total counter
+caster_overrun_total{account=""} 0
+%scaster_overrun_total{account="rover1"} 10
+# HELP caster_refusals_total Links that were refused.
+# TYPE caster_refusals_total counter
+caster_refusals_total{ending="password"} 1
+caster_refusals_total{ending="taken"} 1
+'''
+
+
+def metrics():
+    """The text for the node exporter while the caster goes on, and behind its totals; in a file, which is there
+    soon behind a line, and without one."""
+    other = 'caster_%s_total{account="rover\\"2\\\\"} %d\n'
+    open_run, whole_run = plain(journal('keep.journal')), plain(journal('keep.journal', 'keep.totals'))
+    wanted = METRICS % (1, 52, '', 1, 1, '', '', '')
+    prints('keep-metrics', open_run, wanted)
+    behind = METRICS % (0, 61, 'caster_mount_published{mount="CHARLIE"} 0\n', 0, 0,
+                        other % ('sessions', 1), other % ('sent', 19), other % ('overrun', 0))
+    prints('keep-metrics', whole_run, behind)
+    prints('keep-metrics', journal('keep.journal'), wanted)
+    prints('keep-metrics', journal('keep.journal', 'keep.totals'), behind)
+    cuts = ['0.1 end rover:a 5 0 0 rover-end'[:cut] + '0.1 from 127.0.0.1:9' for cut in range(18, 31)]
+    prints('keep-metrics', whole_run + '0.1 lap x\n4.1 segment ALPHA\nmount ALPHA\n' + '\n'.join(cuts + ['']), behind)
+    path = os.path.join(WORK, 'caster.prom')
+    process = subprocess.Popen(['dist/keep-metrics', path], stdin=subprocess.PIPE)
+    processes.append(process)
+    half = len(open_run) // 2
+    for text, says in [(open_run[:half], None), (open_run[half:], wanted), (whole_run[len(open_run):], behind)]:
+        process.stdin.write(text.encode())
+        process.stdin.flush()
+        until = time.monotonic() + PATIENCE
+        while not os.path.exists(path) or says and text_of(path) != says:
+            if time.monotonic() > until:
+                raise Wrong('the file has\n%s' % (text_of(path) if os.path.exists(path) else 'nothing'))
+            time.sleep(0.05)
+    process.stdin.close()
+    if process.wait(timeout=PATIENCE) or text_of(path) != behind or os.path.exists(path + '.new'):
+        raise Wrong('at the end: status %d' % process.returncode)
 
 
 # ---- recipes
@@ -319,6 +474,34 @@ def haproxy_many():
     base.close()
 
 
+def haproxy_log():
+    """The line of docs/OPERATING.md for haproxy's log: with it each line has the client's address, and that by
+    which the caster knows the connection."""
+    need('haproxy')
+    form, = re.findall(r'^    (log-format .*)$', text_of('docs/OPERATING.md'), re.M)
+    caster, front = Keeping(config(4), 0), free_port()
+    processes.append(caster.process)
+    with socket.socket(socket.AF_INET, socket.SOCK_DGRAM) as log:
+        log.bind(('127.0.0.1', 0))
+        log.settimeout(PATIENCE)
+        start('haproxy', '-db', '-f', write('log.cfg', 'global\n    log 127.0.0.1:%d daemon\n'
+              'defaults\n    mode tcp\n    log global\n    option tcplog\n    %s\n    timeout connect 5s\n'
+              '    timeout client 1m\n    timeout server 1m\nlisten caster\n    bind 127.0.0.1:%d\n'
+              '    server caster 127.0.0.1:%d\n' % (log.getsockname()[1], form, front, caster.port)))
+        known = {}
+        for mount in ('ALPHA', 'NONE'):
+            one = Client(front).send(rover_2(mount)).expect(ROVER_2_OK if mount == 'ALPHA' else NO_MOUNT_2)
+            known['%s:%d' % one.socket.getsockname()] = mount
+            one.close()
+        for _ in list(known):
+            client, dialled = re.search(r': (\S+) (\S+) caster ', log.recv(2000).decode()).groups()
+            link = next(line.split(' ')[0] for line in caster.lines() if line.endswith(' from ' + dialled))
+            asked = next(line.split(' ')[4] for line in caster.lines() if line.startswith(link + ' asks '))
+            if asked != known.pop(client):
+                raise Wrong('%s asked for %s' % (client, asked))
+    caster.ends()
+
+
 def nginx():
     """dist/nginx-tls.conf with 3 seconds in place of a minute."""
     need('nginx', 'openssl')
@@ -365,8 +548,8 @@ def redial():
         raise Wrong('it dialled nobody')
 
 
-CASES = [manual, unit, installed, the_example_picture, large_picture, cut_pictures, haproxy_one, haproxy_two,
-         haproxy_many, nginx, redial]
+CASES = [manual, unit, installed, the_example_picture, large_picture, cut_pictures, picture_of_links, who_is_on, bill, metrics,
+         haproxy_one, haproxy_two, haproxy_many, haproxy_log, nginx, redial]
 
 
 def main():

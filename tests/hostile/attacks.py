@@ -9,6 +9,7 @@ import collections
 import random
 import traceback
 
+from books import House, agree, read
 from draw import *
 
 # So many clients at a time, each with a mountpoint of its own.
@@ -73,13 +74,14 @@ class Case:
 class Server:
     """The program, and what it is to have counted."""
 
-    def __init__(self, workers, limit):
+    def __init__(self, workers, limit, kind=Caster):
         self.lock = threading.Lock()
         self.counts = collections.Counter()
         self.endings = collections.Counter()
         self.frames = {}
         self.tables = {}
-        self.caster = Caster(config(workers), limit)
+        self.workers = workers
+        self.caster = kind(config(workers), limit)
 
     def learn_tables(self):
         """What the sourcetable is, by another command of the program."""
@@ -98,6 +100,11 @@ class Server:
     def ending(self, what):
         with self.lock:
             self.endings[what] += 1
+
+    def books(self):
+        """The lines of a caster that was kept are books, whose closing lines are their sums."""
+        house = House(self.workers, mounts(), [user for user, _, _ in ACCOUNTS])
+        agree(read(''.join(line + '\n' for line in self.caster.lines())), house)
 
     def tell(self):
         for what, count in sorted(self.endings.items()):

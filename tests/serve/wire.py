@@ -180,11 +180,13 @@ def free_port(family=socket.AF_INET, host='127.0.0.1'):
 
 
 class Client:
-    """A connection to a port of loopback, which waits until somebody listens there."""
+    """A connection to a port of loopback, which waits until somebody listens there, but not for ever."""
+
+    patience = PATIENCE
 
     def __init__(self, port, room=None, host='127.0.0.1'):
         family = socket.AF_INET6 if ':' in host else socket.AF_INET
-        until = time.monotonic() + PATIENCE
+        until = time.monotonic() + self.patience
         while True:
             self.socket = socket.socket(family)
             if room:
@@ -296,6 +298,8 @@ class Caster:
     to this output, or is kept."""
 
     command = 'serve'
+    input = subprocess.DEVNULL
+    more = {}
 
     def __init__(self, config, limit, addr=None, output=subprocess.PIPE, descriptors=None):
         self.port = free_port()
@@ -305,9 +309,11 @@ class Caster:
         self.path = file.name
         # With so many descriptors at most, where a number is given.
         front = ['sh', '-c', 'ulimit -n %d && exec "$@"' % descriptors, 'sh'] if descriptors else []
-        words = [PROGRAM, self.command, self.path, self.addr, str(limit)]
-        self.process = subprocess.Popen(front + words, stdin=subprocess.DEVNULL, stdout=output,
-                                        stderr=subprocess.PIPE)
+        self.process = subprocess.Popen(front + self.words(str(limit)), stdin=self.input, stdout=output,
+                                        stderr=subprocess.PIPE, **self.more)
+
+    def words(self, limit):
+        return [PROGRAM, self.command, self.path, self.addr, limit]
 
     def client(self, room=None):
         return Client(self.port, room)
@@ -352,6 +358,49 @@ class Caster:
             self.process.communicate()
         if os.path.exists(self.path):
             os.unlink(self.path)
+
+
+def connections_at(port):
+    """How many connections this port of loopback has, which are not over at its own side."""
+    with open('/proc/net/tcp') as file:
+        rows = [line.split() for line in file.readlines()[1:]]
+    # Neither LISTEN nor TIME_WAIT.
+    return sum(int(row[1].split(':')[1], 16) == port and row[3] not in ('0A', '06') for row in rows)
+
+
+class Keeping(Caster):
+    """The program, keeping a caster over this configuration, for a case of one that serves. It goes on until
+    it is awaited: once all connections have ended it is told to stop. What it has written is then its closing
+    lines, or the one line of a fault; `lines` has all."""
+
+    command = 'keep'
+    input = subprocess.PIPE
+
+    def __init__(self, config, limit, addr=None, descriptors=None, quiet=0):
+        self.written = tempfile.NamedTemporaryFile('w+b', suffix='.lines')
+        super().__init__(config, quiet, addr, self.written, descriptors)
+
+    def lines(self):
+        with open(self.written.name) as file:
+            return file.read().splitlines()
+
+    def is_left(self):
+        """All connections have ended, and have their receipts; or it has ended by itself."""
+        seconds = [line.split(' ')[1] for line in self.lines()]
+        begun, ended = seconds.count('from') + seconds.count('to'), seconds.count('end')
+        return self.process.poll() is not None or begun == ended and connections_at(self.port) == 0
+
+    def ends(self, status=0):
+        until = time.monotonic() + PATIENCE
+        while not self.is_left():
+            if time.monotonic() > until:
+                self.stop()
+                raise Wrong('connections are open: %s' % self.lines()[-20:])
+            time.sleep(0.02)
+        if self.process.poll() is None:
+            self.process.stdin.write(b'stop\n')
+        super().ends(status)
+        return ''.join(line + '\n' for line in self.lines() if not re.match(r'[0-9]+\.[0-9]+ ', line))
 
 
 class Recorder(Caster):
