@@ -267,8 +267,8 @@ def refused_source_that_goes_on_sending():
 def descriptors_that_run_out():
     """Sixteen workers with descriptors for eight connections, or for ten where they ran out before the bell
     of the mountpoint was made: the others wait at the listener, and no worker is lost. Each is served as
-    soon as another has ended."""
-    caster = serve(example(16), 1, descriptors=14)
+    soon as another has ended. Three descriptors are those of /dev/null, which the program holds."""
+    caster = serve(example(16), 1, descriptors=17)
     first = caster.client().send(rover_1('ALPHA')).expect(ICY)
     caster.wait_for_threads(16)
     rovers = [first] + [caster.client().send(rover_1('ALPHA')) for _ in range(14)]
