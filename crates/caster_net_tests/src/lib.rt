@@ -7,15 +7,7 @@
 #[cfg(test)]
 mod adapter_tests;
 #[cfg(test)]
-mod alive_tests;
-#[cfg(test)]
-mod dial_tests;
-#[cfg(test)]
 mod door_tests;
-#[cfg(test)]
-mod gate_tests;
-#[cfg(test)]
-mod lack_tests;
 #[cfg(test)]
 mod link_tests;
 #[cfg(test)]
@@ -23,7 +15,5 @@ mod opened_tests;
 pub mod records;
 #[cfg(test)]
 mod size_tests;
-#[cfg(test)]
-mod slow_tests;
 #[cfg(test)]
 mod wire_tests;
