@@ -198,9 +198,9 @@ class Case:
         return child
 
     def proxy(self, name, changes, *words):
-        """Starts a proxy over a configuration of dist/ in which these texts are others; where the test is
-        not root, it does not ask for another user."""
-        with open('dist/' + name) as file:
+        """Starts a proxy over a configuration of tests/clients/ in which these texts are others; where the
+        test is not root, it does not ask for another user."""
+        with open('tests/clients/' + name) as file:
             text = file.read()
         if os.getuid() != 0:
             changes = changes + [('    user haproxy\n', ''), ('    group haproxy\n', '')]
