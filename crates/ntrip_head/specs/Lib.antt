@@ -1,6 +1,7 @@
 pub mod Answer
 pub mod Credentials
 pub mod Cut
+pub mod Ends
 pub mod Fields
 pub mod Head
 pub mod Judge

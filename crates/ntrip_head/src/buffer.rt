@@ -1,9 +1,12 @@
 //! The bytes of a head, as they come.
 
-ghost use Rattle.std.specs.Prelude.{◌≡◌, ◌≤◌, List, [], ◌∷◌, ◌++◌, length, take, IfOk};
+ghost use Rattle.std.specs.Prelude.{◌≡◌, ◌≤◌, List, [], ◌∷◌, ◌++◌, length, take, IfNone, IfOk, IfSome};
 ghost use Rattle.ntrip_head.specs.Head.{ends_with_empty_line, IsOpen, IsHead, IsLong};
-ghost use Rattle.ntrip_head.specs.Steps.{IsStep};
+ghost use Rattle.ntrip_head.specs.Ends.{IsEndOf};
 
+use crate::fault::HeadError;
+use crate::reading::read_head;
+use crate::request::Request;
 use std::alloc::{AllocError, Global};
 use std::marker::Model;
 
@@ -17,6 +20,15 @@ pub enum HeadStep {
     More,
     /// The byte ends the first empty line, and the head with it.
     Done,
+    /// 8,192 bytes came, and no empty line is among them.
+    Long,
+}
+
+/// How a head ended.
+#[derive(Drop)]
+pub enum HeadEnd {
+    /// It is whole. This is what it asks for, or why it gives no request.
+    Whole(Result<Request, HeadError>),
     /// 8,192 bytes came, and no empty line is among them.
     Long,
 }
@@ -79,22 +91,27 @@ impl HeadBuf {
         }
     }
 
-    /// Takes more bytes of a head that goes on, until it is whole or too long. Gives how many were
-    /// taken, and what the last of them makes of the head.
-    pub fn take(&mut self, bytes: &[u8]) -> (usize, HeadStep)
+    /// Takes more bytes of a head that goes on, until it is whole or too long, and reads one that is
+    /// whole. Gives how many bytes were taken, and how the head ended, if it did.
+    pub fn read(&mut self, bytes: &[u8]) -> (usize, Option<HeadEnd>)
         requires open { IsOpen self.old }
         ensures within { result.0 ≤ length bytes.now }
         ensures bytes { self.new ≡ self.old ++ take result.0 bytes.now }
-        ensures step { IsStep self.new result.1 }
-        ensures all { result.1 ≡ HeadStep.More → result.0 ≡ length bytes.now }
+        ensures goes_on { IfNone result.1 (IsOpen self.new) }
+        ensures all { IfNone result.1 (result.0 ≡ length bytes.now) }
+        ensures ends { IfSome result.1 (IsEndOf self.new) }
     {
         for count in 0..bytes.len() {
-            let step = self.push(bytes[count]);
-            if step != HeadStep::More {
-                return (count + 1, step);
+            match self.push(bytes[count]) {
+                HeadStep::More => {}
+                HeadStep::Done => {
+                    let answer = read_head(*self.bytes.allocator(), &self.bytes);
+                    return (count + 1, Some(HeadEnd::Whole(answer)));
+                }
+                HeadStep::Long => return (count + 1, Some(HeadEnd::Long)),
             }
         }
-        (bytes.len(), HeadStep::More)
+        (bytes.len(), None)
     }
 
     /// The bytes that were taken.

@@ -15,7 +15,7 @@ mod request;
 mod source_head;
 mod upstream;
 
-pub use buffer::{HeadBuf, HeadStep};
+pub use buffer::{HeadBuf, HeadEnd, HeadStep};
 pub use fault::{HeadError, HeadFault};
 pub use reading::read_head;
 pub use request::{Auth, Request, Version};

@@ -4,7 +4,7 @@ use Rattle.std.proofs.lemmas.List.{append-nil, take_all}
 use Rattle.ntrip_head.specs.declared.fault.HeadFault.{HeadFault}
 use Rattle.ntrip_head.specs.declared.request.Request.{Request}
 use Rattle.ntrip_head.specs.Answer.{HeadAnswer}
-use Rattle.ntrip_head.specs.Head.{IsHead, IsLong, IsOpen}
+use Rattle.ntrip_head.specs.Head.{IsHead, IsOpen}
 use Rattle.cast_config.specs.declared.config.Config.{Config}
 use Rattle.session_model.specs.declared.ending.Ending.{Ending}
 use Rattle.session_model.specs.declared.ending.Ending.TheVariants.{Memory}
@@ -13,7 +13,7 @@ use Rattle.session_model.specs.Judged.{Opening, Judged, sends_head, relays, bare
 use Rattle.session_model.specs.Reports.{IsHeadingOf}
 use Rattle.session_model.specs.Run.{Histories}
 use Rattle.session_model.proofs.HeadingLemmas.{one_heading, heading_stays}
-use Rattle.session_model.proofs.LawLemmas.{long_says, whole_says}
+use Rattle.session_model.proofs.LawLemmas.{whole_says}
 use Rattle.session_core.specs.declared.asked.Asked.{Asked}
 use Rattle.session_core.specs.declared.held.Held.TheVariants as holds
 use Rattle.session_core.specs.declared.session.Session.{Session}
@@ -189,19 +189,6 @@ awaits : (was : Session) (opening : Opening) (text head : List ℕ) → was.stag
 awaits was opening text head is tells =
     subst (λ (stage : Stage). TellsAt opening text was.asked was.ended stage) is tells
 
-pub awaited_on : (was : Session) (opening : Opening) (text head : List ℕ) (later : Option Asked)
-    → was.stage ≡ Head head → TellsAsked opening text was → AsksOn was.asked later
-awaited_on was opening text head later is tells =
-    subst (λ (told : Option Asked). AsksOn told later) (sym (awaits was opening text head is tells).3) tt
-
--- more bytes that do not end it
-pub tells_open : (was : Session) (opening : Opening) (text bytes head new : List ℕ) → was.stage ≡ Head head
-    → new ≡ head ++ bytes → IsOpen new → TellsAsked opening text was
-    → TellsAt opening (text ++ bytes) was.asked was.ended (Head new)
-tells_open was opening text bytes head new is longer goes tells =
-    let at = awaits was opening text head is tells in
-    (at.0, longer ∙ ap (λ (l : List ℕ). l ++ bytes) at.1, goes, at.3)
-
 -- ---- a head that ended
 
 -- whatever follows a head that says something, it says the same
@@ -212,29 +199,16 @@ head_says front heading told ended says here asks = λ more other is.
     (one_heading (front ++ more) heading other (heading_stays front more heading says here) is) asks
 
 -- where it is whole, and this is what it asks
-pub tells_whole : (front bytes : List ℕ) (answer : Result Request HeadFault) (told : Option Asked)
-    (ended : Option Ending) → IsHead front → bytes ≡ front → HeadAnswer bytes answer → told ≡ asked_by answer
+pub tells_whole : (front : List ℕ) (answer : Result Request HeadFault) (told : Option Asked)
+    (ended : Option Ending) → IsHead front → HeadAnswer front answer → told ≡ asked_by answer
     → TellsBehind sends_head front told ended
-tells_whole front bytes answer told ended is same says told_is =
+tells_whole front answer told ended is says told_is =
     let all : take (length front) front ≡ front = take_all (length front) front (omega arith) in
     head_says front (whole (length front) answer) told ended (whole_says (length front) answer) (
       omega arith,
       subst IsHead (sym all) is,
-      subst (λ (l : List ℕ). HeadAnswer l answer) (same ∙ sym all) says,
+      subst (λ (l : List ℕ). HeadAnswer l answer) (sym all) says,
     ) (inl told_is)
-
--- where it is too long
-pub tells_long : (front : List ℕ) (ended : Option Ending) → IsLong front → TellsBehind sends_head front None ended
-tells_long front ended long =
-    head_says front too_long None ended long_says (
-      omega (arith, long.full),
-      subst IsLong (sym (take_all 8192 front (omega (arith, long.full)))) long,
-    ) (inl refl)
-
--- where there was no memory to read it
-pub tells_unread : (front : List ℕ) (ended : Option Ending) → ended ≡ Some Memory
-    → TellsBehind sends_head front None ended
-tells_unread front ended lacked = λ more heading is. inr (refl, lacked)
 
 -- what began awaits no head
 begun_at : (c : Config) (alone : Bool) (old now : Histories) (me : ℕ) (front : List ℕ) (ended : Option Ending)
@@ -250,24 +224,23 @@ begun_at c alone old now me front ended before after opening text told (Source m
 begun_at c alone old now me front ended before after opening text told (Relay mount inner) begun tells = tells
 begun_at c alone old now me front ended before after opening text told (Rover account inner) begun tells = tells
 
-pub tells_begun : (c : Config) (alone : Bool) (old now : Histories) (me : ℕ) (front taken : List ℕ)
-    (stage : Stage) (ended : Option Ending) (before after : List ℕ) (asked told : Option Asked) → taken ≡ front
-    → asked ≡ told → HasBegunFor c alone old now me front stage ended before after
-    → TellsBehind sends_head taken told ended → TellsAt sends_head front asked ended stage
-tells_begun c alone old now me front taken stage ended before after asked told same is begun tells =
+pub tells_begun : (c : Config) (alone : Bool) (old now : Histories) (me : ℕ) (front : List ℕ)
+    (stage : Stage) (ended : Option Ending) (before after : List ℕ) (asked told : Option Asked) → asked ≡ told
+    → HasBegunFor c alone old now me front stage ended before after → TellsBehind sends_head front told ended
+    → TellsAt sends_head front asked ended stage
+tells_begun c alone old now me front stage ended before after asked told is begun tells =
     subst (λ (x : Option Asked). TellsAt sends_head front x ended stage) (sym is)
-    (begun_at c alone old now me front ended before after sends_head front told stage begun
-    (subst (λ (l : List ℕ). TellsBehind sends_head l told ended) same tells))
+    (begun_at c alone old now me front ended before after sends_head front told stage begun tells)
 
 -- and bytes behind it that are not looked at
-pub tells_ended : (c : Config) (alone : Bool) (old now : Histories) (me : ℕ) (taken : List ℕ) (stage : Stage)
+pub tells_ended : (c : Config) (alone : Bool) (old now : Histories) (me : ℕ) (stage : Stage)
     (ended : Option Ending) (before after : List ℕ) (asked told : Option Asked) (was : Session) (opening : Opening)
-    (text bytes head : List ℕ) (count : ℕ) → taken ≡ head ++ take count bytes → asked ≡ told
+    (text bytes head : List ℕ) (count : ℕ) → asked ≡ told
     → HasBegunFor c alone old now me (head ++ take count bytes) stage ended before after
-    → TellsBehind sends_head taken told ended → was.stage ≡ Head head → TellsAsked opening text was
+    → TellsBehind sends_head (head ++ take count bytes) told ended → was.stage ≡ Head head → TellsAsked opening text was
     → TellsAt opening (text ++ bytes) asked ended stage
-tells_ended c alone old now me taken stage ended before after asked told was opening text bytes head count same is begun
-    tells awaited so_far =
+tells_ended c alone old now me stage ended before after asked told was opening text bytes head count is begun tells
+    awaited so_far =
     let at = awaits was opening text head awaited so_far in
     let front : List ℕ = head ++ take count bytes in
     let whole_text : front ++ drop count bytes ≡ text ++ bytes = front_and_rest text head bytes count at.1 in
@@ -277,8 +250,7 @@ tells_ended c alone old now me taken stage ended before after asked told was ope
     (subst (λ (l : List ℕ). TellsBehind sends_head l told ended) whole_text
     (λ more heading says. tells (drop count bytes ++ more) heading
     (subst (λ (l : List ℕ). IsHeadingOf (Some sends_head) l heading)
-    (append_assoc front (drop count bytes) more
-    ∙ ap (λ (l : List ℕ). l ++ (drop count bytes ++ more)) (sym same)) says)))))
+    (append_assoc front (drop count bytes) more) says)))))
 
 -- and those that are
 pub tells_rest : (was new : Session) (opening : Opening) (text bytes head : List ℕ) (count : ℕ) → count ≤ length bytes

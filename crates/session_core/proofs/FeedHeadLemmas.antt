@@ -1,5 +1,5 @@
 -- A head that goes on, and one that ends: what becomes of its connection with the bytes behind it.
-use Rattle.std.proofs.Common.{◌&&◌, ◌≡◌, ◌∙◌, ◌+◌, ◌-◌, ◌<◌, ◌≤◌, ℕ, Bool, true, false, IsTrue, List, [], ◌++◌, length, map, take, drop, reverse, length-append, refl, sym, ap, subst, inl, inr, arith, Option, None, Some, Result, append_assoc}
+use Rattle.std.proofs.Common.{◌&&◌, ◌≡◌, ◌∙◌, ◌+◌, ◌-◌, ◌<◌, ◌≤◌, ℕ, Bool, true, false, IsTrue, List, [], ◌++◌, length, map, take, drop, reverse, length-append, refl, sym, ap, subst, inl, inr, arith, Option, None, Some, Result, Ok, Err, append_assoc}
 use Rattle.std.specs.Prelude.{◌^◌, is_some}
 use Rattle.std.proofs.lemmas.Bool.{le-leb}
 use Rattle.std.proofs.lemmas.List.{append-nil, drop_all, length-drop, take_all, take-append-drop}
@@ -14,16 +14,20 @@ use Rattle.session_calls.proofs.PlaceLemmas.{alone_same}
 use Rattle.session_calls.proofs.WentLemmas.{went_both}
 use Rattle.rover_session.specs.Made.{segments_after}
 use Rattle.rover_session.proofs.MadeLemmas.{owed_both}
+use Rattle.ntrip_head.specs.declared.buffer.HeadEnd.{HeadEnd}
+use Rattle.ntrip_head.specs.declared.fault.HeadError.{HeadError}
+use Rattle.ntrip_head.specs.declared.fault.HeadError.TheVariants.{Refused}
 use Rattle.ntrip_head.specs.declared.fault.HeadFault.{HeadFault}
 use Rattle.ntrip_head.specs.declared.request.Request.{Request}
 use Rattle.ntrip_head.specs.declared.request.Version.TheVariants.{One}
 use Rattle.ntrip_head.specs.Head.{IsOpen, IsHead, IsLong}
 use Rattle.ntrip_head.specs.Answer.{HeadAnswer}
+use Rattle.ntrip_head.specs.Ends.{IsEndOf}
+use Rattle.ntrip_head.specs.Outcome.{UnlessMemory}
 use Rattle.ntrip_reply.specs.declared.kind.Reply.TheVariants.{BadHead}
 use Rattle.cast_config.specs.declared.config.Config.{Config}
 use Rattle.session_model.specs.declared.ending.Ending.{Ending}
 use Rattle.session_model.specs.declared.ending.Ending.TheVariants.{LongHead}
-use Rattle.session_core.specs.declared.asked.Asked.{Asked}
 use Rattle.session_core.specs.declared.begun.Begun.{Begun}
 use Rattle.session_core.specs.declared.session.Session.{Session}
 use Rattle.session_core.specs.declared.stage.Stage.{Stage}
@@ -45,6 +49,19 @@ use Rattle.session_core.proofs.OverLemmas.{ended_more}
 
 -- ---- what the head says
 
+-- where it was read and no memory was lacking, this is its answer
+pub read_says : (head : List ℕ) (answer : Result Request HeadError) (request : Request) → answer ≡ Ok request
+    → UnlessMemory answer (HeadAnswer head) → HeadAnswer head (Ok request)
+read_says head answer request is says =
+    subst (λ (a : Result Request HeadError). UnlessMemory a (HeadAnswer head)) is says
+
+pub refused_says : (head : List ℕ) (answer : Result Request HeadError) (error : HeadError) (fault : HeadFault)
+    → answer ≡ Err error → error ≡ Refused fault → UnlessMemory answer (HeadAnswer head)
+    → HeadAnswer head (Err fault)
+refused_says head answer error fault is named says =
+    subst (λ (e : HeadError). UnlessMemory (Err e) (HeadAnswer head)) named
+    (subst (λ (a : Result Request HeadError). UnlessMemory a (HeadAnswer head)) is says)
+
 whole_judged : (c : Config) (front : List ℕ) (answer : Result Request HeadFault)
     → heading_judged c (whole (length front) answer) front ≡ request_judged c [] answer
 whole_judged c front answer =
@@ -52,20 +69,20 @@ whole_judged c front answer =
     (le-leb (length front) (length front) (omega arith))
     ∙ ap (λ (body : List ℕ). request_judged c body answer) (drop_all (length front) front (omega arith))
 
-pub whole_begun : (c : Config) (alone : Bool) (old now : Histories) (me : ℕ) (front told : List ℕ)
+pub whole_begun : (c : Config) (alone : Bool) (old now : Histories) (me : ℕ) (front : List ℕ)
     (answer : Result Request HeadFault) (stage : Stage) (ended : Option Ending) (before after : List ℕ)
-    → IsHead front → told ≡ front → HeadAnswer told answer
+    → IsHead front → HeadAnswer front answer
     → BeginsFor c alone old now me (request_judged c [] answer) stage ended before after
     → HasBegunFor c alone old now me front stage ended before after
-whole_begun c alone old now me front told answer stage ended before after head same says (inr lost) = inr lost
-whole_begun c alone old now me front told answer stage ended before after head same says (inl begins) =
+whole_begun c alone old now me front answer stage ended before after head says (inr lost) = inr lost
+whole_begun c alone old now me front answer stage ended before after head says (inl begins) =
     let all : take (length front) front ≡ front = take_all (length front) front (omega arith) in
     inl (record {
       heading = whole (length front) answer;
       is_heading = (
         omega arith,
         subst IsHead (sym all) head,
-        subst (λ (bytes : List ℕ). HeadAnswer bytes answer) (same ∙ sym all) says,
+        subst (λ (bytes : List ℕ). HeadAnswer bytes answer) (sym all) says,
       );
       begins = subst (λ (j : Judged). Begins c alone old now me j stage ended before after)
           (sym (whole_judged c front answer)) begins;
@@ -306,15 +323,18 @@ fed_behind c alone old mid_h now me mid new opening text bytes steps sent head b
           (rw (sym (front_and_rest text head bytes count is.text_is)) (inl on.stands))));
     }
 
--- so it began by the bytes that its head is made of, and this is the session that was left
-pub begun_put : (c : Config) (alone : Bool) (old now : Histories) (me : ℕ) (head front : List ℕ) (begun : Begun)
-    (was session : Session) (asked : Option Asked) (before after : List ℕ) → head ≡ front
-    → session ≡ record was { stage = begun.stage; ended = begun.ended; asked = asked }
-    → HasBegunFor c alone old now me head begun.stage begun.ended before after
-    → HasBegunFor c alone old now me front session.stage session.ended before after
-begun_put c alone old now me head front begun was session asked before after same is has =
-    subst (λ (s : Session). HasBegunFor c alone old now me front s.stage s.ended before after) (sym is)
-    (subst (λ (l : List ℕ). HasBegunFor c alone old now me l begun.stage begun.ended before after) same has)
+-- the head ended so with the bytes that it is made of
+pub ended_front : (end : HeadEnd) (new head bytes : List ℕ) (count : ℕ) → new ≡ head ++ take count bytes
+    → IsEndOf new end → IsEndOf (head ++ take count bytes) end
+ended_front end new head bytes count made = subst (λ (l : List ℕ). IsEndOf l end) made
+
+-- it began so, and this is its stage
+pub begun_as : (c : Config) (alone : Bool) (old now : Histories) (me : ℕ) (front : List ℕ) (begun : Begun)
+    (stage : Stage) (before after : List ℕ) → stage ≡ begun.stage
+    → HasBegunFor c alone old now me front begun.stage begun.ended before after
+    → HasBegunFor c alone old now me front stage begun.ended before after
+begun_as c alone old now me front begun stage before after is has =
+    subst (λ (s : Stage). HasBegunFor c alone old now me front s begun.ended before after) (sym is) has
 
 -- ---- a connection that is behind its head
 

@@ -81,11 +81,6 @@ holds_both (holds.Relay mount claim) second third had has =
     let on = subst (λ (held : Held). HoldsOn held third) had.1 has in
     (on.0, on.1, claim_on claim had.0 on.0 had.2 on.2)
 
--- while its head is awaited it holds nothing
-pub head_on : (session : Session) (head : List ℕ) (later : Held) → session.stage ≡ Head head
-    → HoldsOn (session_holding session) later
-head_on session head later is = subst (λ (stage : Stage). HoldsOn (holding_at stage) later) (sym is) tt
-
 pub source_on : (session : Session) (mount : ℕ) (inner fed : SourceSession) → session.stage ≡ Source mount inner
     → fed.claim ≡ inner.claim → HoldsOn (session_holding session) (holding_at (Source mount fed))
 source_on session mount inner fed is same =

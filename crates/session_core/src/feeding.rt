@@ -1,9 +1,9 @@
 //! Bytes that come in on a connection.
 
-ghost use Rattle.std.specs.Prelude.{◌≡◌, ◌≢◌, ◌++◌, ℕ, IsTrue, List, length, map, IfSome, None};
+ghost use Rattle.std.specs.Prelude.{◌≡◌, ◌++◌, ℕ, IsTrue, List, length, map, IfSome, None};
 ghost use Rattle.std.specs.Option.{option_map};
 ghost use Rattle.std.specs.Result.{result_err};
-ghost use Rattle.ntrip_head.specs.Steps.{IsStep};
+ghost use Rattle.ntrip_head.specs.Ends.{IsEndOf};
 ghost use Rattle.session_calls.specs.Steps.{Step};
 ghost use Rattle.session_calls.specs.Rings.{AllSpeak};
 ghost use Rattle.cast_config.specs.declared.config.Config.{Config as ConfigValue};
@@ -35,7 +35,7 @@ use crate::turning::flow_after;
 use cast_config::Config;
 use caster_accounts::Book;
 use mount_ring::Ring;
-use ntrip_head::{HeadBuf, HeadError, HeadStep, Version, read_head};
+use ntrip_head::{HeadEnd, HeadError, Version};
 use ntrip_reply::Reply;
 use session_model::Ending;
 use source_session::SourceHalt;
@@ -86,62 +86,50 @@ fn ended_relay(claim: Option<u64>, fed: Result<(), RelayHalt>) -> Option<Ending>
     }
 }
 
-/// What becomes of a connection whose head is whole or too long, and what its head asked.
+/// What becomes of a connection whose head ended so, and what its head asked.
 fn begin<T: Turns<Ring>, B: Turns<Book>>(
     setup: &Setup,
-    head: &HeadBuf,
-    step: HeadStep,
+    end: HeadEnd,
     places: &mut Places<T, B>,
     out: &mut Vec<u8>,
 ) -> (Begun, Option<Asked>)
     requires ready { IsSetUp setup.now }
-    requires step { IsStep head.now step }
-    requires ends { step ≢ HeadStep.More }
+    requires ended { (head : List ℕ) × IsEndOf head end }
     requires shapes { map T.shape places.old.rings.items ≡ shapes setup.now.config.now }
     requires caps { B.shape places.old.book ≡ caps setup.now.config.now }
     requires rings { AllSpeak T.speaks places.old.rings.items setup.now.me }
     requires book { IsTrue (B.speaks places.old.book setup.now.me) }
     ensures stay { Stay T.Turns B.Turns places.old places.new }
-    ensures begun { HasBegunFor setup.now.config.now (alone_in T.Turns B.Turns places.old)
+    ensures begun { (head : List ℕ) → IsEndOf head end
+        → HasBegunFor setup.now.config.now (alone_in T.Turns B.Turns places.old)
         (seen_in T.Turns B.Turns places.old) (seen_in T.Turns B.Turns places.new) setup.now.me
-        head.now result.0.stage result.0.ended out.old.items out.new.items }
-    ensures asks { TellsBehind sends_head head.now result.1 result.0.ended }
+        head result.0.stage result.0.ended out.old.items out.new.items }
+    ensures asks { (head : List ℕ) → IsEndOf head end
+        → TellsBehind sends_head head result.1 result.0.ended }
     ensures cause { IfSome result.0.ended (IsCause (worn_in T.Turns B.Turns places.new)) }
 {
-    match step {
-        HeadStep::More => unreachable!(),
-        HeadStep::Long => {
+    match end {
+        HeadEnd::Long => {
             let last = (Reply::BadHead, Ending::LongHead);
             (finish(Some(Version::One), last, setup.table, out), None)
         }
-        HeadStep::Done => match read_head(setup.alloc, head.bytes()) {
+        HeadEnd::Whole(answer) => match answer {
             Ok(request) => {
                 let begun = begin_request(setup, &request, places, out);
                 (begun, Some(asked_of(request)))
             }
-            Err(HeadError::Refused(fault)) => {
-                let last = refused_head(fault);
-                (finish(Some(Version::One), last, setup.table, out), None)
-            }
-            Err(HeadError::Memory) => (Begun::over(Ending::Memory), None),
+            Err(error) => match error {
+                HeadError::Refused(fault) => {
+                    let last = refused_head(fault);
+                    (finish(Some(Version::One), last, setup.table, out), None)
+                }
+                HeadError::Memory => (Begun::over(Ending::Memory), None),
+            },
         },
     }
 }
 
 impl Session {
-    /// It goes on as it began, or is over, and this is what its head asked.
-    fn put(&mut self, begun: Begun, asked: Option<Asked>)
-        ensures { self.new ≡ record self.old {
-          stage = begun.stage;
-          ended = begun.ended;
-          asked = asked;
-        } }
-    {
-        drop(mem::replace(&mut self.stage, begun.stage));
-        drop(mem::replace(&mut self.asked, asked));
-        self.ended = begun.ended;
-    }
-
     /// Takes more bytes behind the head. Those of a source or of a relay come to calls at the ring
     /// of its mountpoint.
     fn feed_behind<T: Turns<Ring>, B: Turns<Book>>(
@@ -235,18 +223,20 @@ impl Session {
             self.feed_behind(bytes, places);
             return flow_after(self.ended);
         };
-        let (count, step) = head.take(bytes);
-        if step == HeadStep::More {
+        let (count, end) = head.read(bytes);
+        let Some(end) = end else {
             return Flow::Open;
-        }
+        };
         let setup = Setup {
             alloc: self.alloc,
             config,
             table,
             me: self.me,
         };
-        let (begun, asked) = begin(&setup, head, step, places, out);
-        self.put(begun, asked);
+        let (begun, asked) = begin(&setup, end, places, out);
+        drop(mem::replace(&mut self.stage, begun.stage));
+        drop(mem::replace(&mut self.asked, asked));
+        self.ended = begun.ended;
         if self.ended.is_some() {
             return Flow::Ended;
         }

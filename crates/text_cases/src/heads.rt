@@ -3,7 +3,7 @@
 use crate::printing::{put, say, say_kept, show_in_brackets};
 use cast_text::{MountName, Text};
 use gga_read::Position;
-use ntrip_head::{Auth, HeadBuf, HeadError, Request, Version, read_head, read_upstream};
+use ntrip_head::{Auth, HeadBuf, HeadEnd, HeadError, Request, Version, read_head, read_upstream};
 use std::alloc::AllocError;
 
 /// The credentials in words.
@@ -88,10 +88,18 @@ pub fn head(head: &[u8], out: &mut Vec<u8>) -> Result<(), AllocError> {
 /// Behind how many bytes a head ends, how, and whether just these bytes are kept.
 pub fn head_end(bytes: &[u8], out: &mut Vec<u8>) -> Result<(), AllocError> {
     let mut head = HeadBuf::new(*out.allocator())?;
-    let ended = head.take(bytes);
-    say(out, &ended)?;
-    put(out, " ")?;
-    let taken = bytes.get(..ended.0).unwrap_or(b"");
+    let (count, end) = head.read(bytes);
+    put(out, "(")?;
+    say(out, &count)?;
+    put(
+        out,
+        match end {
+            None => ", More) ",
+            Some(HeadEnd::Whole(_)) => ", Done) ",
+            Some(HeadEnd::Long) => ", Long) ",
+        },
+    )?;
+    let taken = bytes.get(..count).unwrap_or(b"");
     say_kept(out, taken, head.bytes(), head.bytes())
 }
 
