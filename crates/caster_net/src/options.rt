@@ -1,7 +1,7 @@
 //! Options of sockets for which std has no call.
 use libc::net::{
     IPPROTO_TCP, SO_KEEPALIVE, SO_RCVTIMEO, SOL_SOCKET, TCP_KEEPCNT, TCP_KEEPIDLE, TCP_KEEPINTVL,
-    setsockopt,
+    TCP_USER_TIMEOUT, setsockopt,
 };
 use std::io;
 use std::os::fd::RawFd;
@@ -15,17 +15,29 @@ const INTERVAL: i32 = 10;
 // After how many questions with no answer the connection has failed.
 const PROBES: i32 = 3;
 
-/// Has the system find out that the peer of this connection is gone, where nothing is sent. Where
+// After how many milliseconds the connection has failed, where bytes were sent and the peer's system
+// acknowledged none of them: as long as all questions take where none were sent.
+const UNACKNOWLEDGED: i32 = 90_000;
+
+/// Has the system find out that the peer of this connection is gone: by questions where nothing is
+/// sent (RFC 9293, section 3.8.4), and else by the bytes that nobody acknowledges (RFC 5482). Where
 /// it cannot, the connection is as good without.
 pub(crate) fn keep_alive(fd: RawFd) {
     // SAFETY: a call of `setsockopt` needs an option whose value holds no pointer, and a length of
-    // at most the 16 bytes of its value. Each of the four names such an option where it stands, and
+    // at most the 16 bytes of its value. Each of the five names such an option where it stands, and
     // the length is that of an `i32`. The check proves both.
     unsafe {
         setsockopt(fd, SOL_SOCKET, SO_KEEPALIVE, &number(1), 4);
         setsockopt(fd, IPPROTO_TCP, TCP_KEEPIDLE, &number(IDLE), 4);
         setsockopt(fd, IPPROTO_TCP, TCP_KEEPINTVL, &number(INTERVAL), 4);
         setsockopt(fd, IPPROTO_TCP, TCP_KEEPCNT, &number(PROBES), 4);
+        setsockopt(
+            fd,
+            IPPROTO_TCP,
+            TCP_USER_TIMEOUT,
+            &number(UNACKNOWLEDGED),
+            4,
+        );
     }
 }
 
