@@ -283,6 +283,31 @@ def keep_alive():
     return 'both failed within %.1f s' % took
 
 
+def nobody_acknowledges():
+    """QUIET 300: the cable of a rover is pulled while its base sends two frames a second. The system
+    takes them for it, and nobody acknowledges them: after 90 seconds its link has failed, and its
+    account has room again."""
+    side, keeper = Side('rover', 1), keep(3, quiet=300)
+    base = Base(keeper, 'CHARLIE', 2, claim=1)
+    gone = rover_at(side, keeper, 'CHARLIE', 'rover1')
+    base.publish(3)
+    gone.wait_for('CHARLIE', 2)
+    side.pull()
+    begun = time.monotonic()
+    while not has_ended(keeper, gone):
+        holds('it has not failed', time.monotonic() - begun < 110)
+        base.publish(1)
+        time.sleep(0.5)
+    took = time.monotonic() - begun
+    holds('it failed after %.1f s' % took, took > 85)
+    ending = wait_for_end(keeper, gone)[0]
+    holds('it ended as ' + ending, ending in ('read-fault', 'write-fault'))
+    is_cut(keeper, gone, -1, 1, fault=ending)
+    leave(base)
+    closes(keeper, 1)
+    return 'it failed after %.1f s' % took
+
+
 # ---- peers that vanish
 
 def a_side_vanishes():
@@ -516,7 +541,7 @@ def heard_by(one):
         heard.append(guests.told_by(frame)[1:])
 
 
-SLOW = [keep_alive]
+SLOW = [keep_alive, nobody_acknowledges]
 CASES = [packets_are_lost, packets_come_late, cables_are_put_back, cable_of_a_base,
          cable_of_a_rover, a_side_vanishes, a_rovers_side_comes_back, a_bases_side_comes_back,
          full_disk, full_device, descriptors_run_out, stopped_and_continued] + SLOW
