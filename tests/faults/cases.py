@@ -308,6 +308,26 @@ def nobody_acknowledges():
     return 'it failed after %.1f s' % took
 
 
+def nothing_is_read():
+    """QUIET 300: a rover reads nothing while its base sends two frames a second. Its system takes a
+    few of them and says that it has no room: after 90 seconds the link has failed."""
+    keeper = keep(3, quiet=300)
+    base, idle = Base(keeper, 'CHARLIE', 2, claim=1), Rover(keeper, 'CHARLIE', 'rover1', room=4096)
+    begun = time.monotonic()
+    while not has_ended(keeper, idle):
+        holds('it has not failed', time.monotonic() - begun < 130)
+        base.publish(1)
+        time.sleep(0.5)
+    took = time.monotonic() - begun
+    holds('it failed after %.1f s' % took, took > 85)
+    ending = wait_for_end(keeper, idle)[0]
+    holds('it ended as ' + ending, ending in ('read-fault', 'write-fault'))
+    is_cut(keeper, idle, -1, 1, fault=ending)
+    leave(base)
+    closes(keeper, 1)
+    return 'it failed after %.1f s' % took
+
+
 # ---- peers that vanish
 
 def a_side_vanishes():
@@ -541,7 +561,7 @@ def heard_by(one):
         heard.append(guests.told_by(frame)[1:])
 
 
-SLOW = [keep_alive, nobody_acknowledges]
+SLOW = [keep_alive, nobody_acknowledges, nothing_is_read]
 CASES = [packets_are_lost, packets_come_late, cables_are_put_back, cable_of_a_base,
          cable_of_a_rover, a_side_vanishes, a_rovers_side_comes_back, a_bases_side_comes_back,
          full_disk, full_device, descriptors_run_out, stopped_and_continued] + SLOW
