@@ -91,15 +91,28 @@ static Piece trimmed(Piece value)
     return value;
 }
 
+/* A header line of HTTP (RFC 9112, section 5): a token, a colon, and a value without control characters but tabs. */
+static int is_header(Piece line)
+{
+    const unsigned char *colon = memchr(line.at, ':', line.size);
+    if (!colon || colon == line.at)
+        return 0;
+    for (const unsigned char *at = line.at; at < colon; at++)
+        if (*at > 0x7e || !(isalnum(*at) || strchr("!#$%&'*+-.^_`|~", *at)))
+            return 0;
+    for (const unsigned char *at = colon + 1; at < line.at + line.size; at++)
+        if ((*at < 0x20 && *at != '\t') || *at == 0x7f)
+            return 0;
+    return 1;
+}
+
 /* Whether all lines from this place to the empty one are header lines, and not too many. */
 static int are_headers(const unsigned char *head, size_t size, size_t at)
 {
     Piece line;
-    for (int count = 0; next_line(head, size, &at, &line) && line.size; count++) {
-        const unsigned char *colon = memchr(line.at, ':', line.size);
-        if (!colon || colon == line.at || memchr(line.at, ' ', colon - line.at) || count == MOST_LINES)
+    for (int count = 0; next_line(head, size, &at, &line) && line.size; count++)
+        if (count == MOST_LINES || !is_header(line))
             return 0;
-    }
     return 1;
 }
 
