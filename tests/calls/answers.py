@@ -6,7 +6,7 @@ docs/GUARANTEES.md.
               are not there; all others got all
     4 5 6 7   this status with its line; of 5 a first part of the text stands before it, of 6 of `keep` its lines and
               totals where it had served
-    loader    the call was the system's loader's, before the program began: its own status and words
+    loader    the call was the system's loader's, before the program began, which is not looked at
 
     fewer     status 0; no thread could be started for some workers, so clients waited for the others
 
@@ -64,10 +64,11 @@ RULES = [
     ('write', ['EINTR'], '', ['whole']),
     # No memory, no thread: a worker fewer, or the line `memory`.
     ('clone3', ['EAGAIN', 'ENOMEM'], '', ['whole', 'fewer']),
-    ('mmap', ['ENOMEM'], '', ['whole', 'link', '7', 'loader']),
-    ('brk', ['ENOMEM'], '', ['whole', '7', 'loader']),
-    ('mprotect', ['ENOMEM'], '', ['whole', 'link', '7', 'loader']),
-    ('munmap', ['EINVAL'], '', ['whole', 'loader']),
+    # Two are not among them, which the C library makes and answers by itself. The system answers a `brk` with the old end
+    # of the heap, which strace cannot; and where the stack of a thread that has ended cannot be given back (`munmap`),
+    # the C library aborts the program.
+    ('mmap', ['ENOMEM'], '', ['whole', 'fewer', 'link', '7']),
+    ('mprotect', ['ENOMEM'], '', ['whole', 'fewer', 'link', '7']),
     ('madvise', ['EINVAL'], '', ['whole']),
 ]
 

@@ -138,8 +138,6 @@ def check_script(scene, text):
 def word_of(scene, status, count):
     """What came, in a word; wrong where it is no answer at all."""
     text = scene.text()
-    if status == 127 and b'shared libraries' in scene.error or status == 127 and not text:
-        return 'loader'
     if scene.error:
         raise Wrong('standard error: %r' % scene.error[:300])
     if status in (4, 7) or status == 6 and text == LINES[6]:
@@ -197,8 +195,9 @@ def once(command, call, fault, number):
         if not failed:
             return None
         wanted = answers.wanted(command, call, fault, failed)
-        if any('FUTEX_WAKE' in line for line in failed):
-            return Run(command, call, fault, number, failed, 'left out', wanted, '')
+        if scene.is_of_loader or any('FUTEX_WAKE' in line for line in failed):
+            word = 'loader' if scene.is_of_loader else 'left out'
+            return Run(command, call, fault, number, failed, word, wanted, '')
         try:
             word, said = word_of(scene, status, len(failed)), '; '.join(scene.odd)
         except (Wrong, books.Wrong) as wrong:

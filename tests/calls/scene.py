@@ -186,7 +186,8 @@ class Scene:
         last = {'keep': '0', 'serve': '1', 'record': '7'}[command]
         call, fault, number = inject
         name, _, of = call.partition(' ')
-        front = ['strace', '-f', '-qq', '-o', self.log, '-e', 'trace=' + name, '-e',
+        # The loader's last call before the program begins is the one for a limit.
+        front = ['strace', '-f', '-qq', '-o', self.log, '-e', 'trace=%s,prlimit64' % name, '-e',
                  'inject=%s:error=%s:when=%d' % (name, fault, number)]
         # Standard input is a FIFO, as that of dist/caster-run, so that strace can tell it by its path.
         self.fifo = self.folder.name + '/stop'
@@ -197,7 +198,7 @@ class Scene:
         with open(self.output, 'w') as output:
             self.process = subprocess.Popen(front + [program, command, config, '127.0.0.1:%d' % self.port, last],
                                             stdin=self.input, stdout=output, stderr=subprocess.PIPE)
-        self.far.process = self.process
+        self.far.process, self.is_of_loader = self.process, False
 
     def dial(self):
         """A connection, once somebody listens; none where the program has ended."""
@@ -296,7 +297,7 @@ class Scene:
 
     def failed(self):
         """The calls that were made to fail. One that another thread's line came into is put together again."""
-        begun, failed = {}, []
+        begun, failed, is_loaded = {}, [], False
         with open(self.log, errors='replace') as file:
             for line in file:
                 thread, _, call = line.strip().partition(' ')
@@ -305,7 +306,9 @@ class Scene:
                     begun[thread] = call[:-len('<unfinished ...>')]
                 elif call.startswith('<...'):
                     call = begun.pop(thread, '') + call.partition('resumed>')[2]
+                is_loaded = is_loaded or call.startswith('prlimit64')
                 if '(INJECTED)' in call:
+                    self.is_of_loader = self.is_of_loader or not is_loaded
                     failed.append(call)
         return failed
 

@@ -98,7 +98,7 @@ static int is_header(Piece line)
     if (!colon || colon == line.at)
         return 0;
     for (const unsigned char *at = line.at; at < colon; at++)
-        if (*at > 0x7e || !(isalnum(*at) || strchr("!#$%&'*+-.^_`|~", *at)))
+        if (*at < 0x21 || *at > 0x7e || !(isalnum(*at) || strchr("!#$%&'*+-.^_`|~", *at)))
             return 0;
     for (const unsigned char *at = colon + 1; at < line.at + line.size; at++)
         if ((*at < 0x20 && *at != '\t') || *at == 0x7f)
