@@ -198,7 +198,8 @@ class Scene:
         with open(self.output, 'w') as output:
             self.process = subprocess.Popen(front + [program, command, config, '127.0.0.1:%d' % self.port, last],
                                             stdin=self.input, stdout=output, stderr=subprocess.PIPE)
-        self.far.process, self.is_of_loader = self.process, False
+        # Of calls that are told by a path none is the loader's.
+        self.far.process, self.is_of_loader, self.has_path = self.process, False, bool(of)
 
     def dial(self):
         """A connection, once somebody listens; none where the program has ended."""
@@ -297,7 +298,7 @@ class Scene:
 
     def failed(self):
         """The calls that were made to fail. One that another thread's line came into is put together again."""
-        begun, failed, is_loaded = {}, [], False
+        begun, failed, is_loaded = {}, [], self.has_path
         with open(self.log, errors='replace') as file:
             for line in file:
                 thread, _, call = line.strip().partition(' ')
