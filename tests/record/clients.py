@@ -206,8 +206,8 @@ def a_rover(dice):
     return Client('rover', head(mount, *who), replies, dice, dice.random() < 0.7, more, dice.random() < 0.4)
 
 
-def a_near_rover(dice):
-    version, user = dice.choice([1, 2]), dice.choice([None, 'wide', 'lone'])
+def a_near_rover(dice, users=(None, 'wide', 'lone')):
+    version, user = dice.choice([1, 2]), dice.choice(users)
     who = [basic(user, {'wide': 'one', 'lone': 'two'}[user])] if user else []
 
     def somewhere():
@@ -215,7 +215,7 @@ def a_near_rover(dice):
 
     more = ['Ntrip-GGA: ' + somewhere()] if dice.random() < 0.5 else []
     lines = [dice.choice([somewhere(), somewhere(), somewhere(), '$GPGGA,no report*00', 'x' * 140])
-             for _ in range(dice.choice([0, 1, 3, 12]))]
+             for _ in range(dice.choice([0, 1, 3, 12]) if None in users else 12)]
     head = rover_1 if version == 1 else rover_2
     return Client('rover', head('NEAR', *who, *more), [[ICY, FULL_1], [ROVER_2_OK, FULL_2]][version - 1], dice, True,
                   ''.join(line + '\r\n' for line in lines).encode(), dice.random() < 0.2)
@@ -246,12 +246,21 @@ KINDS = [(a_source, 5), (a_rover, 5), (a_near_rover, 2), (one_that_asks_for_the_
          (one_without_a_head, 1)]
 
 
+def a_field(dice):
+    """A source at each base, which stay for a while, and rovers that move between them."""
+    some = [Client('source', source_1('ALPHA', 'sesame'), [ICY, TAKEN_1], dice, body=stream(dice)),
+            Client('two', source_2('BRAVO', 'open'), [SOURCE_2_OK, TAKEN_2], dice, body=stream(dice))]
+    for one in some:
+        one.delay = dice.randint(100, 300)
+    return some + [a_near_rover(dice, ['wide']) for _ in range(dice.randint(1, 3))]
+
+
 def drawn(dice):
     """The clients of a session, in the order in which they come."""
     kinds, weights = zip(*KINDS)
     some = [a_source(dice), a_rover(dice)] + [kind(dice) for kind in dice.choices(kinds, weights, k=dice.randint(0, 14))]
     dice.shuffle(some)
-    return some
+    return a_field(dice) + some if dice.random() < 0.4 else some
 
 
 def dice_of(seed, number):
