@@ -64,9 +64,9 @@ RULES = [
     ('write', ['EINTR'], '', ['whole']),
     # No memory, no thread: a worker fewer, or the line `memory`.
     ('clone3', ['EAGAIN', 'ENOMEM'], '', ['whole', 'fewer']),
-    # Two are not among them, which the C library makes and answers by itself. The system answers a `brk` with the old end
-    # of the heap, which strace cannot; and where the stack of a thread that has ended cannot be given back (`munmap`),
-    # the C library aborts the program.
+    # Two are not among them, which the C library makes and answers by itself. The system answers a `brk` with the
+    # old end of the heap, which strace cannot; and where the stack of a thread that has ended cannot be given back
+    # (`munmap`), the C library aborts the program.
     ('mmap', ['ENOMEM'], '', ['whole', 'fewer', 'link', '7']),
     ('mprotect', ['ENOMEM'], '', ['whole', 'fewer', 'link', '7']),
     ('madvise', ['EINVAL'], '', ['whole']),

@@ -112,7 +112,7 @@ def check_totals(scene, text, is_whole):
     rovers = [part for part in scene.parts if part.kind == 'rover']
     sent = sum(frames_of(part) for part in rovers)
     wanted = [[scene.published[name], 1] for name in MOUNTS]
-    if account != total or any(got > most for row, most_row in zip(published, wanted) for got, most in zip(row, most_row)):
+    if account != total or any(got > most for rows in zip(published, wanted) for got, most in zip(*rows)):
         raise Wrong('totals that are no sums, or too many: %r' % text)
     if is_whole and (published != wanted or total != [len(rovers), sent, 0]):
         raise Wrong('all clients got all, and the totals are %r' % text)
@@ -234,9 +234,10 @@ def tell(command, call, fault, runs, tells):
         '%d %s' % (words[word], word) for word in sorted(words)) or 'is not made'))
     for run in runs:
         if tells or not is_good(run):
+            more = ''.join('\n        ' + line[:220] for line in [*run.failed[:3], *run.said.splitlines()])
             print('    %s time %d: %s%s; wanted %s%s' % (
-                '' if is_good(run) else 'FAILED', run.number, run.word, ' (said nothing of)' if run.wanted is None else '',
-                run.wanted, ''.join('\n        ' + line[:220] for line in [*run.failed[:3], *run.said.splitlines()])))
+                '' if is_good(run) else 'FAILED', run.number, run.word,
+                ' (said nothing of)' if run.wanted is None else '', run.wanted, more))
     sys.stdout.flush()
 
 
@@ -265,7 +266,8 @@ def front_once(call, fault, wanted):
         words = ['strace', '-f', '-qq', '-o', log, *paths, '-e', 'trace=' + call, '-e',
                  'inject=%s:error=%s%s' % (call, fault, times), 'dist/caster-run', config, '127.0.0.1:0', '0']
         begun = time.monotonic()
-        ran = subprocess.run(words, env=environment, stdin=subprocess.DEVNULL, capture_output=True, timeout=60, check=False)
+        ran = subprocess.run(words, env=environment, stdin=subprocess.DEVNULL, capture_output=True, timeout=60,
+                             check=False)
         with open(log, errors='replace') as file:
             failed = [line for line in file if '(INJECTED)' in line]
         left = [name for place, _, names in os.walk(folder) for name in names if name not in ('strace',)]

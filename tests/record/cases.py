@@ -145,7 +145,7 @@ class Session:
         self.check_reply(one, told, 'break' in closed)
 
     def check_reply(self, one, told, is_broken):
-        """Nothing was said to it where it left, or had not asked, or one of its replies, whole where it is a refusal."""
+        """Nothing was said to it where it left, or had not asked; else one of its replies, whole where that refuses."""
         wanted = [reply for entry in one.replies for reply in (self.tables if entry == 'table' else [entry])]
         found = [reply for reply in wanted if told.startswith(reply)]
         asked = bytes(one.sent) == one.planned or b'\r\n\r\n' in one.sent or len(one.sent) > 8192

@@ -177,7 +177,8 @@ def chunked(dice, data):
         some = data[at:at + dice.choice([1, 9, 100, 1500])] if len(out) < 80 else data[at:]
         out.append(b'%X;a=b\r\n%s\r\n' % (len(some), some) if dice.random() < 0.3 else chunk(some))
         at += len(some)
-    end = dice.choice([b'', b'', b'0\r\n\r\n', b'0\r\nA: b\r\n\r\n', b'0\r\n\r\nbehind it', b'zz\r\n', b'5\r\nab', b'\r\n'])
+    end = dice.choice([b'', b'', b'0\r\n\r\n', b'0\r\nA: b\r\n\r\n', b'0\r\n\r\nbehind it', b'zz\r\n', b'5\r\nab',
+                       b'\r\n'])
     return b''.join(out) + end
 
 
@@ -258,7 +259,8 @@ def a_field(dice):
 def drawn(dice):
     """The clients of a session, in the order in which they come."""
     kinds, weights = zip(*KINDS)
-    some = [a_source(dice), a_rover(dice)] + [kind(dice) for kind in dice.choices(kinds, weights, k=dice.randint(0, 14))]
+    some = [a_source(dice), a_rover(dice)]
+    some += [kind(dice) for kind in dice.choices(kinds, weights, k=dice.randint(0, 14))]
     dice.shuffle(some)
     return a_field(dice) + some if dice.random() < 0.4 else some
 

@@ -76,8 +76,8 @@ def try_all(session, wrong):
     one of them was taken."""
     script, report = session.script.split('\n'), session.report.split('\n')
     numbers = list(range(1, len(session.clients) + 1))
-    given = [number for number in numbers if session.clients[number - 1].got and not session.clients[number - 1].is_gone]
     ended = [number for number in numbers if not session.clients[number - 1].is_gone]
+    given = [number for number in ended if session.clients[number - 1].got]
     dice, count = session.dice, 0
     for kind, those, is_script in [(wrong_bytes, given, False), (wrong_numbers, numbers, False),
                                    (wrong_script, ended, True)]:

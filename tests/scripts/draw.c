@@ -38,7 +38,10 @@ static void draw_mount(Dice *dice, Mount *mount, int number)
     snprintf(mount->password, NAME, "pw%d", below(dice, 2));
     mount->ring = chance(dice, 80) ? 1 + below(dice, 6) : 1 + below(dice, 4096);
     mount->at.lat = (long)below(dice, 3) * 2500000 + 480000000 - (chance(dice, 5) ? 960000000 : 0);
-    mount->at.lon = chance(dice, 85) ? 115000000 + (long)below(dice, 3) * 2500000 : 1799000000 - 3598000000 * below(dice, 2);
+    if (chance(dice, 85))
+        mount->at.lon = 115000000 + (long)below(dice, 3) * 2500000;
+    else
+        mount->at.lon = 1799000000 - 3598000000 * below(dice, 2);
     if (chance(dice, 20))
         mount->at.lat = mount->at.lon = -99999 + (long)below(dice, 300000);
     if (chance(dice, 30)) {
@@ -94,7 +97,8 @@ void draw_world(Dice *dice, World *world)
         draw_mount(dice, &world->mount[at], at);
     for (int at = 0; at < world->nears; at++) {
         snprintf(world->near[at].name, NAME, "NEAR%d", at);
-        world->near[at].count = draw_some(dice, world->mounts, chance(dice, 70) ? world->mounts : 1, world->near[at].base);
+        int least = chance(dice, 70) ? world->mounts : 1;
+        world->near[at].count = draw_some(dice, world->mounts, least, world->near[at].base);
     }
     for (int at = 0; at < world->groups; at++)
         draw_group(dice, world, at);

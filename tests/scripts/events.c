@@ -90,8 +90,10 @@ static void put_trailers(Dice *dice, Text *text)
 /* A chunk with some frames, or with what is none; now and then the last one, or what breaks the coding. */
 static void put_chunk(Dice *dice, Text *text)
 {
-    static const char *forms[] = {"%zx", "%zX", "%04zx", "%06zX"}, *faults[] = {
-        "-1\r\n", "\r\n", "g\r\n", "5 \r\n", "0000005\r\n", "5\n", ";a\r\n", "2;a\rb", "1\r\nab\r\n", "0\r\nA\n", "5;\n"};
+    static const char *forms[] = {"%zx", "%zX", "%04zx", "%06zX"};
+    static const char *faults[] = {
+        "-1\r\n", "\r\n", "g\r\n", "5 \r\n", "0000005\r\n", "5\n", ";a\r\n", "2;a\rb", "1\r\nab\r\n", "0\r\nA\n",
+        "5;\n"};
     static Text data;
     data.size = 0;
     put_stream(dice, &data);
@@ -127,8 +129,8 @@ static void put_report(Dice *dice, Text *text)
     int sum = 0, fix = chance(dice, 5) ? 0 : 1 + below(dice, 9);
     long lat = 4800 + 15 * below(dice, 4), lon = 1100 + 15 * below(dice, 4);
     snprintf(line, sizeof line, "GPGGA,1,%04ld.%03d,%c,%05ld.%05d,%c,%d,08,0.9,5,M,4,M,,", lat, below(dice, 1000),
-             chance(dice, 95) ? 'N' : 'S', chance(dice, 90) ? lon : 17955, below(dice, 100000), chance(dice, 90) ? 'E' : 'W',
-             fix);
+             chance(dice, 95) ? 'N' : 'S', chance(dice, 90) ? lon : 17955, below(dice, 100000),
+             chance(dice, 90) ? 'E' : 'W', fix);
     if (chance(dice, 4))
         strcpy(line, chance(dice, 50) ? "GPRMC,1,2,3" : "GPGGA,1,9100.0,N,01130.0,E,1,08,0.9,5,M,4,M,,");
     for (char *one = line; *one; one++)
@@ -238,9 +240,10 @@ static void put_source(Dice *dice, const World *world, Plan *plan, const Mount *
 static void put_bad_head(Dice *dice, Text *text)
 {
     static const char *some[] = {
-        "NONSENSE\r\n\r\n", "\r\n", "\n", "PUT /A0 HTTP/1.1\r\n\r\n", "HEAD / HTTP/1.0\r\n\r\n", "GET A0 HTTP/1.1\r\n\r\n",
-        "GET /A?0 HTTP/1.1\r\n\r\n", "POST / HTTP/1.1\r\n\r\n", "GET /A/B HTTP/1.0\n\n", "GET /A0 HTTP/1.1\r\nno header\r\n\r\n",
-        "GET /", "SOURCE pw0", "GET /A0 HTTP/1.1\r\nHost: x\r\n", "G", "DELETE A0 HTTP/1.1\r\n\r\n"};
+        "NONSENSE\r\n\r\n", "\r\n", "\n", "PUT /A0 HTTP/1.1\r\n\r\n", "HEAD / HTTP/1.0\r\n\r\n",
+        "GET A0 HTTP/1.1\r\n\r\n", "GET /A?0 HTTP/1.1\r\n\r\n", "POST / HTTP/1.1\r\n\r\n", "GET /A/B HTTP/1.0\n\n",
+        "GET /A0 HTTP/1.1\r\nno header\r\n\r\n", "GET /", "SOURCE pw0", "GET /A0 HTTP/1.1\r\nHost: x\r\n", "G",
+        "DELETE A0 HTTP/1.1\r\n\r\n"};
     if (chance(dice, 4)) {
         int size = 8150 + below(dice, 60);
         say(text, "GET /A0 HTTP/1.0\r\nX: ");

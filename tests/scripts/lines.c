@@ -31,9 +31,11 @@ static void to_capitals(Text *text, size_t from)
 static void line_fault(Dice *dice, int is_bare, Text *text)
 {
     static const char *some[] = {"turn 1 17", "turn 1 0", "in 1 0", "in 1 zz", "end 0", "end 10000", "foo", "turn  1 2",
-        " stop", "stop ", "in 1 ", "in 1", "end 01", "END 1", "break 1 1", "turn 1 016", "end -1", "in 1 D3 00", "Stop"};
+        " stop", "stop ", "in 1 ", "in 1", "end 01", "END 1", "break 1 1", "turn 1 016", "end -1", "in 1 D3 00",
+        "Stop"};
     static const char *of_replay[] = {"open", "open 0", "open 1 A", "source 1 A", "rover 1 A", "relay 1 0", "relay 1"};
-    static const char *of_bare[] = {"open 1", "relay 1 1", "source 1", "rover 1 A/B", "source 1 A B", "rover 0 A", "rover"};
+    static const char *of_bare[] = {"open 1", "relay 1 1", "source 1", "rover 1 A/B", "source 1 A B", "rover 0 A",
+        "rover"};
     say(text, "%s", chance(dice, 60) ? some[below(dice, 19)] : (is_bare ? of_bare : of_replay)[below(dice, 7)]);
 }
 

@@ -203,7 +203,8 @@ static void work(Job *job, int number, int jobs, uint64_t seed, long from, long 
     for (long at = from + number; at < from + count && job->wrong < MOST_WRONG; at += jobs) {
         job->wrong += !try_case(seed, at, 1);
         if (++job->done % PACE == 0) {
-            printf("job %d: %ld scripts, %ld wrong, %ld s\n", number, job->done, job->wrong, (long)(time(NULL) - begun));
+            printf("job %d: %ld scripts, %ld wrong, %ld s\n", number, job->done, job->wrong,
+                   (long)(time(NULL) - begun));
             fflush(stdout);
         }
     }
@@ -234,10 +235,13 @@ static int tell(const Job *job, int jobs, uint64_t seed, long seconds)
         wrong += job[at].wrong;
     }
     printf("%ld events, %ld frames published, %ld sessions, %ld segments, %ld laps, %ld changes of a base, "
-           "%ld bytes sent\nendings:", all.events, all.frames, all.sessions, all.segments, all.laps, all.moves, all.bytes);
+           "%ld bytes sent\nendings:", all.events, all.frames, all.sessions, all.segments, all.laps, all.moves,
+           all.bytes);
     for (int at = 0; at < 40 && all.ending[at].word[0]; at++)
-        printf(" %ld %s%s", all.ending[at].count, all.ending[at].word, at < 39 && all.ending[at + 1].word[0] ? "," : "\n");
-    printf("seed %llu: %ld scripts, of which %ld came out otherwise; %ld s\n", (unsigned long long)seed, done, wrong, seconds);
+        printf(" %ld %s%s", all.ending[at].count, all.ending[at].word,
+               at < 39 && all.ending[at + 1].word[0] ? "," : "\n");
+    printf("seed %llu: %ld scripts, of which %ld came out otherwise; %ld s\n", (unsigned long long)seed, done, wrong,
+           seconds);
     return !done || wrong;
 }
 
