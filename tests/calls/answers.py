@@ -33,6 +33,9 @@ RULES = [
     ('bind', ['EADDRINUSE', 'EACCES'], '', ['6']),
     ('listen', ['EADDRINUSE'], '', ['6']),
     ('setsockopt', ['ENOPROTOOPT', 'ENOBUFS'], 'SO_REUSEADDR|SO_RCVTIMEO', ['whole', '6']),
+    # One of them can be the relay's, whose caster `serve` then did not reach.
+    ('setsockopt', ['ENOPROTOOPT', 'ENOBUFS'], 'TCP_NODELAY', {
+        'keep': ['whole', 'link'], 'serve': ['whole', 'link', '6'], 'record': ['whole', 'link']}),
     ('setsockopt', ['ENOPROTOOPT', 'ENOBUFS'], '', ['whole', 'link']),
     # A connection waits at the listener until there is room for it; what is no listener any more is a network fault.
     ('accept4', ['EMFILE', 'ENFILE', 'ENOMEM', 'ENOBUFS', 'ECONNABORTED', 'EINTR', 'EAGAIN', 'EPERM'], '', ['whole']),

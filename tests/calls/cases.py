@@ -290,16 +290,18 @@ def main(words):
     only = [name for name in names if name not in COMMANDS + ['caster-run']]
     jobs = [(command, call, fault) for command in commands if command in COMMANDS
             for call, fault in answers.calls() if not only or call.split(' ')[0] in only]
-    begun, passed, failed = time.monotonic(), 0, 0
+    begun, passed, failed, unsaid = time.monotonic(), 0, 0, 0
     with concurrent.futures.ThreadPoolExecutor(LANES) as pool:
         for job, runs in zip(jobs, pool.map(lambda job: all_times(*job), jobs)):
             tell(*job, runs, tells)
             good = sum(is_good(run) for run in runs)
             passed, failed = passed + good, failed + len(runs) - good
+            unsaid += sum(run.wanted is None for run in runs)
     if 'caster-run' in commands and not only:
         fine = [front_once(*one) for one in FRONT]
         passed, failed = passed + sum(fine), failed + len(fine) - sum(fine)
-    print('%d passed, %d failed; %.0f s' % (passed, failed, time.monotonic() - begun))
+    print('%d passed, %d failed; of %d the documents say nothing; %.0f s' % (
+        passed, failed, unsaid, time.monotonic() - begun))
     return 0 if passed and not failed else 1
 
 
