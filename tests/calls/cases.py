@@ -18,6 +18,7 @@ sys.path[:0] = ['tests/serve', 'tests/keep', 'tests/calls']
 
 import answers
 import books
+import dials
 from scene import HOUSE, MOUNTS, Scene
 from wire import ROVER_2_OK, events_of, parts_of, replay, sent_by
 
@@ -297,6 +298,9 @@ def main(words):
             good = sum(is_good(run) for run in runs)
             passed, failed = passed + good, failed + len(runs) - good
             unsaid += sum(run.wanted is None for run in runs)
+    if 'connect' in only or not names:
+        good, bad = dials.try_both()
+        passed, failed = passed + good, failed + bad
     if 'caster-run' in commands and not only:
         fine = [front_once(*one) for one in FRONT]
         passed, failed = passed + sum(fine), failed + len(fine) - sum(fine)
