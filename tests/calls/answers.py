@@ -12,7 +12,8 @@ docs/GUARANTEES.md.
 
 A rule is a call, the faults that it is made to have, a pattern of the call as strace prints it, and the answers; the
 first one that fits counts. A rule that is for one command names it. Behind the name of a call stands of which file it
-is, where it is of one alone: the configuration, or standard input.
+is, where it is of one alone: the configuration, or standard input; or `late`, where strace comes to a program that
+serves already, so that the first call of each worker can fail and none of the start.
 """
 import re
 
@@ -33,15 +34,20 @@ RULES = [
     ('bind', ['EADDRINUSE', 'EACCES'], '', ['6']),
     ('listen', ['EADDRINUSE'], '', ['6']),
     ('setsockopt', ['ENOPROTOOPT', 'ENOBUFS'], 'SO_REUSEADDR|SO_RCVTIMEO', ['whole', '6']),
-    # One of them can be the relay's, whose caster `serve` then did not reach.
+    # One of them can be the relay's, whose caster `serve` then did not reach, or the listener's.
     ('setsockopt', ['ENOPROTOOPT', 'ENOBUFS'], 'TCP_NODELAY', {
         'keep': ['whole', 'link'], 'serve': ['whole', 'link', '6'], 'record': ['whole', 'link']}),
     ('setsockopt', ['ENOPROTOOPT', 'ENOBUFS'], '', ['whole', 'link']),
     # A connection waits at the listener until there is room for it; what is no listener any more is a network fault.
     ('accept4', ['EMFILE', 'ENFILE', 'ENOMEM', 'ENOBUFS', 'ECONNABORTED', 'EINTR', 'EAGAIN', 'EPERM'], '', ['whole']),
     ('accept4', ['EBADF', 'EINVAL'], '', ['6']),
+    ('setsockopt late', ['ENOPROTOOPT', 'ENOBUFS'], '', ['whole', 'link']),
+    ('ioctl late', ['EIO'], 'TIOC', ['whole']),
+    ('ioctl late', ['EIO'], '', ['whole', 'link']),
+    ('close late', ['EIO'], '', ['whole']),
     ('ioctl', ['ENOTTY', 'EIO'], 'TIOC', ['whole']),
-    ('ioctl', ['ENOTTY', 'EIO'], 'FIONBIO', ['whole', 'link']),
+    ('ioctl', ['ENOTTY', 'EIO'], 'FIONBIO', {
+        'keep': ['whole', 'link'], 'serve': ['whole', 'link', '6'], 'record': ['whole', 'link', '6']}),
     # The bells, and the waits: a rest changes nothing, and a frame comes later.
     ('socketpair', ['EMFILE', 'ENFILE'], '', ['whole']),
     ('epoll_create1', ['EMFILE', 'ENOMEM'], '', ['whole']),

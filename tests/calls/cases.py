@@ -169,7 +169,7 @@ def word_of_a_whole_run(scene, text, count):
     if scene.command == 'keep':
         faults = check_books(scene, text, False)
     elif scene.command == 'serve':
-        check_totals(scene, text, not hurt)
+        check_totals(scene, text, not hurt and not late)
     else:
         check_script(scene, text)
     if len(hurt) > count or faults > count:

@@ -116,6 +116,7 @@ class Far:
 
     def __init__(self):
         self.kind, self.mount, self.is_lost, self.process = 'relay', 'CHARLIE', False, None
+        self.patience, self.until = AGAIN, None
         self.listener = socket.create_server(('127.0.0.1', 0))
         self.address = '127.0.0.1:%d' % self.listener.getsockname()[1]
         self.open, self.is_there = [], threading.Event()
@@ -142,9 +143,9 @@ class Far:
                 one.close()
 
     def now(self):
-        """The connection that came last."""
-        until = time.monotonic() + AGAIN
-        while self.process.poll() is None and time.monotonic() < until and not self.is_there.wait(0.1):
+        """The connection that came last. The first one is waited for, and not for ever."""
+        self.until = self.until or time.monotonic() + self.patience
+        while self.process.poll() is None and time.monotonic() < self.until and not self.is_there.wait(0.1):
             pass
         return self.open[-1] if self.open else None
 
@@ -175,7 +176,8 @@ class Scene:
     """One run of the program under strace, with one call that fails."""
 
     def __init__(self, program, command, inject, longest=LONGEST):
-        self.longest, self.command, self.parts, self.published = longest, command, [], dict.fromkeys(MOUNTS, 0)
+        self.tracer, self.longest, self.command = None, longest, command
+        self.parts, self.published = [], dict.fromkeys(MOUNTS, 0)
         self.far, self.port = Far(), wire.free_port()
         self.folder = tempfile.TemporaryDirectory()
         self.log, self.output = self.folder.name + '/strace', self.folder.name + '/lines'
@@ -192,14 +194,37 @@ class Scene:
         # Standard input is a FIFO, as that of dist/caster-run, so that strace can tell it by its path.
         self.fifo = self.folder.name + '/stop'
         os.mkfifo(self.fifo)
-        front += {'': [], 'config': ['-P', config], 'input': ['-P', self.fifo]}[of]
-        self.begun = time.monotonic()
+        front += {'': [], 'late': [], 'config': ['-P', config], 'input': ['-P', self.fifo]}[of]
         self.input = open(self.fifo, 'r+b', buffering=0)
+        words = [program, command, config, '127.0.0.1:%d' % self.port, last]
         with open(self.output, 'w') as output:
-            self.process = subprocess.Popen(front + [program, command, config, '127.0.0.1:%d' % self.port, last],
-                                            stdin=self.input, stdout=output, stderr=subprocess.PIPE)
+            self.process = subprocess.Popen(words if of == 'late' else front + words, stdin=self.input, stdout=output,
+                                            stderr=subprocess.PIPE)
+        if of == 'late':
+            self.trace(front)
         # Of calls that are told by a path none is the loader's.
         self.far.process, self.is_of_loader, self.has_path = self.process, False, bool(of)
+        self.far.patience = AGAIN if command == 'keep' else 2
+
+    def trace(self, front):
+        """Has strace come to a program that serves by now: its first calls are behind it."""
+        until = time.monotonic() + PATIENCE
+        while not self.listens() and time.monotonic() < until:
+            time.sleep(0.01)
+        self.tracer = subprocess.Popen(front + ['-p', str(self.process.pid)], stderr=subprocess.DEVNULL)
+        place = '/proc/%d/task/' % self.process.pid
+        while time.monotonic() < until:
+            with open('/proc/%d/status' % self.process.pid) as file:
+                threads = next(int(line.split()[1]) for line in file if line.startswith('Threads:'))
+            traced = [name for name in os.listdir(place) if 'TracerPid:\t0' not in open(place + name + '/status').read()]
+            if len(traced) == threads and threads >= (WORKERS if self.command != 'record' else 1):
+                break
+            time.sleep(0.01)
+
+    def listens(self):
+        with open('/proc/net/tcp') as file:
+            rows = [line.split() for line in file.readlines()[1:]]
+        return any(int(row[1].split(':')[1], 16) == self.port and row[3] == '0A' for row in rows)
 
     def dial(self):
         """A connection, once somebody listens; none where the program has ended."""
@@ -259,7 +284,8 @@ class Scene:
 
     def fill(self):
         """Asks for nothing until the program has served as many connections as it was to."""
-        while self.process.poll() is None and time.monotonic() < self.begun + self.longest:
+        until = time.monotonic() + self.longest
+        while self.process.poll() is None and time.monotonic() < until:
             try:
                 with socket.create_connection(('127.0.0.1', self.port), 1) as one:
                     one.shutdown(socket.SHUT_WR)
@@ -281,12 +307,18 @@ class Scene:
             status = 'hangs'
             self.kill()
             self.error = b''
+        if self.tracer:
+            self.tracer.wait(10)
         for part in self.parts:
             part.leave()
         return status
 
     def kill(self):
         """Ends the program, which strace then leaves."""
+        if self.tracer:
+            self.process.kill()
+            self.process.wait()
+            return
         with open('/proc/%d/task/%d/children' % (self.process.pid, self.process.pid)) as file:
             for child in file.read().split():
                 os.kill(int(child), 9)
