@@ -6,6 +6,7 @@ that resets itself does not always: these have mountpoints and accounts of their
 known within bounds.
 """
 import collections
+import functools
 import random
 import traceback
 
@@ -61,6 +62,30 @@ def config(workers):
     return text + '[anonymous]\ngroup = "some"\ncap = 3\n'
 
 
+class Told:
+    """The frames of the honest source. Each is made from the seed and its place, so each process can make it."""
+
+    def __init__(self, seed):
+        self.seed, self.count = seed, 0
+
+    @functools.lru_cache(5000)
+    def at(self, place):
+        rng = random.Random('%d honest %d' % (self.seed, place))
+        size = rng.choice([6, 6, 20, 60, 200, 1023])
+        message = rng.choice([1005, 1077, 1087, rng.randrange(4096)])
+        return frame_of(struct.pack('>HI', message << 4, place) + rng.randbytes(size - 6))
+
+    def __len__(self):
+        return self.count
+
+    def __contains__(self, one):
+        return len(one) >= 12 and self.at(self[one]) == one
+
+    def __getitem__(self, one):
+        """The place that is written in a frame."""
+        return struct.unpack('>I', one[5:9])[0]
+
+
 class Case:
     """One case: what was sent is kept, for each of its connections."""
 
@@ -78,7 +103,7 @@ class Server:
         self.lock = threading.Lock()
         self.counts = collections.Counter()
         self.endings = collections.Counter()
-        self.frames = {}
+        self.frames = Told(0)
         self.tables = {}
         self.workers = workers
         self.caster = kind(config(workers), limit)
@@ -191,6 +216,8 @@ class Honest:
             self.rover = server.caster.client().send(rover_1(HONEST, who)).expect(ICY)
         self.due = bytearray()
         self.at = 0
+        # Of each frame that is on its way, where it ends and when its sending began; and how long others took.
+        self.marks, self.latencies = collections.deque(), []
         self.threads = [threading.Thread(target=self.keep, args=(call,), daemon=True)
                         for call in (self.publish, self.listen)]
         for one in self.threads:
@@ -204,12 +231,10 @@ class Honest:
 
     def next_frame(self):
         """A frame that there was not before: its payload has its place."""
-        rng = self.rng
-        size = rng.choice([6, 6, 20, 60, 200, 1023])
-        message = rng.choice([1005, 1077, 1087, rng.randrange(4096)])
-        one = frame_of(struct.pack('>HI', message << 4, len(self.frames)) + rng.randbytes(size - 6))
-        self.frames[one] = len(self.frames)
+        one = self.frames.at(self.frames.count)
+        self.frames.count += 1
         self.due += chunk(one) if self.second else one
+        self.marks.append((len(self.due), time.monotonic()))
         return one
 
     def publish(self):
@@ -232,6 +257,9 @@ class Honest:
                 raise Wrong('behind %d bytes came %s' % (self.at, show(some)))
             self.at += len(some)
             self.rover.came.clear()
+            now = time.monotonic()
+            while self.marks and self.marks[0][0] <= self.at:
+                self.latencies.append(now - self.marks.popleft()[1])
 
     def end(self):
         """The source sends a last frame, and both end, the rover when it was sent all; nothing more comes."""
