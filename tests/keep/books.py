@@ -192,7 +192,9 @@ def agree_link(link, house, caller):
         agree_segment(link, segment)
     if link.end is None:
         return
-    wants('%s: who ended' % link.name, link.end.who, who_of(link.entered))
+    # A link that a relay dialled is the relay's, also where it was not let in.
+    who = ('relay', house.relays[caller - house.workers]) if dialled else link.entered
+    wants('%s: who ended' % link.name, link.end.who, who_of(who))
     wants('%s: frames sent' % link.name, link.end.sent, sum(one.sent for one in link.segments))
     wants('%s: frames lost' % link.name, link.end.overrun, sum(one.overrun for one in link.segments))
     if link.entered and link.entered[0] == 'relay':
