@@ -284,14 +284,14 @@ def keep_alive():
 
 
 def nobody_acknowledges():
-    """QUIET 300: the cable of a rover is pulled while its base sends two frames a second. The system
-    takes them for it, and nobody acknowledges them: after 90 seconds its link has failed, and its
+    """QUIET 300: the cable of a rover is pulled while its base sends two small frames a second. The
+    system takes them for it, and nobody acknowledges them: after 90 seconds its link has failed, and its
     account has room again."""
     side, keeper = Side('rover', 1), keep(3, quiet=300)
-    base = Base(keeper, 'CHARLIE', 2, claim=1)
-    gone = rover_at(side, keeper, 'CHARLIE', 'rover1')
+    base = Base(keeper, 'ALPHA', claim=1)
+    gone = rover_at(side, keeper, 'ALPHA', 'rover1')
     base.publish(3)
-    gone.wait_for('CHARLIE', 2)
+    gone.wait_for('ALPHA', 2)
     side.pull()
     begun = time.monotonic()
     while not has_ended(keeper, gone):
@@ -304,20 +304,25 @@ def nobody_acknowledges():
     holds('it ended as ' + ending, ending in ('read-fault', 'write-fault'))
     is_cut(keeper, gone, -1, 1, fault=ending)
     leave(base)
-    closes(keeper, 1)
+    closes(keeper, 2)
     return 'it failed after %.1f s' % took
 
 
 def nothing_is_read():
-    """QUIET 300: a rover reads nothing while its base sends two frames a second. Its system takes a
-    few of them and says that it has no room: after 90 seconds the link has failed."""
+    """QUIET 300: a rover reads nothing. Of 30 frames of 1 kB its system takes some, and says that it has
+    no room; the caster's system has room for the others, and for one more each five seconds. After 90
+    seconds the link has failed."""
     keeper = keep(3, quiet=300)
     base, idle = Base(keeper, 'CHARLIE', 2, claim=1), Rover(keeper, 'CHARLIE', 'rover1', room=4096)
+    base.publish(30)
     begun = time.monotonic()
+    later = begun + 5
     while not has_ended(keeper, idle):
         holds('it has not failed', time.monotonic() - begun < 130)
-        base.publish(1)
-        time.sleep(0.5)
+        if time.monotonic() > later:
+            later += 5
+            base.publish(1)
+        time.sleep(0.2)
     took = time.monotonic() - begun
     holds('it failed after %.1f s' % took, took > 85)
     ending = wait_for_end(keeper, idle)[0]
