@@ -20,7 +20,7 @@ import answers
 import books
 import dials
 from scene import HOUSE, MOUNTS, Scene
-from wire import ROVER_2_OK, events_of, parts_of, replay, sent_by
+from wire import ROVER_2_OK, brought, events_of, parts_of, replay, sent_by
 
 # So many runs at a time: they wait most of their time.
 LANES = 4
@@ -122,8 +122,8 @@ def check_totals(scene, text, is_whole):
 
 
 def check_script(scene, text):
-    """The script of `record`: its replay has what each client got."""
-    events_of(text)
+    """The script of `record`: its replay has what each client got. The clients whose connections broke."""
+    events = events_of(text)
     with tempfile.NamedTemporaryFile('w', suffix='.toml') as file:
         with open(scene.folder.name + '/caster.toml') as config:
             file.write(config.read())
@@ -134,6 +134,21 @@ def check_script(scene, text):
     for part in scene.parts:
         if part.came and not any(one.startswith(part.came) for one in told):
             raise Wrong('%s got what is not in the replay: %r' % (part.kind, part.came[:200]))
+    return broken_in(scene, events)
+
+
+def broken_in(scene, events):
+    """The clients whose connections broke by the script, or are not in it. They came one behind the other, and are
+    numbered so; one that was not taken has no number."""
+    numbers = [int(words[1]) for words in events if words[0] == 'open']
+    broken, lost = {int(words[1]) for words in events if words[0] == 'break'}, []
+    for part in scene.parts:
+        came = brought(events, numbers[0]) if numbers else b''
+        if numbers and (came and part.head.startswith(came[:len(part.head)]) or not came and numbers[0] in broken):
+            lost += [part] if numbers.pop(0) in broken else []
+        else:
+            lost.append(part)
+    return lost
 
 
 def word_of(scene, status, count):
@@ -163,15 +178,26 @@ def word_of_a_cut_text(scene, text):
     return '5'
 
 
+def word_of_a_recorded_run(scene, text, count):
+    """A connection that broke stays open until the session ends, so its client waits, and so do rovers of a base."""
+    broken = check_script(scene, text)
+    mounts = [part.mount for part in broken if part.kind == 'source']
+    left = [part for part in harmed(scene) if part not in broken and not (part.kind == 'rover' and part.mount in mounts)]
+    if left or len(broken) > count:
+        raise Wrong('%d calls failed, and %d connections broke; cut off are %s' % (
+            count, len(broken), [(part.kind, part.mount, part.came[-60:]) for part in left]))
+    return 'link' if broken else 'whole'
+
+
 def word_of_a_whole_run(scene, text, count):
+    if scene.command == 'record':
+        return word_of_a_recorded_run(scene, text, count)
     late = late_ones(scene)
     hurt, faults = [part for part in harmed(scene) if not part.late], 0
     if scene.command == 'keep':
         faults = check_books(scene, text, False)
-    elif scene.command == 'serve':
-        check_totals(scene, text, not hurt and not late)
     else:
-        check_script(scene, text)
+        check_totals(scene, text, not hurt and not late)
     if len(hurt) > count or faults > count:
         raise Wrong('%d calls failed, %d clients were cut off and %d links: %s' % (
             count, len(hurt), faults, [(part.kind, part.mount, part.came[-60:]) for part in hurt]))

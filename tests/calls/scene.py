@@ -54,7 +54,7 @@ class Part:
     def __init__(self, scene, kind, mount, head, front, is_chunked=False):
         self.kind, self.mount, self.front, self.is_chunked = kind, mount, front, is_chunked
         self.came, self.ended, self.late, self.wanted, self.peer = b'', False, False, front, None
-        self.sent = []
+        self.sent, self.head = [], head
         self.socket = scene.dial()
         if self.socket:
             self.peer = '%s:%d' % self.socket.getsockname()
