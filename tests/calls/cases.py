@@ -72,11 +72,12 @@ def frames_of(rover):
 
 
 def named_though_not_let_in(read):
-    """The links whose receipt names as what they were let in, which they were not. That is a fault; they are then taken
-    as not named, so that the rest can be looked at."""
+    """The links whose receipt names as what they were let in, which they were not. That is a fault, but of those that
+    a relay dialled; they are then taken as not named, so that the rest can be looked at."""
     odd = []
     for link in read.links.values():
-        if link.end and link.entered is None and link.end.who != '-':
+        is_dialled = link.peer and link.peer[0] == 'to'
+        if link.end and link.entered is None and link.end.who != '-' and not is_dialled:
             odd.append('%s was not let in, and its receipt has %s' % (link.name, ' '.join(map(str, link.end))))
             link.end = link.end._replace(who='-')
     return odd
