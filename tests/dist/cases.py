@@ -207,7 +207,8 @@ def picture_of_links():
     wanted = [line for line in lines if line.split(' ')[1] not in before]
     if sorted(unescape(titles).split('\n')) != sorted(wanted):
         raise Wrong('the titles are\n%s' % titles)
-    for cut in ('\n'.join(lines[:-1]), '\n'.join(lines), '0.1 what 5\n', '0.1 end rover:a 1 2\n'):
+    wrong = ['0.1 what 5\n', '0.1 end rover:a 1 2\n', 'now\n', 'now mount ALPHA 5\n', 'now what\n']
+    for cut in ['\n'.join(lines[:-1]), '\n'.join(lines)] + wrong:
         if drawn(cut.encode()).returncode != 1:
             raise Wrong('it drew %r' % cut[-50:])
 
@@ -271,6 +272,69 @@ def bill():
     prints('bill', '\n'.join(cuts + ['0.1 end rover:a 5 0 0 rover-end unsettled', '0.2 end rover:b 7']),
            '- rover:a 1 5 0\n')
     prints('bill', '', '')
+
+
+STANDS = ['now mount ALPHA 77 9', 'now mount CHARLIE 5 -', 'now workers 4 5', 'now end']
+
+
+def asked(text):
+    """The same lines, and behind each an answer to `status` that says what no other line does."""
+    lines = []
+    for line in text.splitlines():
+        front = re.match(r'(\S+ field caster\[[0-9]+\]: )?', line)[0]
+        lines += [line] + [front + said for said in STANDS]
+    return ''.join(line + '\n' for line in lines)
+
+
+def told_alike(tool, text):
+    """The tool prints the same of both; a line's number, if it prints any, is that of the line."""
+    here, there = (passes('dist/' + tool, input=one.encode()).decode() for one in (text, asked(text)))
+    if tool == 'who':
+        here = re.sub(r'(?<= )([0-9]+)(?= \S+$)', lambda at: str(int(at[1]) * 5 - 4), here, flags=re.M)
+    if here != there:
+        raise Wrong('%s: wanted\n%sand got\n%s' % (tool, here, there))
+
+
+def how_things_stand_between():
+    """Answers to `status` between all other lines change nothing of what the tools tell of these. A line of an answer
+    that was cut, with another line behind it, is passed over."""
+    whole = journal('keep.journal', 'keep.totals')
+    for text in (journal('keep.journal'), whole, plain(journal('keep.journal')), plain(whole), ''):
+        for tool in ('who', 'bill', 'keep-metrics'):
+            told_alike(tool, text)
+    last = '3.1 from' + plain(whole).split('3.1 from', 1)[1]
+    answers, totals = asked(last.split('mount ')[0]), 'mount ' + last.split('mount ', 1)[1]
+    if drawn((answers + totals).encode()).stdout != drawn(last.encode()).stdout:
+        raise Wrong('another picture')
+    for tool in ('who', 'bill', 'keep-metrics'):
+        cut = ''.join('%s%s\n' % (STANDS[0][:at], '0.9 end rover:a 5 0 0 rover-end') for at in range(1, 20))
+        prints(tool, cut, passes('dist/' + tool, input=b'').decode())
+
+
+def status_by_the_fifo():
+    """A line `status` that is written to the FIFO of caster-run, by one who closes it again, is answered, and then
+    the line `stop` is heard."""
+    folder = os.path.join(WORK, 'run')
+    os.makedirs(folder)
+    with open(os.path.join(WORK, 'run.log'), 'w+b') as log:
+        more = dict(os.environ, CASTER=PROGRAM, RUNTIME_DIRECTORY=folder)
+        address = '127.0.0.1:%d' % free_port()
+        process = subprocess.Popen(['dist/caster-run', write('run.toml', config(3, ['ALPHA', 'BRAVO'])), address, '0'],
+                                   stdin=subprocess.DEVNULL, stdout=log, env=more)
+        processes.append(process)
+        answer = 'now mount ALPHA 0 -\nnow mount BRAVO 0 -\nnow workers 0 3\nnow end\n'
+        for word, wanted in [('status', answer), ('status', answer * 2)]:
+            until = time.monotonic() + PATIENCE
+            while not os.path.exists(folder + '/stop') and time.monotonic() < until:
+                time.sleep(0.05)
+            passes('sh', '-c', 'echo %s >%s/stop' % (word, folder))
+            while text_of(log.name) != wanted:
+                if time.monotonic() > until:
+                    raise Wrong('the lines are\n%s' % text_of(log.name))
+                time.sleep(0.05)
+        passes('sh', '-c', 'echo stop >%s/stop' % folder)
+        if process.wait(timeout=PATIENCE) or not text_of(log.name).startswith(answer * 2 + 'mount ALPHA 0 0\n'):
+            raise Wrong('status %d, and the lines are\n%s' % (process.returncode, text_of(log.name)))
 
 
 METRICS = '''# HELP caster_mount_held Whether a source or relay holds the mountpoint.
@@ -548,8 +612,9 @@ def redial():
         raise Wrong('it dialled nobody')
 
 
-CASES = [manual, unit, installed, the_example_picture, large_picture, cut_pictures, picture_of_links, who_is_on, bill, metrics,
-         haproxy_one, haproxy_two, haproxy_many, haproxy_log, nginx, redial]
+CASES = [manual, unit, installed, the_example_picture, large_picture, cut_pictures, picture_of_links, who_is_on, bill,
+         metrics, how_things_stand_between, status_by_the_fifo, haproxy_one, haproxy_two, haproxy_many, haproxy_log,
+         nginx, redial]
 
 
 def main():

@@ -27,6 +27,7 @@ FORMS = [
     ('rover', NAME), ('source', NAME, NUMBER), ('relay', NAME, NUMBER),
     ('segment', NAME, NUMBER, NUMBER, NUMBER, NUMBER), ('lap', NUMBER, NUMBER, NUMBER, NUMBER),
     ('end', '-|anonymous|(?:rover|source|relay):' + NAME, NUMBER, NUMBER, NUMBER, '[a-z0-9 -]+')]
+NOW = [('now', 'mount', NAME, NUMBER, '-|' + NUMBER), ('now', 'workers', NUMBER, NUMBER), ('now', 'end')]
 CLOSING = [('mount', NAME, NUMBER, NUMBER), ('account', NAME, NUMBER, NUMBER, NUMBER),
            ('total', NUMBER, NUMBER, NUMBER)]
 
@@ -36,6 +37,7 @@ def pattern(forms):
 
 
 LINK_LINE = re.compile('(%s)\\.([1-9][0-9]*) (%s)' % (NUMBER, pattern(FORMS).pattern))
+NOW_LINE = pattern(NOW)
 LAST_LINE = pattern(CLOSING)
 
 
@@ -92,20 +94,34 @@ class Link:
 
 
 class Books:
-    """The links by their numbers, the closing lines, and the part of a last line that is not whole."""
+    """The links by their numbers, how things stood each time that it was asked, the closing lines, and the part of
+    a last line that is not whole."""
 
     def __init__(self):
         self.links, self.closing, self.torn = {}, [], ''
         self.last = {}
+        # The answers that were ended, and the words of the one that was not.
+        self.stood, self.standing = [], []
 
     def take(self, line):
         link = LINK_LINE.fullmatch(line)
         if link:
             holds('a line of a link behind the closing lines: %s' % line, not self.closing)
             self.take_of(int(link[1]), int(link[2]), link[3].split(' '))
+        elif NOW_LINE.fullmatch(line):
+            holds('a line of how things stand behind the closing lines: %s' % line, not self.closing)
+            self.take_now(line.split(' ')[1:])
         else:
             holds('no line of the books: %r' % line[:200], LAST_LINE.fullmatch(line))
             self.closing.append(line.split(' '))
+
+    def take_now(self, words):
+        """An answer ends with its line `end`."""
+        if words == ['end']:
+            self.stood.append(self.standing)
+            self.standing = []
+        else:
+            self.standing.append(words)
 
     def take_of(self, caller, count, words):
         """A caller has one link at a time, and counts them."""
@@ -137,6 +153,7 @@ def read(text, cut=False):
     for line in lines:
         books.take(line)
     holds('the last line is cut: %r' % books.torn[:200], cut or not books.torn)
+    holds('an answer has no end: %s' % books.standing, cut or not books.standing)
     for link in books.links.values():
         if link.end:
             holds('%s: no ending: %s' % (link.name, link.end.ending), is_ending(link.end.ending))
@@ -224,12 +241,30 @@ def closing_lines(books, house, published):
     return [[str(word) for word in line] for line in lines + [['total', *sums['total']]]]
 
 
+def agree_stood(books, house):
+    """Each answer is of every mountpoint in its order, and of all workers; what was published never falls, and a
+    mountpoint is held under one of its claims."""
+    before = dict.fromkeys(house.mounts, 0)
+    for stood in books.stood:
+        wants('the lines of an answer', [words[:2] if words[0] == 'mount' else words[:1] for words in stood],
+              [['mount', mount] for mount in house.mounts] + [['workers']])
+        for _, mount, published, holder in stood[:-1]:
+            holds('%s fell to %s' % (mount, published), int(published) >= before[mount])
+            before[mount] = int(published)
+            holds('%s is held under %s' % (mount, holder), holder == '-' or int(holder) in claims_at(books, mount))
+        holds('busy workers: %s' % stood[-1], int(stood[-1][1]) <= house.workers)
+        wants('all workers', stood[-1][2], str(house.workers))
+    for line in books.closing[:len(house.mounts)]:
+        holds('%s had fewer at the end' % line[1], before[line[1]] <= int(line[2]))
+
+
 def agree(books, house):
     for (caller, _), link in books.links.items():
         agree_link(link, house, caller)
     for mount in house.mounts:
         claims = sorted(claims_at(books, mount))
         wants('the claims of ' + mount, claims, list(range(1, len(claims) + 1)))
+    agree_stood(books, house)
     if not books.closing:
         return
     wants('the kinds of the closing lines', [line[0] for line in books.closing],

@@ -238,6 +238,45 @@ def other_words():
     holds('it ended with its input', ended.process.poll() is None)
 
 
+def stands(mounts, busy, workers):
+    """An answer: how many frames were published at each mountpoint and its claim, and how many workers are busy."""
+    return [['mount', mount, str(published), holder] for mount, published, holder in mounts] + [
+        ['workers', str(busy), str(workers)]]
+
+
+def status_while_all_are_busy():
+    """A base and a rover hold both workers, and what they did is told at the line `status`: once for each such line,
+    and for no other. Then the base leaves, and its claim and its worker are free."""
+    keeper = keep(2)
+    base, rover = Base(keeper, 'ALPHA', claim=1), Rover(keeper, 'ALPHA')
+    late = Visitor(keeper)
+    answer = 'now end\n'
+    for count, published in [(1, 3), (3, 5)]:
+        base.publish(published - keeper.published['ALPHA'])
+        rover.wait_for('ALPHA', published - 1)
+        keeper.ask('status\n' if count == 1 else 'statuss\nstatus\nSTATUS\n\nsta')
+        if count == 3:
+            keeper.ask('tus\r\n')
+        until(lambda: keeper.text().count(answer) >= count, 'the answers to %d lines' % count)
+    base.finish()
+    base.until_end()
+    keeper.wait_for_lines(r'[01]\.1 end source:ALPHA 0 0 0 source-end 1')
+    # The one that came late is taken by the worker that is free now.
+    keeper.wait_for_lines(r'\S+ from %s' % re.escape(late.guest.peer[1]))
+    late.finish()
+    late.until_end()
+    until(lambda: keeper.text().count(' end ') >= 2, 'the end of the one that came late')
+    keeper.ask('status\n')
+    until(lambda: keeper.text().count(answer) >= 4, 'the answer behind it')
+    time.sleep(0.5)
+    rover.guest.spans = [(0, 5)]
+    books = checked_at_a_stop(keeper, [rover])
+    others = [('BRAVO', 0, '-'), ('CHARLIE', 0, '-')]
+    wants('how things stood', books.stood, [
+        stands([('ALPHA', 3, '1'), *others], 2, 2), stands([('ALPHA', 5, '1'), *others], 2, 2),
+        stands([('ALPHA', 5, '1'), *others], 2, 2), stands([('ALPHA', 5, '-'), *others], 1, 2)])
+
+
 # ---- silence
 
 BASE = '''import socket, sys, time, os
@@ -440,7 +479,7 @@ def many_links():
 # Those that wait for seconds run beside the others, each in a process of its own.
 SLOW = [stop_while_a_write_waits, upstream_that_comes_back, many_links, killed_at_any_time, bases_that_vanish,
         one_byte_a_second, cut_in_time]
-CASES = [stop_with_all_open, stop_of_250_rovers, lapped_and_near, other_words, full_pipe, closed_output,
+CASES = [stop_with_all_open, stop_of_250_rovers, lapped_and_near, other_words, status_while_all_are_busy, full_pipe, closed_output,
          outputs_that_take_nothing, no_further_thread, caster_run_by_signals, caster_run_early_and_often,
          caster_run_gives_the_status] + SLOW
 

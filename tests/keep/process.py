@@ -167,8 +167,8 @@ def path_of_the_program():
 
 
 def no_further_thread():
-    """No thread can be started: one caller serves all links, one behind the other, until the stop, and the books
-    hold."""
+    """No thread can be started: the porter gives its own up after three seconds, and then one caller serves all links,
+    one behind the other, until the stop, and the books hold."""
     keeper = Alone(3)
     base = Base(keeper, 'ALPHA', claim=1).publish(4)
     base.finish()

@@ -28,8 +28,8 @@ struct Runner {
     ghost numbered: { pass_number pass ≡ me },
 }
 
-/// Takes turns until the counter has so many. It tells how many of these it took, and gives its pass
-/// back, which has seen them.
+/// Takes turns until the counter has so many. It tells how many of these it took, and gives its
+/// pass back, which has seen them.
 fn run<R: Wait + Sync>(
     rt: &R,
     turn: &Turn<Counter>,

@@ -15,8 +15,8 @@ pub record DoorLog : Type 0 where
   pub back : List LinkLog
   pub faults : ℕ
 
--- a street: what it was asked, the doors and the links that came back as they were then, its count of
--- faults, and its count of links that came back with faults
+-- a street: what it was asked, the doors and the links that came back as they were then, its count
+-- of faults, and its count of links that came back with faults
 pub record StreetLog : Type 0 where
   pub asked : List Asked
   pub doors : List DoorLog

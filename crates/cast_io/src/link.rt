@@ -39,8 +39,9 @@ pub trait Link {
     fn rest(&mut self)
         ensures { told self.new ≡ told self.old };
 
-    /// Tells the link at which mountpoint, by its number, its session is: what it gives is published
-    /// there, and what it is sent comes from there. It may rest as suits that. Changes nothing.
+    /// Tells the link at which mountpoint, by its number, its session is: what it gives is
+    /// published there, and what it is sent comes from there. It may rest as suits that. Changes
+    /// nothing.
     fn set_mount(&mut self, mount: u32)
         ensures { told self.new ≡ told self.old };
 }

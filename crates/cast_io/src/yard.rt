@@ -42,8 +42,8 @@ pub trait Yard: Street {
         ensures answered { HasAnswered result (kept self.old) (kept self.new) }
         ensures street { Self.told self.new ≡ Self.told self.old };
 
-    /// Makes a gate whose links are dialled: each connects to the peer at this address, and the gate
-    /// is made for that. Nothing is asked of the peer yet.
+    /// Makes a gate whose links are dialled: each connects to the peer at this address, and the
+    /// gate is made for that. Nothing is asked of the peer yet.
     fn reach(&mut self, addr: &str, quiet: u32) -> Result<Self::Gate, StreetFault>
         ensures wanted { HasBeenAsked (asked.Reach addr.now quiet) (kept self.old) (kept self.new) }
         ensures each { IfOk result (λ gate. IsNewDoor (Self.Gate.told gate)) }

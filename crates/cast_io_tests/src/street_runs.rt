@@ -79,7 +79,8 @@ pub(crate) fn say_fault(out: &mut Vec<u8>, fault: StreetFault) -> Result<(), All
     }
 }
 
-// Links in the order in which they came. Each was written its number to, by which it is known again.
+// Links in the order in which they came. Each was written its number to, by which it is known
+// again.
 #[derive(Drop)]
 struct Links {
     links: Vec<MemLink>,

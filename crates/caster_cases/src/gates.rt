@@ -1,4 +1,4 @@
-//! The yard of a case: its gates, and the place for lines.
+//! The yard of a case, its gates and the place for lines; and its lodge.
 ghost use Rattle.std.specs.Prelude.{IsTrue, IfOk};
 ghost use Rattle.std.specs.List.{list_all};
 ghost use Rattle.cast_io.specs.FakeGates.{is_new_gate};
@@ -6,6 +6,7 @@ ghost use Rattle.cast_io.specs.FakeGates.{is_new_gate};
 use crate::links::{door_of, writes_of};
 use crate::numbers::{number, numbers};
 use crate::parts::Case;
+use cast_console::{MemLodge, Wanted};
 use cast_io::{GateEnd, MemGate, MemSink, MemYard, PeerAddr};
 use std::alloc::{AllocError, Global};
 
@@ -55,4 +56,16 @@ fn end_of(case: &Case<'_>) -> GateEnd {
         Some(times) => GateEnd::Asked(number(times)),
         None => GateEnd::UsedUp,
     }
+}
+
+/// The lodge of the case: at its console it is wanted how things stand, each time with so many busy
+/// workers.
+pub fn lodge_of(alloc: Global, case: &Case<'_>) -> Result<MemLodge, AllocError> {
+    let mut wanted = Vec::new(alloc);
+    for busy in case.setting("status").unwrap_or("").split_whitespace() {
+        wanted.push(Wanted::Status {
+            busy: u32::try_from(number(busy)).unwrap_or(u32::MAX),
+        })?;
+    }
+    Ok(MemLodge::new(alloc, wanted))
 }

@@ -1,7 +1,9 @@
 //! What a call is given: its words, its files and its input, and what fails.
+use crate::gates::lodge_of;
 use crate::links::street_of;
 use crate::numbers::number;
 use crate::parts::Case;
+use cast_console::MemLodge;
 use cast_io::{ByteString, MemSink, MemSource, MemStore, MemStreet};
 use std::alloc::{AllocError, Global};
 
@@ -16,6 +18,8 @@ pub struct Given {
     pub out: MemSink,
     /// The street.
     pub street: MemStreet,
+    /// The lodge.
+    pub lodge: MemLodge,
 }
 
 /// What a call of the case is given, of which these fail.
@@ -25,6 +29,7 @@ pub fn given_of(alloc: Global, case: &Case<'_>, fails: &Fails) -> Result<Given, 
         input: source_of(alloc, case, fails.read)?,
         out: MemSink::torn(alloc, vec![in alloc; fails.write]?),
         street: street_of(alloc, case)?,
+        lodge: lodge_of(alloc, case)?,
     })
 }
 

@@ -91,6 +91,7 @@ fn status_of<R: Threads + Wait + Sync>(
         &mut given.input,
         &mut given.out,
         &mut given.street,
+        &mut given.lodge,
     )
 }
 

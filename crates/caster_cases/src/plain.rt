@@ -1,5 +1,5 @@
-//! A call whose outcome is told without memory, for `tests/memory/run`, which refuses its allocations
-//! one after the other and reads what is printed here.
+//! A call whose outcome is told without memory, for `tests/memory/run`, which refuses its
+//! allocations one after the other and reads what is printed here.
 use crate::given::{NOTHING, given_of, words_of};
 use crate::parts::Case;
 use crate::status_of;

@@ -1,10 +1,9 @@
 -- All keepers worked at the locks and at the press, and left both.
 use Rattle.std.proofs.Common.{◌≡◌, ◌∙◌, ◌+◌, ◌<◌, ◌≤◌, ◌++◌, ℕ, Bool, List, [], ◌∷◌, length, map, refl, sym, ap, subst, arith}
-use Rattle.std.specs.Prelude.{Option}
 use Rattle.std.specs.List.{All}
 use Rattle.std.proofs.lemmas.List.{length-map}
 use Rattle.std.proofs.lemmas.List.Elements.{All-nil, All-cons}
-use Rattle.turn_log.specs.History.{IsLegal, own}
+use Rattle.turn_log.specs.History.{History, IsLegal, own}
 use Rattle.turn_log.specs.Lock.{turn_home, turn_value}
 use Rattle.cast_io.specs.Told.{DoorTold}
 use Rattle.cast_io.specs.Doors.{IsNewDoor}
@@ -16,7 +15,9 @@ use Rattle.session_model.specs.Run.{Histories}
 use Rattle.session_model.specs.Setting.{caps}
 use Rattle.caster_press.specs.declared.line.Line.{Line}
 use Rattle.caster_press.specs.declared.press.Start.{Start}
-use Rattle.caster_press.specs.Callers.{HaveWritten}
+use Rattle.caster_press.specs.Lines.{text_in}
+use Rattle.caster_press.specs.Written.{IsWritten}
+use Rattle.cast_console.specs.Consoles.{ConsoleTold}
 use Rattle.caster_places.specs.Piles.{AreMatched}
 use Rattle.caster_places.specs.Rows.{ArePiles, AreWornWithin, RingLocks, BookLock}
 use Rattle.caster_places.specs.declared.piles.Piles.{Piles}
@@ -27,9 +28,9 @@ use Rattle.caster_seats.specs.Sharing.{IsReady}
 use Rattle.caster_keep.specs.declared.keeper.Keeper.{Keeper}
 use Rattle.caster_keep.specs.Gates.{roles_of}
 use Rattle.caster_keep.specs.Keeping.{seen_by}
-use Rattle.caster_keep.specs.Stations.{HasWorkedOn, PostTold, hand_at, posted}
-use Rattle.caster_keep.specs.Together.{HaveWorked, IsNewKeeper, IsToldBy, gate_at, role_at}
-use Rattle.caster_keep.proofs.TogetherLemmas.{AllWorked, Collected, Worked, all_worked, collected, seen_at_posts, works_at}
+use Rattle.caster_keep.specs.Stations.{BoothTold, HasWaitedOn, PostTold, hand_at, posted}
+use Rattle.caster_keep.specs.Together.{HaveKept, IsNewKeeper, IsToldBy, gate_at, role_at}
+use Rattle.caster_keep.proofs.TogetherLemmas.{AllWorked, Collected, collected, seen_at_posts, works_at}
 
 -- ---- rows of callers that left
 
@@ -58,48 +59,27 @@ module _ {G : Type 0} (told : G → DoorTold) (over : G → Bool) (peer : G → 
   rows_are [] = refl
   rows_are (post ∷ posts) = ap (λ l. post.hand.seen ∷ l) (rows_are posts)
 
-  -- what the works of posts did at the press, by their posts as they are told
-  pub have_worked_on : {X : Type 0} (tell : X → PostTold G) (start : Start) (torn : Bool) (taken : Option (List ℕ))
-      (faults : ℕ) (olds news : List X)
-      → (written : HaveWritten (λ (old new : X) (lines : List Line) (worn : ℕ).
-      HasWorkedOn told over peer (tell old) (tell new) lines worn) start torn taken faults olds news)
-      → AllWorked told over peer written.whole 0 (map tell olds) (map tell news)
-  have_worked_on tell start torn taken faults olds news written =
-      all_worked told over peer tell written.whole 0 olds news written.count (λ k old new was now.
-      let did = written.each k old new was now in
-      subst (λ (i : ℕ). Worked told over peer written.whole i (tell old) (tell new)) (from_zero k)
-      (worked_of k (tell old) (tell new) did.0 did.1 did.2)) where
-        from_zero : (k : ℕ) → k ≡ 0 + k
-        from_zero k = omega arith
-
-        worked_of : (k : ℕ) (old new : PostTold G) (met : ℕ) → met ≤ length written.whole
-            → HasWorkedOn told over peer old new (own k written.whole) met
-            → Worked told over peer written.whole k old new
-        worked_of k old new met few does = record { met = met; few = few; does = does }
-
-  pub have_worked : {X : Type 0} (tell : X → PostTold G) (shared : Shared) (table : List ℕ) (start : Start)
+  pub have_kept : {C : Type 0} (heard : C → ConsoleTold) (shared : Shared) (table : List ℕ) (start : Start)
       (torn : Bool) (notes : NotesTold) (keepers after : List (Keeper G)) (olds hands : List (HandTold (Keeper G)))
-      (begun ended : List X) (old new : Piles) → IsReady shared → All IsNewKeeper keepers
-      → All (λ (keeper : Keeper G). IsNewDoor (told keeper.gate)) keepers
+      (posts : List (PostTold G)) (whole : History Line) (before now : BoothTold C) (met count : ℕ) (old new : Piles)
+      → IsReady shared → All IsNewKeeper keepers → All (λ (keeper : Keeper G). IsNewDoor (told keeper.gate)) keepers
       → map role_at keepers ≡ roles_of shared.config.now → AreSeated shared 0 keepers olds
-      → map tell begun ≡ map (posted shared.config.now table) olds → hands ≡ map hand_at (map tell ended)
-      → HaveWritten (λ (old new : X) (lines : List Line) (worn : ℕ).
-      HasWorkedOn told over peer (tell old) (tell new) lines worn) start torn notes.taken notes.faults begun ended
-      → after ≡ works_of hands → HaveLeft hands old new
+      → AllWorked told over peer whole 0 (map (posted shared.config.now table) olds) posts
+      → hands ≡ map hand_at posts → met ≤ length whole → length posts ≡ count
+      → HasWaitedOn heard before now (own (0 + count) whole) met
+      → All (λ (entry : ℕ × Line). entry.0 < count + 1) whole
+      → IsWritten torn start notes.taken notes.faults (text_in whole) → after ≡ works_of hands → HaveLeft hands old new
       → ((mounts : List ℕ) (book : ℕ) → AreWornWithin mounts book new
       → AreWornWithin mounts book old × AreBelow (mounts ++ book ∷ []) hands)
       → AreLegal hands → ArePiles [] old shared.rings.items shared.book → old.book.items ≡ []
       → length new.book.items ≡ length old.book.items + length hands
-      → HaveWorked told over peer shared start torn notes (map gate_at keepers) after new
-  have_worked tell shared table start torn notes keepers after olds hands begun ended old new ready fresh unused
-      roles_are seated begun_is hands_are written after_is left worn legal empty no_pass passes =
+      → HaveKept told over peer heard shared start torn notes (map gate_at keepers) after before now new
+  have_kept {C} heard shared table start torn notes keepers after olds hands posts whole before now met count old new ready
+      fresh unused roles_are seated worked hands_are few many_posts waited nobody text after_is left worn legal empty
+      no_pass passes =
       let c = shared.config.now in
-      let whole = written.whole in
-      let posts = map tell ended in
       let all : Collected told over peer shared whole 0 keepers posts =
-      collected told over peer shared table whole 0 keepers olds posts fresh unused seated
-      (subst (λ (l : List (PostTold G)). AllWorked told over peer whole 0 l posts) begun_is
-      (have_worked_on tell start torn notes.taken notes.faults begun ended written)) in
+      collected told over peer shared table whole 0 keepers olds posts fresh unused seated worked in
       let seen : rows_of hands ≡ map seen_by all.tolds = ap rows_of hands_are ∙ rows_are posts ∙ sym all.seen in
       let many : length all.tolds ≡ length hands =
       omega (
@@ -108,8 +88,8 @@ module _ {G : Type 0} (told : G → DoorTold) (over : G → Bool) (peer : G → 
         length-map all.tolds seen_by,
         length-map hands (λ (h : HandTold (Keeper G)). h.seen),
       ) in
-      let as_many : length hands ≡ length ended =
-      omega (arith, ap length hands_are, length-map posts hand_at, length-map ended tell) in
+      let as_many : length all.tolds ≡ count =
+      omega (arith, many, ap length hands_are, length-map posts hand_at, many_posts) in
       record {
         tolds = all.tolds;
         lines = whole;
@@ -119,9 +99,12 @@ module _ {G : Type 0} (told : G → DoorTold) (over : G → Bool) (peer : G → 
         kept = λ mounts book within. all.kept (mounts ++ book ∷ [])
             (subst (AreBelow (mounts ++ book ∷ [])) hands_are (worn mounts book within).1);
         owns = λ k keeper at. ap (λ (i : ℕ). own i whole) (from_zero k) ∙ all.owns k keeper at;
-        nobody_else = subst (λ (n : ℕ). All (λ (entry : ℕ × Line). entry.0 < n) whole) (sym (many ∙ as_many))
-            written.nobody_else;
-        text = written.text;
+        met = met;
+        few = few;
+        waited = subst (λ (i : ℕ). HasWaitedOn heard before now (own i whole) met)
+            (let e : 0 + count ≡ length all.tolds = omega (arith, as_many) in e) waited;
+        nobody_else = subst (λ (n : ℕ). All (λ (entry : ℕ × Line). entry.0 < n + 1) whole) (sym as_many) nobody;
+        text = text;
         piles_are = subst (λ (rows : List Histories). ArePiles rows new shared.rings.items shared.book) seen
             (left [] shared.rings.items shared.book (at_hands all.at) empty);
         legal = subst (All (λ (row : Histories). IsLegal (fits (caps c)) row.book)) seen
@@ -131,7 +114,7 @@ module _ {G : Type 0} (told : G → DoorTold) (over : G → Bool) (peer : G → 
         from_zero : (k : ℕ) → k ≡ 0 + k
         from_zero k = omega arith
 
-        at_hands : AreAllAt 0 (map hand_at (map tell ended)) shared.rings.items shared.book
+        at_hands : AreAllAt 0 (map hand_at posts) shared.rings.items shared.book
             → AreAllAt 0 hands shared.rings.items shared.book
         at_hands at = subst (λ (l : List (HandTold (Keeper G))). AreAllAt 0 l shared.rings.items shared.book)
             (sym hands_are) at

@@ -9,3 +9,6 @@ pub mod WholeLemmas
 pub mod LawLemmas
 pub mod ListLemmas
 pub mod FitLemmas
+pub mod WaitLemmas
+pub mod DutyLemmas
+pub mod PorterLemmas

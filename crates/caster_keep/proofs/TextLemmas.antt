@@ -1,5 +1,5 @@
 -- The text of all lines and of the totals behind them.
-use Rattle.std.proofs.Common.{◌≡◌, ◌∙◌, ℕ, ◌+◌, Bool, true, false, List, ◌++◌, sym, subst}
+use Rattle.std.proofs.Common.{◌≡◌, ◌∙◌, ℕ, Bool, true, false, List, ◌++◌, sym, subst}
 use Rattle.std.specs.Prelude.{Option, Result, Ok, Err, OnOk, OnErr, is_err, is_ok}
 use Rattle.std.specs.Io.KnownBytes.{Appends}
 use Rattle.cast_io.specs.Causes.{Rose, HasCause}

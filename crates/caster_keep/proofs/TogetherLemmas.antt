@@ -135,23 +135,8 @@ module _ {G : Type 0} (told : G → DoorTold) (over : G → Bool) (peer : G → 
   AllWorked whole n (old ∷ olds) [] = ⊥
   AllWorked whole n (old ∷ olds) (new ∷ news) = Worked whole n old new × AllWorked whole (n + 1) olds news
 
-  pub all_worked : {X : Type 0} (tell : X → PostTold G) (whole : History Line) (n : ℕ) (olds news : List X)
-      → length news ≡ length olds
-      → ((k : ℕ) (old new : X) → get_elem? olds k ≡ some old → get_elem? news k ≡ some new
-      → Worked whole (n + k) (tell old) (tell new)) → AllWorked whole n (map tell olds) (map tell news)
-  all_worked tell whole n [] [] long each = tt
-  all_worked tell whole n [] (new ∷ news) long each = absurd (omega (arith, long))
-  all_worked tell whole n (old ∷ olds) [] long each = absurd (omega (arith, long))
-  all_worked tell whole n (old ∷ olds) (new ∷ news) long each = (
-    subst (λ (k : ℕ). Worked whole k (tell old) (tell new)) (let e : n + 0 ≡ n = omega arith in e)
-        (each 0 old new refl refl),
-    all_worked tell whole (n + 1) olds news (omega (arith, long)) (λ k a b at here.
-        subst (λ (i : ℕ). Worked whole i (tell a) (tell b)) (moved n k) (each (suc k) a b at here)),
-  ) where
-    moved : (a b : ℕ) → a + suc b ≡ a + 1 + b
-    moved a b = omega arith
-
-  -- the own lines of each keeper, who are numbered from this number on, are those that are told of it
+  -- the own lines of each keeper, who are numbered from this number on, are those that are told of
+  -- it
   abbrev pub Own : History Line → ℕ → List (KeeperTold G) → Type 0
   Own whole n tolds = (k : ℕ) (keeper : KeeperTold G) → get_elem? tolds k ≡ some keeper
       → own (n + k) whole ≡ keeper.lines

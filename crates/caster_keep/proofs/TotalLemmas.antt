@@ -1,8 +1,9 @@
 -- All accounts together are the sum of the receipts of all links.
-use Rattle.std.proofs.Common.{◌≡◌, ◌∙◌, ◌+◌, ℕ, suc, List, [], ◌∷◌, fold, refl, sym, ap, subst, Bool, true, false, map, arith}
+use Rattle.std.proofs.Common.{◌≡◌, ◌∙◌, ◌+◌, ℕ, suc, List, [], ◌∷◌, ◌++◌, length, fold, refl, sym, ap, subst, Bool, true, false, map, arith}
 use Rattle.std.specs.Prelude.{◌&&◌, if◌then◌else◌}
 use Rattle.std.specs.List.{flat_map}
 use Rattle.std.proofs.lemmas.Grind.{fold-append}
+use Rattle.std.proofs.lemmas.List.{length-map}
 use Rattle.turn_log.specs.History.{own}
 use Rattle.cast_io.specs.Told.{DoorTold}
 use Rattle.caster_accounts.specs.declared.account.Sum.{Sum}
@@ -14,7 +15,10 @@ use Rattle.caster_places.specs.Leaves.{left_in}
 use Rattle.caster_places.specs.Rows.{left_by}
 use Rattle.caster_serve.specs.Works.{tallied}
 use Rattle.caster_serve.proofs.StreetLemmas.{sum_of}
-use Rattle.caster_keep.specs.Keeping.{AreKeepers, KeeperTold, receipts_by, seen_by}
+use Rattle.session_model.specs.Run.{Histories}
+use Rattle.caster_keep.specs.declared.stop.Stop.{Stop}
+use Rattle.caster_keep.specs.declared.stop.Stop.TheVariants as ways
+use Rattle.caster_keep.specs.Keeping.{AreKeepers, IsPorter, KeeperTold, PorterTold, first_stop, receipts_by, seen_by, seen_by_all}
 
 abbrev plus : Sum → Sum → Sum
 plus a b = sum_of (a.sessions + b.sessions) (a.sent + b.sent) (a.overrun + b.overrun)
@@ -75,9 +79,64 @@ module _ {G : Type 0} (told : G → DoorTold) (over : G → Bool) (peer : G → 
       (tallies_are c worn most (suc n) keepers
       (subst (λ (k : ℕ). AreKeepers told over peer c worn most k keepers) next are.1))
 
+  -- the porter ended none
+  none_left : (c : Config) (worn : List ℕ) (most me : ℕ) (porter : PorterTold) → IsPorter c worn most me porter
+      → left_in nothing (own me porter.seen.book) ≡ nothing
+  none_left c worn most me porter is = ap (λ h. left_in nothing (own me h)) is.answered.book
+
+  left-append : (n : ℕ) (rows : List Histories) (row : Histories)
+      → left_by n (rows ++ row ∷ []) ≡ left_by n rows ++ left_in nothing (own (n + length rows) row.book) ∷ []
+  left-append n [] row =
+      ap (λ (k : ℕ). left_in nothing (own k row.book) ∷ []) (let e : n ≡ n + 0 = omega arith in e)
+  left-append n (first ∷ rows) row =
+      ap (λ (l : List Sum). left_in nothing (own n first.book) ∷ l)
+      (left-append (suc n) rows row
+      ∙ ap (λ (k : ℕ). left_by (suc n) rows ++ left_in nothing (own k row.book) ∷ []) (further n (length rows))) where
+        further : (a b : ℕ) → suc a + b ≡ a + suc b
+        further a b = omega arith
+
+  -- nothing more is added
+  added_none : (sum : Sum) (sums : List Sum) → added sum (sums ++ nothing ∷ []) ≡ added sum sums
+  added_none sum [] =
+      same_sum (sum.sessions + 0) (sum.sent + 0) (sum.overrun + 0) sum.sessions sum.sent sum.overrun (omega arith)
+      (omega arith) (omega arith)
+  added_none sum (first ∷ sums) = added_none (plus sum first) sums
+
   pub total_is : (c : Config) (worn : List ℕ) (most : ℕ) (total : Sum) (keepers : List (KeeperTold G))
-      → AreKeepers told over peer c worn most 0 keepers → total ≡ added nothing (left_by 0 (map seen_by keepers))
+      (porter : PorterTold) → AreKeepers told over peer c worn most 0 keepers
+      → IsPorter c worn most (length keepers) porter
+      → total ≡ added nothing (left_by 0 (seen_by_all keepers porter))
       → total ≡ fold tallied nothing (flat_map receipts_by keepers)
-  total_is c worn most total keepers are is =
-      is ∙ ap (added nothing) (tallies_are c worn most 0 keepers are)
+  total_is c worn most total keepers porter are porter_is is =
+      is
+      ∙ ap (added nothing)
+      (left-append 0 (map seen_by keepers) porter.seen
+      ∙ ap (λ (k : ℕ). left_by 0 (map seen_by keepers) ++ left_in nothing (own k porter.seen.book) ∷ [])
+      (let e : 0 + length (map seen_by keepers) ≡ length keepers = omega (arith, length-map keepers seen_by) in e)
+      ∙ ap (λ (s : Sum). left_by 0 (map seen_by keepers) ++ s ∷ [])
+      (none_left c worn most (length keepers) porter porter_is))
+      ∙ added_none nothing (left_by 0 (map seen_by keepers))
+      ∙ ap (added nothing) (tallies_are c worn most 0 keepers are)
       ∙ sums_added c worn most 0 nothing keepers are
+
+-- ---- why they stopped
+
+-- where all of these were over, the next one tells why
+pub when_over : (stops : List Stop) (last : Stop) → first_stop stops ≡ ways.Over → first_stop (stops ++ last ∷ []) ≡ last
+when_over [] ways.Over is = refl
+when_over [] ways.Failed is = refl
+when_over [] ways.Worn is = refl
+when_over [] ways.Full is = refl
+when_over (ways.Over ∷ stops) last is = when_over stops last is
+when_over (ways.Failed ∷ stops) last is = absurd (let clash : ways.Failed ≡ ways.Over = is in cc)
+when_over (ways.Worn ∷ stops) last is = absurd (let clash : ways.Worn ≡ ways.Over = is in cc)
+when_over (ways.Full ∷ stops) last is = absurd (let clash : ways.Full ≡ ways.Over = is in cc)
+
+-- else these do
+pub unless_over : (stops more : List Stop) (stop : Stop) → first_stop stops ≡ stop → (stop ≡ ways.Over → ⊥)
+    → first_stop (stops ++ more) ≡ stop
+unless_over [] more stop is other = absurd (other (sym is))
+unless_over (ways.Over ∷ stops) more stop is other = unless_over stops more stop is other
+unless_over (ways.Failed ∷ stops) more stop is other = is
+unless_over (ways.Worn ∷ stops) more stop is other = is
+unless_over (ways.Full ∷ stops) more stop is other = is

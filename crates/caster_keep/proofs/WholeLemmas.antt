@@ -1,6 +1,6 @@
 -- A whole caster that kept serving, from what it asked to its totals.
-use Rattle.std.proofs.Common.{◌≡◌, ◌∙◌, ◌+◌, ◌≤◌, ◌++◌, ℕ, zero, suc, Bool, List, [], ◌∷◌, length, take, map, refl, sym, ap, subst, arith}
-use Rattle.std.specs.Prelude.{Option, unwrap_or, Result, Ok, Err}
+use Rattle.std.proofs.Common.{◌≡◌, ◌∙◌, ◌+◌, ◌≤◌, ◌++◌, ℕ, zero, suc, Bool, List, [], ◌∷◌, length, take, map, refl, sym, ap, subst, arith, append-nil}
+use Rattle.std.specs.Prelude.{Option, unwrap_or, Result, Ok, Err, IfOk, OnErr}
 use Rattle.std.specs.List.{All}
 use Rattle.std.proofs.lemmas.List.{length-map, take_all}
 use Rattle.std.proofs.lemmas.List.Elements.{All-nil, All-cons, All-head, All-tail}
@@ -16,7 +16,6 @@ use Rattle.cast_io.specs.declared.yard_asked.YardAsked.TheVariants as asked
 use Rattle.cast_io.specs.Yards.{AreNewNotes, GateTold, HasTakenNotes, NotesTold, YardTold}
 use Rattle.cast_io.proofs.ToldLemmas.{grew_both, grew_none}
 use Rattle.caster_accounts.specs.History.{fits}
-use Rattle.caster_accounts.specs.Sums.{nothing}
 use Rattle.cast_config.specs.declared.config.Config.{Config}
 use Rattle.session_model.specs.declared.report.Closed.{Closed}
 use Rattle.session_model.specs.Reports.{mount_total}
@@ -38,8 +37,11 @@ use Rattle.caster_keep.specs.declared.whole.KeepFault.{KeepFault}
 use Rattle.caster_keep.specs.declared.whole.KeepFault.TheVariants as faults
 use Rattle.caster_keep.specs.declared.whole.Outcome.{Outcome}
 use Rattle.caster_keep.specs.Gates.{HasAsked, HasTakenBack, asked_of, gate_told, gates_asked, gates_of, made_of, roles_of}
-use Rattle.caster_keep.specs.Keeping.{Answered, HasEnded, HasGivenBack, HasKept, KeeperTold, Refused, Went, first_of, first_stop, notes_told, role_of, seen_by, start_of, stop_of}
-use Rattle.caster_keep.specs.Together.{HaveWorked, IsToldBy, fault_of, gate_at, role_at, stop_at}
+use Rattle.cast_console.specs.Consoles.{ConsoleTold, IsNewConsole}
+use Rattle.keep_porter.specs.declared.end.WaitEnd.{WaitEnd}
+use Rattle.caster_keep.specs.declared.porter.Porter.{Porter}
+use Rattle.caster_keep.specs.Keeping.{Answered, AreUnused, HasEnded, HasGivenBack, HasKept, KeeperTold, Refused, Went, first_of, first_stop, notes_told, role_of, seen_by_all, start_of, stop_of}
+use Rattle.caster_keep.specs.Together.{HaveWorked, IsToldBy, fault_of, gate_at, porter_stop_at, role_at, stop_at, stop_of_wait}
 use Rattle.caster_keep.proofs.GateLemmas.{made_for, none_back}
 use Rattle.caster_keep.proofs.TotalLemmas.{total_is}
 use Rattle.caster_serve.proofs.WholeLemmas.{Closes}
@@ -160,24 +162,52 @@ module _ {G : Type 0} (told : G → DoorTold) (over : G → Bool) where
       nobody_served (wanted ++ more) m.0 keepers keepers old mid new
       (subst (Grew old.asked mid.asked) (sym m.1) asked.asked) asked.gates asked.notes refl unused back
 
+-- what holds of an answer, where it is this one
+pub when_ok : {T E : Type 0} (P : T → Type 0) (result : Result T E) (value : T) → result ≡ Ok value → IfOk result P
+    → P value
+when_ok P result value is holds = subst (λ r. IfOk r P) is holds
+
+pub when_err : {T E A : Type 0} (result : Result T E) (fault : E) → result ≡ Err fault → OnErr result A → A
+when_err {T} {E} {A} result fault is holds = subst (λ r. OnErr r A) is holds
+
+-- no console came back
+pub none_used : (back : List ConsoleTold) → AreUnused back back
+none_used back = record { consoles = []; back = sym (append-nil back); unused = All-nil IsNewConsole }
+
+-- one did, which was not used
+pub one_unused : (before now : List ConsoleTold) (console first : ConsoleTold) → now ≡ before ++ console ∷ []
+    → console ≡ first → IsNewConsole first → AreUnused before now
+one_unused before now console first back same is = record {
+  consoles = console ∷ [];
+  back = back;
+  unused = All-cons IsNewConsole console [] (subst IsNewConsole (sym same) is) (All-nil IsNewConsole);
+}
+
 module _ {G O : Type 0} (told : G → DoorTold) (over : G → Bool) (peer : G → List ℕ) (origin : G → YardAsked)
-    (taken : O → Option (List ℕ)) (faults_of : O → ℕ) where
-  -- all served, the gates came back, the locks were closed, the totals were written, and the notes came back
-  pub has_ended : (shared : Shared) (first notes : O) (pressed : NotesTold) (was torn : Bool)
+    (taken : O → Option (List ℕ)) (faults_of : O → ℕ) (back_before back_now : List ConsoleTold) where
+  -- all served, the gates came back, the locks were closed, the totals were written, and the notes
+  -- came back
+  pub has_ended : {C : Type 0} (heard : C → ConsoleTold) (console : C) (porter : Porter C) (shared : Shared)
+      (first notes : O) (pressed : NotesTold) (was torn : Bool)
       (before keepers : List (Keeper G)) (piles : Piles) (closed : Closed) (stop : Stop) (old back new : YardTold)
       → AreNewNotes (notes_told taken faults_of first)
-      → (worked : HaveWorked told over peer shared (start_of taken faults_of first) was pressed (map gate_at before) keepers piles)
+      → (worked : HaveWorked told over peer heard shared (start_of taken faults_of first) was pressed
+      (map gate_at before) keepers console porter piles)
       → HasTakenBack (gates_of told over keepers) old back → Closes shared piles closed
       → ((start : Start) (lines : List ℕ) → IsWritten was start pressed.taken pressed.faults lines
       → IsWritten torn start (taken notes) (faults_of notes) (lines ++ closed_text shared.config.now closed))
-      → HasTakenNotes (notes_told taken faults_of notes) back new → stop ≡ first_stop (map stop_at keepers)
-      → HasEnded told over peer origin taken faults_of shared.config.now (made_for origin before) old new
+      → HasTakenNotes (notes_told taken faults_of notes) back new
+      → back_now ≡ back_before ++ heard porter.console ∷ []
+      → stop ≡ first_stop (map stop_at keepers ++ porter_stop_at porter ∷ [])
+      → HasEnded told over peer origin taken faults_of back_before back_now shared.config.now (made_for origin before) old new
       (record { closed = closed; stop = stop; is_torn = torn })
-  has_ended shared first notes pressed was torn before keepers piles closed stop old back new untaken worked gates closes behind
-      notes_back stop_is =
-      let is = closes (map seen_by worked.tolds) worked.piles_are worked.legal in
-      let are = worked.kept (map length is.0.rings) (length is.0.book) is.4 in record {
+  has_ended heard console porter shared first notes pressed was torn before keepers piles closed stop old back new untaken
+      worked gates closes behind notes_back console_back stop_is =
+      let is = closes (seen_by_all worked.tolds worked.porter_told) worked.piles_are worked.legal in
+      let both = worked.kept (map length is.0.rings) (length is.0.book) is.4 in
+      let are = both.0 in record {
         keepers = worked.tolds;
+        porter = worked.porter_told;
         histories = is.0;
         lines = worked.lines;
         first = first;
@@ -187,8 +217,10 @@ module _ {G O : Type 0} (told : G → DoorTold) (over : G → Bool) (peer : G �
           roles_are = worked.roles_are;
           gates_are = gates_made told over origin worked.tolds before worked.firsts_are;
           keepers_are = are;
+          porter_is = both.1;
           whole = is.1;
           owns = worked.owns;
+          porter_owns = worked.porter_owns;
           nobody_else = worked.nobody_else;
         };
         given_back = record {
@@ -198,17 +230,24 @@ module _ {G O : Type 0} (told : G → DoorTold) (over : G → Bool) (peer : G �
           notes_back = subst (λ list. Grew list new.notes (notes_told taken faults_of notes ∷ [])) gates.notes
               notes_back.taken;
         };
+        console_back = console_back ∙ ap (λ (t : ConsoleTold). back_before ++ t ∷ []) worked.told_porter.console;
         closed_is = is.2;
-        total = total_is told over peer shared.config.now _ _ closed.total worked.tolds are is.3;
+        total = total_is told over peer shared.config.now _ _ closed.total worked.tolds worked.porter_told are both.1 is.3;
         text = behind (start_of taken faults_of first) (text_in worked.lines) worked.text;
-        stop_is = stop_is ∙ ap first_stop (stops_are told over worked.tolds keepers worked.told);
+        stop_is =
+            stop_is
+            ∙ ap (λ (l : List Stop). first_stop (l ++ porter_stop_at porter ∷ []))
+            (stops_are told over worked.tolds keepers worked.told)
+            ∙ ap (λ (e : Option WaitEnd). first_stop (map stop_of worked.tolds ++ stop_of_wait e ∷ []))
+            worked.told_porter.end;
       }
 
   ended_since : {made wanted : List YardAsked} (c : Config) (old mid new : YardTold) (outcome : Outcome)
-      → HasAsked wanted old mid → HasEnded told over peer origin taken faults_of c made mid new outcome
-      → HasEnded told over peer origin taken faults_of c made old new outcome
+      → HasAsked wanted old mid → HasEnded told over peer origin taken faults_of back_before back_now c made mid new outcome
+      → HasEnded told over peer origin taken faults_of back_before back_now c made old new outcome
   ended_since {made} {wanted} c old mid new outcome first ended = record {
     keepers = ended.keepers;
+    porter = ended.porter;
     histories = ended.histories;
     lines = ended.lines;
     first = ended.first;
@@ -216,6 +255,7 @@ module _ {G O : Type 0} (told : G → DoorTold) (over : G → Bool) (peer : G �
     notes = ended.notes;
     all = ended.all;
     given_back = given_since _ _ wanted old mid new first ended.given_back;
+    console_back = ended.console_back;
     closed_is = ended.closed_is;
     total = ended.total;
     text = ended.text;
@@ -225,63 +265,69 @@ module _ {G O : Type 0} (told : G → DoorTold) (over : G → Bool) (peer : G �
   -- what was asked before was asked too
   pub asked_before : (before made wanted : List YardAsked) (c : Config) (old mid new : YardTold)
       (result : Result Outcome KeepFault) → HasAsked before old mid → mid.faults ≤ new.faults
-      → Answered told over peer origin taken faults_of c made wanted mid new result
-      → Answered told over peer origin taken faults_of c made (before ++ wanted) old new result
+      → Answered told over peer origin taken faults_of back_before back_now c made wanted mid new result
+      → Answered told over peer origin taken faults_of back_before back_now c made (before ++ wanted) old new result
   asked_before before made wanted c old mid new (Ok outcome) first later went = record {
     asked = grew_both old.asked mid.asked new.asked before wanted first.asked went.asked;
     ended = ended_since {made = made} {wanted = before} c old mid new outcome first went.ended;
   }
   asked_before before made wanted c old mid new (Err faults.Network) first later went = (
     refused_since before wanted old mid new first went.0,
-    omega (arith, first.later, went.1),
+    went.1,
+    omega (arith, first.later, went.2),
   )
   asked_before before made wanted c old mid new (Err faults.Memory) first later went =
-      refused_since before wanted old mid new first went
+      (refused_since before wanted old mid new first went.0, went.1)
 
   -- all served, and nothing was asked
-  pub went_ready : (shared : Shared) (config : Config) (first notes : O) (pressed : NotesTold) (was torn : Bool)
+  pub went_ready : {C : Type 0} (heard : C → ConsoleTold) (console : C) (porter : Porter C) (shared : Shared)
+      (config : Config) (first notes : O) (pressed : NotesTold) (was torn : Bool)
       (before keepers : List (Keeper G)) (piles : Piles) (closed : Closed) (stop : Stop) (old back new : YardTold)
       → config ≡ shared.config.now → AreNewNotes (notes_told taken faults_of first)
-      → HaveWorked told over peer shared (start_of taken faults_of first) was pressed (map gate_at before) keepers piles
+      → HaveWorked told over peer heard shared (start_of taken faults_of first) was pressed (map gate_at before) keepers
+      console porter piles
       → HasTakenBack (gates_of told over keepers) old back → Closes shared piles closed
       → ((start : Start) (lines : List ℕ) → IsWritten was start pressed.taken pressed.faults lines
       → IsWritten torn start (taken notes) (faults_of notes) (lines ++ closed_text config closed))
-      → HasTakenNotes (notes_told taken faults_of notes) back new → stop ≡ first_stop (map stop_at keepers)
-      → Went told over peer origin taken faults_of shared.config.now (made_for origin before) [] old new
+      → HasTakenNotes (notes_told taken faults_of notes) back new
+      → back_now ≡ back_before ++ heard porter.console ∷ []
+      → stop ≡ first_stop (map stop_at keepers ++ porter_stop_at porter ∷ [])
+      → Went told over peer origin taken faults_of back_before back_now shared.config.now (made_for origin before) [] old new
       (record { closed = closed; stop = stop; is_torn = torn })
-  went_ready shared config first notes pressed was torn before keepers piles closed stop old back new same untaken worked
-      gates closes behind notes_back stop_is = record {
+  went_ready heard console porter shared config first notes pressed was torn before keepers piles closed stop old back new
+      same untaken worked gates closes behind notes_back console_back stop_is = record {
         asked = subst (λ l. Grew old.asked l []) (sym (notes_back.asked ∙ gates.asked)) (grew_none old.asked);
-        ended = has_ended shared first notes pressed was torn before keepers piles closed stop old back new untaken
-            worked gates closes
+        ended = has_ended heard console porter shared first notes pressed was torn before keepers piles closed stop old
+            back new untaken worked gates closes
             (subst (λ (c : Config). (start : Start) (lines : List ℕ)
             → IsWritten was start pressed.taken pressed.faults lines
             → IsWritten torn start (taken notes) (faults_of notes) (lines ++ closed_text c closed)) same behind)
-            notes_back stop_is;
+            notes_back console_back stop_is;
       }
 
   -- nobody served, for a refusal of the yard
   pub answered_refused : (c : Config) (made wanted : List YardAsked) (old new : YardTold) (fault : StreetFault)
       (result : Result Outcome KeepFault) → result ≡ Err (fault_of fault) → Refused wanted old new
-      → (fault ≡ refusals.Failed → Rose old.faults new.faults)
-      → Answered told over peer origin taken faults_of c made wanted old new result
-  answered_refused c made wanted old new refusals.Failed result is none rose =
-      subst (Answered told over peer origin taken faults_of c made wanted old new) (sym is) (none, rose refl)
-  answered_refused c made wanted old new refusals.Memory result is none rose =
-      subst (Answered told over peer origin taken faults_of c made wanted old new) (sym is) none
+      → AreUnused back_before back_now → (fault ≡ refusals.Failed → Rose old.faults new.faults)
+      → Answered told over peer origin taken faults_of back_before back_now c made wanted old new result
+  answered_refused c made wanted old new refusals.Failed result is none unused rose =
+      subst (Answered told over peer origin taken faults_of back_before back_now c made wanted old new) (sym is)
+      (none, unused, rose refl)
+  answered_refused c made wanted old new refusals.Memory result is none unused rose =
+      subst (Answered told over peer origin taken faults_of back_before back_now c made wanted old new) (sym is) (none, unused)
 
   -- all gates were asked for, and then a place for lines
   pub kept_all : (c : Config) (addr : List ℕ) (quiet n : ℕ) (made : List YardAsked) (old mid new : YardTold)
       (result : Result Outcome KeepFault) → HasAsked (take n (gates_asked c addr quiet)) old mid
       → n ≡ length (gates_asked c addr quiet) → made ≡ made_of c addr quiet → mid.faults ≤ new.faults
-      → Answered told over peer origin taken faults_of c made (asked.Notes ∷ []) mid new result
-      → HasKept told over peer origin taken faults_of c addr quiet old new result
+      → Answered told over peer origin taken faults_of back_before back_now c made (asked.Notes ∷ []) mid new result
+      → HasKept told over peer origin taken faults_of back_before back_now c addr quiet old new result
   kept_all c addr quiet n made old mid new result first all made_is later answered =
       let wanted = gates_asked c addr quiet in
       let asked_all : HasAsked wanted old mid =
       subst (λ (l : List YardAsked). HasAsked l old mid) (take_all n wanted (omega (arith, all))) first in record {
         later = omega (arith, first.later, later);
-        answered = subst (λ (l : List YardAsked). Answered told over peer origin taken faults_of c l
+        answered = subst (λ (l : List YardAsked). Answered told over peer origin taken faults_of back_before back_now c l
             (asked_of c addr quiet) old new result) made_is
             (asked_before wanted made (asked.Notes ∷ []) c old mid new result asked_all later answered);
       }
@@ -291,13 +337,14 @@ module _ {G O : Type 0} (told : G → DoorTold) (over : G → Bool) (peer : G �
       (fault : StreetFault) (result : Result Outcome KeepFault) → result ≡ Err (fault_of fault)
       → HasAsked (take n (gates_asked c addr quiet)) old mid
       → All (λ (keeper : Keeper G). IsNewDoor (told keeper.gate)) keepers
-      → HasTakenBack (gates_of told over keepers) mid new → (fault ≡ refusals.Failed → Rose old.faults mid.faults)
-      → HasKept told over peer origin taken faults_of c addr quiet old new result
-  kept_refused c addr quiet n keepers old mid new fault result is first unused back rose = record {
+      → HasTakenBack (gates_of told over keepers) mid new → AreUnused back_before back_now
+      → (fault ≡ refusals.Failed → Rose old.faults mid.faults)
+      → HasKept told over peer origin taken faults_of back_before back_now c addr quiet old new result
+  kept_refused c addr quiet n keepers old mid new fault result is first unused back consoles rose = record {
     later = omega (arith, first.later, back.later);
     answered = answered_refused c (made_of c addr quiet) (asked_of c addr quiet) old new fault result is
         (none_served told over (gates_asked c addr quiet) (asked.Notes ∷ []) n keepers old mid new first unused back)
-        (λ failed. omega (arith, rose failed, back.later));
+        consoles (λ failed. omega (arith, rose failed, back.later));
   }
 
 -- there is a total for each mountpoint, and a sum for each account
@@ -311,13 +358,13 @@ closed_sizes shared piles closed rows closes are legal =
       ap (λ (x : Closed). length x.accounts) whole.2 ∙ sums_long 1 whole.0 shared.config.now.account,
     )
 
-module _ {G : Type 0} {told : G → DoorTold} {over : G → Bool} {peer : G → List ℕ} where
-  -- as many passes came back as there are keepers
+module _ {G C : Type 0} {told : G → DoorTold} {over : G → Bool} {peer : G → List ℕ} {heard : C → ConsoleTold} where
+  -- as many passes came back as there are keepers, and that of the porter
   pub passes_are : (shared : Shared) (start : Start) (torn : Bool) (notes : NotesTold) (firsts : List G)
-      (before keepers : List (Keeper G)) (piles : Piles)
-      → HaveWorked told over peer shared start torn notes firsts keepers piles
-      → map role_at before ≡ roles_of shared.config.now → length piles.book.items ≡ length before
-  passes_are shared start torn notes firsts before keepers piles worked roles =
+      (before keepers : List (Keeper G)) (console : C) (porter : Porter C) (piles : Piles)
+      → HaveWorked told over peer heard shared start torn notes firsts keepers console porter piles
+      → map role_at before ≡ roles_of shared.config.now → length piles.book.items ≡ length before + 1
+  passes_are shared start torn notes firsts before keepers console porter piles worked roles =
       omega (
         arith,
         worked.passes,
@@ -327,9 +374,10 @@ module _ {G : Type 0} {told : G → DoorTold} {over : G → Bool} {peer : G → 
       )
 
   pub sizes_are : (shared : Shared) (start : Start) (torn : Bool) (notes : NotesTold) (firsts : List G)
-      (keepers : List (Keeper G)) (piles : Piles) (closed : Closed)
-      → HaveWorked told over peer shared start torn notes firsts keepers piles → Closes shared piles closed
+      (keepers : List (Keeper G)) (console : C) (porter : Porter C) (piles : Piles) (closed : Closed)
+      → HaveWorked told over peer heard shared start torn notes firsts keepers console porter piles
+      → Closes shared piles closed
       → (length closed.mounts ≡ length shared.config.now.mount)
       × (length closed.accounts ≡ length shared.config.now.account)
-  sizes_are shared start torn notes firsts keepers piles closed worked closes =
-      closed_sizes shared piles closed (map seen_by worked.tolds) closes worked.piles_are worked.legal
+  sizes_are shared start torn notes firsts keepers console porter piles closed worked closes =
+      closed_sizes shared piles closed (seen_by_all worked.tolds worked.porter_told) closes worked.piles_are worked.legal

@@ -26,8 +26,8 @@ gates_asked c addr quiet =
 abbrev pub asked_of : Config → List ℕ → ℕ → List YardAsked
 asked_of c addr quiet = gates_asked c addr quiet ++ asked.Notes ∷ []
 
--- what the gates of all keepers were made for, in the order of their keepers: those of the workers to
--- be opened at the address, and that of each relay to reach the relay's peer
+-- what the gates of all keepers were made for, in the order of their keepers: those of the workers
+-- to be opened at the address, and that of each relay to reach the relay's peer
 abbrev pub made_of : Config → List ℕ → ℕ → List YardAsked
 made_of c addr quiet =
     replicate c.workers (asked.OpenGates addr c.workers quiet) ++ map (reach_of quiet) c.relay

@@ -1,6 +1,6 @@
 -- A keeper: a caller that serves the links of its gate until the gate is over, in one role, and
 -- puts the lines of each.
-use Rattle.std.specs.Prelude.{◌≡◌, ℕ, ◌+◌, ◌^◌, ◌≤◌, Bool, IsTrue, false, List, [], ◌∷◌, ◌++◌, fold, length, Option, None, Some}
+use Rattle.std.specs.Prelude.{◌≡◌, ℕ, ◌^◌, ◌≤◌, Bool, IsTrue, false, List, [], ◌∷◌, ◌++◌, fold, length, Option, None, Some}
 use Rattle.cast_io.specs.declared.door.Arrived.TheVariants as arrived
 use Rattle.cast_io.specs.Told.{LinkTold, DoorTold}
 use Rattle.cast_io.specs.Doors.{HasHungUp}

@@ -1,5 +1,5 @@
 -- What a caster did that kept serving until its gates were over.
-use Rattle.std.specs.Prelude.{◌≡◌, ℕ, ◌+◌, ◌<◌, ◌≤◌, ⊤, Bool, true, false, List, [], ◌∷◌, ◌++◌, fold, length, map, take, Option, None, Some, Result, Ok, Err}
+use Rattle.std.specs.Prelude.{◌≡◌, ℕ, ◌+◌, ◌<◌, ◌≤◌, ⊤, Bool, false, List, [], ◌∷◌, ◌++◌, fold, length, map, take, Option, Result, Ok, Err}
 use Rattle.std.specs.List.{All, flat_map}
 use mathlib.Core.Option.{some}
 use lib.ListN.{get_elem?}
@@ -9,6 +9,7 @@ use Rattle.cast_io.specs.Told.{DoorTold, Grew}
 use Rattle.cast_io.specs.Doors.{IsNewDoor}
 use Rattle.cast_io.specs.declared.yard_asked.YardAsked.{YardAsked}
 use Rattle.cast_io.specs.Yards.{AreNewNotes, GateTold, NotesTold, YardTold}
+use Rattle.cast_console.specs.Consoles.{ConsoleTold, IsNewConsole}
 use Rattle.caster_accounts.specs.declared.account.Sum.{Sum}
 use Rattle.caster_accounts.specs.Sums.{nothing}
 use Rattle.cast_config.specs.declared.config.Config.{Config}
@@ -32,12 +33,16 @@ use Rattle.caster_keep.specs.declared.whole.KeepFault.{KeepFault}
 use Rattle.caster_keep.specs.declared.whole.KeepFault.TheVariants as faults
 use Rattle.caster_keep.specs.Links.{Kept, records_of}
 use Rattle.caster_keep.specs.Keepers.{KeptOn}
+use Rattle.keep_porter.specs.declared.end.WaitEnd.{WaitEnd}
+use Rattle.keep_porter.specs.declared.end.WaitEnd.TheVariants as ends
+use Rattle.keep_porter.specs.Porters.{Answer, HasAnswered}
 use Rattle.caster_keep.specs.Gates.{asked_of, gate_told, made_of, roles_of}
 
 -- ---- the keepers
 
 -- what a keeper came to: its role, its gate as it was given, what it has seen, the links that it
--- kept, what their rovers add up to, its gate as it is now, why it stopped, and the lines that it put
+-- kept, what their rovers add up to, its gate as it is now, why it stopped, and the lines that it
+-- put
 pub record KeeperTold (G : Type 0) : Type 0 where
   pub role : Role
   pub first : G
@@ -64,7 +69,45 @@ stop_of keeper = keeper.stop
 abbrev pub receipts_by : {G : Type 0} → KeeperTold G → List Receipt
 receipts_by keeper = receipts_of (records_of keeper.links)
 
--- the first of these that is not that a gate was over
+-- ---- the porter
+
+-- what the porter came to: its console as it was given, what it has seen, its answers, its console
+-- as it is now, why it waits no more, and the lines that it put
+pub record PorterTold : Type 0 where
+  pub first : ConsoleTold
+  pub seen : Histories
+  pub given : List Answer
+  pub console : ConsoleTold
+  pub end : WaitEnd
+  pub lines : List Line
+
+-- what all callers have seen, in the order of their numbers: the keepers, and then the porter
+abbrev pub seen_by_all : {G : Type 0} → List (KeeperTold G) → PorterTold → List Histories
+seen_by_all keepers porter = map seen_by keepers ++ porter.seen ∷ []
+
+-- why a porter stopped, as the callers are told of
+abbrev pub stop_of_end : WaitEnd → Stop
+stop_of_end ends.Over = stops.Over
+stop_of_end ends.Worn = stops.Worn
+
+-- why they stopped
+abbrev pub stops_of : {G : Type 0} → List (KeeperTold G) → PorterTold → List Stop
+stops_of keepers porter = map stop_of keepers ++ stop_of_end porter.end ∷ []
+
+-- The porter of this number waited from its first call on, at a console at which nothing was wanted
+-- before. Its places at the locks never lacked memory, and were worn by no more turns than these;
+-- that at the press, by no more than so many.
+pub record IsPorter (c : Config) (worn : List ℕ) (most : ℕ) (me : ℕ) (porter : PorterTold)
+    : Type 0 where
+  pub unused : IsNewConsole porter.first
+  pub met : ℕ
+  pub few : met ≤ most
+  pub answered : HasAnswered c me false worn (nothing_called c) porter.seen porter.first
+      porter.console porter.given (map text_of porter.lines) met porter.end
+
+-- ---- why they stopped
+
+-- the first of these that is not that a gate was over, or that nothing was wanted any more
 abbrev pub first_stop : List Stop → Stop
 first_stop [] = stops.Over
 first_stop (stops.Over ∷ more) = first_stop more
@@ -124,44 +167,56 @@ module _ {G : Type 0} (told : G → DoorTold) (over : G → Bool) (peer : G → 
 module _ {G : Type 0} (told : G → DoorTold) (over : G → Bool) (peer : G → List ℕ)
     (origin : G → YardAsked) where
   -- All kept serving: in the order of their numbers, first the workers and then the relays, each at
-  -- a gate that was made for this. There is one history of each mountpoint and one of the book: each
-  -- keeper has seen a beginning of it with all its own calls, and nobody else called. And there is
-  -- one history of lines, in which the own ones of each keeper are exactly the lines that it put,
-  -- and nobody else put any.
+  -- a gate that was made for this, and behind them the porter. There is one history of each
+  -- mountpoint and one of the book: each of them has seen a beginning of it with all its own calls,
+  -- and nobody else called. And there is one history of lines, in which the own ones of each of
+  -- them are exactly the lines that it put, and nobody else put any.
   pub record AllKept (c : Config) (made : List YardAsked) (keepers : List (KeeperTold G))
-      (histories : Histories) (lines : History Line) : Type 0 where
+      (porter : PorterTold) (histories : Histories) (lines : History Line) : Type 0 where
     pub roles_are : map role_of keepers ≡ roles_of c
     pub gates_are : map (λ (keeper : KeeperTold G). origin keeper.first) keepers ≡ made
     pub keepers_are : AreKeepers told over peer c (calls_in histories) (length lines) 0 keepers
-    pub whole : AreWhole (map seen_by keepers) histories (length c.mount)
+    pub porter_is : IsPorter c (calls_in histories) (length lines) (length keepers) porter
+    pub whole : AreWhole (seen_by_all keepers porter) histories (length c.mount)
     pub owns : (k : ℕ) (keeper : KeeperTold G) → get_elem? keepers k ≡ some keeper
         → own k lines ≡ keeper.lines
-    pub nobody_else : All (λ (entry : ℕ × Line). entry.0 < length keepers) lines
+    pub porter_owns : own (length keepers) lines ≡ porter.lines
+    pub nobody_else : All (λ (entry : ℕ × Line). entry.0 < length keepers + 1) lines
 
--- how gates are seen, and what notes told of their bytes and their faults
+-- the consoles that came back were not used
+pub record AreUnused (old new : List ConsoleTold) : Type 0 where
+  pub consoles : List ConsoleTold
+  pub back : new ≡ old ++ consoles
+  pub unused : All IsNewConsole consoles
+
+-- how gates are seen, what notes told of their bytes and their faults, and which consoles had come
+-- back before and have come back now
 module _ {G O : Type 0} (told : G → DoorTold) (over : G → Bool) (peer : G → List ℕ)
-    (origin : G → YardAsked) (taken : O → Option (List ℕ)) (faults_of : O → ℕ) where
-  -- All kept serving, and all that the yard had given came back. The caster came to what its
-  -- histories say, and all accounts together are the sum of the receipts of all links. The notes
-  -- had taken nothing; then they took the text of the history of lines, and behind it the totals;
-  -- or the text is torn, and they took some first bytes of it.
+    (origin : G → YardAsked) (taken : O → Option (List ℕ)) (faults_of : O → ℕ)
+    (back_before back_now : List ConsoleTold) where
+  -- All kept serving, and all that the yard and the lodge had given came back. The caster came to
+  -- what its histories say, and all accounts together are the sum of the receipts of all links. The
+  -- notes had taken nothing; then they took the text of the history of lines, and behind it the
+  -- totals; or the text is torn, and they took some first bytes of it.
   pub record HasEnded (c : Config) (made : List YardAsked) (old new : YardTold) (outcome : Outcome)
       : Type 0 where
     pub keepers : List (KeeperTold G)
+    pub porter : PorterTold
     pub histories : Histories
     pub lines : History Line
     pub first : O
     pub untaken : AreNewNotes (notes_told taken faults_of first)
     pub notes : O
-    pub all : AllKept told over peer origin c made keepers histories lines
+    pub all : AllKept told over peer origin c made keepers porter histories lines
     pub given_back : HasGivenBack
         (map (λ (keeper : KeeperTold G). gate_told told over keeper.gate) keepers)
         (notes_told taken faults_of notes ∷ []) old new
+    pub console_back : back_now ≡ back_before ++ porter.console ∷ []
     pub closed_is : outcome.closed ≡ closed_of c histories
     pub total : outcome.closed.total ≡ fold tallied nothing (flat_map receipts_by keepers)
     pub text : IsWritten outcome.is_torn (start_of taken faults_of first) (taken notes)
         (faults_of notes) (text_in lines ++ closed_text c outcome.closed)
-    pub stop_is : outcome.stop ≡ first_stop (map stop_of keepers)
+    pub stop_is : outcome.stop ≡ first_stop (stops_of keepers porter)
 
   -- The yard was asked for all of these, in order, and then it went so.
   pub record Went (c : Config) (made wanted : List YardAsked) (old new : YardTold)
@@ -174,8 +229,9 @@ module _ {G O : Type 0} (told : G → DoorTold) (over : G → Bool) (peer : G �
       → Result Outcome KeepFault → Type 0
   Answered c made wanted old new (Ok outcome) = Went c made wanted old new outcome
   Answered c made wanted old new (Err faults.Network) =
-      Refused wanted old new × Rose old.faults new.faults
-  Answered c made wanted old new (Err faults.Memory) = Refused wanted old new
+      Refused wanted old new × AreUnused back_before back_now × Rose old.faults new.faults
+  Answered c made wanted old new (Err faults.Memory) =
+      Refused wanted old new × AreUnused back_before back_now
 
   -- the whole of it
   pub record HasKept (c : Config) (addr : List ℕ) (quiet : ℕ) (old new : YardTold)

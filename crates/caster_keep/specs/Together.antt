@@ -1,5 +1,6 @@
--- All keepers of a caster at its locks, before they begin and once they have left.
-use Rattle.std.specs.Prelude.{◌≡◌, ℕ, ◌<◌, ◌≤◌, Bool, List, [], ◌∷◌, ◌++◌, length, map, unwrap_or, Some, vec_capacity}
+-- All callers of a caster at its locks, the keepers and behind them the porter, before they begin
+-- and once they have left.
+use Rattle.std.specs.Prelude.{◌≡◌, ℕ, ◌+◌, ◌<◌, ◌≤◌, Bool, List, [], ◌∷◌, ◌++◌, length, map, unwrap_or, Option, None, Some, vec_capacity}
 use Rattle.std.specs.List.{All}
 use mathlib.Core.Option.{some}
 use lib.ListN.{get_elem?}
@@ -30,8 +31,11 @@ use Rattle.caster_keep.specs.declared.whole.KeepFault.{KeepFault}
 use Rattle.caster_keep.specs.declared.whole.KeepFault.TheVariants as faults
 use Rattle.caster_keep.specs.declared.whole.Ready.{Ready}
 use Rattle.caster_keep.specs.Gates.{roles_of}
-use Rattle.caster_keep.specs.Keeping.{AreKeepers, KeeperTold, first_of, role_of, seen_by}
-use Rattle.caster_keep.specs.Stations.{new_keeper}
+use Rattle.cast_console.specs.Consoles.{ConsoleTold}
+use Rattle.caster_keep.specs.declared.porter.Porter.{Porter}
+use Rattle.keep_porter.specs.declared.end.WaitEnd.{WaitEnd}
+use Rattle.caster_keep.specs.Keeping.{AreKeepers, IsPorter, KeeperTold, PorterTold, first_of, role_of, seen_by, seen_by_all, stop_of_end}
+use Rattle.caster_keep.specs.Stations.{BoothTold, HasWaitedOn, new_keeper}
 
 -- ---- before
 
@@ -48,6 +52,14 @@ gate_at keeper = keeper.gate
 -- why it stopped; one that has not stopped had no gate that failed
 abbrev pub stop_at : {G : Type 0} → Keeper G → Stop
 stop_at keeper = unwrap_or keeper.stop stops.Over
+
+-- why a porter stopped that has this end; one that has none met no press that was worn
+abbrev pub stop_of_wait : Option WaitEnd → Stop
+stop_of_wait None = stops.Over
+stop_of_wait (Some end) = stop_of_end end
+
+abbrev pub porter_stop_at : {C : Type 0} → Porter C → Stop
+porter_stop_at porter = stop_of_wait porter.end
 
 -- The locks are open with new passes for so many callers, and there is room for what comes back and
 -- for the text of the totals.
@@ -78,12 +90,20 @@ pub record IsToldBy {G : Type 0} (told : KeeperTold G) (keeper : Keeper G) : Typ
   pub tally : keeper.tally ≡ told.tally
   pub stop : keeper.stop ≡ Some told.stop
 
+-- the porter is as it is told
+pub record IsPorterToldBy {C : Type 0} (heard : C → ConsoleTold) (told : PorterTold)
+    (porter : Porter C) : Type 0 where
+  pub console : heard porter.console ≡ told.console
+  pub end : porter.end ≡ Some told.end
+
 -- All keepers kept serving from these gates on, and left the locks, with the passes of all in the
 -- piles of their locks. Their lines are those of one history, which was written from this start on,
--- or torn. What they were refused was refused as worn as these passes met the locks.
-pub record HaveWorked {G : Type 0} (door : G → DoorTold) (over : G → Bool) (peer : G → List ℕ)
-    (shared : Shared) (start : Start) (torn : Bool) (notes : NotesTold)
-    (firsts : List G) (keepers : List (Keeper G)) (piles : Piles) : Type 0 where
+-- or torn. What they were refused was refused as worn as these passes met the locks. And the porter
+-- waited at its booth, behind them, put its own lines in that history, and is there still.
+pub record HaveKept {G C : Type 0} (door : G → DoorTold) (over : G → Bool) (peer : G → List ℕ)
+    (heard : C → ConsoleTold) (shared : Shared) (start : Start) (torn : Bool) (notes : NotesTold)
+    (firsts : List G) (keepers : List (Keeper G)) (before now : BoothTold C) (piles : Piles)
+    : Type 0 where
   pub tolds : List (KeeperTold G)
   pub lines : History Line
   pub told : AreMatched IsToldBy tolds keepers
@@ -93,9 +113,38 @@ pub record HaveWorked {G : Type 0} (door : G → DoorTold) (over : G → Bool) (
       → AreKeepers door over peer shared.config.now (mounts ++ book ∷ []) (length lines) 0 tolds
   pub owns : (k : ℕ) (keeper : KeeperTold G) → get_elem? tolds k ≡ some keeper
       → own k lines ≡ keeper.lines
-  pub nobody_else : All (λ (entry : ℕ × Line). entry.0 < length tolds) lines
+  pub met : ℕ
+  pub few : met ≤ length lines
+  pub waited : HasWaitedOn heard before now (own (length tolds) lines) met
+  pub nobody_else : All (λ (entry : ℕ × Line). entry.0 < length tolds + 1) lines
   pub text : IsWritten torn start notes.taken notes.faults (text_in lines)
   pub piles_are : ArePiles (map seen_by tolds) piles shared.rings.items shared.book
   pub legal : All (λ (row : Histories). IsLegal (fits (caps shared.config.now)) row.book)
       (map seen_by tolds)
   pub passes : length piles.book.items ≡ length tolds
+
+-- The same once the porter has left too.
+pub record HaveWorked {G C : Type 0} (door : G → DoorTold) (over : G → Bool) (peer : G → List ℕ)
+    (heard : C → ConsoleTold) (shared : Shared) (start : Start) (torn : Bool) (notes : NotesTold)
+    (firsts : List G) (keepers : List (Keeper G)) (first : C) (porter : Porter C) (piles : Piles)
+    : Type 0 where
+  pub tolds : List (KeeperTold G)
+  pub porter_told : PorterTold
+  pub lines : History Line
+  pub told : AreMatched IsToldBy tolds keepers
+  pub told_porter : IsPorterToldBy heard porter_told porter
+  pub roles_are : map role_of tolds ≡ roles_of shared.config.now
+  pub firsts_are : map first_of tolds ≡ firsts
+  pub first_is : porter_told.first ≡ heard first
+  pub kept : (mounts : List ℕ) (book : ℕ) → AreWornWithin mounts book piles
+      → AreKeepers door over peer shared.config.now (mounts ++ book ∷ []) (length lines) 0 tolds
+      × IsPorter shared.config.now (mounts ++ book ∷ []) (length lines) (length tolds) porter_told
+  pub owns : (k : ℕ) (keeper : KeeperTold G) → get_elem? tolds k ≡ some keeper
+      → own k lines ≡ keeper.lines
+  pub porter_owns : own (length tolds) lines ≡ porter_told.lines
+  pub nobody_else : All (λ (entry : ℕ × Line). entry.0 < length tolds + 1) lines
+  pub text : IsWritten torn start notes.taken notes.faults (text_in lines)
+  pub piles_are : ArePiles (seen_by_all tolds porter_told) piles shared.rings.items shared.book
+  pub legal : All (λ (row : Histories). IsLegal (fits (caps shared.config.now)) row.book)
+      (seen_by_all tolds porter_told)
+  pub passes : length piles.book.items ≡ length tolds + 1

@@ -87,9 +87,8 @@ fn asked_line(number: LinkNumber, asked: &Asked) -> Line
     asks_line(number, asks)
 }
 
-/// Puts the line of what the head of a link asks, where it was read by this step and asks something:
-/// this is told of it now. Where a line of the link could not be put
-/// so far, none is.
+/// Puts the line of what the head of a link asks, where it was read by this step and asks
+/// something: this is told of it now. Where a line of the link could not be put so far, none is.
 ///
 /// # Errors
 /// Where a line of the link could not be put, this one or one before it.

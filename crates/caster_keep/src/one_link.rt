@@ -130,8 +130,9 @@ fn tell_receipt<P: AtPress>(
 }
 
 /// Keeps a link that the keeper's gate just gave, as the next of the keeper's: tells who is at its
-/// other end, serves its connection to its receipt and tells meanwhile as what it was let in, counts
-/// the receipt, hangs the link up, and puts the receipt. The lines are put as the caller `by`.
+/// other end, serves its connection to its receipt and tells meanwhile as what it was let in,
+/// counts the receipt, hangs the link up, and puts the receipt. The lines are put as the caller
+/// `by`.
 ///
 /// # Errors
 /// Where a line could not be put: then no further line of it is put, and the link is served and

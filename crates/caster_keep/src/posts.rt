@@ -1,30 +1,53 @@
-//! Keepers take their posts, and leave them.
+//! Keepers and the porter take their posts, and leave them.
 
-ghost use Rattle.std.specs.Prelude.{◌≡◌, ◌≤◌, ◌+◌, ◌++◌, [], length, map, vec_len, vec_capacity};
-ghost use Rattle.caster_keep.specs.Stations.{hand_at, posted};
+ghost use Rattle.std.specs.Prelude.{◌≡◌, ◌<◌, ◌≤◌, ◌+◌, ◌++◌, ◌^◌, [], List, length, map, vec_len, vec_capacity, IfOk};
+ghost use Rattle.caster_keep.specs.Stations.{consoles_in, gates_in, hand_at, posted};
 
+use crate::duty::Duty;
 use crate::keeper::Keeper;
 use crate::post::{AtPost, Post};
 use cast_config::Config;
 use cast_io::Gate;
 use caster_seats::{AtPlaces, Hand};
-use std::alloc::Global;
+use std::alloc::{AllocError, Global};
 use std::sync::Wait;
 
+/// Room for posts of so many keepers and one at the console, which are one list, and for the one at
+/// the console once it has left that.
+pub(crate) fn room_for_posts<A, B>(
+    alloc: Global,
+    keepers: usize,
+) -> Result<(Vec<Duty<A, B>>, Vec<B>), AllocError>
+    requires few { keepers + 1 < 2 ^ 64 }
+    ensures empty { IfOk result (λ room. (room.0.items ≡ []) × (room.1.items ≡ [])) }
+    ensures room { IfOk result (λ room. (keepers + 1 ≤ vec_capacity room.0)
+        × (1 ≤ vec_capacity room.1)) }
+{
+    let posts = Vec::with_capacity(alloc, keepers + 1)?;
+    match Vec::with_capacity(alloc, 1) {
+        Ok(booths) => Ok((posts, booths)),
+        Err(AllocError) => {
+            posts.destroy_empty();
+            Err(AllocError)
+        }
+    }
+}
+
 /// Each of these hands takes its post, behind those that took theirs before.
-pub(crate) fn take_posts<'a, G: Gate, R: Wait + Sync>(
+pub(crate) fn take_posts<'a, G: Gate, B, R: Wait + Sync>(
     rt: &'a R,
     alloc: Global,
     config: &'a Config,
     table: &'a [u8],
     hands: &mut Vec<Hand<'a, Keeper<G>, R>>,
-    posts: &mut Vec<Post<'a, G, R>>,
+    posts: &mut Vec<Duty<Post<'a, G, R>, B>>,
 )
     requires room { vec_len posts.old + length hands.old.items ≤ vec_capacity posts.old }
-    ensures posts { map ⟦<Post<'a, G, R> as AtPost<G>>⟧.told posts.new.items
-        ≡ map ⟦<Post<'a, G, R> as AtPost<G>>⟧.told posts.old.items
-        ++ map (posted config.now table.now)
-        (map ⟦<Hand<'a, Keeper<G>, R> as AtPlaces<Keeper<G>>>⟧.told hands.old.items) }
+    ensures posts { (more : List _)
+        × (posts.new.items ≡ posts.old.items ++ map (λ post. Duty.Gate post) more)
+        × (map ⟦<Post<'a, G, R> as AtPost<G>>⟧.told more
+        ≡ map (posted config.now table.now)
+        (map ⟦<Hand<'a, Keeper<G>, R> as AtPlaces<Keeper<G>>>⟧.told hands.old.items)) }
     ensures taken { hands.new.items ≡ [] }
     ensures space { vec_capacity hands.old ≤ vec_capacity hands.new }
     ensures count { vec_len posts.new ≡ vec_len posts.old + length hands.old.items }
@@ -34,25 +57,36 @@ pub(crate) fn take_posts<'a, G: Gate, R: Wait + Sync>(
         return;
     };
     take_posts(rt, alloc, config, table, hands, posts);
-    posts.push_reserved(Post::new(rt, alloc, config, table, hand));
+    posts.push_reserved(Duty::Gate(Post::new(rt, alloc, config, table, hand)));
 }
 
-/// Each of these leaves its post: the hands come to the list, in order.
-pub(crate) fn leave_posts<'a, G: Gate, R: Wait + Sync>(
-    mut posts: Vec<Post<'a, G, R>>,
+/// Each of these leaves its post: the hands of those at gates come to the one list, and those at
+/// the console to the other, in order.
+pub(crate) fn leave_posts<'a, G: Gate, B, R: Wait + Sync>(
+    mut posts: Vec<Duty<Post<'a, G, R>, B>>,
     hands: &mut Vec<Hand<'a, Keeper<G>, R>>,
+    booths: &mut Vec<B>,
 )
-    requires room { vec_len hands.old + length posts.items ≤ vec_capacity hands.old }
+    requires room { vec_len hands.old + length (gates_in posts.items) ≤ vec_capacity hands.old }
+    requires place { vec_len booths.old + length (consoles_in posts.items)
+        ≤ vec_capacity booths.old }
     ensures hands { map ⟦<Hand<'a, Keeper<G>, R> as AtPlaces<Keeper<G>>>⟧.told hands.new.items
         ≡ map ⟦<Hand<'a, Keeper<G>, R> as AtPlaces<Keeper<G>>>⟧.told hands.old.items
-        ++ map hand_at (map ⟦<Post<'a, G, R> as AtPost<G>>⟧.told posts.entry.items) }
-    ensures count { vec_len hands.new ≡ vec_len hands.old + length posts.entry.items }
+        ++ map hand_at (map ⟦<Post<'a, G, R> as AtPost<G>>⟧.told (gates_in posts.entry.items)) }
+    ensures booths { booths.new.items ≡ booths.old.items ++ consoles_in posts.entry.items }
+    ensures count { vec_len hands.new ≡ vec_len hands.old + length (gates_in posts.entry.items) }
     ensures capacity { vec_capacity hands.old ≤ vec_capacity hands.new }
+    ensures booth_count { vec_len booths.new
+        ≡ vec_len booths.old + length (consoles_in posts.entry.items) }
+    ensures booth_capacity { vec_capacity booths.old ≤ vec_capacity booths.new }
 {
-    let Some(post) = posts.pop() else {
+    let Some(last) = posts.pop() else {
         posts.destroy_empty();
         return;
     };
-    leave_posts(posts, hands);
-    hands.push_reserved(post.into_hand());
+    leave_posts(posts, hands, booths);
+    match last {
+        Duty::Gate(post) => hands.push_reserved(post.into_hand()),
+        Duty::Console(booth) => booths.push_reserved(booth),
+    }
 }

@@ -1,6 +1,6 @@
 //! A whole caster that keeps serving, from the opening of its gates to its totals.
 
-ghost use Rattle.std.specs.Prelude.{◌≡◌, ◌<◌, ◌≤◌, ◌^◌, ℕ, [], ◌∷◌, length, map, vec_capacity, IfOk};
+ghost use Rattle.std.specs.Prelude.{◌≡◌, ◌<◌, ◌≤◌, ◌+◌, ◌^◌, ℕ, [], ◌∷◌, length, map, vec_capacity, IfOk};
 ghost use Rattle.std.specs.List.{All};
 ghost use Rattle.cast_config.specs.Kept.{KeepsRules};
 ghost use Rattle.cast_io.specs.Doors.{IsNewDoor};
@@ -13,9 +13,11 @@ ghost use Rattle.caster_keep.specs.Together.{IsNewKeeper, IsPrepared, role_at};
 use crate::gates::{ask_gates, give_back};
 use crate::keeper::Keeper;
 use crate::locks::keep_at_locks;
+use crate::porter::Porter;
 use crate::stop::Stop;
-use crate::totals::{first_stop, write_totals};
+use crate::totals::{first_stop_of_all, write_totals};
 use cast_config::Config;
+use cast_console::{Console, Lodge};
 use cast_io::{Door, Gate, Sink, Street, StreetFault, Yard};
 use caster_places::{Piles, Totals};
 use caster_seats::{Passes, Shared};
@@ -92,23 +94,26 @@ fn prepare<'c>(alloc: Global, config: &'c Config, callers: u32) -> Result<Ready<
     })
 }
 
-/// All keepers serve until they stop, their lines going to these notes; their gates are given back
-/// then, the locks are closed, and behind the lines the totals are written.
-fn keep_ready<Y: Yard, R: Threads + Wait + Sync>(
+/// All keepers serve until they stop, and the porter waits beside them at a console of the lodge,
+/// the lines of all going to these notes; the gates and the console are given back then, the locks
+/// are closed, and behind the lines the totals are written.
+fn keep_ready<Y: Yard, Z: Lodge, R: Threads + Wait + Sync>(
     rt: &R,
     alloc: Global,
     ready: Ready,
     mut keepers: Vec<Keeper<Y::Gate>>,
     notes: Y::Notes,
     yard: &mut Y,
+    lodge: &mut Z,
 ) -> Result<Outcome, KeepFault>
 where
     Y::Link: Send,
     Y::Gate: Send,
     Y::Notes: Drop + Send,
-    requires prepared { IsPrepared (length keepers.items) ready }
-    requires some_caller { 0 < length keepers.items }
-    requires few { length keepers.items < 2 ^ 32 }
+    Z::Console: Send,
+    requires prepared { IsPrepared (length keepers.items + 1) ready }
+    requires some_keeper { 0 < length keepers.items }
+    requires few { length keepers.items + 1 < 2 ^ 32 }
     requires roles { map role_at keepers.items ≡ roles_of ready.shared.config.now }
     requires fresh { All IsNewKeeper keepers.items }
     requires unused { All (λ keeper. IsNewDoor (Y.Gate.told keeper.gate)) keepers.items }
@@ -116,7 +121,7 @@ where
         (record { taken = Y.Notes.taken notes; faults = Y.Notes.faults notes }) }
     ensures later { (Y.kept yard.old).faults ≤ (Y.kept yard.new).faults }
     ensures answered { Answered Y.Gate.told Y.Gate.over Y.Gate.peer Y.Gate.origin Y.Notes.taken
-        Y.Notes.faults ready.entry.shared.config.now
+        Y.Notes.faults (Z.back lodge.old) (Z.back lodge.new) ready.entry.shared.config.now
         (map (λ keeper. Y.Gate.origin keeper.gate) keepers.items) [] (Y.kept yard.old)
         (Y.kept yard.new) result }
     ensures street { Y.told yard.new ≡ Y.told yard.old }
@@ -128,9 +133,20 @@ where
         totals,
         text,
     } = ready;
-    let written = keep_at_locks(rt, alloc, &shared, passes, &mut keepers, &mut piles, notes);
-    let stop = first_stop(&keepers);
+    let (written, porter) = keep_at_locks(
+        rt,
+        alloc,
+        &shared,
+        passes,
+        &mut keepers,
+        lodge.console(),
+        &mut piles,
+        notes,
+    );
+    let stop = first_stop_of_all(&keepers, &porter);
     give_back(yard, keepers);
+    let Porter { console, end: _ } = porter;
+    lodge.take_console(console);
     let Ok(pressed) = written else {
         drop(shared);
         drop(piles);
@@ -151,33 +167,35 @@ where
 
 /// The same once all gates are given. Where memory or a place for lines is lacking, the gates are
 /// given back as they came.
-fn keep_given<Y: Yard, R: Threads + Wait + Sync>(
+fn keep_given<Y: Yard, Z: Lodge, R: Threads + Wait + Sync>(
     rt: &R,
     alloc: Global,
     config: &Config,
     keepers: Vec<Keeper<Y::Gate>>,
     yard: &mut Y,
+    lodge: &mut Z,
 ) -> Result<Outcome, KeepFault>
 where
     Y::Link: Send,
     Y::Gate: Send,
     Y::Notes: Drop + Send,
+    Z::Console: Send,
     requires kept { (cap : ℕ) × KeepsRules cap config.now }
     requires roles { map role_at keepers.items ≡ roles_of config.now }
     requires fresh { All IsNewKeeper keepers.items }
     requires unused { All (λ keeper. IsNewDoor (Y.Gate.told keeper.gate)) keepers.items }
     ensures later { (Y.kept yard.old).faults ≤ (Y.kept yard.new).faults }
     ensures answered { Answered Y.Gate.told Y.Gate.over Y.Gate.peer Y.Gate.origin Y.Notes.taken
-        Y.Notes.faults config.now (map (λ keeper. Y.Gate.origin keeper.gate) keepers.items)
-        (asked.Notes ∷ []) (Y.kept yard.old) (Y.kept yard.new) result }
+        Y.Notes.faults (Z.back lodge.old) (Z.back lodge.new) config.now
+        (map (λ keeper. Y.Gate.origin keeper.gate) keepers.items) (asked.Notes ∷ []) (Y.kept yard.old) (Y.kept yard.new) result }
     ensures street { Y.told yard.new ≡ Y.told yard.old }
 {
-    let Ok(ready) = prepare(alloc, config, keepers.len() as u32) else {
+    let Ok(ready) = prepare(alloc, config, keepers.len() as u32 + 1) else {
         give_back(yard, keepers);
         return Err(KeepFault::Memory);
     };
     match yard.notes() {
-        Ok(notes) => keep_ready(rt, alloc, ready, keepers, notes, yard),
+        Ok(notes) => keep_ready(rt, alloc, ready, keepers, notes, yard, lodge),
         Err(fault) => {
             drop(ready);
             give_back(yard, keepers);
@@ -189,8 +207,11 @@ where
 /// Keeps serving: opens a gate for each worker at this address, makes one to the peer of each relay
 /// and a place for lines, in this order; then all callers serve side by side, each the links of its
 /// gate until the gate is over, it fails, a line could not be put, or 2^62 links came. The lines of
-/// each link go to the one place for lines as they become known. Then the gates are shut, the locks
-/// are closed, the totals are written behind the lines, and the place for lines is given back.
+/// each link go to the one place for lines as they become known. Beside them a porter waits at a
+/// console of the lodge until nothing is wanted there any more, and puts lines that say how things
+/// stand each time that this is wanted. Then the gates are shut, the console is given back, the
+/// locks are closed, the totals are written behind the lines, and the place for lines is given
+/// back.
 ///
 /// `quiet` is the number of seconds after which a link is to be cut that gave no byte and took
 /// none, 0 for never: the yard is asked for that.
@@ -198,21 +219,24 @@ where
 /// # Errors
 /// `Network` only where the yard's count of faults rose, and `Memory` at any time, both before the
 /// first caller starts: nobody served, and no line was written.
-pub fn keep<Y: Yard, R: Threads + Wait + Sync>(
+pub fn keep<Y: Yard, Z: Lodge, R: Threads + Wait + Sync>(
     rt: &R,
     alloc: Global,
     config: &Config,
     addr: &str,
     quiet: u32,
     yard: &mut Y,
+    lodge: &mut Z,
 ) -> Result<Outcome, KeepFault>
 where
     Y::Link: Send,
     Y::Gate: Send,
     Y::Notes: Drop + Send,
+    Z::Console: Send,
     requires kept { (cap : ℕ) × KeepsRules cap config.now }
     ensures kept { HasKept Y.Gate.told Y.Gate.over Y.Gate.peer Y.Gate.origin Y.Notes.taken
-        Y.Notes.faults config.now addr.now quiet (Y.kept yard.old) (Y.kept yard.new) result }
+        Y.Notes.faults (Z.back lodge.old) (Z.back lodge.new) config.now addr.now quiet
+        (Y.kept yard.old) (Y.kept yard.new) result }
     ensures street { Y.told yard.new ≡ Y.told yard.old }
 {
     let callers = config.workers + config.relay.as_slice().len() as u32;
@@ -220,7 +244,7 @@ where
         return Err(KeepFault::Memory);
     };
     match ask_gates(config, addr, quiet, yard, &mut keepers) {
-        Ok(()) => keep_given(rt, alloc, config, keepers, yard),
+        Ok(()) => keep_given(rt, alloc, config, keepers, yard, lodge),
         Err(fault) => {
             give_back(yard, keepers);
             Err(KeepFault::from(fault))

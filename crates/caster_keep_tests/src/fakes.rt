@@ -9,6 +9,7 @@ ghost use Rattle.cast_io.specs.FakeGates.{is_new_gate};
 ghost use Rattle.cast_io.specs.FakeYards.{are_new_notes};
 
 use cast_config::{Config, read_config};
+use cast_console::{MemLodge, Wanted};
 use cast_io::{
     ByteString, GateEnd, LinkStep, MemDoor, MemGate, MemLink, MemSink, MemStreet, MemYard, PeerAddr,
 };
@@ -57,7 +58,8 @@ pub(crate) const SOURCE: &[u8] = b"SOURCE sesame ALPHA\r\nSource-Agent: NTRIP te
 pub(crate) const FRAMES: &[u8] =
     b"\xd3\x00\x02\x3e\xd0\xa4\xe0\x00\xd3\x00\x02\x43\x50\x06\xa2\x7e";
 
-/// A link whose peer sends these pieces and then ends. Where a piece is empty, nothing is there yet.
+/// A link whose peer sends these pieces and then ends. Where a piece is empty, nothing is there
+/// yet.
 pub(crate) type Pieces<'a> = &'a [&'a [u8]];
 
 /// The configuration that is tried.
@@ -181,14 +183,24 @@ fn gates_of(street: &MemStreet) -> usize {
     }
 }
 
-/// What comes of a caster over this street.
+/// What comes of a caster over this street, at whose console these are wanted.
 fn ran_over<R: Threads + Wait + Sync>(
     rt: &R,
     alloc: Global,
     mut street: MemStreet,
+    wanted: &[Wanted],
 ) -> Result<Ran, Fail> {
     let config = config_of(alloc)?;
-    let ended = match keep(rt, alloc, &config, "127.0.0.1:0", 300, &mut street) {
+    let mut lodge = MemLodge::new(alloc, wanted.to_vec(alloc)?);
+    let ended = match keep(
+        rt,
+        alloc,
+        &config,
+        "127.0.0.1:0",
+        300,
+        &mut street,
+        &mut lodge,
+    ) {
         Ok(outcome) => Ok((outcome.stop, outcome.is_torn)),
         Err(fault) => Err(fault),
     };
@@ -211,7 +223,22 @@ pub(crate) fn run<R: Threads + Wait + Sync>(
     requires gates { IsTrue (list_all is_new_gate gates) }
     requires notes { IsTrue (are_new_notes notes) }
 {
-    ran_over(rt, alloc, street_of(alloc, gates, notes, fails)?)
+    ran_over(rt, alloc, street_of(alloc, gates, notes, fails)?, &[])
+}
+
+/// What comes of a caster that serves no link, at whose console these are wanted, over these notes.
+pub(crate) fn ask<R: Threads + Wait + Sync>(
+    rt: &R,
+    alloc: Global,
+    wanted: &[Wanted],
+    notes: MemSink,
+) -> Result<Ran, Fail>
+    requires notes { IsTrue (are_new_notes notes) }
+{
+    let worker = gate_of(alloc, &[], GateEnd::UsedUp, &[])?;
+    let relay = gate_of(alloc, &[], GateEnd::UsedUp, &[])?;
+    let street = street_of(alloc, [worker, relay], notes, &[])?;
+    ran_over(rt, alloc, street, wanted)
 }
 
 /// What comes of a caster whose worker and whose relay serve links that send these, one after the

@@ -6,6 +6,7 @@ ghost use Rattle.cast_config.specs.Kept.{KeepsRules};
 
 use crate::fakes::{ROVER, link_of};
 use cast_config::{Config, read_config};
+use cast_console::MemLodge;
 use caster_keep::{Stop, keep};
 use std::alloc::Global;
 use std::str;
@@ -60,7 +61,7 @@ total 1 0 0
 ";
 
 /// The configuration that is tried.
-fn config_of(alloc: Global) -> Result<Config, Fail>
+pub(crate) fn two_workers(alloc: Global) -> Result<Config, Fail>
     ensures { IfOk result (KeepsRules 1000000) }
 {
     Ok(read_config(alloc, FILE)?)
@@ -106,7 +107,7 @@ fn yard_of<'a, R: Clock>(
 }
 
 /// The lines of this text that begin so, or all that begin with no digit.
-fn lines_from(alloc: Global, text: &str, front: Option<&str>) -> Result<Vec<u8>, Fail> {
+pub(crate) fn lines_from(alloc: Global, text: &str, front: Option<&str>) -> Result<Vec<u8>, Fail> {
     let mut lines = Vec::new(alloc);
     for line in text.lines() {
         let is_meant = match front {
@@ -125,8 +126,17 @@ fn lines_from(alloc: Global, text: &str, front: Option<&str>) -> Result<Vec<u8>,
 fn met<R: Clock + Threads + Wait + Sync>(rt: &R, alloc: Global) -> Result<[Vec<u8>; 3], Fail> {
     let flags = [AtomicBool::new(false), AtomicBool::new(false)];
     let mut yard = yard_of(rt, alloc, &flags)?;
-    let config = config_of(alloc)?;
-    let outcome = keep(rt, alloc, &config, "127.0.0.1:0", 300, &mut yard);
+    let config = two_workers(alloc)?;
+    let mut lodge = MemLodge::new(alloc, Vec::new(alloc));
+    let outcome = keep(
+        rt,
+        alloc,
+        &config,
+        "127.0.0.1:0",
+        300,
+        &mut yard,
+        &mut lodge,
+    );
     if !matches!(
         outcome.map(|outcome| (outcome.stop, outcome.is_torn)),
         Ok((Stop::Over, false))

@@ -30,8 +30,8 @@ mount ALPHA 2 1\naccount rover1 1 0 0\ntotal 1 0 0\n";
     Ok(())
 }
 
-// The relay is caller 1. Its first link is let in: behind the line of the answer come two bytes that
-// belong to no frame, and two frames. The peer of the second ends at once.
+// The relay is caller 1. Its first link is let in: behind the line of the answer come two bytes
+// that belong to no frame, and two frames. The peer of the second ends at once.
 #[test]
 fn a_relay_has_its_own_lines(rt: HostRuntime) -> Result<(), Fail> {
     let ran = serve_both(
@@ -146,8 +146,8 @@ fn what_others_ask_is_told(rt: HostRuntime) -> Result<(), Fail> {
     Ok(())
 }
 
-/// What comes of a caster at whose worker's gate two links arrive that end at once. The gate is over
-/// then, and its accepts of these numbers fail; that of the relay is over from the first.
+/// What comes of a caster at whose worker's gate two links arrive that end at once. The gate is
+/// over then, and its accepts of these numbers fail; that of the relay is over from the first.
 fn two_links<R: Threads + Wait + Sync>(
     rt: &R,
     alloc: Global,
@@ -174,7 +174,8 @@ fn ended_text(alloc: Global, links: usize) -> Result<Vec<u8>, Fail> {
     Ok(text)
 }
 
-// A gate is asked before each accept whether it is over; then it gives no link, though one is there.
+// A gate is asked before each accept whether it is over; then it gives no link, though one is
+// there.
 #[test]
 fn a_gate_that_is_over_gives_no_link(rt: HostRuntime) -> Result<(), Fail> {
     for (asks, links) in [(0, 0), (1, 0), (2, 1), (3, 2), (4, 2)] {

@@ -4,6 +4,8 @@
 #![tactic(auto)]
 
 #[cfg(test)]
+mod busy_tests;
+#[cfg(test)]
 mod entered_tests;
 #[cfg(test)]
 mod fakes;
@@ -11,6 +13,8 @@ mod fakes;
 mod full_tests;
 #[cfg(test)]
 mod keep_tests;
+#[cfg(test)]
+mod now_tests;
 #[cfg(test)]
 mod sum_tests;
 #[cfg(test)]

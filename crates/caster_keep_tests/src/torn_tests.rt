@@ -30,8 +30,8 @@ fn first_part(alloc: Global, pieces: usize, most: usize) -> Result<Vec<u8>, Fail
     Ok(text)
 }
 
-/// What comes of a caster that serves one rover, where the write behind so many pieces takes so many
-/// bytes, at most all, and fails.
+/// What comes of a caster that serves one rover, where the write behind so many pieces takes so
+/// many bytes, at most all, and fails.
 fn torn_behind<R: Threads + Wait + Sync>(
     rt: &R,
     alloc: Global,

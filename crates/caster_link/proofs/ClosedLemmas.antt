@@ -113,8 +113,8 @@ came_asks c opening me start between session before after last came heading is =
     (subst (λ (w : List Happening). IsHeadingOf (Some opening) (text_of w) heading) came.reached.happened_are is)
     came.reached.asks
 
--- it goes so, its session held what these events came to, and what is told of it is what their bytes
--- ask
+-- it goes so, its session held what these events came to, and what is told of it is what their
+-- bytes ask
 abbrev GoesSo : Config → Opening → ℕ → Histories → Histories → Session → List LinkTook → List ℕ → Last → Receipt → Type 0
 GoesSo c opening me start now session taken written last receipt =
     (goes : LinkGoes c opening me start now taken written last receipt)
@@ -238,7 +238,8 @@ came_closed c opening me alone start between now session before after last recei
       asked = so.2;
     }
 
--- a session for which there was no memory called nothing, was sent nothing, and held and asked nothing
+-- a session for which there was no memory called nothing, was sent nothing, and held and asked
+-- nothing
 pub unopened : (c : Config) (opening : Opening) (me : ℕ) (now : Histories) (told : LinkTold) (receipt : Receipt)
     → IsSettled receipt.settled (closing waiting []) []
     → IsReceipt (Some Memory) waiting [] lasts.End receipt

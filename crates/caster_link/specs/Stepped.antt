@@ -29,8 +29,9 @@ use Rattle.caster_link.specs.Served.{Serving, Came, LinkServed}
 
 -- ---- the end
 
--- The link was served to this receipt. Before its connection was closed it held this: what the events
--- came to of which the receipt tells; and this was told of it: what the bytes among them ask.
+-- The link was served to this receipt. Before its connection was closed it held this: what the
+-- events came to of which the receipt tells; and this was told of it: what the bytes among them
+-- ask.
 pub record HasClosed (c : Config) (opening : Opening) (me : ℕ) (start now : Histories)
     (before after : LinkTold) (holding : Held) (told : Option Asked) (receipt : Receipt) : Type 0 where
   pub served : LinkServed c opening me start now before after receipt

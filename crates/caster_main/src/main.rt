@@ -4,7 +4,7 @@
 
 mod shipped;
 
-use caster_net::{Bells, FileStore, Halt, ReaderSource, TcpStreet, WriterSink};
+use caster_net::{Bells, FileStore, Halt, InputLodge, ReaderSource, TcpStreet, WriterSink};
 use caster_top::refuse_for_memory;
 use shipped::caster_over;
 use std::alloc::AllocError;
@@ -47,6 +47,7 @@ fn main(rt: HostRuntime) -> ExitCode {
     let bells = Bells::new(&rt);
     let halt = Halt::new(&rt);
     let mut street = TcpStreet::new(&rt, &bells, &halt);
+    let mut lodge = InputLodge::new(&rt, &halt);
     let status = match words(&rt) {
         Ok(words) => caster_over(
             &rt,
@@ -56,6 +57,7 @@ fn main(rt: HostRuntime) -> ExitCode {
             &mut input,
             &mut out,
             &mut street,
+            &mut lodge,
         ),
         Err(AllocError) => refuse_for_memory(&mut out),
     };

@@ -25,7 +25,7 @@ ghost use Rattle.caster_logged.specs.Callers.{HasServedAll};
 ghost use Rattle.caster_logged.specs.Peers.{HasRecordedAll};
 ghost use Rattle.caster_logged.specs.Runs.{HasFetchedAll};
 
-use caster_net::{FileStore, ReaderSource, TcpStreet, WriterSink};
+use caster_net::{FileStore, InputLodge, ReaderSource, TcpStreet, WriterSink};
 use caster_top::caster;
 use std::alloc::Global;
 use std::io::{Stdin, Stdout};
@@ -44,6 +44,7 @@ pub fn caster_over<R: Threads + Wait + Sync>(
     input: &mut ReaderSource<Stdin>,
     out: &mut WriterSink<Stdout>,
     street: &mut TcpStreet<'_>,
+    lodge: &mut InputLodge<'_>,
 ) -> u8
     // The report is that of the script that the reads of standard input gave, up to its end.
     ensures report { result ≡ 0 → (capacity : ℕ) → AreBare (texts words.now) capacity
@@ -104,7 +105,7 @@ pub fn caster_over<R: Threads + Wait + Sync>(
         → HasFetchedAll frames targets street.old.street street.new.street
         out.old.taken out.new.taken result }
 {
-    run_logged(rt, alloc, words, store, input, out, street)
+    run_logged(rt, alloc, words, store, input, out, street, lodge)
 }
 
 // The same, with what was done in one word: by the logs of the input and of the files, and by what
@@ -117,6 +118,7 @@ fn run_logged<R: Threads + Wait + Sync>(
     input: &mut ReaderSource<Stdin>,
     out: &mut WriterSink<Stdout>,
     street: &mut TcpStreet<'_>,
+    lodge: &mut InputLodge<'_>,
 ) -> u8
     ensures done { result ≡ 0 → WasDone (texts words.now)
         (HasRead input.old.log input.new.log) (HasReadFile store.old.log store.new.log)
@@ -131,5 +133,5 @@ fn run_logged<R: Threads + Wait + Sync>(
         (street_logged street.old.street) (street_logged street.new.street)
         (Some out.old.taken) (Some out.new.taken) result }
 {
-    caster(rt, alloc, words, store, input, out, street)
+    caster(rt, alloc, words, store, input, out, street, lodge)
 }

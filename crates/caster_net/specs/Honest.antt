@@ -13,16 +13,16 @@ use Rattle.cast_io.specs.declared.link.Got.TheVariants as got
 abbrev pub WouldWait : ErrorKind → Type 0
 WouldWait kind = (kind ≡ kinds.WouldBlock) ⊎ (kind ≡ kinds.Interrupted)
 
--- What an answer of a stream means: so many bytes, above 0, the end at 0, nothing yet where it would
--- have to wait, and a failure at any other error.
+-- What an answer of a stream means: so many bytes, above 0, the end at 0, nothing yet where it
+-- would have to wait, and a failure at any other error.
 abbrev pub Means : Result ℕ Error → Got → Type 0
 Means answer (got.Bytes n) = (answer ≡ Ok n) × (0 < n)
 Means answer got.End = answer ≡ Ok 0
 Means answer got.Idle = IsErrAnd answer (λ fault. WouldWait (error_kind fault))
 Means answer got.Failed = IsErrAnd answer (λ fault. WouldWait (error_kind fault) → ⊥)
 
--- The bytes that a read gave, at the front of its buffer, are the next ones of the stream, which has
--- lost them and no others. At its end the stream has none left.
+-- The bytes that a read gave, at the front of its buffer, are the next ones of the stream, which
+-- has lost them and no others. At its end the stream has none left.
 abbrev pub IsHonestRead : Option (List ℕ) → Option (List ℕ) → Got → List ℕ → Type 0
 IsHonestRead old new (got.Bytes n) buf = Consumes old new (take n buf)
 IsHonestRead old new got.End buf = IsAtEnd old × IsAtEnd new

@@ -8,8 +8,8 @@ use Rattle.cast_io.specs.Logged.{LinkLog, DoorLog, StreetLog, link_logged}
 use Rattle.cast_io.specs.Told.{LinkTold}
 use Rattle.caster_net.specs.Honest.{BothTake}
 
--- a wire, and a link over it: the stream, the steps that it took, the bytes that its writes took, and
--- its count of faults
+-- a wire, and a link over it: the stream, the steps that it took, the bytes that its writes took,
+-- and its count of faults
 pub record WireState (S : Type 0) : Type 0 where
   pub stream : S
   pub taken : List Step

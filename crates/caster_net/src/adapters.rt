@@ -12,7 +12,7 @@ ghost use Rattle.caster_net.specs.Honest.{BothTake, IsHonestRead, IsHonestWrite,
 
 use cast_io::{Failed, Journal, Sink, Source, SourceStep, Store};
 use std::fs::File;
-use std::io::{Read, Write};
+use std::io::{ErrorKind, Read, Write};
 use std::marker::Model;
 
 /// A source that reads from a reader of std, and counts its reads and its failures.
@@ -125,19 +125,25 @@ impl<W: Write> WriterSink<W> {
     }
 
     // One write of a piece that is not empty: how many bytes were taken, and None where none were.
+    // One that a signal interrupted took none, and is tried again.
     fn write_some(&mut self, piece: &[u8]) -> Option<usize>
         ensures bound { IfSome result (λ count. (0 < count) × (count ≤ length piece.now)) }
         ensures both { BothTake (W.contents self.old.writer) (W.contents self.new.writer)
             self.old.taken self.new.taken (take (unwrap_or result 0) piece.now) }
         ensures faults { self.new.faults ≡ self.old.faults }
     {
-        match self.writer.write(piece) {
-            Ok(count) if count > 0 => {
-                self.taken.add_all(&piece[..count]);
-                Some(count)
+        'tries: for _ in 0..u64::MAX {
+            match self.writer.write(piece) {
+                Ok(0) => return None,
+                Ok(count) => {
+                    self.taken.add_all(&piece[..count]);
+                    return Some(count);
+                }
+                Err(fault) if fault.kind() == ErrorKind::Interrupted => {}
+                Err(_) => return None,
             }
-            _ => None,
         }
+        None
     }
 }
 
@@ -261,17 +267,22 @@ impl Store for FileStore<'_> {
     }
 }
 
-// One read of a reader into a buffer that is not empty.
+// One read of a reader into a buffer that is not empty. One that a signal interrupted took nothing,
+// and is tried again.
 fn read_once<R: Read>(reader: &mut R, buf: &mut [u8]) -> Result<usize, Failed>
     requires { 0 < length buf.old }
     ensures bound { ReadsAtMost result buf.new }
     ensures size { length buf.new ≡ length buf.old }
     ensures bytes { ReadConsumes (R.remaining reader.old) (R.remaining reader.new) result buf.new }
 {
-    match reader.read(buf) {
-        Ok(count) => Ok(count),
-        Err(_) => Err(Failed),
+    'tries: for _ in 0..u64::MAX {
+        match reader.read(buf) {
+            Ok(count) => return Ok(count),
+            Err(fault) if fault.kind() == ErrorKind::Interrupted => {}
+            Err(_) => return Err(Failed),
+        }
     }
+    Err(Failed)
 }
 
 // The step of a read that answered this, with its buffer after it.

@@ -51,6 +51,8 @@ pub struct TcpGate<'a> {
     // What ended a rest at the porch, for the next accept.
     came: Option<io::Result<(TcpStream, SocketAddr)>>,
     peer: PeerAddr,
+    // Whether it was asked already whether it is over: so somebody serves here.
+    is_asked: bool,
     is_over: bool,
     origin: Origin,
     back: Journal<TcpLink<'a>>,
@@ -107,12 +109,14 @@ impl<'a> TcpGate<'a> {
         requires { seconds ≡ quiet_of origin }
         ensures { result ≡ new_gate origin }
     {
+        ground.halt.make_gate();
         TcpGate {
             ground,
             way,
             quiet: seconds,
             came: None,
             peer: PeerAddr::unknown(),
+            is_asked: false,
             is_over: false,
             origin,
             back: Journal::new(),
@@ -153,6 +157,23 @@ impl<'a> TcpGate<'a> {
         Ok(link)
     }
 
+    // Somebody serves here.
+    fn begin_gate(&mut self)
+        ensures { self.new ≡ self.old }
+    {
+        if !self.is_asked {
+            self.is_asked = true;
+            self.ground.halt.begin_gate();
+        }
+    }
+
+    // A link came of a connection: where it came to the porch, a worker has it.
+    fn begin(&self) {
+        if let Way::Porch(_) = &self.way {
+            self.ground.halt.begin_link();
+        }
+    }
+
     // No link came of a connection: the peer, where it is dialled, is not at once again.
     fn put_off(&mut self)
         ensures { self.new ≡ self.old }
@@ -177,7 +198,10 @@ impl<'a> Door for TcpGate<'a> {
     {
         match self.next() {
             Ok((stream, peer)) => match self.welcome(stream, peer) {
-                Ok(link) => Arrived::Link(link),
+                Ok(link) => {
+                    self.begin();
+                    Arrived::Link(link)
+                }
                 Err(_) => {
                     self.put_off();
                     Arrived::Idle
@@ -204,8 +228,9 @@ impl<'a> Door for TcpGate<'a> {
     {
         self.back.add(&link);
         link.close(Duration::from_millis(LONGEST_END));
-        if let Way::Peer(peer) = &mut self.way {
-            peer.end(self.ground.rt);
+        match &mut self.way {
+            Way::Porch(_) => self.ground.halt.end_link(),
+            Way::Peer(peer) => peer.end(self.ground.rt),
         }
     }
 }
@@ -221,6 +246,7 @@ impl Gate for TcpGate<'_> {
         ensures over { result ≡ self.new.over }
         ensures same { self.new ≡ record self.old { over = self.new.over } }
     {
+        self.begin_gate();
         self.ground.halt.look(self.ground.rt);
         self.is_over = self.ground.halt.is_asked();
         self.is_over

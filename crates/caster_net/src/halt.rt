@@ -1,11 +1,11 @@
-//! The stop of a caster that serves until it is told to.
+//! The stop of a caster that serves until it is told to, and what else its input asks.
 use crate::words::{Line, Word};
 use libc::net::{POLLHUP, POLLIN, POLLNVAL, poll};
 use libc::types::pollfd;
 use libc::{getpgrp, read, tcgetpgrp};
 use std::os::fd::{AsRawFd, RawFd};
 use std::sync::Mutex;
-use std::sync::atomic::{AtomicBool, Ordering};
+use std::sync::atomic::{AtomicBool, AtomicU32, AtomicU64, Ordering};
 use std::time::{Duration, Instant};
 
 // How long the input is left alone after a look at it, in milliseconds.
@@ -17,12 +17,29 @@ const MOST_TAKEN: usize = 4096;
 /// Whether all gates of a street are to be over and all links of these to end. It is asked for by
 /// the line `stop` of an input, and by who else finds a cause for it; then it stands for good.
 ///
-/// No thread waits for the input: those that serve have a look at it now and then. A look takes
-/// only what is there, and where another thread is having one, it does nothing.
+/// Each line `status` of the input is counted, for who says how things stand; and so are the links
+/// that workers serve, and the gates at which nobody serves yet.
+///
+/// No thread waits for the input: those that serve, and who says how things stand, have a look at
+/// it now and then. A look takes only what is there, and where another thread is having one, it
+/// does nothing.
 #[derive(Drop)]
 pub struct Halt {
     is_asked: AtomicBool,
+    // How many lines `status` came.
+    statuses: AtomicU64,
+    // How many workers serve a link.
+    busy: AtomicU32,
+    // How many gates were made that nobody asked whether they are over.
+    unasked: AtomicU32,
     input: Mutex<Input>,
+}
+
+// What words came in one look.
+#[derive(Clone, Copy)]
+struct Came {
+    stop: bool,
+    statuses: u64,
 }
 
 // The input, which may be a FIFO, a pipe, a terminal, a file or /dev/null, as far as it was looked
@@ -47,6 +64,9 @@ impl Halt {
     pub fn over(fd: RawFd) -> Halt {
         Halt {
             is_asked: AtomicBool::new(false),
+            statuses: AtomicU64::new(0),
+            busy: AtomicU32::new(0),
+            unasked: AtomicU32::new(0),
             input: Mutex::new(Input {
                 fd: if is_open(fd) { Some(fd) } else { None },
                 line: Line::new(),
@@ -65,6 +85,41 @@ impl Halt {
         self.is_asked.load(Ordering::SeqCst)
     }
 
+    /// How many lines `status` came so far.
+    pub(crate) fn statuses(&self) -> u64 {
+        self.statuses.load(Ordering::SeqCst)
+    }
+
+    /// How many workers serve a link now.
+    pub(crate) fn busy(&self) -> u32 {
+        self.busy.load(Ordering::SeqCst)
+    }
+
+    /// Whether nobody serves yet at some gate that was made.
+    pub(crate) fn has_unasked_gate(&self) -> bool {
+        self.unasked.load(Ordering::SeqCst) > 0
+    }
+
+    /// A gate was made.
+    pub(crate) fn make_gate(&self) {
+        let _ = self.unasked.fetch_add(1, Ordering::SeqCst);
+    }
+
+    /// And somebody serves there from now on.
+    pub(crate) fn begin_gate(&self) {
+        let _ = self.unasked.fetch_sub(1, Ordering::SeqCst);
+    }
+
+    /// A worker has a link from now on.
+    pub(crate) fn begin_link(&self) {
+        let _ = self.busy.fetch_add(1, Ordering::SeqCst);
+    }
+
+    /// And from now on it has none.
+    pub(crate) fn end_link(&self) {
+        let _ = self.busy.fetch_sub(1, Ordering::SeqCst);
+    }
+
     /// Has a look at the input, where the last one is a while ago, and heeds the words that came.
     pub(crate) fn look(&self, rt: &HostRuntime) {
         if self.is_asked() {
@@ -73,7 +128,17 @@ impl Halt {
         let Some(mut input) = self.input.try_lock() else {
             return;
         };
-        if input.is_due(rt) && input.asks_stop() {
+        if input.is_due(rt) {
+            self.heed(input.come());
+        }
+    }
+
+    // Heeds the words that came.
+    fn heed(&self, came: Came) {
+        if came.statuses > 0 {
+            let _ = self.statuses.fetch_add(came.statuses, Ordering::SeqCst);
+        }
+        if came.stop {
             self.ask();
         }
     }
@@ -94,20 +159,24 @@ impl Input {
         true
     }
 
-    // Takes what is there, and answers whether a line of it asks for the stop.
-    fn asks_stop(&mut self) -> bool {
+    // Takes what is there, and answers which words its lines are.
+    fn come(&mut self) -> Came {
+        let mut came = Came {
+            stop: false,
+            statuses: 0,
+        };
         let mut taken = [0u8; MOST_TAKEN];
         let Some(bytes) = self.take(&mut taken) else {
-            return false;
+            return came;
         };
-        let mut stop = false;
         for byte in bytes {
             match self.line.hear(*byte) {
-                Some(Word::Stop) => stop = true,
+                Some(Word::Stop) => came.stop = true,
+                Some(Word::Status) => came.statuses = came.statuses.saturating_add(1),
                 None => {}
             }
         }
-        stop
+        came
     }
 
     // Takes what is there, without a wait. At the end of the input, behind which more may come of a

@@ -1,11 +1,13 @@
 //! What the program runs on: the readers, the writers, the files and the sockets of std as the
-//! sources, sinks, stores, links, doors, gates and streets of `cast_io`. For contracts alone each
+//! sources, sinks, stores, links, doors, gates and streets of `cast_io`, and the input of a stop as
+//! the consoles of `cast_console`. For contracts alone each
 //! has a record of what those gave and took, which takes no memory. That a call of std did what its
 //! answer says is outside of every proof.
 #![tactic(auto)]
 
 mod adapters;
 mod bells;
+mod console;
 mod dial;
 mod door;
 mod gate;
@@ -27,6 +29,7 @@ mod yard;
 
 pub use adapters::{FileStore, ReaderSource, WriterSink};
 pub use bells::Bells;
+pub use console::{InputConsole, InputLodge};
 pub use door::{DoorBell, TcpDoor};
 pub use gate::TcpGate;
 pub use halt::Halt;

@@ -1,7 +1,7 @@
 //! Standard output as lines go there while others are served.
 use libc::write;
 use std::io;
-use std::io::{ErrorKind, Write};
+use std::io::Write;
 use std::os::fd::{AsRawFd, RawFd};
 
 /// What is open at a descriptor, as standard output. Where nobody reads it, a write fails: the
@@ -27,7 +27,7 @@ impl Write for NoteOut {
     fn write(&mut self, buf: &[u8]) -> io::Result<usize> {
         match usize::try_from(write(self.fd, buf)) {
             Ok(count) => Ok(count.min(buf.len())),
-            Err(_) => Err(io::Error::from(ErrorKind::Other)),
+            Err(_) => Err(io::Error::from_raw_os_error(os::errno())),
         }
     }
 

@@ -15,8 +15,8 @@ const INTERVAL: i32 = 10;
 // After how many questions with no answer the connection has failed.
 const PROBES: i32 = 3;
 
-// After how many milliseconds the connection has failed, where bytes were sent and the peer's system
-// acknowledged none of them: as long as all questions take where none were sent.
+// After how many milliseconds the connection has failed, where bytes were sent and the peer's
+// system acknowledged none of them: as long as all questions take where none were sent.
 const UNACKNOWLEDGED: i32 = 90_000;
 
 /// Has the system find out that the peer of this connection is gone: by questions where nothing is

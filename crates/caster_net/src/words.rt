@@ -9,6 +9,8 @@ const MOST: usize = 32;
 pub(crate) enum Word {
     /// To stop.
     Stop,
+    /// To say how things stand.
+    Status,
 }
 
 /// The line that has not ended yet.
@@ -60,6 +62,8 @@ fn word_of(line: &[u8]) -> Option<Word> {
     };
     if line == b"stop".as_slice() {
         Some(Word::Stop)
+    } else if line == b"status".as_slice() {
+        Some(Word::Status)
     } else {
         None
     }

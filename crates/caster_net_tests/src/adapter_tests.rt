@@ -1,4 +1,5 @@
-//! A reader whose reads fail, a writer that takes a byte a call, and files.
+//! A reader whose reads fail, a writer that takes a byte a call, calls that are interrupted, and
+//! files.
 use cast_io::{Failed, Sink, Source, Store};
 use caster_net::{FileStore, ReaderSource, WriterSink};
 use std::io;
@@ -34,6 +35,44 @@ impl Write for Narrow {
     }
 }
 
+// A reader and a writer whose first calls are interrupted, this many. The next ones give or take one
+// byte.
+#[derive(Drop)]
+struct Interrupted {
+    left: usize,
+}
+
+impl Interrupted {
+    // Whether this call is interrupted.
+    fn is_now(&mut self) -> bool {
+        let is_one = self.left > 0;
+        self.left = self.left.saturating_sub(1);
+        is_one
+    }
+}
+
+impl Read for Interrupted {
+    fn read(&mut self, buf: &mut [u8]) -> io::Result<usize> {
+        if self.is_now() {
+            return Err(io::Error::from(ErrorKind::Interrupted));
+        }
+        if buf.is_empty() { Ok(0) } else { Ok(1) }
+    }
+}
+
+impl Write for Interrupted {
+    fn write(&mut self, buf: &[u8]) -> io::Result<usize> {
+        if self.is_now() {
+            return Err(io::Error::from(ErrorKind::Interrupted));
+        }
+        if buf.is_empty() { Ok(0) } else { Ok(1) }
+    }
+
+    fn flush(&mut self) -> io::Result<()> {
+        Ok(())
+    }
+}
+
 #[test]
 fn a_failed_read_of_the_reader_is_one_of_the_source(rt: HostRuntime) {
     let mut source = ReaderSource::new(Broken);
@@ -52,6 +91,20 @@ fn a_sink_writes_the_whole_piece_or_fails(rt: HostRuntime) {
     ] {
         assert_eq!(rt; sink.write(piece), wanted);
     }
+}
+
+#[test]
+fn a_read_that_is_interrupted_is_made_again(rt: HostRuntime) {
+    let mut source = ReaderSource::new(Interrupted { left: 3 });
+    let first = source.read(&mut [0u8; 8]);
+    let second = source.read(&mut [0u8; 8]);
+    assert_eq!(rt; (first, second), (Ok(1), Ok(1)));
+}
+
+#[test]
+fn a_write_that_is_interrupted_is_made_again(rt: HostRuntime) {
+    let mut sink = WriterSink::new(Interrupted { left: 3 });
+    assert_eq!(rt; sink.write(b"abc"), Ok(()));
 }
 
 // Whether this file is opened, and what a read of the store gives then.

@@ -96,7 +96,8 @@ module _ (part : Sum → ℕ) (weight : ℕ → ℕ → ℕ) (none : part nothin
       ∙ from_none (part nothing) (sum_by (counted weight) (own me h)) none
       ∙ sym (of_own weight me h)
 
-  -- each of these callers, numbered from this number on, called in the whole history what it saw of its own
+  -- each of these callers, numbered from this number on, called in the whole history what it saw of
+  -- its own
   part_rows : (sum : Sum) (k : ℕ) (whole : History BookCall) (rows : List Histories)
       → ((i : ℕ) (row : Histories) → get_elem? rows i ≡ some row → own (k + i) row.book ≡ own (k + i) whole)
       → part (added sum (left_by k rows))

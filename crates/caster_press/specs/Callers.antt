@@ -77,9 +77,9 @@ abbrev pub rows_of : List CallerTold → List Row
 rows_of callers = map (λ (caller : CallerTold). row_of caller.place) callers
 
 module _ {V A R W : Type 0} {g : Ghosts V Line A R Start} where
-  -- Callers numbered from 0, each with the work at the same place of the first list, did their works
-  -- at this lock, and left: the works as they are now are the second list, and these passes were
-  -- given back. Each work put exactly the lines of its caller.
+  -- Callers numbered from 0, each with the work at the same place of the first list, did their
+  -- works at this lock, and left: the works as they are now are the second list, and these passes
+  -- were given back. Each work put exactly the lines of its caller.
   pub record HaveLeft (wrote : Wrote W) (lock : LockTold) (olds news : List W)
       (passes : List (Pass V Line A R Start g)) : Type 0 where
     pub count : length news ≡ length olds

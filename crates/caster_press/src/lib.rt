@@ -1,7 +1,7 @@
 //! One output of many callers: each puts its lines in its own order, and each line is whole.
 //!
-//! A `Press` is played at a lock of `turn_log`. A caller puts its lines from a place `AtPress`, such
-//! as a seat of that lock. Once the lock is closed, the text is the lines of one history.
+//! A `Press` is played at a lock of `turn_log`. A caller puts its lines from a place `AtPress`,
+//! such as a seat of that lock. Once the lock is closed, the text is the lines of one history.
 #![tactic(auto)]
 
 mod callers;

@@ -55,8 +55,8 @@ fn late_door(alloc: Global) -> Result<MemDoor, AllocError> {
     MemDoor::new(alloc, arrivals, Vec::new(alloc))
 }
 
-/// The lines of that junk, of the opening of the second connection and of the frame, up to the digits
-/// of the rover's head.
+/// The lines of that junk, of the opening of the second connection and of the frame, up to the
+/// digits of the rover's head.
 fn junk_and_frame(alloc: Global) -> Result<Vec<u8>, AllocError> {
     let digits = [b'0'; 1200];
     [

@@ -1,5 +1,5 @@
--- What the loops of a recorded run keep: over its events, over the connections that are closed at its
--- end, and over what is told of them.
+-- What the loops of a recorded run keep: over its events, over the connections that are closed at
+-- its end, and over what is told of them.
 use Rattle.std.proofs.Common.{◌≡◌, ◌∙◌, ◌<◌, ◌++◌, ◌+◌, ℕ, zero, suc, List, [], ◌∷◌, length, map, take, drop, get_or, set, refl, sym, ap, subst, arith}
 use Rattle.std.proofs.lemmas.List.{take_more_set, get_or-map, length-map, length-set, map-append}
 use Rattle.std.proofs.lemmas.List.Elements.{All-nil, All-cons, All-head, All-tail, All-append}

@@ -1,5 +1,5 @@
--- The receipt of a connection that was closed is what is told of it, with its closing turn among its
--- steps.
+-- The receipt of a connection that was closed is what is told of it, with its closing turn among
+-- its steps.
 use Rattle.std.proofs.Common.{◌≡◌, ◌∙◌, ◌++◌, ◌⊎◌, ℕ, Bool, true, false, IsTrue, List, [], ◌∷◌, refl, sym, ap, subst, inl, inr, Option, None, Some}
 use Rattle.std.specs.Prelude.{reverse, unwrap_or}
 use Rattle.std.proofs.lemmas.List.Sums.{fold-append}

@@ -1,5 +1,5 @@
--- The events of one connection among those of a script: how it opened, its bytes, and whether it was
--- closed; and what its heading says while more come.
+-- The events of one connection among those of a script: how it opened, its bytes, and whether it
+-- was closed; and what its heading says while more come.
 use Rattle.std.proofs.Common.{◌≡◌, ◌≢◌, ◌∙◌, ℕ, Bool, true, false, cond, List, [], ◌∷◌, ◌++◌, refl, sym, ap, append_assoc, Option, None, Some}
 use Rattle.std.proofs.lemmas.List.{append-nil}
 use Rattle.std.specs.Prelude.{◌==◌}

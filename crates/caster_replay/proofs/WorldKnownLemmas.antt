@@ -1,5 +1,5 @@
--- What the events of a script say of each connection of its run: how it opened, and that its text is
--- all its bytes while it goes on.
+-- What the events of a script say of each connection of its run: how it opened, and that its text
+-- is all its bytes while it goes on.
 use Rattle.std.proofs.Common.{◌≡◌, ◌≢◌, ◌∙◌, ◌++◌, ℕ, Bool, true, false, cond, List, [], ◌∷◌, All, refl, sym, ap, subst, inl, inr, append_assoc, Option, None, Some}
 use Rattle.std.specs.Prelude.{◌==◌, ◌&&◌, ◌||◌, nat_lt, is_none}
 use Rattle.std.proofs.lemmas.Bool.{false≢true, cases_eq, cases_Bool, eq-eqb, ne_eqb}

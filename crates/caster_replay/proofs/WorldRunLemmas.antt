@@ -28,7 +28,8 @@ use Rattle.caster_replay.proofs.WorldEventLemmas.{Becomes}
 
 -- ---- what a run keeps of its connections
 
--- the run so far, where its connections have these headings: what is kept of them, and the histories
+-- the run so far, where its connections have these headings: what is kept of them, and the
+-- histories
 pub record IsRunAt (c : Config) (headings : ℕ → Heading) (w : World) (lives : List Live) (now : Histories)
     : Type 0 where
   pub histories : w.histories ≡ now

@@ -1,5 +1,5 @@
--- What a runner needs of a script: nothing happens to a number before it opens, and no connection has
--- more bytes than came in.
+-- What a runner needs of a script: nothing happens to a number before it opens, and no connection
+-- has more bytes than came in.
 use Rattle.std.proofs.Common.{◌≡◌, ◌≢◌, ◌∙◌, ◌<◌, ◌≤◌, ◌++◌, ◌+◌, ◌^◌, ℕ, Bool, true, false, cond, List, [], ◌∷◌, length, length-append, get_or, refl, sym, ap, subst, inl, arith, Option, None, Some}
 use Rattle.std.specs.Prelude.{◌==◌, ◌&&◌, ◌||◌}
 use Rattle.std.specs.List.{sum_by}

@@ -1,4 +1,5 @@
--- What the words of a caster that keeps serving and its end say of a status and of what was written.
+-- What the words of a caster that keeps serving and its end say of a status and of what was
+-- written.
 use Rattle.std.proofs.Common.{◌≡◌, ℕ, ◌+◌, ◌*◌, ◌≤◌, ◌⊎◌, Bool, true, false, List, [], ◌∷◌, length, Option, None, Some, Result, Ok, Err, inl, inr, refl, ap, sym, subst, ◌∙◌, arith}
 use Rattle.std.specs.Io.KnownBytes.{Appends}
 use Rattle.cast_io.specs.Told.{Grew, StoreTold}

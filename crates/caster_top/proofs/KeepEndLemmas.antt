@@ -18,14 +18,18 @@ use Rattle.caster_keep.specs.declared.whole.Outcome.{Outcome}
 use Rattle.caster_keep.specs.declared.whole.KeepFault.{KeepFault}
 use Rattle.caster_keep.specs.declared.whole.KeepFault.TheVariants as faults
 use Rattle.caster_keep.specs.Keepers.{IsWhy, AreItsLines}
-use Rattle.caster_keep.specs.Keeping.{AreKeepers, HasKept, IsKeeper, KeeperTold, first_stop, start_of, stop_of}
+use Rattle.cast_console.specs.Consoles.{ConsoleTold}
+use Rattle.keep_porter.specs.declared.end.WaitEnd.{WaitEnd}
+use Rattle.keep_porter.specs.declared.end.WaitEnd.TheVariants as waits
+use Rattle.keep_porter.specs.Porters.{AreAllSaid, IsItsEnd}
+use Rattle.caster_keep.specs.Keeping.{AreKeepers, HasKept, IsKeeper, IsPorter, KeeperTold, PorterTold, first_stop, start_of, stop_of, stop_of_end}
 use Rattle.caster_top.specs.Command.{keeping, AreKeep}
 use Rattle.caster_top.specs.Reading.{config_in}
 use Rattle.caster_top.specs.Outcome.{Ending, EndsSo, Exit, ending_of_bytes, ending_of_keeping, ending_of_read, exactly, long_exit, memory_exit, network_exit, usage_exit, whole_exit}
 use Rattle.caster_top.specs.Told.{Files, Input, IsConfigFrom, IsOutcome, WritesPart}
 use Rattle.caster_top.specs.Answers.{IsRefused, Writes}
 use Rattle.caster_top.specs.Casting.{RefusedEnd}
-use Rattle.caster_top.specs.Keeping.{AreDone, EndOfKeeping, HasKeeping, IsDone, Keeps, KeptEnd, KeptToItsEnd}
+use Rattle.caster_top.specs.Keeping.{AreDone, EndOfKeeping, HasKeeping, IsDone, Keeps, KeptEnd, KeptToItsEnd, PorterIsDone}
 use Rattle.caster_top.proofs.WordLemmas.{form_of-form}
 use Rattle.caster_top.proofs.AnswerLemmas.{config_came, ending_of_bytes-long, ending_of_bytes-short, outcome_of_read}
 use Rattle.caster_top.proofs.DoneLemmas.{config_more}
@@ -254,14 +258,32 @@ module _ {G : Type 0} (told : G → DoorTold) (over : G → Bool) (peer : G → 
         keepers_done c worn most (n + 1) keepers are.1 both.1,
       )
 
+-- the porter's console was over, and all of its lines were put
+porter_done : (c : Config) (worn : List ℕ) (most me : ℕ) (porter : PorterTold) → IsPorter c worn most me porter
+    → stop_of_end porter.end ≡ stops.Over → PorterIsDone c porter
+porter_done c worn most me porter is stopped = by_end porter.end is.answered.said is.answered.why stopped where
+  by_end : (end : WaitEnd) → AreAllSaid end c porter.given (map text_of porter.lines)
+      → IsItsEnd end porter.console is.met → stop_of_end end ≡ stops.Over → PorterIsDone c porter
+  by_end waits.Over said why over = record { console_over = why; of_all = said.0; all_lines = said.1 }
+  by_end waits.Worn said why over = absurd (let clash : stops.Worn ≡ stops.Over = over in cc)
+
+-- the first of these and of one more
+over_both : (list : List Stop) (last : Stop) → first_stop (list ++ last ∷ []) ≡ stops.Over
+    → (first_stop list ≡ stops.Over) × (last ≡ stops.Over)
+over_both [] last is = (refl, (first_over last [] is).0)
+over_both (stops.Over ∷ list) last is = over_both list last is
+over_both (stops.Failed ∷ list) last is = absurd (let clash : stops.Failed ≡ stops.Over = is in cc)
+over_both (stops.Worn ∷ list) last is = absurd (let clash : stops.Worn ≡ stops.Over = is in cc)
+over_both (stops.Full ∷ list) last is = absurd (let clash : stops.Full ≡ stops.Over = is in cc)
+
 module _ {G O : Type 0} {told : G → DoorTold} {over : G → Bool} {peer : G → List ℕ} {origin : G → YardAsked}
-    {taken : O → Option (List ℕ)} {faults_of : O → ℕ} where
+    {taken : O → Option (List ℕ)} {faults_of : O → ℕ} {back_before back_now : List ConsoleTold} where
   came_whole : (files : Files) (config addr : List ℕ) (quiet : ℕ) (before after : YardTold)
       (old new : Option (List ℕ)) (first now status : ℕ) (c : Config) (came_to : Result Outcome KeepFault)
       → IsConfigFrom files config c
-      → HasKept told over peer origin taken faults_of c addr quiet before after came_to
+      → HasKept told over peer origin taken faults_of back_before back_now c addr quiet before after came_to
       → EndOfKeeping came_to old new first now status → status ≡ 0
-      → KeptToItsEnd told over peer origin taken faults_of files config addr quiet before after old new
+      → KeptToItsEnd told over peer origin taken faults_of back_before back_now files config addr quiet before after old new
   came_whole files config addr quiet before after old new first now status c (Ok outcome) is did end zero =
       let whole = ended_zero outcome.is_torn outcome.stop old new first now status end zero in
       let went = did.answered in
@@ -273,7 +295,11 @@ module _ {G O : Type 0} {told : G → DoorTold} {over : G → Bool} {peer : G �
         outcome = outcome;
         went = went;
         done = keepers_done told over peer c _ _ 0 went.ended.keepers went.ended.all.keepers_are
-            (sym went.ended.stop_is ∙ whole.1);
+            (over_both (map stop_of went.ended.keepers) (stop_of_end went.ended.porter.end)
+            (sym went.ended.stop_is ∙ whole.1)).0;
+        porter_done = porter_done c _ _ (length went.ended.keepers) went.ended.porter went.ended.all.porter_is
+            (over_both (map stop_of went.ended.keepers) (stop_of_end went.ended.porter.end)
+            (sym went.ended.stop_is ∙ whole.1)).1;
         written = text.0;
         unharmed = text.1;
         nothing_more = whole.2;
@@ -289,10 +315,10 @@ module _ {G O : Type 0} {told : G → DoorTold} {over : G → Bool} {peer : G �
   pub keep_whole : {files more : Files} {config addr : List ℕ} {quiet : ℕ} {before after : YardTold} {fault : Type 0}
       {old new : Option (List ℕ)} {first now status : ℕ}
       → ((path bytes : List ℕ) → length bytes ≤ 8388608 → files path bytes → more path bytes)
-      → HasKeeping (HasKept told over peer origin taken faults_of) files config addr quiet before after fault old new
+      → HasKeeping (HasKept told over peer origin taken faults_of back_before back_now) files config addr quiet before after fault old new
       first now status
       → status ≡ 0
-      → KeptToItsEnd told over peer origin taken faults_of more config addr quiet before after old new
+      → KeptToItsEnd told over peer origin taken faults_of back_before back_now more config addr quiet before after old new
   keep_whole {files} {more} {config} {addr} {quiet} {before} {after} {fault} {old} {new} {first} {now} {status} each
       (inr has) zero =
       came_whole more config addr quiet before after old new first now status has.c has.came_to

@@ -1,5 +1,5 @@
--- What follows from the outcome alone: of a call whose status and text are the outcome of words, input and
--- files, unless its status is 4, 5 or 7.
+-- What follows from the outcome alone: of a call whose status and text are the outcome of words,
+-- input and files, unless its status is 4, 5 or 7.
 use Rattle.std.proofs.Common.{◌≡◌, ℕ, List, codes, Option, Ok, inl, inr, refl, sym, subst, ◌∙◌, arith}
 use Rattle.std.proofs.lemmas.Bool.{cases_eq}
 use Rattle.std.specs.Io.KnownBytes.{Appends}

@@ -84,8 +84,8 @@ seven_written : (old new : Option (List ℕ)) (first now status : ℕ) (answer :
 seven_written old new first now status answer (inl written) seven = seven_at old new status answer written seven
 seven_written old new first now status answer (inr torn) seven = absurd (omega (arith, torn.0, seven))
 
--- a first part of an answer's text is one of the outcome, of the line of a fault or of that of want of
--- memory
+-- a first part of an answer's text is one of the outcome, of the line of a fault or of that of want
+-- of memory
 part_of : (words : List (List ℕ)) (input : Input) (files : Files) (of_input of_store : Type 0)
     (old new : Option (List ℕ)) (answer : Answer) → IsAnswer words input files of_input of_store answer
     → AppendsPrefix old new (exit_of answer).text → WritesPart words input files of_input of_store old new

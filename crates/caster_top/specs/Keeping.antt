@@ -1,9 +1,11 @@
 -- What the program ends with that keeps serving.
 use Rattle.std.specs.Prelude.{◌≡◌, ℕ, ◌+◌, ◌⊎◌, ⊤, Bool, IsTrue, true, false, List, [], ◌∷◌, ◌++◌, map, Option, Result, Ok, Err}
+use Rattle.std.specs.List.{All, flat_map}
 use Rattle.std.specs.Io.KnownBytes.{Appends}
 use Rattle.cast_io.specs.Told.{DoorTold}
 use Rattle.cast_io.specs.declared.yard_asked.YardAsked.{YardAsked}
 use Rattle.cast_io.specs.Yards.{YardTold}
+use Rattle.cast_console.specs.Consoles.{ConsoleTold}
 use Rattle.cast_config.specs.declared.config.Config.{Config}
 use Rattle.session_model.specs.Text.{closed_text}
 use Rattle.caster_press.specs.Lines.{text_in, text_of}
@@ -13,8 +15,9 @@ use Rattle.caster_keep.specs.declared.whole.Outcome.{Outcome}
 use Rattle.caster_keep.specs.declared.whole.KeepFault.{KeepFault}
 use Rattle.caster_keep.specs.declared.whole.KeepFault.TheVariants as faults
 use Rattle.caster_keep.specs.Gates.{asked_of, made_of}
-use Rattle.caster_keep.specs.Keeping.{KeeperTold, Went}
+use Rattle.caster_keep.specs.Keeping.{KeeperTold, PorterTold, Went}
 use Rattle.caster_keep.specs.Links.{lines_from}
+use Rattle.keep_porter.specs.Porters.{IsOfAll, answer_lines}
 use Rattle.caster_top.specs.Outcome.{Exit, network_exit, memory_exit}
 use Rattle.caster_top.specs.Told.{Files, IsConfigFrom}
 use Rattle.caster_top.specs.Answers.{Writes}
@@ -89,23 +92,32 @@ module _ {G : Type 0} (over : G → Bool) where
   AreDone c n [] = ⊤
   AreDone c n (keeper ∷ keepers) = IsDone c n keeper × AreDone c (n + 1) keepers
 
--- and what it tells as a door, how it names a peer, what it was made for; and what notes told of
--- their bytes and their faults
+-- nothing was wanted any more at the console of the porter, each of its answers is of every
+-- mountpoint, and the lines that it put are all lines of all of its answers
+pub record PorterIsDone (c : Config) (porter : PorterTold) : Type 0 where
+  pub console_over : porter.console.over ≡ true
+  pub of_all : All (IsOfAll c) porter.given
+  pub all_lines : map text_of porter.lines ≡ flat_map (answer_lines c) porter.given
+
+-- and what it tells as a door, how it names a peer, what it was made for; what notes told of their
+-- bytes and their faults; and which consoles had come back before and have come back now
 module _ {G O : Type 0} (told : G → DoorTold) (over : G → Bool) (peer : G → List ℕ)
-    (origin : G → YardAsked) (taken : O → Option (List ℕ)) (faults_of : O → ℕ) where
+    (origin : G → YardAsked) (taken : O → Option (List ℕ)) (faults_of : O → ℕ)
+    (back_before back_now : List ConsoleTold) where
   -- The file of this path holds a configuration. The yard was asked for the gates of all workers at
   -- this address, for one to the peer of each relay, all with this silence, and for a place for
-  -- lines. The gates of all keepers were over, and all lines of all links were put. The place took
-  -- them in one order, and the totals behind them, and no write to it failed. The output took
-  -- nothing.
+  -- lines. The gates of all keepers were over, and all lines of all links were put; so was each
+  -- line of each answer of the porter, until nothing was wanted any more. The place took them in
+  -- one order, and the totals behind them, and no write to it failed. The output took nothing.
   pub record KeptToItsEnd (files : Files) (config addr : List ℕ) (quiet : ℕ)
       (before after : YardTold) (old new : Option (List ℕ)) : Type 0 where
     pub c : Config
     pub config_is : IsConfigFrom files config c
     pub outcome : Outcome
-    pub went : Went told over peer origin taken faults_of c (made_of c addr quiet)
-        (asked_of c addr quiet) before after outcome
+    pub went : Went told over peer origin taken faults_of back_before back_now c
+        (made_of c addr quiet) (asked_of c addr quiet) before after outcome
     pub done : AreDone over c 0 went.ended.keepers
+    pub porter_done : PorterIsDone c went.ended.porter
     pub written : Appends (taken went.ended.first) (taken went.ended.notes)
         (text_in went.ended.lines ++ closed_text c outcome.closed)
     pub unharmed : faults_of went.ended.notes ≡ faults_of went.ended.first

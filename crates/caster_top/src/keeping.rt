@@ -15,6 +15,7 @@ use crate::config_answers::config_at;
 use crate::keep_words::Keep;
 use crate::top::{end_with, write_answer};
 use cast_config::Config;
+use cast_console::Lodge;
 use cast_io::{Door, Gate, Sink, Store, Street, Yard};
 use caster_keep::{KeepFault, Outcome, Stop, keep};
 use std::alloc::Global;
@@ -29,20 +30,23 @@ const WRITE_FAULT: u8 = 5;
 
 /// Keeps serving over the configuration in a file, and answers the status that the program ends
 /// with. The store is asked for that file once, and the yard only where it holds a configuration.
-pub fn keep_serving<R: Threads + Wait + Sync, S: Store, N: Yard, O: Sink>(
+pub fn keep_serving<R: Threads + Wait + Sync, S: Store, N: Yard, Z: Lodge, O: Sink>(
     rt: &R,
     alloc: Global,
     words: Keep<'_>,
     store: &mut S,
     street: &mut N,
+    lodge: &mut Z,
     out: &mut O,
 ) -> u8
 where
     N::Link: Send,
     N::Gate: Send,
     N::Notes: Drop + Send,
+    Z::Console: Send,
     ensures keeping { HasKeeping
-        (HasKept N.Gate.told N.Gate.over N.Gate.peer N.Gate.origin N.Notes.taken N.Notes.faults)
+        (HasKept N.Gate.told N.Gate.over N.Gate.peer N.Gate.origin N.Notes.taken N.Notes.faults
+        (Z.back lodge.old) (Z.back lodge.new))
         (FileCame (S.store store.old).files (S.log store.old) (S.log store.new))
         words.entry.config.now words.entry.addr.now words.entry.quiet
         (N.kept street.old) (N.kept street.new)
@@ -56,7 +60,7 @@ where
 {
     match config_at(alloc, words.config, store) {
         Ok(config) => {
-            let status = keep_over(rt, alloc, &config, words, street, out);
+            let status = keep_over(rt, alloc, &config, words, street, lodge, out);
             drop(config);
             status
         }
@@ -65,29 +69,31 @@ where
 }
 
 // Keeps serving over this configuration, and answers the status that the program ends with.
-fn keep_over<R: Threads + Wait + Sync, N: Yard, O: Sink>(
+fn keep_over<R: Threads + Wait + Sync, N: Yard, Z: Lodge, O: Sink>(
     rt: &R,
     alloc: Global,
     config: &Config,
     words: Keep<'_>,
     street: &mut N,
+    lodge: &mut Z,
     out: &mut O,
 ) -> u8
 where
     N::Link: Send,
     N::Gate: Send,
     N::Notes: Drop + Send,
+    Z::Console: Send,
     requires { KeepsRules 1000000 config.now }
     ensures kept { (came_to : Result Came Fault)
         × HasKept N.Gate.told N.Gate.over N.Gate.peer N.Gate.origin N.Notes.taken N.Notes.faults
-        config.now words.entry.addr.now words.entry.quiet (N.kept street.old) (N.kept street.new)
+        (Z.back lodge.old) (Z.back lodge.new) config.now words.entry.addr.now words.entry.quiet (N.kept street.old) (N.kept street.new)
         came_to
         × EndOfKeeping came_to (O.taken out.old) (O.taken out.new)
         (O.faults out.old) (O.faults out.new) result }
     ensures kept_output { LeavesOutput (O.faults out.old) (O.faults out.new) result }
     ensures street { N.told street.new ≡ N.told street.old }
 {
-    let came_to = keep(rt, alloc, config, words.addr, words.quiet, street);
+    let came_to = keep(rt, alloc, config, words.addr, words.quiet, street, lodge);
     end_of_keeping(came_to, out)
 }
 

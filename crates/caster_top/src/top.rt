@@ -32,6 +32,7 @@ use crate::fetch_words::fetch_in;
 use crate::fetching::fetch_frames;
 use crate::keep_words::keep_in;
 use crate::keeping::keep_serving;
+use cast_console::Lodge;
 use cast_io::{Door, Failed, Gate, Sink, Source, Store, Street, Yard};
 use std::alloc::Global;
 use std::sync::Wait;
@@ -86,11 +87,12 @@ const PIECE: usize = 65_536;
 /// has ended, and the text is written in pieces of 65,536 bytes. A fetch writes each frame as it
 /// comes, and nothing else. A caster that keeps serving writes its lines and its totals to the
 /// place for lines that the street gives, and to the output at most the line that says why it
-/// ended.
+/// ended. Among its lines are those that say how things stand, each time that this is wanted at the
+/// console of the lodge; no other command takes one.
 ///
 /// What follows from the clauses `outcome`, `undisturbed` and `casting` alone is said by the laws
 /// `outcome_says`, `undisturbed_says` and `casting_says` (`src/laws.rt`).
-pub fn caster<R: Threads + Wait + Sync, S: Store, I: Source, O: Sink, N: Yard>(
+pub fn caster<R: Threads + Wait + Sync, S: Store, I: Source, O: Sink, N: Yard, Z: Lodge>(
     rt: &R,
     alloc: Global,
     words: &[String],
@@ -98,12 +100,14 @@ pub fn caster<R: Threads + Wait + Sync, S: Store, I: Source, O: Sink, N: Yard>(
     input: &mut I,
     out: &mut O,
     street: &mut N,
+    lodge: &mut Z,
 ) -> u8
 where
     N::Door: Send,
     N::Link: Send,
     N::Gate: Send,
     N::Notes: Drop + Send,
+    Z::Console: Send,
     ensures report { result ≡ 0 → (capacity : ℕ) (bytes : List ℕ) (events : List Event)
         → AreBare (texts words.now) capacity
         → I.left input.old ≡ Some bytes → script_of Bare bytes ≡ Ok events
@@ -192,14 +196,16 @@ where
     ensures keeping { (config addr : List ℕ) (quiet : ℕ)
         → AreKeep (texts words.now) config addr quiet
         → HasKeeping (HasKept N.Gate.told N.Gate.over N.Gate.peer N.Gate.origin
-        N.Notes.taken N.Notes.faults)
+        N.Notes.taken N.Notes.faults
+        (Z.back lodge.old) (Z.back lodge.new))
         (Holds (S.store store.old).files) config addr quiet (N.kept street.old) (N.kept street.new)
         (Rose (S.faults store.old) (S.faults store.new))
         (O.taken out.old) (O.taken out.new) (O.faults out.old) (O.faults out.new) result }
     ensures done_keeping { (config addr : List ℕ) (quiet : ℕ)
         → AreKeep (texts words.now) config addr quiet
         → HasKeeping (HasKept N.Gate.told N.Gate.over N.Gate.peer N.Gate.origin
-        N.Notes.taken N.Notes.faults)
+        N.Notes.taken N.Notes.faults
+        (Z.back lodge.old) (Z.back lodge.new))
         (FileCame (S.store store.old).files (S.log store.old) (S.log store.new)) config addr quiet
         (N.kept street.old) (N.kept street.new)
         (Rose (S.faults store.old) (S.faults store.new))
@@ -207,7 +213,7 @@ where
     ensures kept_to_its_end { result ≡ 0 → (config addr : List ℕ) (quiet : ℕ)
         → AreKeep (texts words.now) config addr quiet
         → KeptToItsEnd N.Gate.told N.Gate.over N.Gate.peer N.Gate.origin
-        N.Notes.taken N.Notes.faults
+        N.Notes.taken N.Notes.faults (Z.back lodge.old) (Z.back lodge.new)
         (FileGave (S.store store.old).files (S.log store.old) (S.log store.new)) config addr quiet
         (N.kept street.old) (N.kept street.new) (O.taken out.old) (O.taken out.new) }
 
@@ -236,6 +242,7 @@ where
     ensures kept_store { LeavesStore S.store S.faults S.reads (texts words.now)
         store.old store.new }
     ensures kept_street { LeavesStreet N.told (texts words.now) result street.old street.new }
+    ensures kept_lodge { KeepNothing (texts words.now) → Z.back lodge.new ≡ Z.back lodge.old }
     ensures kept_output { LeavesOutput (O.faults out.old) (O.faults out.new) result }
 
     // What is written.
@@ -258,11 +265,11 @@ where
         (Rose (S.faults store.old) (S.faults store.new))
         (O.taken out.old) (O.taken out.new) }
 {
-    run_words(rt, alloc, words, store, input, out, street)
+    run_words(rt, alloc, words, store, input, out, street, lodge)
 }
 
 // The same, and how the run of the words ended.
-fn run_words<R: Threads + Wait + Sync, S: Store, I: Source, O: Sink, N: Yard>(
+fn run_words<R: Threads + Wait + Sync, S: Store, I: Source, O: Sink, N: Yard, Z: Lodge>(
     rt: &R,
     alloc: Global,
     words: &[String],
@@ -270,14 +277,17 @@ fn run_words<R: Threads + Wait + Sync, S: Store, I: Source, O: Sink, N: Yard>(
     input: &mut I,
     out: &mut O,
     street: &mut N,
+    lodge: &mut Z,
 ) -> u8
 where
     N::Door: Send,
     N::Link: Send,
     N::Gate: Send,
     N::Notes: Drop + Send,
+    Z::Console: Send,
     ensures run { HasRun
-        (HasKept N.Gate.told N.Gate.over N.Gate.peer N.Gate.origin N.Notes.taken N.Notes.faults)
+        (HasKept N.Gate.told N.Gate.over N.Gate.peer N.Gate.origin N.Notes.taken N.Notes.faults
+        (Z.back lodge.old) (Z.back lodge.new))
         (texts words.now)
         (InputCame (I.left input.old) (I.log input.old) (I.log input.new))
         (FileCame (S.store store.old).files (S.log store.old) (S.log store.new))
@@ -286,7 +296,8 @@ where
         (N.kept street.old) (N.kept street.new) (N.told street.old) (N.told street.new)
         (O.taken out.old) (O.taken out.new) (O.faults out.old) (O.faults out.new) result }
     ensures told { HasRun
-        (HasKept N.Gate.told N.Gate.over N.Gate.peer N.Gate.origin N.Notes.taken N.Notes.faults)
+        (HasKept N.Gate.told N.Gate.over N.Gate.peer N.Gate.origin N.Notes.taken N.Notes.faults
+        (Z.back lodge.old) (Z.back lodge.new))
         (texts words.now) (Tells (I.left input.old)) (Holds (S.store store.old).files)
         (Rose (I.faults input.old) (I.faults input.new))
         (Rose (S.faults store.old) (S.faults store.new))
@@ -298,16 +309,17 @@ where
     ensures kept_store { LeavesStore S.store S.faults S.reads (texts words.now)
         store.old store.new }
     ensures kept_street { LeavesStreet N.told (texts words.now) result street.old street.new }
+    ensures kept_lodge { KeepNothing (texts words.now) → Z.back lodge.new ≡ Z.back lodge.old }
     ensures kept_output { LeavesOutput (O.faults out.old) (O.faults out.new) result }
 {
     match fetch_in(words) {
         Some(fetch) => fetch_frames(rt, alloc, fetch.frames, fetch.targets, street, out),
-        None => keep_or_answer(rt, alloc, words, store, input, out, street),
+        None => keep_or_answer(rt, alloc, words, store, input, out, street, lodge),
     }
 }
 
 // The same for words that ask for no fetch.
-fn keep_or_answer<R: Threads + Wait + Sync, S: Store, I: Source, O: Sink, N: Yard>(
+fn keep_or_answer<R: Threads + Wait + Sync, S: Store, I: Source, O: Sink, N: Yard, Z: Lodge>(
     rt: &R,
     alloc: Global,
     words: &[String],
@@ -315,15 +327,18 @@ fn keep_or_answer<R: Threads + Wait + Sync, S: Store, I: Source, O: Sink, N: Yar
     input: &mut I,
     out: &mut O,
     street: &mut N,
+    lodge: &mut Z,
 ) -> u8
 where
     N::Door: Send,
     N::Link: Send,
     N::Gate: Send,
     N::Notes: Drop + Send,
+    Z::Console: Send,
     requires { FetchNothing (texts words.now) }
     ensures run { HasRun
-        (HasKept N.Gate.told N.Gate.over N.Gate.peer N.Gate.origin N.Notes.taken N.Notes.faults)
+        (HasKept N.Gate.told N.Gate.over N.Gate.peer N.Gate.origin N.Notes.taken N.Notes.faults
+        (Z.back lodge.old) (Z.back lodge.new))
         (texts words.now)
         (InputCame (I.left input.old) (I.log input.old) (I.log input.new))
         (FileCame (S.store store.old).files (S.log store.old) (S.log store.new))
@@ -337,10 +352,11 @@ where
     ensures kept_store { LeavesStore S.store S.faults S.reads (texts words.now)
         store.old store.new }
     ensures kept_street { LeavesStreet N.told (texts words.now) result street.old street.new }
+    ensures kept_lodge { KeepNothing (texts words.now) → Z.back lodge.new ≡ Z.back lodge.old }
     ensures kept_output { LeavesOutput (O.faults out.old) (O.faults out.new) result }
 {
     match keep_in(words) {
-        Some(keep) => keep_serving(rt, alloc, keep, store, street, out),
+        Some(keep) => keep_serving(rt, alloc, keep, store, street, lodge, out),
         None => answer_words(rt, alloc, words, store, input, out, street),
     }
 }

@@ -19,7 +19,8 @@ apart_if false false apart = refl
 apart : (k n : ℕ) → (k == n) ≡ false → is_at (nat_cmp k) n ≡ false
 apart k n is = apart_if (nat_lt k n) (k == n) is
 
--- The bytes that were found at the part's number, and those of the part behind them, were put there.
+-- The bytes that were found at the part's number, and those of the part behind them, were put
+-- there.
 pub added : (n : ℕ) (part : Part) (old mid : BTreeMap ℕ (Vec ℕ Global)) (found : Option (Vec ℕ Global))
     (all : List ℕ) → found ≡ get nat_cmp old part.number
     → ((q : ℕ) → is_at (nat_cmp part.number) q ≡ false → get nat_cmp mid q ≡ get nat_cmp old q)

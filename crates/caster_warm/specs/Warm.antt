@@ -1,7 +1,7 @@
 -- The report of a recorded run in which rovers are greeted: that of the run, with this change.
 -- Where bytes come in on a connection and a rover begins a segment by them, it is sent, behind all
--- that the event sends it, the last permitted frames of the messages 1005, 1006, 1007, 1008, 1033 and
--- 1230 (RTCM 10403.3) that were published before the segment's Join.
+-- that the event sends it, the last permitted frames of the messages 1005, 1006, 1007, 1008, 1033
+-- and 1230 (RTCM 10403.3) that were published before the segment's Join.
 use Rattle.std.specs.Prelude.{◌≡◌, ℕ, ◌==◌, ◌&&◌, if◌then◌else◌, List, [], ◌∷◌, ◌++◌, length, map, drop, Option, None, Some}
 use Rattle.ntrip_head.specs.declared.request.Version.{Version}
 use Rattle.last_frames.specs.Greeted.{Greeting, greeted_since}
@@ -28,8 +28,8 @@ greeting_text version None = []
 greeting_text version (Some frames) = body_of version frames
 
 -- What a rover is greeted by that stands so behind the calls that led from these histories to
--- those: where the mountpoint of its newest segment was joined among them, the last permitted frames of
--- the six messages, of all that was published there before the last such Join.
+-- those: where the mountpoint of its newest segment was joined among them, the last permitted
+-- frames of the six messages, of all that was published there before the last such Join.
 abbrev pub greeting_for : Config → Histories → Histories → Option RoverState → List ℕ
 greeting_for c old now None = []
 greeting_for c old now (Some rover) =

@@ -1,4 +1,5 @@
--- What may still come from a phase, as grammar: the bytes up to the body's end, and the data in them.
+-- What may still come from a phase, as grammar: the bytes up to the body's end, and the data in
+-- them.
 use Rattle.std.proofs.Common.{◌≡◌, ℕ, zero, suc, ◌+◌, ◌≤◌, List, [], ◌∷◌, ◌++◌, length}
 use Rattle.std.specs.List.{All}
 use Rattle.std.specs.Str.Parse.{AllDigits, digits_value_after}

@@ -1,7 +1,8 @@
 //! Reads configurations from the standard input, and prints what they say.
 //!
-//! A line that begins with `== ` stands in front of each case. In a document a line `*N TEXT` stands
-//! for N copies of the text, in which `#` is the number of the copy, from 0, and `|` ends a line.
+//! A line that begins with `== ` stands in front of each case. In a document a line `*N TEXT`
+//! stands for N copies of the text, in which `#` is the number of the copy, from 0, and `|` ends a
+//! line.
 //!
 //! Of a document alone one line is printed: `ok`, or the line of its fault. What the line in front
 //! of it says is for the reader: the line that is to be printed.
@@ -36,8 +37,8 @@ fn push_copy(out: &mut Vec<u8>, text: &str, number: u32) -> Result<(), AllocErro
     Ok(())
 }
 
-/// Appends what the line stands for: a question for nothing, and a number that cannot be read for no
-/// copy.
+/// Appends what the line stands for: a question for nothing, and a number that cannot be read for
+/// no copy.
 fn push_line(out: &mut Vec<u8>, line: &str) -> Result<(), AllocError> {
     if line.starts_with(QUESTION) {
         return Ok(());

@@ -1,4 +1,5 @@
--- Two sourcetables, computed: that of the worked configuration, 206 bytes, and that of the smallest one.
+-- Two sourcetables, computed: that of the worked configuration, 206 bytes, and that of the smallest
+-- one.
 use Rattle.std.proofs.Common.{◌≡◌, ◌++◌, length, refl}
 use Rattle.std.specs.Prelude.{codes}
 use Rattle.std.specs.Fmt.{digits}

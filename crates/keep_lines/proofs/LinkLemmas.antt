@@ -6,7 +6,8 @@ use Rattle.std.specs.Str.Parse.{AllDigits}
 use Rattle.std.proofs.lemmas.Fmt.{decimal_injective, decimal_is_IsNumeral}
 use Rattle.caster_press.specs.Texts.{newline}
 use Rattle.keep_lines.specs.declared.told.LinkNumber.{LinkNumber}
-use Rattle.keep_lines.specs.Lines.{IsLineOf, line_with, link_word}
+use Rattle.std.specs.Prelude.{codes}
+use Rattle.keep_lines.specs.Lines.{IsLineOf, line_with, link_word, now_line}
 use Rattle.keep_lines.specs.Words.{led}
 use Rattle.keep_lines.proofs.WordLemmas.{joined}
 
@@ -64,3 +65,16 @@ begins_alone a b [] ac bc an bn of = link_same a b newline 32 [] of.0 ac bc an b
 begins_alone a b (word ∷ words) ac bc an bn of =
     link_same a b 32 32 ((word ++ led words) ++ newline ∷ []) of.0 ac bc an bn (omega arith) (omega arith)
     (sym (line_text a word words) ∙ of.1)
+
+-- a line of how things stand begins with no digit
+pub now_alone : (link : LinkNumber) (words : List (List ℕ)) → link.caller < 2 ^ 64 → ¬ IsLineOf link (now_line words)
+now_alone link words fits of =
+    let rest = ((111 ∷ 119 ∷ []) ++ led words) ++ newline ∷ [] in
+    let behind = decimal link.count ++ 32 ∷ of.0 in
+    let text : 110 ∷ rest ≡ decimal link.caller ++ 46 ∷ behind =
+    sym (ap (λ (l : List ℕ). l ++ newline ∷ []) (joined (codes "now") words)) ∙ of.1
+    ∙ append_assoc (decimal link.caller) (46 ∷ decimal link.count) (32 ∷ of.0) in
+    let cut = cut_same [] (decimal link.caller) 110 46 rest behind tt (decimal_is_IsNumeral link.caller fits).0.1
+    (omega arith) (omega arith) text in
+    let first : 110 ≡ 46 = first_same 110 46 rest behind cut.1 in
+    omega (arith, first)

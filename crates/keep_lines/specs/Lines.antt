@@ -152,3 +152,29 @@ segment_lines c link segment = segment_line c link segment ∷ map (lap_line lin
 abbrev pub receipt_lines : Config → LinkNumber → Who → Receipt → List (List ℕ)
 receipt_lines c link who receipt =
     flat_map (segment_lines c link) receipt.segments ++ end_line c link who receipt ∷ []
+
+-- ---- how things stand
+
+-- a line that says how things stand begins with `now`, which is the number of no link
+abbrev pub now_line : List (List ℕ) → List ℕ
+now_line words = line (codes "now" ∷ words)
+
+-- a number that is not there is a dash
+abbrev pub number_or_dash : Option ℕ → List ℕ
+number_or_dash None = dash
+number_or_dash (Some number) = decimal number
+
+-- how many frames were published at a mountpoint, and the claim under which it is held
+abbrev pub now_mount_line : Config → ℕ → Option ℕ → Option ℕ → List ℕ
+now_mount_line c mount published claim =
+    now_line (codes "mount" ∷ mount_word c mount ∷ number_or_dash published
+    ∷ number_or_dash claim ∷ [])
+
+-- how many workers serve a link, and how many there are
+abbrev pub now_workers_line : Config → ℕ → List ℕ
+now_workers_line c busy =
+    now_line (codes "workers" ∷ decimal busy ∷ decimal c.workers ∷ [])
+
+-- that is all
+abbrev pub now_end_line : List ℕ
+now_end_line = now_line (codes "end" ∷ [])

@@ -8,7 +8,7 @@ ghost use Rattle.keep_lines.specs.declared.told.Asks.{Asks};
 ghost use Rattle.keep_lines.specs.declared.told.Entered.{Entered};
 ghost use Rattle.keep_lines.specs.declared.told.Peer.{Peer};
 ghost use Rattle.keep_lines.specs.declared.told.Who.{Who};
-ghost use Rattle.keep_lines.specs.Lines.{IsEndOf, IsLineOf, asks_line, end_line, entered_line, line_with, link_line, receipt_lines};
+ghost use Rattle.keep_lines.specs.Lines.{IsEndOf, IsLineOf, asks_line, end_line, entered_line, line_with, link_line, now_line, receipt_lines};
 
 use crate::told::LinkNumber;
 
@@ -19,6 +19,11 @@ pub fn links_are_told_apart(link: LinkNumber, other: LinkNumber)
         → IsLineOf link (line_with link (word ∷ words)) }
     ensures others { (words : List (List ℕ)) → IsLineOf other (line_with link words)
         → link ≡ other }
+{}
+
+/// The lines of how things stand are of no link: none begins with a link's number and a space.
+pub fn now_is_of_no_link(link: LinkNumber)
+    ensures { (words : List (List ℕ)) → ¬ IsLineOf link (now_line words) }
 {}
 
 /// The last line of a receipt says `end`, and no other line of a link does. So where a line of a

@@ -6,7 +6,7 @@ ghost use Rattle.caster_press.specs.Lines.{text_of};
 ghost use Rattle.caster_press.specs.Texts.{has_newline};
 ghost use Rattle.session_model.specs.Text.{ending_words};
 ghost use Rattle.keep_lines.specs.Words.{ArePlain, IsPlain, led, most_of, room_for, shown, shown_byte, text_in, texts_in};
-ghost use Rattle.keep_lines.specs.Lines.{line_with, link_word, settled_words};
+ghost use Rattle.keep_lines.specs.Lines.{line_with, link_word, now_line, settled_words};
 
 use crate::names::DASH;
 use crate::told::LinkNumber;
@@ -145,6 +145,18 @@ pub(crate) fn line_of(link: LinkNumber, words: &[Word<'_>]) -> Line
     ensures { text_of result ≡ line_with link (texts_in words.now) }
 {
     let mut draft = begin(link);
+    put_words(&mut draft, words);
+    draft.finish()
+}
+
+/// The line that says how things stand by these words.
+pub(crate) fn now_line(words: &[Word<'_>]) -> Line
+    requires room { room_for words.now ≤ 470 }
+    requires plain { ArePlain words.now }
+    ensures { text_of result ≡ now_line (texts_in words.now) }
+{
+    let mut draft = Draft::new();
+    put_text(&mut draft, b"now");
     put_words(&mut draft, words);
     draft.finish()
 }

@@ -10,8 +10,8 @@ use Rattle.last_frames.specs.Last.{last_permitted}
 abbrev pub Greeting : Type 0
 Greeting = Option (List (List ℕ))
 
--- the greeting at a place after a call, where its hall was new before the call and has this greeting
--- now: that of the hall where somebody joined, else the one that there was
+-- the greeting at a place after a call, where its hall was new before the call and has this
+-- greeting now: that of the hall where somebody joined, else the one that there was
 abbrev pub greeting_from : RingCall → List (List ℕ) → Greeting → Greeting
 greeting_from Claim hall before = before
 greeting_from (Release claim) hall before = before

@@ -1,4 +1,5 @@
--- Reads in the words of frames and their places: which a read looks at, which it takes, and which were lapped.
+-- Reads in the words of frames and their places: which a read looks at, which it takes, and which
+-- were lapped.
 use Rattle.std.proofs.Common.{◌≡◌, ℕ, zero, suc, ◌+◌, ◌-◌, ◌<◌, ◌≤◌, min, Bool, true, false, cond, List, [], ◌∷◌, ◌++◌, length, take, drop, refl, ap, ◌∙◌, sym, subst, arith, Option, None, Some}
 use Rattle.std.specs.Prelude.{if◌then◌else◌, nat_lt}
 use Rattle.std.specs.List.{filter, count_by}
@@ -68,7 +69,8 @@ filter-looked permits (suc budget) (frame ∷ frames) =
 
 -- ---- where a read begins and ends
 
--- where a read begins, seen from where the cursor stood: there, or behind a lap that the ring had overwritten
+-- where a read begins, seen from where the cursor stood: there, or behind a lap that the ring had
+-- overwritten
 abbrev pub Begins : (List ℕ → Bool) → ℕ → List (List ℕ) → ℕ → Option Lap → ℕ → Type 0
 Begins permits capacity frames at None from = from ≡ at
 Begins permits capacity frames at (Some lap) from =

@@ -1,4 +1,5 @@
--- What the turns of a source and a reader leave at a desk: the source still holds, and the reader may read.
+-- What the turns of a source and a reader leave at a desk: the source still holds, and the reader
+-- may read.
 use Rattle.std.proofs.Common.{◌≡◌, ℕ, false, List, [], ◌∷◌, ◌++◌, ap, ◌∙◌, arith}
 use Rattle.std.specs.Prelude.{IsTrue, ◌≢◌, length, Result, Ok, Err, IfOk, IfErr}
 use Rattle.turn_log.specs.declared.place.TurnFault.{TurnFault}

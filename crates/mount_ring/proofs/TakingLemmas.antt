@@ -6,7 +6,8 @@ use Rattle.std.proofs.lemmas.Option.{slice_get_within, get_or_from_slice_get}
 use Rattle.std.proofs.Math.Seq.{drop-cons}
 use Rattle.mount_ring.specs.Reads.{looked}
 
--- What holds while it takes: with these frames taken and so many left to take, it stands at this index.
+-- What holds while it takes: with these frames taken and so many left to take, it stands at this
+-- index.
 pub record Takes (permits : List ℕ → Bool) (frames : List (List ℕ)) (from budget index left : ℕ)
     (taken : List (List ℕ)) : Type 0 where
   pub behind : from ≤ index

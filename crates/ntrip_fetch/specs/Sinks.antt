@@ -1,5 +1,5 @@
--- What calls do to the count of a sink's faults: it never falls, a call that is answered leaves it as
--- it was, and one fails for the sink's sake only where it rose.
+-- What calls do to the count of a sink's faults: it never falls, a call that is answered leaves it
+-- as it was, and one fails for the sink's sake only where it rose.
 use Rattle.std.specs.Prelude.{◌≡◌, ℕ, ◌≤◌, Result, OnOk, OnErr, IsErrOf}
 use Rattle.cast_io.specs.Causes.{Rose}
 use Rattle.ntrip_fetch.specs.declared.left.FetchFault.{FetchFault}

@@ -22,7 +22,8 @@ const MOST: u64 = 1 << 62;
 const PIECE: usize = 4096;
 
 /// Reads the link once, and writes the frames that the bytes complete which it gave, until `most`
-/// were written in all. Answers why the link is to be left, if it is. It rests where it gave nothing.
+/// were written in all. Answers why the link is to be left, if it is. It rests where it gave
+/// nothing.
 fn hear<L: Link, O: Sink>(
     stage: &mut Stage,
     frames: &mut u64,

@@ -91,8 +91,8 @@ impl HeadBuf {
         }
     }
 
-    /// Takes more bytes of a head that goes on, until it is whole or too long, and reads one that is
-    /// whole. Gives how many bytes were taken, and how the head ended, if it did.
+    /// Takes more bytes of a head that goes on, until it is whole or too long, and reads one that
+    /// is whole. Gives how many bytes were taken, and how the head ended, if it did.
     pub fn read(&mut self, bytes: &[u8]) -> (usize, Option<HeadEnd>)
         requires open { IsOpen self.old }
         ensures within { result.0 ≤ length bytes.now }

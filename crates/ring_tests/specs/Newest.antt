@@ -1,5 +1,5 @@
--- A ring of one place, as the tests of the lock have it: `Some frame` publishes, and `None` reads the
--- newest frame.
+-- A ring of one place, as the tests of the lock have it: `Some frame` publishes, and `None` reads
+-- the newest frame.
 use Rattle.std.specs.Prelude.{◌≡◌, ℕ, Bool, true, IsTrue, [], ◌∷◌, ◌++◌, fold, Option, Some, None, is_some, if◌then◌else◌}
 use Rattle.std.proofs.Common.{refl, sym, subst, append_assoc}
 use Rattle.std.proofs.lemmas.List.{append-nil}

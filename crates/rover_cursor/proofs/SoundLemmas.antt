@@ -1,4 +1,5 @@
--- A segment is sound when it begins, and stays so over each read and while more frames are published.
+-- A segment is sound when it begins, and stays so over each read and while more frames are
+-- published.
 use Rattle.std.proofs.Common.{lt-ltb, ◌≡◌, ℕ, ◌+◌, ◌-◌, ◌<◌, ◌≤◌, Bool, true, List, [], ◌∷◌, ◌++◌, length, take, drop, refl, ap, ◌∙◌, sym, subst, arith, append_assoc, append-nil, length-append, Option, None, Some}
 use Rattle.std.specs.Prelude.{option_to_list}
 use Rattle.std.specs.List.{filter, count_by, sum_by}
@@ -258,8 +259,8 @@ outside_counts permits capacity frames from (lap ∷ laps) to h =
     sum_by-cons (λ (lap : Lap). lap.overrun) lap laps in
     omega (arith, whole, behind, rest, first, split, total)
 
--- frames sent and frames counted as overrun are together the permitted ones from where the segment began to
--- where its last read ended
+-- frames sent and frames counted as overrun are together the permitted ones from where the segment
+-- began to where its last read ended
 pub sound_counts : (permits : List ℕ → Bool) (capacity : ℕ) (frames : List (List ℕ)) (segment : Segment) →
     IsSound permits capacity frames segment →
     segment.sent + segment.overrun ≡ count_by permits (between segment.from segment.to frames)

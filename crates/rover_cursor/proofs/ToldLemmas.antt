@@ -230,9 +230,8 @@ report_by : (shape : Shape) (me : ℕ) (cursor : Cursor) (budget : ℕ) (h now :
 report_by shape me cursor budget h now report is reads =
     let at : report ≡ report_in shape h cursor budget = cc in at ∙ report_read shape me cursor budget h now is
 
--- The segment after a read from its cursor, and what the read answered: others may have called since the segment's
--- last call and before
--- the read.
+-- The segment after a read from its cursor, and what the read answered: others may have called
+-- since the segment's last call and before the read.
 pub after_read : (shape : Shape) (me budget : ℕ) (h seen others now : History RingCall) (cursor : Cursor)
     (segment : Segment) (report : ReadReport) →
     cursor ≡ segment.cursor → IsSegment shape me h segment → Resumes me h seen → own me others ≡ [] →

@@ -4,8 +4,8 @@ use turn_log::TurnFault;
 /// Why a segment did not begin, or was not read on. Nothing was called, and nothing changed.
 #[derive(Clone, Copy, Debug, PartialEq, Eq, Error)]
 pub enum SegFault {
-    /// The mountpoint gave as many turns as it can count: `turns` of them, at least 2^62.
-    #[error("no turn after {turns} turns")]
+    /// The mountpoint is worn by `turns` turns, given or drawn for, at least 2^62.
+    #[error("no turn after {turns} given or drawn for")]
     Worn { turns: u64 },
     /// No memory for a lap, or for the turn at a place that takes some.
     #[error("out of memory")]

@@ -103,8 +103,8 @@ cut-frame (x ∷ f) t valid =
     cut_begins x (f ++ t) (front_begins (x ∷ f) t valid)
     ∙ ap₂ (λ (xs ys : List ℕ). with_frame xs (cut ys)) front behind
 
--- where every stream that waits has a property, and a frame or a junk byte before a stream keeps it,
--- every stream has it
+-- where every stream that waits has a property, and a frame or a junk byte before a stream keeps
+-- it, every stream has it
 pub cut_induction : (P : List ℕ → Type 0)
     → ((bytes : List ℕ) → IsWaiting bytes → P bytes)
     → ((frame t : List ℕ) → IsTrue (is_frame frame) → P t → P (frame ++ t))

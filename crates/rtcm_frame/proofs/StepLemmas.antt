@@ -66,7 +66,8 @@ tried_at (suc n) byte all below = elim (cases_Bool (byte == n)) [
 pub high_byte : (byte : ℕ) → byte < 256 → after_byte (byte * 65536) 0 ≡ row byte
 high_byte byte fits = tried_at 256 byte all_tried fits
 
--- **a byte by the table**: two bytes move up, and the highest with the message's byte chooses the row
+-- **a byte by the table**: two bytes move up, and the highest with the message's byte chooses the
+-- row
 pub byte_by_row : (value byte : ℕ) → value < 2 ^ 24 → byte < 256
     → after_byte value byte ≡ bit_xor (value % 65536 * 256) (row (bit_xor (value / 65536) byte))
 unfolding row

@@ -1,5 +1,5 @@
--- What a plan becomes where nobody else calls in between: its calls, with their answers, are all that
--- the histories have more.
+-- What a plan becomes where nobody else calls in between: its calls, with their answers, are all
+-- that the histories have more.
 use Rattle.std.proofs.Common.{◌≡◌, ◌∙◌, ◌<◌, ◌++◌, ℕ, Bool, true, cond, List, [], ◌∷◌, length, fold, refl, sym, ap, subst}
 use Rattle.std.specs.Prelude.{⊤}
 use Rattle.turn_log.specs.History.{History}

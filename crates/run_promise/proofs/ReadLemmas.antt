@@ -1,5 +1,5 @@
--- What a script says of each connection of its run: how it opened, and that its text is all its bytes,
--- unless it ended by itself.
+-- What a script says of each connection of its run: how it opened, and that its text is all its
+-- bytes, unless it ended by itself.
 use Rattle.std.proofs.Common.{◌≡◌, ◌∙◌, ◌⊎◌, ◌++◌, ℕ, Bool, true, false, List, [], ◌∷◌, map, All, Option, None, Some, inl, inr, refl, sym, ap, subst, eq-eqb, append_assoc}
 use Rattle.std.specs.Prelude.{◌&&◌, is_none}
 use Rattle.std.proofs.lemmas.Bool.{cases_eq}

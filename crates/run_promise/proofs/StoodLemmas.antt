@@ -100,8 +100,8 @@ turn_within count budget (segment ∷ older) all =
 
 -- ---- its steps so far
 
--- they are all that the histories have of it, each answered as its place answers; each read is of its
--- newest segment
+-- they are all that the histories have of it, each answered as its place answers; each read is of
+-- its newest segment
 pub record Walked (c : Config) (h : Histories) (me : ℕ) (steps : List Step) : Type 0 where
   pub size : length h.rings ≡ length c.mount
   pub went : Went (shapes c) false (nothing_called c).rings h.rings me steps

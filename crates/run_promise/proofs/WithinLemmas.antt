@@ -1,4 +1,5 @@
--- Under a configuration that keeps its rules, what a connection owes is at mountpoints that there are.
+-- Under a configuration that keeps its rules, what a connection owes is at mountpoints that there
+-- are.
 use Rattle.std.proofs.Common.{◌≡◌, ◌<◌, ◌+◌, ◌++◌, ℕ, suc, Bool, true, false, cond, List, [], ◌∷◌, length, All, Option, None, Some, Result, Ok, Err, refl, subst, arith, option_to_list}
 use Rattle.std.specs.Prelude.{⊤, IfSome, nat_le, drop, slice_get, slice_index}
 use Rattle.std.specs.List.{position_from}

@@ -1,5 +1,5 @@
--- The report of every run fits its configuration: there is a total for each mountpoint and a sum for each
--- named account.
+-- The report of every run fits its configuration: there is a total for each mountpoint and a sum
+-- for each named account.
 use Rattle.std.proofs.Common.{◌≡◌, ◌∙◌, ◌++◌, ℕ, Bool, true, false, List, [], ◌∷◌, length, map, fold, refl, sym, subst, Option, None, Some}
 use Rattle.std.proofs.lemmas.List.{length-map, length-set}
 use Rattle.session_script.specs.declared.Event.{Event}

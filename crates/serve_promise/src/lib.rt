@@ -4,8 +4,8 @@
 //! of a recorded run's (`run_promise`): it speaks of the bytes that came in on each link, of one
 //! history for each mountpoint, and of the link's receipt. It is read in this order:
 //!
-//! - `specs/Links.antt`: what one link called, what it was by its bytes, what its segments, its sums
-//!   and its bytes are then, and what stands where it was halted;
+//! - `specs/Links.antt`: what one link called, what it was by its bytes, what its segments, its
+//!   sums and its bytes are then, and what stands where it was halted;
 //! - `specs/Callers.antt`: the links of each worker and relay, one after the other, and the whole.
 //!
 //! There is no code: the laws are contracts of functions that do nothing.

@@ -104,8 +104,8 @@ pub claimed_received : (mount claim : ℕ) (steps : List Step) → IsClaimed mou
 claimed_received mount claim [] is = absurd is
 claimed_received mount claim (step ∷ steps) is = ap (λ (s : Step). first_answer (s ∷ steps)) is
 
--- what it came to: without a claim it holds nothing, and with one it is a source whose body is behind
--- the answer's head
+-- what it came to: without a claim it holds nothing, and with one it is a source whose body is
+-- behind the answer's head
 abbrev pub IsCameBy : ℕ → List ℕ → Option ℕ → Came → Type 0
 IsCameBy mount text None came = IsFree came
 IsCameBy mount text (Some claim) came =

@@ -29,8 +29,9 @@ HoldsAs c opening came (Relay mount claim) =
     (number : ℕ) × (opening ≡ relays number) × (mount_fed (slice_get c.relay number) ≡ mount)
     × HoldsClaimIf mount claim came
 
--- What is held later where this was held before: an account or a claim that is held stays what it is
--- until it is given back. A relay stays at its mountpoint, and may be given a claim where it had none.
+-- What is held later where this was held before: an account or a claim that is held stays what it
+-- is until it is given back. A relay stays at its mountpoint, and may be given a claim where it had
+-- none.
 abbrev pub HoldsOn : Held → Held → Type 0
 HoldsOn Nothing later = ⊤
 HoldsOn (Rover account) later = later ≡ Rover account

@@ -26,8 +26,8 @@ pub struct RoverState {
 pub struct Whereabouts {
     /// Whether it ended by itself, or was halted.
     pub ended: bool,
-    /// The number of the mountpoint at which it is: that of a source or a relay, and of a rover that
-    /// goes on the one of its newest segment.
+    /// The number of the mountpoint at which it is: that of a source or a relay, and of a rover
+    /// that goes on the one of its newest segment.
     pub mount: Option<u32>,
 }
 

@@ -1,5 +1,5 @@
--- What the worked runs are made of. The caster is that of the worked configuration: two mountpoints and
--- a near one, two groups and two accounts.
+-- What the worked runs are made of. The caster is that of the worked configuration: two mountpoints
+-- and a near one, two groups and two accounts.
 use Rattle.std.proofs.Common.{ℕ, List, [], ◌∷◌, ◌++◌, None, Ok}
 use Rattle.std.specs.Prelude.{codes, ◌-◌, ◌==◌, false, true, if◌then◌else◌}
 use Rattle.std.specs.List.{flat_map}
@@ -74,8 +74,8 @@ source_two_head =
 abbrev pub source_two : Heading
 source_two = whole 91 (Ok (Source Two (codes "ALPHA") (codes "sesame") true))
 
--- ---- variants of the caster: with a relay of NTRIP 1.0 to the first mountpoint, and with a filter of
--- the first group at the second mountpoint
+-- ---- variants of the caster: with a relay of NTRIP 1.0 to the first mountpoint, and with a filter
+-- of the first group at the second mountpoint
 
 abbrev pub with_relay : Config
 with_relay = record example {

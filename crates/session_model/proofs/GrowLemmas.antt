@@ -1,5 +1,5 @@
--- More bytes: what is owed goes on with what was owed, and what a head says of earlier bytes is what
--- was said of them then.
+-- More bytes: what is owed goes on with what was owed, and what a head says of earlier bytes is
+-- what was said of them then.
 use Rattle.std.proofs.Common.{◌≡◌, ◌<◌, ℕ, Bool, true, false, List, [], ◌∷◌, ◌++◌, length, drop, length-append, refl, sym, subst, inl, inr, arith, Option, None, Some, Result, Ok, Err}
 use Rattle.std.specs.Prelude.{nat_le, slice_get}
 use Rattle.std.proofs.lemmas.Bool.{cases_lt, lt-leb, le-leb}

@@ -1,5 +1,5 @@
--- What more bytes make of a connection that is judged: its body or its reports go on, and nothing else
--- changes.
+-- What more bytes make of a connection that is judged: its body or its reports go on, and nothing
+-- else changes.
 use Rattle.std.proofs.Common.{◌≡◌, ◌≢◌, ◌∙◌, ℕ, Bool, false, List, ◌++◌, length, drop, length-append, refl, ap, inl, inr, arith, Option, None, Some, Result, Ok, Err}
 use Rattle.std.specs.Prelude.{nat_le, slice_get}
 use Rattle.std.proofs.lemmas.Bool.{cases_lt, lt-leb, le-leb}

@@ -1,6 +1,6 @@
 -- Worked runs, computed from the definitions: they say what is told of a script before any code
--- runs. That the bytes of each head are what its heading says is not part of them: only their number
--- counts here.
+-- runs. That the bytes of each head are what its heading says is not part of them: only their
+-- number counts here.
 use Rattle.std.proofs.Common.{◌≡◌, [], ◌∷◌, ◌++◌, refl, Ok, Err}
 use Rattle.std.specs.Prelude.{codes, false, replicate}
 use Rattle.std.specs.Fmt.{digits}

@@ -124,8 +124,8 @@ ending_by_answer refusals.Coding = endings.Coding
 ending_by_answer refusals.Table = endings.UpstreamTable
 ending_by_answer (refusals.Status status) = endings.Upstream status
 
--- the caster's frames are those of a source of the mountpoint that the relay feeds; no reply is sent
--- to a caster
+-- the caster's frames are those of a source of the mountpoint that the relay feeds; no reply is
+-- sent to a caster
 abbrev pub said_judged : ℕ → List ℕ → Said → Judged
 said_judged mount body (Ok chunked) =
     source (record { version = None; mount = mount; chunked = chunked }) body

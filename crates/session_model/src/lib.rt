@@ -1,5 +1,5 @@
-//! What a connection of a caster is by its bytes, what it owes, how it ends and what it is sent, and
-//! what a recorded run of many connections comes to, with its report. The definitions stand in
+//! What a connection of a caster is by its bytes, what it owes, how it ends and what it is sent,
+//! and what a recorded run of many connections comes to, with its report. The definitions stand in
 //! `specs`, their laws in [`laws`].
 #![tactic(auto)]
 

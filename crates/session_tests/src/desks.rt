@@ -20,8 +20,8 @@ pub(crate) const FRAME_A: [u8; 8] = [0xD3, 0x00, 0x02, 0x3E, 0xD0, 0xA4, 0xE0, 0
 /// A frame whose payload is the number 1077 alone.
 pub(crate) const FRAME_B: [u8; 8] = [0xD3, 0x00, 0x02, 0x43, 0x50, 0x06, 0xA2, 0x7E];
 
-/// What was found is what was wanted. It is proved once for all types, and so costs a test less than
-/// an assertion of its own.
+/// What was found is what was wanted. It is proved once for all types, and so costs a test less
+/// than an assertion of its own.
 pub(crate) fn expect_eq<T: Copy + Debug + PartialEq>(rt: &impl Abort, found: T, wanted: T) {
     assert_eq!(rt; found, wanted);
 }

@@ -10,8 +10,8 @@ use turn_log::{TurnFault, Turns};
 /// What a look tells.
 type Looked = Result<Option<u64>, TurnFault>;
 
-/// What is answered to the claim of caller 1 at the mountpoint 1, and what looks then tell: caller 2
-/// looks at the mountpoints 0 and 1, and caller 1 at the mountpoint 1.
+/// What is answered to the claim of caller 1 at the mountpoint 1, and what looks then tell: caller
+/// 2 looks at the mountpoints 0 and 1, and caller 1 at the mountpoint 1.
 fn looked(alloc: Global) -> Result<(RingAnswer, [Looked; 3]), Fail> {
     let mut held = ring_desk(alloc)?;
     let claim = held.turn(1, RingCall::Claim, &mut Outbox::new())?;

@@ -119,12 +119,12 @@ fn read_told(
     })
 }
 
-/// How many frames a ring keeps, the number of the frames that it permits, if it does not permit all,
-/// and the frames that are published in each round.
+/// How many frames a ring keeps, the number of the frames that it permits, if it does not permit
+/// all, and the frames that are published in each round.
 type Rounds<'a> = (u32, Option<u16>, &'a [&'a str]);
 
-/// A rover of the mountpoint 7 from place 0 on, by filter 0, came to this place, with so many frames
-/// sent and so many overrun, with these laps, and took the frames of these names last.
+/// A rover of the mountpoint 7 from place 0 on, by filter 0, came to this place, with so many
+/// frames sent and so many overrun, with these laps, and took the frames of these names last.
 fn expect_read(
     rt: &impl Abort,
     alloc: Global,

@@ -7,9 +7,9 @@ pub enum ClaimFault {
     /// The mountpoint is held already, by this caller under this claim. The call was made.
     #[error("held by caller {caller} under claim {claim}")]
     Taken { caller: u32, claim: u64 },
-    /// The mountpoint gave as many turns as it can count: `turns` of them, at least 2^62. Nothing
-    /// was called.
-    #[error("no turn after {turns} turns")]
+    /// The mountpoint is worn by `turns` turns, given or drawn for, at least 2^62. Nothing was
+    /// called.
+    #[error("no turn after {turns} given or drawn for")]
     Worn { turns: u64 },
     /// No memory for the turn, at a place that takes some. Nothing was called.
     #[error("out of memory")]
@@ -26,9 +26,9 @@ pub enum SourceHalt {
     /// continuation is a body.
     #[error("no chunked body from byte {at} on")]
     BadChunk { at: u64 },
-    /// The mountpoint gave as many turns as it can count: `turns` of them, at least 2^62. A frame
-    /// was not published.
-    #[error("no turn after {turns} turns")]
+    /// The mountpoint is worn by `turns` turns, given or drawn for, at least 2^62. A frame was not
+    /// published.
+    #[error("no turn after {turns} given or drawn for")]
     Worn { turns: u64 },
     /// No memory for a turn, at a place that takes some. A frame was not published.
     #[error("out of memory")]

@@ -8,7 +8,8 @@ pub fn gga(line: &[u8], out: &mut Vec<u8>) -> Result<(), AllocError> {
     say(out, &parse_gga(line))
 }
 
-/// The reports in these bytes: at which place, from 0, the last byte of each comes, and its position.
+/// The reports in these bytes: at which place, from 0, the last byte of each comes, and its
+/// position.
 pub fn reports(bytes: &[u8], out: &mut Vec<u8>) -> Result<(), AllocError> {
     let mut reports = Reports::new(*out.allocator())?;
     for (place, byte) in bytes.iter().enumerate() {

@@ -1,5 +1,6 @@
 -- What fakes tell of themselves that tell nothing but how often they failed.
-use Rattle.std.specs.Prelude.{ℕ, None}
+use Rattle.std.specs.Prelude.{ℕ, Bool, List, None}
+use Rattle.cast_console.specs.Consoles.{ConsoleTold}
 use Rattle.cast_io.specs.Told.{LinkTold, DoorTold, StreetTold}
 use Rattle.cast_io.specs.Yards.{YardTold}
 
@@ -21,3 +22,7 @@ counted_street count =
 abbrev pub counted_yard : ℕ → YardTold
 counted_yard count =
     record { asked = None; gates = None; notes = None; faults = 0; note_faults = count }
+
+-- a console that told so many workers as busy, and may be over
+abbrev pub console_told : List ℕ → Bool → ConsoleTold
+console_told busy over = record { busy = busy; over = over }

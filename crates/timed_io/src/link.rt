@@ -41,7 +41,7 @@ pub struct TimedLink<'a, R: Clock> {
 }
 
 /// Does what stands for this call, and answers whether the flag came that it waited for.
-fn stop_at<R: Clock>(rt: &R, flags: &[AtomicBool], stops: &[Stop], call: u64) -> bool {
+pub(crate) fn stop_at<R: Clock>(rt: &R, flags: &[AtomicBool], stops: &[Stop], call: u64) -> bool {
     let Some(stop) = stops.iter().find(|stop| stop.call == call) else {
         return true;
     };

@@ -60,7 +60,8 @@ pub own_next : {C : Type 0} (k by : ℕ) (call : C) (h : History C) → by ≢ k
 own_next k by call h other =
     own-append k h ((by, call) ∷ []) ∙ ap (λ l. own k h ++ l) (own_other k by call other) ∙ append-nil (own k h)
 
--- two beginnings of one history that are as long as it was: the longer of two, which goes on from the first
+-- two beginnings of one history that are as long as it was: the longer of two, which goes on from
+-- the first
 pub longer : {C : Type 0} (a b c : History C) → Begins a c → Begins b c
     → (more : History C) × Begins b (a ++ more) × Begins (a ++ more) c
 longer a b c x y =

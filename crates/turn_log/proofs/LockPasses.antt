@@ -12,7 +12,8 @@ use Rattle.atomic_table.proofs.Lists.{at_longer, at_last}
 use Rattle.turn_log.proofs.HistoryLaws.{goes_both}
 use Rattle.turn_log.proofs.LockLists.{at_length, at_cut, one_more, times-append, times_one}
 
--- the most that the passes after the first ys of xs, and the seat that took them in, told of how worn the lock is
+-- the most that the passes after the first ys of xs, and the seat that took them in, told of how
+-- worn the lock is
 pub record WornAsFar {P : Type 0} (worn : P → ℕ) (old now : ℕ) (xs ys : List P) : Type 0 where
   pub rest : List P
   pub split : xs ≡ ys ++ rest
@@ -48,7 +49,8 @@ worn_one {P} worn old now next xs ys left pass far cut is =
           (at_cut left pass other far.rest i (ap (λ (l : List P). get_elem? l i) (sym split) ∙ at) le);
     }
 
--- the passes after the first ys of xs were taken in by a seat that knew so much and knows so much now
+-- the passes after the first ys of xs were taken in by a seat that knew so much and knows so much
+-- now
 pub record Gathered {P V C : Type 0} (number : P → ℕ) (seen : P → History C) (old now : Known C V) (xs ys : List P) :
     Type 0 where
   pub rest : List P

@@ -1,4 +1,5 @@
--- How seats at the lock come and go: the first one, passes and notes that are cut off and taken in, and the last one.
+-- How seats at the lock come and go: the first one, passes and notes that are cut off and taken in,
+-- and the last one.
 use Rattle.std.proofs.Common.{◌≡◌, ◌≢◌, ℕ, zero, suc, ◌+◌, ◌^◌, ◌<◌, ◌≤◌, inl, inr, ⊎_elim, Bool, List, [], ◌∷◌, length, set, take, drop, refl, sym, ◌∙◌, ap, subst, arith, sum_by, All, Some, length-append, take-append-drop, Option, unwrap_or}
 use Rattle.std.proofs.lemmas.List.{append-nil}
 use Rattle.std.proofs.lemmas.List.Elements.{All-nil}

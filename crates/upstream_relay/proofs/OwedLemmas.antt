@@ -72,7 +72,8 @@ body_on refused mount claim at chunked bytes more (step ∷ steps) later within 
     later
     (behind_claim false mount claim at chunked bytes step steps claimed made) follows))
 
--- a relay that was halted within the body makes no more calls; these frames are none where its body is over
+-- a relay that was halted within the body makes no more calls; these frames are none where its body
+-- is over
 pub halted_body_on : (refused : Bool) (mount claim at : ℕ) (chunked : Bool) (bytes more : List ℕ) (steps : List Step)
     → at ≤ length bytes → IsClaimed mount claim steps
     → IsDone refused (owed mount (heads.Accepted at chunked) bytes) steps

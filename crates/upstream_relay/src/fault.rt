@@ -30,9 +30,9 @@ pub enum RelayHalt {
     /// continuation is a body.
     #[error("no chunked body from byte {at} on")]
     BadChunk { at: u64 },
-    /// The mountpoint gave as many turns as it can count: `turns` of them, at least 2^62. A claim
-    /// was not made, or a frame was not published.
-    #[error("no turn after {turns} turns")]
+    /// The mountpoint is worn by `turns` turns, given or drawn for, at least 2^62. A claim was not
+    /// made, or a frame was not published.
+    #[error("no turn after {turns} given or drawn for")]
     Worn { turns: u64 },
     /// No memory for a turn, at a place that takes some. A claim was not made, or a frame was not
     /// published.

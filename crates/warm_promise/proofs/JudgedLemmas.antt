@@ -1,5 +1,5 @@
--- What a connection is judged to be does not change once it is judged, and only a rover that entered
--- its account has segments.
+-- What a connection is judged to be does not change once it is judged, and only a rover that
+-- entered its account has segments.
 use Rattle.std.proofs.Common.{◌≡◌, ◌∙◌, ◌⊎◌, ◌++◌, ℕ, Bool, true, false, List, [], ◌∷◌, length, drop, Option, None, Some, Result, Ok, Err, inl, inr, refl, sym, ap, subst, arith, option_to_list, length-append}
 use Rattle.std.specs.Prelude.{nat_le, ◌&&◌, is_none, slice_get}
 use Rattle.std.proofs.lemmas.Bool.{cases_lt, lt-leb, le-leb, false≢true}

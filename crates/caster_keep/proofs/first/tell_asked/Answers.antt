@@ -1,5 +1,5 @@
 -- A line more was put, or none was to be.
-use Rattle.std.proofs.Common.{◌∙◌, refl, sym, ap}
+use Rattle.std.proofs.Common.{◌∙◌, sym, ap}
 use Rattle.std.specs.Option.{option_copied}
 use Rattle.caster_keep.proofs.KeepLemmas.{asked_before, asked_now, asks_nothing, unasked}
 use Rattle.caster_keep.proofs.first.tell_asked.Goals as goal

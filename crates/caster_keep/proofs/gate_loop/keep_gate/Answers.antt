@@ -1,5 +1,5 @@
 -- A link more, or none yet; and why it is over.
-use Rattle.std.proofs.Common.{◌∙◌, ◌+◌, refl, sym, ap, subst, arith}
+use Rattle.std.proofs.Common.{◌∙◌, refl, sym, ap, subst, arith}
 use Rattle.caster_link.specs.Wear.{lacks_in}
 use Rattle.caster_link.proofs.WornLemmas.{stay_both, stay_none}
 use Rattle.caster_press.proofs.PlaceLemmas.{same_then}

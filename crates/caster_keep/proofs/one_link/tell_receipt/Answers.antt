@@ -1,5 +1,4 @@
 -- Its receipt was put behind its other lines, or one of those could not be put.
-use Rattle.std.proofs.Common.{◌∷◌}
 use Rattle.caster_keep.proofs.KeepLemmas.{link_put, link_torn}
 use Rattle.caster_keep.proofs.one_link.tell_receipt.Goals as goal
 

@@ -1,4 +1,5 @@
--- The claim that was given is held at the publish, and the cursor of the join may be read behind it.
+-- The claim that was given is held at the publish, and the cursor of the join may be read behind
+-- it.
 use Rattle.std.proofs.Common.{◌<◌, ◌∙◌, ◌++◌, length, sym, subst}
 use Rattle.mount_ring.specs.declared.shape.RingShape.{RingShape}
 use Rattle.mount_ring.specs.Shapes.{shape_of}

@@ -1,5 +1,5 @@
--- What a caster came to has a total for each mountpoint and a sum for each account, and is told by its
--- text.
+-- What a caster came to has a total for each mountpoint and a sum for each account, and is told by
+-- its text.
 use Rattle.std.proofs.Common.{ℕ, refl, subst}
 use Rattle.caster_serve.specs.Caster.{HasServed}
 use Rattle.caster_serve.proofs.WholeLemmas.{refused_at_once}

@@ -1,4 +1,5 @@
--- Each answer is the end of a command over the configuration in the file, or says why there is none.
+-- Each answer is the end of a command over the configuration in the file, or says why there is
+-- none.
 use Rattle.caster_top.specs.Given.{FileCame}
 use Rattle.caster_top.proofs.AnswerLemmas.{config_answer, refused_file}
 use Rattle.caster_top.proofs.config_answers.answer_over.Goals as goal

@@ -1,5 +1,5 @@
--- Each answer is the end of a session over the configuration in the file, or says why there is none; and
--- the session was asked for where there is one.
+-- Each answer is the end of a session over the configuration in the file, or says why there is
+-- none; and the session was asked for where there is one.
 use Rattle.std.proofs.Common.{◌∙◌, arith}
 use Rattle.caster_top.specs.Given.{FileCame}
 use Rattle.caster_top.proofs.AnswerLemmas.{replay_answer, refused_replay}

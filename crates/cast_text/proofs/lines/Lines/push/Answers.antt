@@ -1,4 +1,5 @@
--- The state after the line that was given is forgotten stands for the same bytes, and then the byte comes.
+-- The state after the line that was given is forgotten stands for the same bytes, and then the byte
+-- comes.
 use Rattle.std.proofs.Common.{◌≡◌, true, false, sym, subst}
 use Rattle.std.proofs.lemmas.Bool.{ne_eqb}
 use Rattle.cast_text.specs.Lines.{LineState, no_line}

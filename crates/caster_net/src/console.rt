@@ -1,0 +1,129 @@
+//! Where it is asked how a caster stands that keeps serving: the input by which it is stopped.
+ghost use Rattle.std.specs.Prelude.{◌≡◌, ◌∷◌, ◌++◌, [], false};
+ghost use Rattle.cast_console.specs.Consoles.{HasHeard};
+
+use crate::halt::Halt;
+use crate::waiting::LONGEST_KEPT;
+use cast_console::{Console, Lodge, Wanted};
+use cast_io::Journal;
+use std::marker::Model;
+use std::thread;
+use std::time::Duration;
+
+// How long the threads of all others may take to begin, in milliseconds.
+const LONGEST_BEGIN: u64 = 3000;
+
+/// The lines `status` of the input of a stop, one after the other, until the stop is asked for. It
+/// is over too where nobody serves yet at some gate after three seconds: a thread was lacking for
+/// that, and the one that waits here is given up for it. For contracts alone it has a record of how
+/// many workers it told as busy.
+#[derive(Drop)]
+pub struct InputConsole<'a> {
+    rt: &'a HostRuntime,
+    halt: &'a Halt,
+    // How many of the lines were heard.
+    heard: u64,
+    // How often nothing was wanted.
+    rests: u64,
+    busy: Journal<u32>,
+    is_over: bool,
+}
+
+impl<'a> Model for InputConsole<'a> {
+    ghost use Rattle.cast_console.specs.Consoles.{ConsoleTold};
+
+    ghost Value = { ConsoleTold };
+
+    ghost view = { λ c. record { busy = c.busy; over = c.is_over } };
+}
+
+impl<'a> InputConsole<'a> {
+    // A console at which nothing was heard.
+    fn new(rt: &'a HostRuntime, halt: &'a Halt) -> Self
+        ensures { result ≡ record { busy = []; over = false } }
+    {
+        InputConsole {
+            rt,
+            halt,
+            heard: 0,
+            rests: 0,
+            busy: Journal::new(),
+            is_over: false,
+        }
+    }
+
+    // Whether the thread that waits here is needed at a gate.
+    fn is_in_the_way(&self) -> bool {
+        self.rests > LONGEST_BEGIN / LONGEST_KEPT && self.halt.has_unasked_gate()
+    }
+
+    // One line more was heard, while so many workers are busy.
+    fn tell(&mut self, busy: u32) -> Wanted
+        ensures { HasHeard result self.old self.new }
+    {
+        self.heard = self.heard.wrapping_add(1);
+        self.busy.add(&busy);
+        Wanted::Status { busy }
+    }
+}
+
+impl Console for InputConsole<'_> {
+    ghost told = { λ c. c };
+
+    fn hear(&mut self) -> Wanted
+        ensures { HasHeard result self.old self.new }
+    {
+        let halt = self.halt;
+        halt.look(self.rt);
+        if halt.is_asked() || self.is_in_the_way() {
+            self.is_over = true;
+            return Wanted::Over;
+        }
+        if halt.statuses() == self.heard {
+            return Wanted::Nothing;
+        }
+        self.tell(halt.busy())
+    }
+
+    fn rest(&mut self)
+        ensures { self.new ≡ self.old }
+    {
+        self.rests = self.rests.saturating_add(1);
+        thread::sleep(self.rt, Duration::from_millis(LONGEST_KEPT));
+    }
+}
+
+/// The consoles of a stop. For contracts alone it has a record of those that came back.
+#[derive(Drop)]
+pub struct InputLodge<'a> {
+    rt: &'a HostRuntime,
+    halt: &'a Halt,
+    back: Journal<InputConsole<'a>>,
+}
+
+impl<'a> InputLodge<'a> {
+    /// Those at the input of this stop. None came back.
+    pub fn new(rt: &'a HostRuntime, halt: &'a Halt) -> Self
+        ensures { result.back ≡ [] }
+    {
+        InputLodge {
+            rt,
+            halt,
+            back: Journal::new(),
+        }
+    }
+}
+
+impl<'a> Lodge for InputLodge<'a> {
+    type Console = InputConsole<'a>;
+
+    ghost back = { λ lodge. lodge.back };
+
+    fn console(&mut self) -> InputConsole<'a> {
+        InputConsole::new(self.rt, self.halt)
+    }
+
+    fn take_console(&mut self, console: InputConsole<'a>) {
+        self.back.add(&console);
+    }
+}

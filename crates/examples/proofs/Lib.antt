@@ -1,0 +1,4 @@
+pub mod StreamLemmas
+pub mod HeadLemmas
+pub mod BodyLemmas
+pub mod PositionLemmas
