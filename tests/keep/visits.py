@@ -12,9 +12,9 @@ class Visit:
 
     peer     its own address, as it tells it itself
     asks     version, kind, target and user as it asked for them
-    entered  ('rover', USER) or ('source', MOUNT), by the reply that it had
-    endings  each ending that may be; CLAIM in it is the number of its claim
-    claim    of a source, the number of its claim
+    entered  ('rover', USER) or ('source', MOUNT), by the reply that it had; None where it was refused
+    endings  each ending that may be; CLAIM in it is the number of its claim; one word, where it was refused
+    claim    of a source, the number of its claim; where it was refused, of the claim that stood in its way
     runs     of a rover, the places that came: pairs of a first place and the one behind the last
     low      no segment begins before this place: the frames before it had been read by others when it asked
     high     no segment begins behind this place: no frame from there on was sent when it had its reply
@@ -75,6 +75,12 @@ def compare_rover(link, visit):
 def compare_one(link, visit):
     wants('%s: what it asks for' % link.name, link.asks, tuple(map(str, visit.asks)))
     wants('%s: as what it was let in' % link.name, link.entered and link.entered[:2], visit.entered)
+    if visit.entered is None:
+        # The connection that held the mountpoint is told, too; which one that was no client knows.
+        told = link.end.ending.split()
+        wants('%s: how it was refused, and the claim' % link.name, [told[0], told[-1]],
+              [visit.endings[0], str(visit.claim)])
+        return wants('%s: junk' % link.name, link.end.junk, 0)
     if visit.entered[0] == 'rover':
         compare_rover(link, visit)
     else:
