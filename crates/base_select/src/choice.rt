@@ -63,7 +63,13 @@ fn place_of(current: Option<u32>, bases: &[Base]) -> Option<usize>
 }
 
 /// The place that is chosen of the nearest and the present one.
-fn chosen(rover: Position, bases: &[Base], h: u32, nearest: usize, present: Option<usize>) -> usize
+fn choose_place(
+    rover: Position,
+    bases: &[Base],
+    h: u32,
+    nearest: usize,
+    present: Option<usize>,
+) -> usize
     requires rover { IsOnEarth rover }
     requires bases { All (λ base. IsOnEarth base.at) bases.now }
     requires percent { h ≤ 50 }
@@ -101,6 +107,6 @@ pub fn select(current: Option<u32>, rover: Position, bases: &[Base], h: u32) -> 
         return None;
     }
     let near = nearest(rover, bases);
-    let place = chosen(rover, bases, h, near, place_of(current, bases));
+    let place = choose_place(rover, bases, h, near, place_of(current, bases));
     Some(mount_at(bases, place))
 }

@@ -8,7 +8,7 @@ use rtcm_frame::Cutter;
 use std::io::{self, Error, Read};
 
 // The greatest length of a stream: its counts fit.
-const LONGEST: u64 = 1 << 62;
+const MAX_STREAM_BYTES: u64 = 1 << 62;
 
 /// How many frames of a stream were given, and how many of its bytes were junk.
 #[derive(Drop)]
@@ -50,7 +50,7 @@ pub fn count_stream<R: Read, T: Taker>(
                 junk: cutter.junk(),
             });
         }
-        if count as u64 > LONGEST - length {
+        if count as u64 > MAX_STREAM_BYTES - length {
             return Err(Error::other("the stream is too long"));
         }
         frames = count_piece(&mut cutter, &piece[..count], frames, way, taker);

@@ -27,7 +27,7 @@ enum Job {
 }
 
 // What the first argument asks for.
-fn wanted(rt: &HostRuntime) -> io::Result<Job> {
+fn read_job(rt: &HostRuntime) -> io::Result<Job> {
     for word in env::args(rt)?.skip(1) {
         match word.as_str() {
             "push" => return Ok(Job::Cut(Way::Push)),
@@ -58,7 +58,7 @@ fn serve<R: Read>(alloc: Global, input: &mut R, piece: &mut [u8]) -> io::Result<
 
 fn main(rt: HostRuntime) -> io::Result<()> {
     let mut piece = vec![in rt.alloc(); 0u8; 65536]?;
-    let (counts, read) = match wanted(&rt)? {
+    let (counts, read) = match read_job(&rt)? {
         Job::Cut(way) => cut(&mut rt.reader(), piece.as_mut_slice(), way)?,
         Job::Serve => serve(rt.alloc(), &mut rt.reader(), piece.as_mut_slice())?,
     };

@@ -29,7 +29,7 @@ use Rattle.cast_config.specs.declared.config.Group.{Group}
 use Rattle.cast_config.specs.declared.config.Account.{Account}
 use Rattle.cast_config.specs.declared.config.Relay.{Relay}
 use Rattle.cast_config.specs.declared.config.Anonymous.{Anonymous}
-use Rattle.cast_config.specs.declared.document.Heard.{Heard}
+use Rattle.cast_config.specs.declared.document.RoverOffer.{RoverOffer}
 use Rattle.cast_config.specs.declared.document.Parties.{Parties}
 use Rattle.cast_config.specs.declared.document.Places.{Places}
 use Rattle.cast_config.specs.declared.document.Settings.{Settings}
@@ -203,7 +203,7 @@ keeps_records key (Some d) rs e = records_rule key d rs e
 
 -- ---- the document
 
-pub record KeepsHeard (h : Heard) : Type 0 where
+pub record KeepsHeard (h : RoverOffer) : Type 0 where
   pub mount : AreKept KeepsMount 1 64 h.mount
   pub near : AreKept (KeepsNear (length h.mount)) 0 (64 - length h.mount) h.near
   pub names : each_once (heard_names h.mount h.near) ≡ true
@@ -239,7 +239,7 @@ keeps_places ms p e =
           (get_member (codes "near") ms) v2 f2;
     })))
 
-keeps_heard : (version : ℕ) (ms : Members) (h : Heard) → heard_of version ms ≡ Ok h → KeepsHeard h
+keeps_heard : (version : ℕ) (ms : Members) (h : RoverOffer) → heard_of version ms ≡ Ok h → KeepsHeard h
 unfolding heard_of
 keeps_heard version ms h e =
     taken KeepsHeard _ _ h e (λ v1 f1 e1.

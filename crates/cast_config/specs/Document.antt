@@ -18,7 +18,7 @@ use Rattle.config_keys.specs.Records.{records}
 use Rattle.cast_config.specs.declared.config.Config.{Config}
 use Rattle.cast_config.specs.declared.config.Mount.{Mount}
 use Rattle.cast_config.specs.declared.config.Group.{Group}
-use Rattle.cast_config.specs.declared.document.Heard.{Heard}
+use Rattle.cast_config.specs.declared.document.RoverOffer.{RoverOffer}
 use Rattle.cast_config.specs.declared.document.Parties.{Parties}
 use Rattle.cast_config.specs.declared.document.Places.{Places}
 use Rattle.cast_config.specs.declared.document.Settings.{Settings}
@@ -59,7 +59,7 @@ places_of ms = do
   Ok (record { mount = mount; near = near })
 
 -- the same and the groups that list them
-unfoldable pub heard_of : ℕ → Members → Read Heard
+unfoldable pub heard_of : ℕ → Members → Read RoverOffer
 heard_of version ms = do
   places ← places_of ms
   group ← listed (group_of version places.mount places.near) 1 (most_groups version) (top 7)
@@ -89,7 +89,7 @@ settings_of ms = do
   Ok (record { version = version; workers = workers; hysteresis = hysteresis })
 
 -- the configuration of these parts
-abbrev pub config_from : Settings → List Record → Heard → Parties → Config
+abbrev pub config_from : Settings → List Record → RoverOffer → Parties → Config
 config_from settings records heard parties = record {
   workers = settings.workers;
   hysteresis = settings.hysteresis;

@@ -41,7 +41,7 @@ fn places_in(alloc: Global, table: &Table) -> Result<Places, KeyFault>
 /// What rovers may hear: the mountpoints, the near mountpoints, the groups that list them, and
 /// which frames are given.
 #[derive(Drop)]
-struct Heard {
+struct RoverOffer {
     mount: Mounts,
     near: Nears,
     group: Groups,
@@ -49,7 +49,7 @@ struct Heard {
 }
 
 #[tactic(auto, unfolding(crate::specs::Document::heard_of))]
-fn heard_in(alloc: Global, version: u32, table: &Table) -> Result<Heard, KeyFault>
+fn heard_in(alloc: Global, version: u32, table: &Table) -> Result<RoverOffer, KeyFault>
     ensures read { Gives result (heard_of version (table_view table.now)) }
     ensures mounts { IfOk result (λ heard. length heard.mount ≤ 64) }
     ensures groups { IfOk result (λ heard. length heard.group ≤ 64) }
@@ -58,7 +58,7 @@ fn heard_in(alloc: Global, version: u32, table: &Table) -> Result<Heard, KeyFaul
     let group = value_at(table, "group");
     let group = groups(alloc, group, version, mount.as_slice(), near.as_slice())?;
     let permits = all_filters(alloc, mount.as_slice(), group.as_slice())?;
-    Ok(Heard {
+    Ok(RoverOffer {
         mount,
         near,
         group,
@@ -125,7 +125,12 @@ fn settings_in(table: &Table) -> Result<Settings, KeyFault>
 }
 
 /// The configuration of these parts.
-fn config_from(settings: Settings, records: Vec<Record>, heard: Heard, parties: Parties) -> Config
+fn config_from(
+    settings: Settings,
+    records: Vec<Record>,
+    heard: RoverOffer,
+    parties: Parties,
+) -> Config
     ensures { result ≡ config_from settings records.items heard parties }
 {
     Config {

@@ -1,19 +1,21 @@
 //! The entries of a configuration, each read from its table: one call a key, in the order in which
 //! the keys are tested.
 
-ghost use Rattle.std.specs.Prelude.{◌≡◌, ◌≤◌, List, ℕ, [], length, IsTrue, None};
+ghost use Rattle.std.specs.Prelude.{◌≡◌, ◌≤◌, List, ℕ, [], length, map, IfOk, IsTrue, None};
 ghost use Rattle.cast_text.specs.Name.{is_name};
 ghost use Rattle.config_keys.specs.Answers.{Gives, GivesBy};
 ghost use Rattle.config_keys.specs.Lists.{each_of};
 ghost use Rattle.config_keys.specs.Rules.{required, optional, seen};
 ghost use Rattle.config_keys.specs.Texts.{name};
-ghost use Rattle.cast_config.specs.Names.{mount_names, group_names, user_names, heard_names, new_name, named, all_named, entries_once, filters_at, filter_at, some_of};
+ghost use Rattle.cast_config.specs.Names.{mount_names, heard_names, new_name, named, all_named, entries_once, filters_at, filter_at, some_of};
 ghost use Rattle.cast_config.specs.Entries.{place, near_of, hearing_of, given_of, group_of, credentials_of, membership_of, account_of, pull_of, relay_of, anonymous_in, anonymous_of, filters_by};
 ghost use Rattle.toml.specs.Data.{get_member};
 ghost use Rattle.toml.specs.View.{view, table_view};
 
 use crate::config::{Account, Anonymous, Group, GroupFilter, Mount, Near, Relay};
-use crate::known::{differ, has_name, heard_numbers, is_heard, names, number_of, numbers_of};
+use crate::known::{
+    Named, differ, has_name, heard_numbers, is_heard, names, number_of, numbers_of,
+};
 use crate::lists::{GroupFilters, Numbers};
 use cast_text::{GroupName, MountName, Text, UserName};
 use config_keys::{
@@ -29,6 +31,34 @@ pub(crate) fn place(list: u32, entry: u32, key: u32) -> Key
     ensures { result ≡ place list entry key }
 {
     Key { list, entry, key }
+}
+
+/// The bytes of a name that none of these has.
+#[tactic(auto, unfolding(crate::specs::Names::new_name))]
+pub(crate) fn new_name<'v, T: Named>(
+    value: Option<&'v Value>,
+    key: Key,
+    before: &[T],
+) -> Result<&'v [u8], KeyFault>
+    ensures read { GivesBy (λ bytes. bytes.now) result
+        (required (new_name (map T.title before.now)) key (seen value.entry)) }
+    ensures name { IfOk result (λ bytes. IsTrue (is_name bytes.now)) }
+{
+    let bytes = name_bytes(value, key)?;
+    if has_name(before, bytes) {
+        return Err(KeyFault::Twice(key));
+    }
+    Ok(bytes)
+}
+
+/// The number of what has to be named at a key.
+#[tactic(auto, unfolding(crate::specs::Names::named))]
+fn number_named<T: Named>(value: Option<&Value>, key: Key, items: &[T]) -> Result<u32, KeyFault>
+    requires { length items.now ≤ 1024 }
+    ensures { Gives result (required (named (map T.title items.now)) key (seen value.entry)) }
+{
+    let bytes = name_bytes(value, key)?;
+    number_of(items, bytes, key)
 }
 
 /// The name of a near mountpoint that none of these has.
@@ -48,58 +78,6 @@ fn new_near_name(
         return Err(KeyFault::Twice(key));
     }
     mount_name(alloc, bytes)
-}
-
-#[tactic(auto, unfolding(crate::specs::Names::new_name))]
-fn new_group_name(
-    alloc: Global,
-    value: Option<&Value>,
-    key: Key,
-    before: &[Group],
-) -> Result<GroupName, KeyFault>
-    ensures { Gives result (required (new_name (group_names before.now)) key (seen value.entry)) }
-{
-    let bytes = name_bytes(value, key)?;
-    if has_name(before, bytes) {
-        return Err(KeyFault::Twice(key));
-    }
-    group_name(alloc, bytes)
-}
-
-#[tactic(auto, unfolding(crate::specs::Names::new_name))]
-fn new_user_name(
-    alloc: Global,
-    value: Option<&Value>,
-    key: Key,
-    before: &[Account],
-) -> Result<UserName, KeyFault>
-    ensures { Gives result (required (new_name (user_names before.now)) key (seen value.entry)) }
-{
-    let bytes = name_bytes(value, key)?;
-    if has_name(before, bytes) {
-        return Err(KeyFault::Twice(key));
-    }
-    user_name(alloc, bytes)
-}
-
-/// The number of the mountpoint that has to be named at a key.
-#[tactic(auto, unfolding(crate::specs::Names::named))]
-fn mount_named(value: Option<&Value>, key: Key, mounts: &[Mount]) -> Result<u32, KeyFault>
-    requires { length mounts.now ≤ 64 }
-    ensures { Gives result (required (named (mount_names mounts.now)) key (seen value.entry)) }
-{
-    let bytes = name_bytes(value, key)?;
-    number_of(mounts, bytes, key)
-}
-
-/// The number of the group that has to be named at a key.
-#[tactic(auto, unfolding(crate::specs::Names::named))]
-fn group_named(value: Option<&Value>, key: Key, groups: &[Group]) -> Result<u32, KeyFault>
-    requires { length groups.now ≤ 64 }
-    ensures { Gives result (required (named (group_names groups.now)) key (seen value.entry)) }
-{
-    let bytes = name_bytes(value, key)?;
-    number_of(groups, bytes, key)
 }
 
 /// The bases of a near mountpoint.
@@ -205,7 +183,7 @@ fn filters_in(
     Ok(GroupFilters::new(filters))
 }
 
-/// The same filter, with the number of its mountpoint.
+/// The filter of this entry, with the number of its mountpoint in place of the name.
 fn numbered_filter(entry: FilterEntry, key: Key, mounts: &[Mount]) -> Result<GroupFilter, KeyFault>
     requires { length mounts.now ≤ 64 }
     ensures { result ≡ filter_at key (mount_names mounts.now) entry }
@@ -217,7 +195,7 @@ fn numbered_filter(entry: FilterEntry, key: Key, mounts: &[Mount]) -> Result<Gro
     })
 }
 
-/// The same filters, each with the number of its mountpoint.
+/// The filters of these entries, each with the number of its mountpoint in place of the name.
 fn numbered_filters(
     alloc: Global,
     entries: Vec<FilterEntry>,
@@ -257,7 +235,8 @@ fn hearing_in(
     ensures { Gives result
         (hearing_of mounts.now nears.now n before.now (table_view table.now)) }
 {
-    let name = new_group_name(alloc, value_at(table, "name"), place(7, n, 1), before)?;
+    let name = new_name(value_at(table, "name"), place(7, n, 1), before)?;
+    let name = group_name(alloc, name)?;
     let listed = value_at(table, "mounts");
     let mounts = heard(alloc, listed, place(7, n, 2), mounts, nears)?;
     Ok(Hearing { name, mounts })
@@ -329,7 +308,8 @@ fn credentials_in(
 ) -> Result<Credentials, KeyFault>
     ensures { Gives result (credentials_of n before.now (table_view table.now)) }
 {
-    let user = new_user_name(alloc, value_at(table, "user"), place(8, n, 1), before)?;
+    let user = new_name(value_at(table, "user"), place(8, n, 1), before)?;
+    let user = user_name(alloc, user)?;
     let password = value_at(table, "password");
     let password = text(alloc, password, place(8, n, 2), TextKind::Secret)?;
     Ok(Credentials { user, password })
@@ -347,7 +327,7 @@ fn membership_in(groups: &[Group], n: u32, table: &Table) -> Result<Membership, 
     requires { length groups.now ≤ 64 }
     ensures { Gives result (membership_of groups.now n (table_view table.now)) }
 {
-    let group = group_named(value_at(table, "group"), place(8, n, 3), groups)?;
+    let group = number_named(value_at(table, "group"), place(8, n, 3), groups)?;
     let cap = count(value_at(table, "cap"), place(8, n, 4), 1, 1_000_000)?;
     Ok(Membership { group, cap })
 }
@@ -411,7 +391,7 @@ fn pull_in(alloc: Global, mounts: &[Mount], n: u32, table: &Table) -> Result<Pul
     requires { length mounts.now ≤ 64 }
     ensures { Gives result (pull_of mounts.now n (table_view table.now)) }
 {
-    let mount = mount_named(value_at(table, "mount"), place(9, n, 1), mounts)?;
+    let mount = number_named(value_at(table, "mount"), place(9, n, 1), mounts)?;
     let address = value_at(table, "address");
     let address = text(alloc, address, place(9, n, 2), TextKind::Address)?;
     let upstream = upstream_name(alloc, value_at(table, "upstream"), place(9, n, 3))?;
@@ -453,7 +433,7 @@ fn anonymous_in(groups: &[Group], table: &Table) -> Result<Anonymous, KeyFault>
     requires { length groups.now ≤ 64 }
     ensures { Gives result (anonymous_in groups.now (table_view table.now)) }
 {
-    let group = group_named(value_at(table, "group"), place(10, 0, 1), groups)?;
+    let group = number_named(value_at(table, "group"), place(10, 0, 1), groups)?;
     let cap = count(value_at(table, "cap"), place(10, 0, 2), 1, 1_000_000)?;
     Ok(Anonymous { group, cap })
 }

@@ -3,25 +3,22 @@
 
 ghost use Rattle.std.specs.Prelude.{◌≡◌, ◌≤◌, codes, length};
 ghost use Rattle.config_keys.specs.Answers.{Gives};
-ghost use Rattle.config_keys.specs.Rules.{count, required, optional, seen};
+ghost use Rattle.config_keys.specs.Rules.{count, required, optional};
 ghost use Rattle.config_keys.specs.Texts.{text};
 ghost use Rattle.config_keys.specs.declared.strings.TextKind.TheVariants.{Plain};
-ghost use Rattle.cast_config.specs.Names.{mount_names, new_name};
 ghost use Rattle.cast_config.specs.Entries.{place, position_of, station_of, signals_of, origin_of, mount_from, mount_of};
 ghost use Rattle.toml.specs.Data.{get_member};
 ghost use Rattle.toml.specs.View.{table_view};
 
 use crate::config::Mount;
-use crate::entries::place;
-use crate::known::has_name;
+use crate::entries::{new_name, place};
 use cast_text::{MountName, Text};
 use config_keys::{
-    Key, KeyFault, TextKind, count, count_or, mount_name, name_bytes, text, text_or, value_at,
-    whole,
+    Key, KeyFault, TextKind, count, count_or, mount_name, text, text_or, value_at, whole,
 };
 use gga_read::Position;
 use std::alloc::Global;
-use toml::{Table, Value};
+use toml::Table;
 
 /// What the source and the rovers of a mountpoint need.
 #[derive(Drop)]
@@ -49,23 +46,6 @@ pub(crate) struct Origin {
     pub(crate) generator: Text,
     pub(crate) bitrate: u32,
     pub(crate) misc: Text,
-}
-
-/// The name of a mountpoint that none of these has.
-#[tactic(auto, unfolding(crate::specs::Names::new_name))]
-fn new_mount_name(
-    alloc: Global,
-    value: Option<&Value>,
-    key: Key,
-    before: &[Mount],
-) -> Result<MountName, KeyFault>
-    ensures { Gives result (required (new_name (mount_names before.now)) key (seen value.entry)) }
-{
-    let bytes = name_bytes(value, key)?;
-    if has_name(before, bytes) {
-        return Err(KeyFault::Twice(key));
-    }
-    mount_name(alloc, bytes)
 }
 
 #[tactic(auto, unfolding(crate::specs::Entries::position_of))]
@@ -106,7 +86,8 @@ fn ring_in(table: &Table, n: u32) -> Result<u32, KeyFault>
 fn station_in(alloc: Global, n: u32, before: &[Mount], table: &Table) -> Result<Station, KeyFault>
     ensures { Gives result (station_of n before.now (table_view table.now)) }
 {
-    let name = new_mount_name(alloc, value_at(table, "name"), place(5, n, 1), before)?;
+    let name = new_name(value_at(table, "name"), place(5, n, 1), before)?;
+    let name = mount_name(alloc, name)?;
     let password = value_at(table, "password");
     let password = text(alloc, password, place(5, n, 2), TextKind::Plain)?;
     let ring = ring_in(table, n)?;

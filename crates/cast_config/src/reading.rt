@@ -1,11 +1,12 @@
 //! The lists of a configuration: each entry is read with its number and those before it.
 
-ghost use Rattle.std.specs.Prelude.{◌≡◌, ◌≤◌, ◌-◌, [], length, IfOk};
-ghost use Rattle.config_keys.specs.Answers.{Gives, GivesBy};
+ghost use Rattle.std.specs.Prelude.{◌≡◌, ◌≤◌, ◌-◌, ℕ, List, [], length, IfOk};
+ghost use Rattle.config_keys.specs.Answers.{Gives, GivesBy, Read};
 ghost use Rattle.config_keys.specs.Rules.{seen};
 ghost use Rattle.cast_config.specs.Entries.{top, mount_of, near_of, group_of, account_of, relay_of};
 ghost use Rattle.cast_config.specs.Document.{entries, listed, listed_or_none, most_groups};
-ghost use Rattle.toml.specs.View.{items_view};
+ghost use Rattle.toml.specs.Data.{Members};
+ghost use Rattle.toml.specs.View.{items_view, table_view};
 
 use crate::config::{Account, Group, Mount, Near, Relay};
 use crate::entries::{account_in, group_in, near_in, place, relay_in};
@@ -13,7 +14,7 @@ use crate::lists::{Accounts, Groups, Mounts, Nears, Relays};
 use crate::mountpoint::mount_in;
 use config_keys::{Key, KeyFault, tables, tables_or};
 use std::alloc::Global;
-use toml::Value;
+use toml::{Table, Value};
 
 /// A top key.
 pub(crate) fn top(list: u32) -> Key
@@ -22,18 +23,29 @@ pub(crate) fn top(list: u32) -> Key
     place(list, 0, 0)
 }
 
-fn each_mount(alloc: Global, values: &[Value]) -> Result<Vec<Mount>, KeyFault>
-    requires { length values.now ≤ 64 }
-    ensures read { GivesBy (λ v. v.items) result
-        (entries (top 5) (mount_of) 1 [] (items_view values.now)) }
+/// The entries that the function reads of these tables, each with its number, from 1, and those
+/// before it.
+fn each<T: Drop, F: Fn(u32, &[T], &Table) -> Result<T, KeyFault>>(
+    alloc: Global,
+    key: Key,
+    values: &[Value],
+    one: F,
+) -> Result<Vec<T>, KeyFault>
+    requires values { length values.now ≤ 1024 }
+    requires one { F.IsAlwaysCallable one }
+    ensures read { (rule : ℕ → List T → Members → Read T)
+        → ((n : ℕ) (before table entry : _)
+        → F.post one n before table entry
+        → Gives entry (rule n before.now (table_view table.now)))
+        → GivesBy (λ v. v.items) result (entries key rule 1 [] (items_view values.now)) }
     ensures length { IfOk result (λ v. length v.items ≡ length values.now) }
 {
     let mut list = Vec::new(alloc);
     for i in 0..values.len() {
         let Some(table) = values[i].as_table() else {
-            return Err(KeyFault::Wrong(top(5)));
+            return Err(KeyFault::Wrong(key));
         };
-        let entry = mount_in(alloc, i as u32 + 1, &list, table)?;
+        let entry = one(i as u32 + 1, &list, table)?;
         list.push(entry)?;
     }
     Ok(list)
@@ -45,26 +57,9 @@ pub(crate) fn mounts(alloc: Global, value: Option<&Value>) -> Result<Mounts, Key
     ensures few { IfOk result (λ list. length list ≤ 64) }
 {
     let values = tables(value, top(5), 1, 64)?;
-    let list = each_mount(alloc, values)?;
+    let one = |n: u32, before: &[Mount], table: &Table| mount_in(alloc, n, before, table);
+    let list = each(alloc, top(5), values, one)?;
     Ok(Mounts::new(list))
-}
-
-fn each_near(alloc: Global, mounts: &[Mount], values: &[Value]) -> Result<Vec<Near>, KeyFault>
-    requires mounts { length mounts.now ≤ 64 }
-    requires values { length values.now ≤ 64 }
-    ensures read { GivesBy (λ v. v.items) result
-        (entries (top 6) (near_of mounts.now) 1 [] (items_view values.now)) }
-    ensures length { IfOk result (λ v. length v.items ≡ length values.now) }
-{
-    let mut list = Vec::new(alloc);
-    for i in 0..values.len() {
-        let Some(table) = values[i].as_table() else {
-            return Err(KeyFault::Wrong(top(6)));
-        };
-        let entry = near_in(alloc, mounts, i as u32 + 1, &list, table)?;
-        list.push(entry)?;
-    }
-    Ok(list)
 }
 
 /// The near mountpoints.
@@ -79,33 +74,9 @@ pub(crate) fn nears(
     ensures few { IfOk result (λ list. length list ≤ 64) }
 {
     let values = tables_or(value, top(6), 64 - mounts.len())?;
-    let list = each_near(alloc, mounts, values)?;
+    let one = |n: u32, before: &[Near], table: &Table| near_in(alloc, mounts, n, before, table);
+    let list = each(alloc, top(6), values, one)?;
     Ok(Nears::new(list))
-}
-
-fn each_group(
-    alloc: Global,
-    version: u32,
-    mounts: &[Mount],
-    nears: &[Near],
-    values: &[Value],
-) -> Result<Vec<Group>, KeyFault>
-    requires mounts { length mounts.now ≤ 64 }
-    requires nears { length nears.now ≤ 64 }
-    requires values { length values.now ≤ 64 }
-    ensures read { GivesBy (λ v. v.items) result
-        (entries (top 7) (group_of version mounts.now nears.now) 1 [] (items_view values.now)) }
-    ensures length { IfOk result (λ v. length v.items ≡ length values.now) }
-{
-    let mut list = Vec::new(alloc);
-    for i in 0..values.len() {
-        let Some(table) = values[i].as_table() else {
-            return Err(KeyFault::Wrong(top(7)));
-        };
-        let entry = group_in(alloc, version, mounts, nears, i as u32 + 1, &list, table)?;
-        list.push(entry)?;
-    }
-    Ok(list)
 }
 
 /// How many groups a file of this version may have.
@@ -133,26 +104,11 @@ pub(crate) fn groups(
     ensures few { IfOk result (λ list. length list ≤ 64) }
 {
     let values = tables(value, top(7), 1, most_groups(version))?;
-    let list = each_group(alloc, version, mounts, nears, values)?;
+    let one = |n: u32, before: &[Group], table: &Table| {
+        group_in(alloc, version, mounts, nears, n, before, table)
+    };
+    let list = each(alloc, top(7), values, one)?;
     Ok(Groups::new(list))
-}
-
-fn each_account(alloc: Global, groups: &[Group], values: &[Value]) -> Result<Vec<Account>, KeyFault>
-    requires groups { length groups.now ≤ 64 }
-    requires values { length values.now ≤ 1024 }
-    ensures read { GivesBy (λ v. v.items) result
-        (entries (top 8) (account_of groups.now) 1 [] (items_view values.now)) }
-    ensures length { IfOk result (λ v. length v.items ≡ length values.now) }
-{
-    let mut list = Vec::new(alloc);
-    for i in 0..values.len() {
-        let Some(table) = values[i].as_table() else {
-            return Err(KeyFault::Wrong(top(8)));
-        };
-        let entry = account_in(alloc, groups, i as u32 + 1, &list, table)?;
-        list.push(entry)?;
-    }
-    Ok(list)
 }
 
 /// The accounts.
@@ -166,26 +122,11 @@ pub(crate) fn accounts(
         (listed_or_none (account_of groups.now) 1024 (top 8) (seen value.entry)) }
 {
     let values = tables_or(value, top(8), 1024)?;
-    let list = each_account(alloc, groups, values)?;
+    let one = |n: u32, before: &[Account], table: &Table| {
+        account_in(alloc, groups, n, before, table)
+    };
+    let list = each(alloc, top(8), values, one)?;
     Ok(Accounts::new(list))
-}
-
-fn each_relay(alloc: Global, mounts: &[Mount], values: &[Value]) -> Result<Vec<Relay>, KeyFault>
-    requires mounts { length mounts.now ≤ 64 }
-    requires values { length values.now ≤ 16 }
-    ensures read { GivesBy (λ v. v.items) result
-        (entries (top 9) (λ n before. relay_of mounts.now n) 1 [] (items_view values.now)) }
-    ensures length { IfOk result (λ v. length v.items ≡ length values.now) }
-{
-    let mut list = Vec::new(alloc);
-    for i in 0..values.len() {
-        let Some(table) = values[i].as_table() else {
-            return Err(KeyFault::Wrong(top(9)));
-        };
-        let entry = relay_in(alloc, mounts, i as u32 + 1, table)?;
-        list.push(entry)?;
-    }
-    Ok(list)
 }
 
 /// The relays.
@@ -199,6 +140,7 @@ pub(crate) fn relays(
         (listed_or_none (λ n before. relay_of mounts.now n) 16 (top 9) (seen value.entry)) }
 {
     let values = tables_or(value, top(9), 16)?;
-    let list = each_relay(alloc, mounts, values)?;
+    let one = |n: u32, _before: &[Relay], table: &Table| relay_in(alloc, mounts, n, table);
+    let list = each(alloc, top(9), values, one)?;
     Ok(Relays::new(list))
 }

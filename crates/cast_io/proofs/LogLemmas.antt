@@ -7,11 +7,7 @@ use Rattle.cast_io.specs.declared.steps.SourceStep.{SourceStep}
 use Rattle.cast_io.specs.declared.steps.SourceStep.TheVariants as steps
 use Rattle.cast_io.specs.Told.{Grew}
 use Rattle.cast_io.specs.Logs.{Log, GaveFile, GaveFirst, GaveThen, GoesOn, pieces_given, step_of_read}
-use Rattle.cast_io.proofs.ToldLemmas.{grew_none, grew_both}
-
--- nothing yet
-pub gave_none : (log : Log) → GaveFirst log log []
-gave_none log = ([], refl, grew_none log)
+use Rattle.cast_io.proofs.ToldLemmas.{grew_both}
 
 -- and then another step
 pub gave_then : (a b c : Log) (bytes : List ℕ) (step : SourceStep (List ℕ)) → GaveFirst a b bytes
@@ -55,9 +51,6 @@ gave_read a b c bytes buf n gave some grew =
     (subst (λ (step : SourceStep (List ℕ)). Grew b c (step ∷ [])) is grew)
 
 -- ---- in which calls
-
-pub goes_none : (log : Log) → GoesOn log log
-goes_none log = ([], grew_none log)
 
 pub goes_both : (a b c : Log) → GoesOn a b → GoesOn b c → GoesOn a c
 goes_both a b c first second =

@@ -26,7 +26,8 @@ ArrivesNew told (arrived.Link link) = IsNewLink (told link)
 ArrivesNew told arrived.Idle = ⊤
 ArrivesNew told arrived.Failed = ⊤
 
--- so did an accept; one that did not fail leaves the count as it was
+-- an accept went from what the door told before it to what it tells after it; one that did not
+-- fail leaves the count as it was
 pub record HasAccepted {L : Type 0} (told : L → LinkTold) (old new : DoorTold) (result : Arrived L)
     : Type 0 where
   pub left : StillTold (TakesArrival told result) old.left new.left

@@ -64,7 +64,7 @@ abbrev pub dial_fails : StreetState → Bool
 dial_fails street = fails_next street.calls street.fails || nat_lt (length street.links) 1
 
 -- an answer counts a fault where it was refused
-abbrev pub faults_by : Bool → ℕ → ℕ
+abbrev pub faults_by : (ok : Bool) → ℕ → ℕ
 faults_by ok faults = if ok then faults else next_count faults
 
 -- an answer of the street counts a fault where it failed, and not where there was no memory

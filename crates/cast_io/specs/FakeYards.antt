@@ -68,7 +68,7 @@ notes_fail yard = fails_next yard.calls yard.fails || nat_lt (length yard.notes)
 
 -- a call counted a fault where it failed; where the list of what was asked was lost in it, that may
 -- be one more
-abbrev pub HasCounted : Bool → YardState → YardState → Type 0
+abbrev pub HasCounted : (failed : Bool) → YardState → YardState → Type 0
 HasCounted failed old new = is_some new.asked ≡ is_some old.asked
     → new.faults ≡ (if failed then next_count old.faults else old.faults)
 
@@ -78,7 +78,7 @@ pub record IsYardCall {X : Type 0} (fails : Bool) (old new : YardState)
   pub exact : IsErrOf result Failed ↔ IsTrue fails
   pub counted : HasCounted fails old new
 
--- The same of a call that fails in no other way.
+-- A call of the yard fails where it is to fail and in no other way, and a failure is counted.
 pub record IsSureYardCall {X : Type 0} (fails : Bool) (old new : YardState)
     (result : Result X StreetFault) : Type 0 where
   pub exact : IsErrOf result Failed ↔ IsTrue fails
@@ -87,7 +87,7 @@ pub record IsSureYardCall {X : Type 0} (fails : Bool) (old new : YardState)
 
 -- one more call was counted, and what it asked; where it was answered, it gave so many of the gates
 -- to come; nothing else changed
-abbrev pub GaveGates : Bool → ℕ → YardState → YardState → Type 0
+abbrev pub GaveGates : (ok : Bool) → ℕ → YardState → YardState → Type 0
 GaveGates ok count old new = new ≡ record old {
   asked = new.asked;
   gates = if ok then drop count old.gates else old.gates;
@@ -98,7 +98,7 @@ GaveGates ok count old new = new ≡ record old {
 
 -- one more call was counted, and what it asked; where it was answered, it gave the next notes;
 -- nothing else changed
-abbrev pub GaveNotes : Bool → YardState → YardState → Type 0
+abbrev pub GaveNotes : (ok : Bool) → YardState → YardState → Type 0
 GaveNotes ok old new = new ≡ record old {
   asked = new.asked;
   notes = if ok then drop 1 old.notes else old.notes;

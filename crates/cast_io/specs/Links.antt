@@ -77,11 +77,11 @@ pub record HasRead (old new : LinkTold) (result : Got) (buf : List ℕ) : Type 0
   pub failed : IsTrue (has_failed result) → Rose old.faults new.faults
 
 -- what a write adds to the steps taken: itself where it failed
-abbrev pub write_steps : Bool → List Step
+abbrev pub write_steps : (ok : Bool) → List Step
 write_steps ok = if ok then [] else took.WriteFailed ∷ []
 
--- so did a write: all of the piece was taken, or after a failure some first bytes of it, none to
--- all, and a write that was taken whole leaves the count as it was
+-- a write took all of the piece, or after a failure some first bytes of it, none to all; one that
+-- was taken whole leaves the count as it was
 pub record HasWritten {T E : Type 0} (old new : LinkTold) (result : Result T E) (piece : List ℕ)
     : Type 0 where
   pub given : new.given ≡ old.given

@@ -1,7 +1,10 @@
 //! What the fakes share: which call is to fail, and what fits into a buffer.
-ghost use Rattle.std.specs.Prelude.{◌≡◌, ◌==◌, ◌≤◌, ℕ, [], length, take, drop, min, is_some, IfSome};
+ghost use Rattle.std.specs.Prelude.{◌≡◌, ◌==◌, ◌≤◌, ◌+◌, ◌++◌, ℕ, [], length, take, drop, min, is_some, vec_capacity, IfSome, IsOk, OnOk, OnErr};
 ghost use Rattle.std.specs.List.{list_any};
+ghost use Rattle.cast_io.specs.Causes.{next_count};
 ghost use Rattle.cast_io.specs.Fakes.{torn_at, write_fails, write_takes};
+
+use crate::fault::Failed;
 
 // The call of this number is one that is to fail.
 pub(crate) fn is_told(fails: &[u64], call: u64) -> bool
@@ -28,6 +31,23 @@ pub(crate) fn copy_from(from: &[u8], place: usize, buf: &mut [u8]) -> usize
     ensures front { take result buf.new ≡ take result (drop place from.now) }
 {
     copy_front(&from[place..], buf)
+}
+
+// Appends these bytes. Where there is no memory for them, that is a fault, and none is appended.
+pub(crate) fn take_bytes(bytes: &mut Vec<u8>, faults: &mut u64, piece: &[u8]) -> Result<(), Failed>
+    ensures whole { OnOk result ((bytes.new.items ≡ bytes.old.items ++ piece.now)
+        × (faults.new ≡ faults.old)) }
+    ensures none { OnErr result ((bytes.new.items ≡ bytes.old.items)
+        × (faults.new ≡ next_count faults.old)) }
+    ensures exact { length bytes.old.items + length piece.now ≤ vec_capacity bytes.old
+        → IsOk result }
+    ensures later { faults.old ≤ faults.new }
+{
+    let Ok(()) = bytes.extend_from_slice(piece) else {
+        *faults = faults.saturating_add(1);
+        return Err(Failed);
+    };
+    Ok(())
 }
 
 // How many bytes the write of this number takes before it fails, where it is to be torn.

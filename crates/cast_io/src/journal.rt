@@ -6,16 +6,16 @@ use std::mem;
 use std::snapshot::Snapshot;
 
 // What was noted before an entry: the entry before it, and none before the first.
-type Earlier<T> = Snapshot<Option<Snapshot<Entry<T>>>>;
+type Earlier<T> = Snapshot<Option<Snapshot<JournalItem<T>>>>;
 
 // An item and what was noted before it.
 #[derive(Drop)]
-struct Entry<T> {
+struct JournalItem<T> {
     earlier: Earlier<T>,
     item: Snapshot<T>,
 }
 
-impl<T> Model for Entry<T> {
+impl<T> Model for JournalItem<T> {
     ghost use Rattle.std.specs.Prelude.{List, [], ◌∷◌, ◌++◌, unwrap_or, option_map, length};
     ghost use Rattle.std.proofs.Common.{arith, length-append};
 
@@ -58,7 +58,7 @@ impl<T> Journal<T> {
     pub fn add(&mut self, item: &T)
         ensures { self.new ≡ self.old ++ item.now ∷ [] }
     {
-        let entry = Entry {
+        let entry = JournalItem {
             earlier: mem::replace(&mut self.earlier, Snapshot::of(&None)),
             item: Snapshot::of(item),
         };

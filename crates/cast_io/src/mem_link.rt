@@ -1,5 +1,5 @@
 //! A link in memory that takes its steps in order, and fails at the calls that it is told to.
-ghost use Rattle.std.specs.Prelude.{◌≡◌, ◌<◌, ◌≤◌, ◌+◌, ◌++◌, ◌↔◌, ◌⊎◌, [], ◌∷◌, length, Some, MatchOption, option_map, drop, false, IsTrue, IsSome, IsOk, IsErr, IfOk, OnOk, OnErr};
+ghost use Rattle.std.specs.Prelude.{◌≡◌, ◌<◌, ◌≤◌, ◌+◌, ◌++◌, ◌↔◌, ◌⊎◌, [], ◌∷◌, length, Some, MatchOption, option_map, drop, false, IsTrue, IsSome, IsErr, IfOk};
 ghost use Rattle.std.specs.List.{list_all};
 ghost use Rattle.cast_io.specs.Causes.{next_count, Rose};
 ghost use Rattle.cast_io.specs.Fakes.{fails_next};
@@ -8,7 +8,7 @@ ghost use Rattle.cast_io.specs.Links.{IsGot, has_failed, step_of};
 ghost use Rattle.cast_io.specs.declared.steps.Step.TheVariants as took;
 
 use crate::bytes::ByteString;
-use crate::calls::{copy_from, is_told, torn_front};
+use crate::calls::{copy_from, is_told, take_bytes, torn_front};
 use crate::fault::Failed;
 use crate::link::{Got, Link};
 use crate::notes::Notes;
@@ -205,27 +205,6 @@ impl MemLink {
         self.writes = self.writes.saturating_add(1);
     }
 
-    // Takes these bytes. Where there was no memory for them, that is a fault, and none is taken.
-    fn take_bytes(&mut self, piece: &[u8]) -> Result<(), Failed>
-        ensures same { self.new ≡ record self.old {
-          bytes = self.new.bytes;
-          faults = self.new.faults;
-          room = self.new.room;
-        } }
-        ensures whole { OnOk result ((self.new.bytes ≡ self.old.bytes ++ piece.now)
-            × (self.new.faults ≡ self.old.faults)) }
-        ensures none { OnErr result ((self.new.bytes ≡ self.old.bytes)
-            × (self.new.faults ≡ next_count self.old.faults)) }
-        ensures exact { length self.old.bytes + length piece.now ≤ self.old.room → IsOk result }
-        ensures later { self.old.faults ≤ self.new.faults }
-    {
-        let Ok(()) = self.bytes.extend_from_slice(piece) else {
-            self.faults = self.faults.saturating_add(1);
-            return Err(Failed);
-        };
-        Ok(())
-    }
-
     // Counts a fault of a write, and notes it.
     fn note_failed_write(&mut self)
         ensures grew { Grew self.old.taken self.new.taken (took.WriteFailed ∷ []) }
@@ -251,7 +230,7 @@ impl MemLink {
         ensures rose { Rose self.old.faults self.new.faults }
     {
         self.count_write();
-        let _ = self.take_bytes(front);
+        let _ = take_bytes(&mut self.bytes, &mut self.faults, front);
         self.note_failed_write();
         Failed
     }
@@ -289,7 +268,7 @@ impl Link for MemLink {
             return Err(self.tear(front));
         }
         self.count_write();
-        let Ok(()) = self.take_bytes(piece) else {
+        let Ok(()) = take_bytes(&mut self.bytes, &mut self.faults, piece) else {
             self.note_failed_write();
             return Err(Failed);
         };

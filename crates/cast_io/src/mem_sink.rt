@@ -1,10 +1,10 @@
 //! A sink in memory that fails at the calls that it is told to.
-ghost use Rattle.std.specs.Prelude.{◌≡◌, ◌≤◌, ◌+◌, ◌++◌, ◌↔◌, ◌⊎◌, [], length, Some, false, IsTrue, IsOk, IsErr, OnOk, OnErr};
+ghost use Rattle.std.specs.Prelude.{◌≡◌, ◌≤◌, ◌+◌, ◌++◌, ◌↔◌, ◌⊎◌, [], length, Some, false, IsTrue, IsErr, OnOk, OnErr};
 ghost use Rattle.cast_io.specs.Causes.{HasCause, Rose, next_count};
 ghost use Rattle.cast_io.specs.Pieces.{AppendsPrefix};
 ghost use Rattle.cast_io.specs.Fakes.{IsFakeWrite, sink_fails, sink_takes};
 
-use crate::calls::torn_front;
+use crate::calls::{take_bytes, torn_front};
 use crate::fault::Failed;
 use crate::sink::Sink;
 use std::alloc::Global;
@@ -88,27 +88,6 @@ impl MemSink {
         self.calls = self.calls.saturating_add(1);
     }
 
-    // Takes these bytes. Where there was no memory for them, that is a fault, and none is taken.
-    fn take_bytes(&mut self, piece: &[u8]) -> Result<(), Failed>
-        ensures same { self.new ≡ record self.old {
-          bytes = self.new.bytes;
-          faults = self.new.faults;
-          room = self.new.room;
-        } }
-        ensures whole { OnOk result ((self.new.bytes ≡ self.old.bytes ++ piece.now)
-            × (self.new.faults ≡ self.old.faults)) }
-        ensures none { OnErr result ((self.new.bytes ≡ self.old.bytes)
-            × (self.new.faults ≡ next_count self.old.faults)) }
-        ensures exact { length self.old.bytes + length piece.now ≤ self.old.room → IsOk result }
-        ensures later { self.old.faults ≤ self.new.faults }
-    {
-        let Ok(()) = self.bytes.extend_from_slice(piece) else {
-            self.faults = self.faults.saturating_add(1);
-            return Err(Failed);
-        };
-        Ok(())
-    }
-
     // A write that is torn: it takes the front alone.
     fn tear(&mut self, front: &[u8]) -> Failed
         ensures bytes { (self.new.bytes ≡ self.old.bytes)
@@ -124,7 +103,7 @@ impl MemSink {
           room = self.new.room;
         } }
     {
-        let _ = self.take_bytes(front);
+        let _ = take_bytes(&mut self.bytes, &mut self.faults, front);
         self.faults = self.faults.saturating_add(1);
         Failed
     }
@@ -152,6 +131,6 @@ impl Sink for MemSink {
             return Err(self.tear(front));
         }
         self.count_call();
-        self.take_bytes(piece)
+        take_bytes(&mut self.bytes, &mut self.faults, piece)
     }
 }

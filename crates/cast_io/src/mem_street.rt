@@ -107,7 +107,7 @@ impl MemStreet {
         })
     }
 
-    /// The same street, whose gates and notes are those of this yard.
+    /// This street with the gates and the notes of this yard.
     pub fn with_yard(mut self, yard: MemYard) -> Self
         ensures { result ≡ record self { yard = yard } }
     {

@@ -24,7 +24,7 @@ pub enum ReadAllFault {
 }
 
 // How many bytes one read asks for.
-const PIECE: usize = 4096;
+const MAX_READ_BYTES: usize = 4096;
 
 /// Reads the source to its end: all bytes that were left, at most `limit`.
 ///
@@ -52,7 +52,7 @@ pub fn read_all<S: Source>(
     ensures on { GoesOn (S.log source.old) (S.log source.new) }
 {
     let mut all = Vec::new(alloc);
-    let mut piece = [0u8; PIECE];
+    let mut piece = [0u8; MAX_READ_BYTES];
     loop {
         let Ok(count) = source.read(&mut piece) else {
             return Err(ReadAllFault::Failed);

@@ -8,7 +8,7 @@ use std::alloc::Global;
 use std::test::Fail;
 
 // The same value, which may go to another thread.
-pub(crate) fn sent<T: Send>(value: T) -> T
+pub(crate) fn send_value<T: Send>(value: T) -> T
     ensures { result ≡ value }
 {
     value
@@ -16,10 +16,10 @@ pub(crate) fn sent<T: Send>(value: T) -> T
 
 // Whether a door that was sent to another thread gives a link there, which is sent on.
 fn gives_there(door: MemDoor) -> bool {
-    let mut door = sent(door);
+    let mut door = send_value(door);
     match door.accept() {
         Arrived::Link(link) => {
-            let _there = sent(link);
+            let _there = send_value(link);
             true
         }
         Arrived::Idle | Arrived::Failed => false,

@@ -2,7 +2,7 @@
 
 use crate::expecting::expect_eq;
 use crate::reaching::reach_once;
-use crate::street_tests::sent;
+use crate::street_tests::send_value;
 use crate::yard_runs::{gate_of, run_gate, run_yard, yard_of};
 use cast_io::{
     ByteString, Gate, GateEnd, MemGate, MemSink, MemStreet, PeerAddr, Sink, StreetFault, YardAsked,
@@ -51,13 +51,13 @@ fn a_gate_tells_the_peer_of_its_last_link(rt: HostRuntime) -> Result<(), Fail> {
 
 // Whether a gate that was sent to another thread is over there.
 fn is_over_there(gate: MemGate) -> bool {
-    let mut gate = sent(gate);
+    let mut gate = send_value(gate);
     gate.is_over()
 }
 
 // Whether notes that were sent to another thread take a piece there.
 fn takes_there(notes: MemSink) -> bool {
-    let mut notes = sent(notes);
+    let mut notes = send_value(notes);
     notes.write(b"a").is_ok()
 }
 

@@ -10,7 +10,7 @@ use std::alloc::{AllocError, Global};
 use std::marker::Model;
 
 /// The most bytes that a name has.
-const LIMIT: usize = 100;
+const MAX_NAME_BYTES: usize = 100;
 
 /// Whether this byte may stand in a name.
 fn is_allowed(byte: u8) -> bool
@@ -33,7 +33,7 @@ fn fault_of(text: &[u8]) -> Option<NameFault>
     if text.is_empty() {
         return Some(NameFault::Empty);
     }
-    if text.len() > LIMIT {
+    if text.len() > MAX_NAME_BYTES {
         return Some(NameFault::Long(text.len()));
     }
     match first_refused(text) {
@@ -80,6 +80,14 @@ impl MountName {
         if let Some(fault) = fault_of(text) {
             return Err(fault);
         }
+        Ok(MountName::of(alloc, text)?)
+    }
+
+    /// The name that these bytes are.
+    pub fn of(alloc: Global, text: &[u8]) -> Result<MountName, AllocError>
+        requires { IsTrue (is_name text.now) }
+        ensures { IfOk result (λ name. name ≡ text.now) }
+    {
         Ok(MountName {
             bytes: Vec::from_slice(alloc, text)?,
         })
@@ -93,13 +101,11 @@ impl MountName {
         &self.bytes
     }
 
-    /// The same name once more.
+    /// A copy of the name.
     pub fn copy(&self, alloc: Global) -> Result<MountName, AllocError>
         ensures { IfOk result (λ name. name ≡ self.now) }
     {
-        Ok(MountName {
-            bytes: Vec::from_slice(alloc, &self.bytes)?,
-        })
+        MountName::of(alloc, &self.bytes)
     }
 }
 
@@ -150,6 +156,14 @@ impl UserName {
         if let Some(fault) = fault_of(text) {
             return Err(fault);
         }
+        Ok(UserName::of(alloc, text)?)
+    }
+
+    /// The name that these bytes are.
+    pub fn of(alloc: Global, text: &[u8]) -> Result<UserName, AllocError>
+        requires { IsTrue (is_name text.now) }
+        ensures { IfOk result (λ name. name ≡ text.now) }
+    {
         Ok(UserName {
             bytes: Vec::from_slice(alloc, text)?,
         })
@@ -163,13 +177,11 @@ impl UserName {
         &self.bytes
     }
 
-    /// The same name once more.
+    /// A copy of the name.
     pub fn copy(&self, alloc: Global) -> Result<UserName, AllocError>
         ensures { IfOk result (λ name. name ≡ self.now) }
     {
-        Ok(UserName {
-            bytes: Vec::from_slice(alloc, &self.bytes)?,
-        })
+        UserName::of(alloc, &self.bytes)
     }
 }
 
@@ -220,6 +232,14 @@ impl GroupName {
         if let Some(fault) = fault_of(text) {
             return Err(fault);
         }
+        Ok(GroupName::of(alloc, text)?)
+    }
+
+    /// The name that these bytes are.
+    pub fn of(alloc: Global, text: &[u8]) -> Result<GroupName, AllocError>
+        requires { IsTrue (is_name text.now) }
+        ensures { IfOk result (λ name. name ≡ text.now) }
+    {
         Ok(GroupName {
             bytes: Vec::from_slice(alloc, text)?,
         })
@@ -233,13 +253,11 @@ impl GroupName {
         &self.bytes
     }
 
-    /// The same name once more.
+    /// A copy of the name.
     pub fn copy(&self, alloc: Global) -> Result<GroupName, AllocError>
         ensures { IfOk result (λ name. name ≡ self.now) }
     {
-        Ok(GroupName {
-            bytes: Vec::from_slice(alloc, &self.bytes)?,
-        })
+        GroupName::of(alloc, &self.bytes)
     }
 }
 

@@ -9,7 +9,7 @@ use std::alloc::{AllocError, Global};
 use std::marker::Model;
 
 /// The most bytes that a text has.
-const LIMIT: usize = 8192;
+const MAX_TEXT_BYTES: usize = 8192;
 
 /// A text of at most 8,192 bytes, of any value. Contracts see it as the list of its bytes.
 #[derive(Debug, Drop)]
@@ -37,9 +37,17 @@ impl Text {
     pub fn new(alloc: Global, bytes: &[u8]) -> Result<Text, TextFault>
         ensures { Gives result (text_of bytes.now) }
     {
-        if bytes.len() > LIMIT {
+        if bytes.len() > MAX_TEXT_BYTES {
             return Err(TextFault::Long(bytes.len()));
         }
+        Ok(Text::of(alloc, bytes)?)
+    }
+
+    /// The text of these bytes.
+    pub fn of(alloc: Global, bytes: &[u8]) -> Result<Text, AllocError>
+        requires { length bytes.now ≤ 8192 }
+        ensures { IfOk result (λ text. text ≡ bytes.now) }
+    {
         Ok(Text {
             bytes: Vec::from_slice(alloc, bytes)?,
         })
@@ -53,13 +61,11 @@ impl Text {
         &self.bytes
     }
 
-    /// The same text once more.
+    /// A copy of the text.
     pub fn copy(&self, alloc: Global) -> Result<Text, AllocError>
         ensures { IfOk result (λ text. text ≡ self.now) }
     {
-        Ok(Text {
-            bytes: Vec::from_slice(alloc, &self.bytes)?,
-        })
+        Text::of(alloc, &self.bytes)
     }
 }
 

@@ -8,7 +8,7 @@ use Rattle.caster_accounts.specs.declared.call.BookAnswer.TheVariants.{Entered, 
 use Rattle.caster_accounts.specs.History.{answer}
 
 -- 1 where a test holds, else 0
-abbrev pub one : Bool → ℕ
+abbrev pub one : (holds : Bool) → ℕ
 one true = 1
 one false = 0
 

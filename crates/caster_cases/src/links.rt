@@ -98,7 +98,7 @@ fn steps_of(alloc: Global, case: &Case<'_>, text: &str) -> Result<Vec<LinkStep>,
         if let Some(count) = word.strip_prefix('.') {
             push_idle(&mut steps, number(count))?;
         } else if !word.starts_with('!') {
-            push_bytes(&mut steps, case.joined(alloc, word)?)?;
+            push_bytes(&mut steps, case.join_names(alloc, word)?)?;
         }
     }
     Ok(steps)

@@ -49,7 +49,7 @@ impl Case<'_> {
     }
 
     /// What the parts of these names stand for, one behind the other.
-    pub fn joined(&self, alloc: Global, names: &str) -> Result<Vec<u8>, AllocError> {
+    pub fn join_names(&self, alloc: Global, names: &str) -> Result<Vec<u8>, AllocError> {
         let mut bytes = Vec::new(alloc);
         for name in names.split_whitespace() {
             if name == "KEPT" {
@@ -65,7 +65,7 @@ impl Case<'_> {
     /// where there is neither.
     pub fn content(&self, alloc: Global, word: &str) -> Result<Option<Vec<u8>>, AllocError> {
         if let Some(names) = self.setting(word) {
-            return Ok(Some(self.joined(alloc, names)?));
+            return Ok(Some(self.join_names(alloc, names)?));
         }
         let Some(lines) = section_named(self.lines, word) else {
             return Ok(None);

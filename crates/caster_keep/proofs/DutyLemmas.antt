@@ -10,7 +10,7 @@ use Rattle.turn_log.specs.History.{History, own}
 use Rattle.cast_io.specs.Told.{DoorTold}
 use Rattle.cast_console.specs.Consoles.{ConsoleTold}
 use Rattle.caster_press.specs.declared.line.Line.{Line}
-use Rattle.caster_press.specs.declared.press.Start.{Start}
+use Rattle.caster_press.specs.declared.press.OutputStart.{OutputStart}
 use Rattle.caster_press.specs.Callers.{HaveWritten}
 use Rattle.caster_keep.specs.declared.duty.Duty.{Duty}
 use Rattle.caster_keep.specs.declared.duty.Duty.TheVariants as duties
@@ -235,7 +235,7 @@ module _ {G C A B : Type 0} (told : G → DoorTold) (over : G → Bool) (peer : 
       }
 
   -- the works at a press ended so
-  pub ended_all : (start : Start) (torn : Bool) (taken : Option (List ℕ)) (faults : ℕ) (gates : List A) (console : B)
+  pub ended_all : (start : OutputStart) (torn : Bool) (taken : Option (List ℕ)) (faults : ℕ) (gates : List A) (console : B)
       (begun ended : List (Duty A B)) → begun ≡ all_duties gates console
       → (written : HaveWritten DidHis start torn taken faults begun ended)
       → Ended written.whole 0 gates console ended
@@ -266,7 +266,7 @@ module _ {G C A B : Type 0} (told : G → DoorTold) (over : G → Bool) (peer : 
     pub are : ended ≡ all_duties left last
     pub many : length left ≡ length gates
 
-  pub left_all : {T E : Type 0} (result : Result T E) (start : Start) (torn : T → Bool) (taken : T → Option (List ℕ))
+  pub left_all : {T E : Type 0} (result : Result T E) (start : OutputStart) (torn : T → Bool) (taken : T → Option (List ℕ))
       (faults : T → ℕ) (gates : List A) (console : B) (begun ended : List (Duty A B))
       → begun ≡ all_duties gates console
       → IfOk result (λ closed. HaveWritten DidHis start (torn closed) (taken closed) (faults closed) begun ended)

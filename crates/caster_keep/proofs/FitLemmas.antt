@@ -9,7 +9,7 @@ use Rattle.caster_places.specs.Known.{Fit}
 use Rattle.caster_link.specs.declared.role.Role.{Role}
 use Rattle.caster_link.specs.declared.role.Role.TheVariants as roles
 use Rattle.caster_seats.specs.declared.shared.Shared.{Shared}
-use Rattle.caster_seats.specs.Hands.{HandTold}
+use Rattle.caster_seats.specs.SeatedCallers.{SeatedTold}
 use Rattle.caster_seats.specs.Seated.{AreSeated}
 use Rattle.caster_seats.specs.Sharing.{IsReady}
 use Rattle.caster_keep.specs.declared.keeper.Keeper.{Keeper}
@@ -42,13 +42,13 @@ roles_fit c =
     All-append (IsRoleOf c) (replicate c.workers roles.Caller) (relays_from 0 c.relay) (workers_fit c c.workers)
     (relays_fit c 0 c.relay (omega arith))
 
-length_relays : (n : ℕ) (relays : List Relay) → length (relays_from n relays) ≡ length relays
-length_relays n [] = refl
-length_relays n (relay ∷ relays) = ap suc (length_relays (n + 1) relays)
-
 length_workers : (n : ℕ) → length (replicate n roles.Caller) ≡ n
 length_workers zero = refl
 length_workers (suc n) = ap suc (length_workers n)
+
+length_relays : (n : ℕ) (relays : List Relay) → length (relays_from n relays) ≡ length relays
+length_relays n [] = refl
+length_relays n (relay ∷ relays) = ap suc (length_relays (n + 1) relays)
 
 module _ {G : Type 0} where
   -- as many as there are workers and relays
@@ -74,20 +74,20 @@ module _ {G : Type 0} where
 
   -- ---- at their seats
 
-  may_each : (shared : Shared) (n : ℕ) (keepers : List (Keeper G)) (hands : List (HandTold (Keeper G)))
+  may_each : (shared : Shared) (n : ℕ) (keepers : List (Keeper G)) (hands : List (SeatedTold (Keeper G)))
       → IsReady shared → All IsNewKeeper keepers
       → All (λ (keeper : Keeper G). IsRoleOf shared.config.now keeper.role) keepers
       → AreSeated shared n keepers hands
-      → All (λ (hand : HandTold (Keeper G)). MayKeep (posted shared.config.now shared.table.items hand)) hands
+      → All (λ (hand : SeatedTold (Keeper G)). MayKeep (posted shared.config.now shared.table.items hand)) hands
   may_each shared n [] [] ready fresh fit seated =
-      All-nil (λ (hand : HandTold (Keeper G)). MayKeep (posted shared.config.now shared.table.items hand))
+      All-nil (λ (hand : SeatedTold (Keeper G)). MayKeep (posted shared.config.now shared.table.items hand))
   may_each shared n [] (hand ∷ hands) ready fresh fit seated = absurd seated
   may_each shared n (keeper ∷ keepers) [] ready fresh fit seated = absurd seated
   may_each shared n (keeper ∷ keepers) (hand ∷ hands) ready fresh fit seated =
       let c = shared.config.now in
       let new : IsNewKeeper keeper = All-head IsNewKeeper keeper keepers fresh in
       let is : hand.work ≡ keeper = seated.0.work_is in
-      All-cons (λ (h : HandTold (Keeper G)). MayKeep (posted c shared.table.items h)) hand hands
+      All-cons (λ (h : SeatedTold (Keeper G)). MayKeep (posted c shared.table.items h)) hand hands
       (record {
         kept = ready.kept;
         table_is = ready.table_is;
@@ -99,10 +99,10 @@ module _ {G : Type 0} where
       (may_each shared (n + 1) keepers hands ready (All-tail IsNewKeeper keeper keepers fresh)
       (All-tail (λ (k : Keeper G). IsRoleOf c k.role) keeper keepers fit) seated.1)
 
-  may_keep : (shared : Shared) (keepers : List (Keeper G)) (hands : List (HandTold (Keeper G))) → IsReady shared
+  may_keep : (shared : Shared) (keepers : List (Keeper G)) (hands : List (SeatedTold (Keeper G))) → IsReady shared
       → All IsNewKeeper keepers → map role_at keepers ≡ roles_of shared.config.now
       → AreSeated shared 0 keepers hands
-      → All (λ (hand : HandTold (Keeper G)). MayKeep (posted shared.config.now shared.table.items hand)) hands
+      → All (λ (hand : SeatedTold (Keeper G)). MayKeep (posted shared.config.now shared.table.items hand)) hands
   may_keep shared keepers hands ready fresh are seated =
       may_each shared 0 keepers hands ready fresh
       (fit_each shared.config.now keepers
@@ -117,18 +117,18 @@ module _ {G : Type 0} where
       All-cons (λ (p : _). MayKeep (tell p)) post posts (All-head MayKeep (tell post) (map tell posts) may)
       (on_posts tell posts (All-tail MayKeep (tell post) (map tell posts) may))
 
-  at_posts : (c : Config) (table : List ℕ) (hands : List (HandTold (Keeper G)))
-      → All (λ (hand : HandTold (Keeper G)). MayKeep (posted c table hand)) hands
+  at_posts : (c : Config) (table : List ℕ) (hands : List (SeatedTold (Keeper G)))
+      → All (λ (hand : SeatedTold (Keeper G)). MayKeep (posted c table hand)) hands
       → All MayKeep (map (posted c table) hands)
   at_posts c table [] may = All-nil MayKeep
   at_posts c table (hand ∷ hands) may =
-      let P = λ (h : HandTold (Keeper G)). MayKeep (posted c table h) in
+      let P = λ (h : SeatedTold (Keeper G)). MayKeep (posted c table h) in
       All-cons MayKeep (posted c table hand) (map (posted c table) hands) (All-head P hand hands may)
       (at_posts c table hands (All-tail P hand hands may))
 
   -- so may those whose posts are these
   pub posts_may : {X : Type 0} (tell : X → PostTold G) (shared : Shared) (keepers : List (Keeper G))
-      (hands : List (HandTold (Keeper G))) (posts : List X) → IsReady shared → All IsNewKeeper keepers
+      (hands : List (SeatedTold (Keeper G))) (posts : List X) → IsReady shared → All IsNewKeeper keepers
       → map role_at keepers ≡ roles_of shared.config.now → AreSeated shared 0 keepers hands
       → map tell posts ≡ map (posted shared.config.now shared.table.items) hands
       → All (λ (post : X). MayKeep (tell post)) posts

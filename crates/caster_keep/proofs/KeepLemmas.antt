@@ -41,8 +41,9 @@ use Rattle.caster_serve.proofs.LeaveLemmas.{leaves_both, leaves_none}
 use Rattle.caster_serve.proofs.WorkLemmas.{link_come, link_counted, none_come, record_goes}
 use Rattle.caster_keep.specs.declared.stop.Stop.{Stop}
 use Rattle.caster_keep.specs.declared.stop.Stop.TheVariants as stops
-use Rattle.caster_keep.specs.Links.{ArePut, Follow, Kept, KeptGoes, LinkKept, asked_line, asked_lines, entered_lines, entered_of, first_line, lines_from, lines_of, lines_of_entered, link_lines, number_of, records_of, told_lines, whose}
+use Rattle.caster_keep.specs.Links.{Follow, Kept, KeptGoes, LinkKept, asked_line, asked_lines, entered_lines, entered_of, first_line, lines_from, lines_of, lines_of_entered, link_lines, number_of, records_of, told_lines, whose}
 use Rattle.caster_keep.specs.Keepers.{AreItsLines, IsTurn, IsWhy, KeptOn, Turn, Went, kept_at, links_in}
+use Rattle.keep_porter.specs.Porters.{ArePut}
 
 -- ---- the lines of one link
 

@@ -14,15 +14,15 @@ use Rattle.cast_config.specs.declared.config.Config.{Config}
 use Rattle.session_model.specs.Run.{Histories}
 use Rattle.session_model.specs.Setting.{caps}
 use Rattle.caster_press.specs.declared.line.Line.{Line}
-use Rattle.caster_press.specs.declared.press.Start.{Start}
+use Rattle.caster_press.specs.declared.press.OutputStart.{OutputStart}
 use Rattle.caster_press.specs.Lines.{text_in}
 use Rattle.caster_press.specs.Written.{IsWritten}
 use Rattle.cast_console.specs.Consoles.{ConsoleTold}
 use Rattle.caster_places.specs.Piles.{AreMatched}
 use Rattle.caster_places.specs.Rows.{ArePiles, AreWornWithin, RingLocks, BookLock}
-use Rattle.caster_places.specs.declared.piles.Piles.{Piles}
+use Rattle.caster_places.specs.declared.pass_piles.PassPiles.{PassPiles}
 use Rattle.caster_seats.specs.declared.shared.Shared.{Shared}
-use Rattle.caster_seats.specs.Hands.{HandTold}
+use Rattle.caster_seats.specs.SeatedCallers.{SeatedTold}
 use Rattle.caster_seats.specs.Seated.{AreAllAt, AreBelow, AreLegal, AreSeated, HaveLeft, HavePlaces, rows_of, works_of}
 use Rattle.caster_seats.specs.Sharing.{IsReady}
 use Rattle.caster_keep.specs.declared.keeper.Keeper.{Keeper}
@@ -34,7 +34,7 @@ use Rattle.caster_keep.proofs.TogetherLemmas.{AllWorked, Collected, collected, s
 
 -- ---- rows of callers that left
 
-legal_rows : {X : Type 0} (c : Config) (n : ℕ) (hands : List (HandTold X)) (rings : RingLocks) (book : BookLock)
+legal_rows : {X : Type 0} (c : Config) (n : ℕ) (hands : List (SeatedTold X)) (rings : RingLocks) (book : BookLock)
     → caps_of (turn_value book) ≡ caps c → AreAllAt n hands rings book → AreLegal hands
     → All (λ (row : Histories). IsLegal (fits (caps c)) row.book) (rows_of hands)
 legal_rows c n [] rings book caps_are at legal = All-nil (λ (row : Histories). IsLegal (fits (caps c)) row.book)
@@ -44,7 +44,7 @@ legal_rows c n (hand ∷ hands) rings book caps_are at legal =
     (legal_rows c (n + 1) hands rings book caps_are at.1 legal.1)
 
 -- callers at these locks have a place at each of them
-pub have_places : {X : Type 0} (mounts n : ℕ) (hands : List (HandTold X)) (rings : RingLocks) (book : BookLock)
+pub have_places : {X : Type 0} (mounts n : ℕ) (hands : List (SeatedTold X)) (rings : RingLocks) (book : BookLock)
     → length rings ≡ mounts → AreAllAt n hands rings book → HavePlaces mounts hands
 have_places mounts n [] rings book long at = tt
 have_places mounts n (hand ∷ hands) rings book long at =
@@ -59,9 +59,9 @@ module _ {G : Type 0} (told : G → DoorTold) (over : G → Bool) (peer : G → 
   rows_are [] = refl
   rows_are (post ∷ posts) = ap (λ l. post.hand.seen ∷ l) (rows_are posts)
 
-  pub have_kept : {C : Type 0} (heard : C → ConsoleTold) (shared : Shared) (table : List ℕ) (start : Start)
-      (torn : Bool) (notes : NotesTold) (keepers after : List (Keeper G)) (olds hands : List (HandTold (Keeper G)))
-      (posts : List (PostTold G)) (whole : History Line) (before now : BoothTold C) (met count : ℕ) (old new : Piles)
+  pub have_kept : {C : Type 0} (heard : C → ConsoleTold) (shared : Shared) (table : List ℕ) (start : OutputStart)
+      (torn : Bool) (notes : NotesTold) (keepers after : List (Keeper G)) (olds hands : List (SeatedTold (Keeper G)))
+      (posts : List (PostTold G)) (whole : History Line) (before now : BoothTold C) (met count : ℕ) (old new : PassPiles)
       → IsReady shared → All IsNewKeeper keepers → All (λ (keeper : Keeper G). IsNewDoor (told keeper.gate)) keepers
       → map role_at keepers ≡ roles_of shared.config.now → AreSeated shared 0 keepers olds
       → AllWorked told over peer whole 0 (map (posted shared.config.now table) olds) posts
@@ -86,7 +86,7 @@ module _ {G : Type 0} (told : G → DoorTold) (over : G → Bool) (peer : G → 
         arith,
         ap length (sym seen),
         length-map all.tolds seen_by,
-        length-map hands (λ (h : HandTold (Keeper G)). h.seen),
+        length-map hands (λ (h : SeatedTold (Keeper G)). h.seen),
       ) in
       let as_many : length all.tolds ≡ count =
       omega (arith, many, ap length hands_are, length-map posts hand_at, many_posts) in
@@ -116,5 +116,5 @@ module _ {G : Type 0} (told : G → DoorTold) (over : G → Bool) (peer : G → 
 
         at_hands : AreAllAt 0 (map hand_at posts) shared.rings.items shared.book
             → AreAllAt 0 hands shared.rings.items shared.book
-        at_hands at = subst (λ (l : List (HandTold (Keeper G))). AreAllAt 0 l shared.rings.items shared.book)
+        at_hands at = subst (λ (l : List (SeatedTold (Keeper G))). AreAllAt 0 l shared.rings.items shared.book)
             (sym hands_are) at

@@ -8,13 +8,13 @@ use Rattle.cast_io.specs.Told.{DoorTold}
 use Rattle.cast_io.specs.Doors.{IsNewDoor}
 use Rattle.cast_config.specs.declared.config.Config.{Config}
 use Rattle.caster_press.specs.declared.line.Line.{Line}
-use Rattle.caster_press.specs.declared.press.Start.{Start}
+use Rattle.caster_press.specs.declared.press.OutputStart.{OutputStart}
 use Rattle.caster_press.specs.Callers.{HaveWritten}
 use Rattle.caster_places.specs.Known.{Known}
 use Rattle.caster_places.specs.Rows.{AreAt, ArePiles, AreWornWithin}
-use Rattle.caster_places.specs.declared.piles.Piles.{Piles}
+use Rattle.caster_places.specs.declared.pass_piles.PassPiles.{PassPiles}
 use Rattle.caster_seats.specs.declared.shared.Shared.{Shared}
-use Rattle.caster_seats.specs.Hands.{HandTold}
+use Rattle.caster_seats.specs.SeatedCallers.{SeatedTold}
 use Rattle.caster_seats.specs.Seated.{AreAllAt, AreBelow, AreLegal, AreSeated, HaveLeft, HavePlaces, works_of}
 use Rattle.caster_seats.specs.Sharing.{IsReady}
 use Rattle.caster_keep.specs.Gates.{roles_of}
@@ -44,7 +44,7 @@ refused_so (Err fault) so was = so was
 
 -- ---- they have sat down
 
-seated_works : {X : Type 0} (shared : Shared) (n : ℕ) (works : List X) (hands : List (HandTold X))
+seated_works : {X : Type 0} (shared : Shared) (n : ℕ) (works : List X) (hands : List (SeatedTold X))
     → AreSeated shared n works hands → works_of hands ≡ works
 seated_works shared n [] [] seated = refl
 seated_works shared n [] (hand ∷ hands) seated = absurd seated
@@ -54,12 +54,12 @@ seated_works shared n (work ∷ works) (hand ∷ hands) seated =
     ∙ ap (λ l. work ∷ l) (seated_works shared (n + 1) works hands seated.1)
 
 -- their work came back as it had been given
-pub works_back : {X : Type 0} (shared : Shared) (keepers after none : List X) (hands : List (HandTold X))
+pub works_back : {X : Type 0} (shared : Shared) (keepers after none : List X) (hands : List (SeatedTold X))
     → AreSeated shared 0 keepers hands → none ≡ [] → after ≡ none ++ works_of hands → after ≡ keepers
 works_back shared keepers after none hands seated empty took =
     whole_list after none (works_of hands) empty took ∙ seated_works shared 0 keepers hands seated
 
-seated_at : {X : Type 0} (shared : Shared) (n : ℕ) (works : List X) (hands : List (HandTold X))
+seated_at : {X : Type 0} (shared : Shared) (n : ℕ) (works : List X) (hands : List (SeatedTold X))
     → AreSeated shared n works hands → AreAllAt n hands shared.rings.items shared.book
 seated_at shared n [] [] seated = tt
 seated_at shared n [] (hand ∷ hands) seated = absurd seated
@@ -67,7 +67,7 @@ seated_at shared n (work ∷ works) [] seated = absurd seated
 seated_at shared n (work ∷ works) (hand ∷ hands) seated =
     (seated.0.at, seated_at shared (n + 1) works hands seated.1)
 
-pub seated_places : {X : Type 0} (mounts : ℕ) (shared : Shared) (works : List X) (hands : List (HandTold X))
+pub seated_places : {X : Type 0} (mounts : ℕ) (shared : Shared) (works : List X) (hands : List (SeatedTold X))
     → mounts ≡ length shared.rings.items → AreSeated shared 0 works hands → HavePlaces mounts hands
 seated_places mounts shared works hands long seated =
     have_places mounts 0 hands shared.rings.items shared.book (sym long) (seated_at shared 0 works hands seated)
@@ -75,41 +75,41 @@ seated_places mounts shared works hands long seated =
 module _ {G : Type 0} where
   -- ---- they have taken their posts
 
-  hands_posted : (c : Config) (table : List ℕ) (hands : List (HandTold (Keeper G)))
+  hands_posted : (c : Config) (table : List ℕ) (hands : List (SeatedTold (Keeper G)))
       → map hand_at (map (posted c table) hands) ≡ hands
   hands_posted c table [] = refl
   hands_posted c table (hand ∷ hands) = ap (λ l. hand ∷ l) (hands_posted c table hands)
 
   -- the posts of these hands
   pub posts_are : {X : Type 0} (tell : X → PostTold G) (c d : Config) (table text : List ℕ)
-      (hands : List (HandTold (Keeper G))) (posts : List X) → c ≡ d → table ≡ text
+      (hands : List (SeatedTold (Keeper G))) (posts : List X) → c ≡ d → table ≡ text
       → map tell posts ≡ map (posted c table) hands → map tell posts ≡ map (posted d text) hands
   posts_are tell c d table text hands posts same as_text are =
       are ∙ ap (λ (x : Config). map (posted x table) hands) same ∙ ap (λ t. map (posted d t) hands) as_text
 
   -- there are as many posts as hands
-  pub still_as_many : {X Y : Type 0} (tell : X → PostTold G) (told : Y → HandTold (Keeper G))
-      (post : HandTold (Keeper G) → PostTold G) (posts : List X) (hands : List Y)
+  pub still_as_many : {X Y : Type 0} (tell : X → PostTold G) (told : Y → SeatedTold (Keeper G))
+      (post : SeatedTold (Keeper G) → PostTold G) (posts : List X) (hands : List Y)
       → map tell posts ≡ map post (map told hands) → length posts ≡ length hands
   still_as_many tell told post posts hands are =
       sym (length-map posts tell) ∙ ap length are ∙ length-map (map told hands) post ∙ length-map hands told
 
   -- where nothing was done, the hands are as they were
   pub hands_still : {X : Type 0} (tell : X → PostTold G) (c : Config) (table : List ℕ)
-      (hands : List (HandTold (Keeper G))) (posts : List X) → map tell posts ≡ map (posted c table) hands
+      (hands : List (SeatedTold (Keeper G))) (posts : List X) → map tell posts ≡ map (posted c table) hands
       → map hand_at (map tell posts) ≡ hands
   hands_still tell c table hands posts are = ap (map hand_at) are ∙ hands_posted c table hands
 
   -- and so are those at gates
   pub gates_still : {A B : Type 0} (tell : A → PostTold G) (gates : List A) (console : B) (begun ended : List (Duty A B))
-      (news : List (HandTold (Keeper G))) → begun ≡ all_duties gates console → ended ≡ begun
+      (news : List (SeatedTold (Keeper G))) → begun ≡ all_duties gates console → ended ≡ begun
       → news ≡ map hand_at (map tell (gates_in ended)) → news ≡ map hand_at (map tell gates)
   gates_still tell gates console begun ended news are same is =
       is ∙ ap (λ (l : List _). map hand_at (map tell l)) (ap gates_in (same ∙ are) ∙ gates_of_all gates console)
 
   -- and so is their work
   pub works_still : {X : Type 0} (tell : X → PostTold G) (shared : Shared) (table : List ℕ) (keepers : List (Keeper G))
-      (olds news : List (HandTold (Keeper G))) (posts : List X) (none after : List (Keeper G))
+      (olds news : List (SeatedTold (Keeper G))) (posts : List X) (none after : List (Keeper G))
       → AreSeated shared 0 keepers olds → map tell posts ≡ map (posted shared.config.now table) olds
       → news ≡ map hand_at (map tell posts) → none ≡ [] → after ≡ none ++ works_of news → after ≡ keepers
   works_still tell shared table keepers olds news posts none after seated are back empty took =
@@ -121,7 +121,7 @@ module _ {G : Type 0} where
 
   module _ (told : G → DoorTold) (over : G → Bool) (peer : G → List ℕ) where
     worked_at : (shared : Shared) (table : List ℕ) (whole : History Line) (n : ℕ) (keepers : List (Keeper G))
-        (olds : List (HandTold (Keeper G))) (posts : List (PostTold G)) → AreSeated shared n keepers olds
+        (olds : List (SeatedTold (Keeper G))) (posts : List (PostTold G)) → AreSeated shared n keepers olds
         → AllWorked told over peer whole n (map (posted shared.config.now table) olds) posts
         → AreAllAt n (map hand_at posts) shared.rings.items shared.book
     worked_at shared table whole n [] [] [] seated worked = tt
@@ -135,7 +135,7 @@ module _ {G : Type 0} where
     )
 
 module _ {G C A B : Type 0} (told : G → DoorTold) (over : G → Bool) (peer : G → List ℕ) (heard : C → ConsoleTold)
-    (at_gate : A → PostTold G) (at_console : B → BoothTold C) {T E : Type 0} (result : Result T E) (start : Start)
+    (at_gate : A → PostTold G) (at_console : B → BoothTold C) {T E : Type 0} (result : Result T E) (start : OutputStart)
     (torn : T → Bool) (taken : T → Option (List ℕ)) (faults : T → ℕ) (gates : List A) (console : B)
     (begun ended : List (Duty A B)) (are : begun ≡ all_duties gates console)
     (written : IfOk result (λ closed. HaveWritten (DidHis told over peer heard at_gate at_console) start (torn closed)
@@ -155,7 +155,7 @@ module _ {G C A B : Type 0} (told : G → DoorTold) (over : G → Bool) (peer : 
       (l.last, console_left l.left l.last ended l.are)
 
   -- each of those at gates has its places
-  pub still_at : (shared : Shared) (table : List ℕ) (keepers : List (Keeper G)) (olds : List (HandTold (Keeper G)))
+  pub still_at : (shared : Shared) (table : List ℕ) (keepers : List (Keeper G)) (olds : List (SeatedTold (Keeper G)))
       → AreSeated shared 0 keepers olds → map at_gate gates ≡ map (posted shared.config.now table) olds
       → AreAllAt 0 (map hand_at (map at_gate (gates_in ended))) shared.rings.items shared.book
   still_at shared table keepers olds seated posts = by_cases result written kept where
@@ -176,7 +176,7 @@ module _ {G C A B : Type 0} (told : G → DoorTold) (over : G → Bool) (peer : 
         (sym (hands_still at_gate shared.config.now table olds gates posts)) (seated_at shared 0 keepers olds seated))
 
   pub still_places : (mounts : ℕ) (shared : Shared) (table : List ℕ) (keepers : List (Keeper G))
-      (olds news : List (HandTold (Keeper G))) → mounts ≡ length shared.rings.items → AreSeated shared 0 keepers olds
+      (olds news : List (SeatedTold (Keeper G))) → mounts ≡ length shared.rings.items → AreSeated shared 0 keepers olds
       → map at_gate gates ≡ map (posted shared.config.now table) olds
       → news ≡ map hand_at (map at_gate (gates_in ended)) → HavePlaces mounts news
   still_places mounts shared table keepers olds news long seated posts back =
@@ -204,9 +204,9 @@ module _ {G C A B : Type 0} (told : G → DoorTold) (over : G → Bool) (peer : 
 -- all have worked, and those at gates have left
 module _ {G C A B : Type 0} (told : G → DoorTold) (over : G → Bool) (peer : G → List ℕ) (heard : C → ConsoleTold)
     (at_gate : A → PostTold G) (at_console : B → BoothTold C) where
-  pub all_kept : (shared : Shared) (start : Start) (torn : Bool) (taken : Option (List ℕ)) (faults : ℕ)
-      (keepers after : List (Keeper G)) (olds hands : List (HandTold (Keeper G))) (gates : List A) (console now : B)
-      (begun ended : List (Duty A B)) (old new : Piles) → IsReady shared → All IsNewKeeper keepers
+  pub all_kept : (shared : Shared) (start : OutputStart) (torn : Bool) (taken : Option (List ℕ)) (faults : ℕ)
+      (keepers after : List (Keeper G)) (olds hands : List (SeatedTold (Keeper G))) (gates : List A) (console now : B)
+      (begun ended : List (Duty A B)) (old new : PassPiles) → IsReady shared → All IsNewKeeper keepers
       → All (λ (keeper : Keeper G). IsNewDoor (told keeper.gate)) keepers
       → map role_at keepers ≡ roles_of shared.config.now → AreSeated shared 0 keepers olds
       → map at_gate gates ≡ map (posted shared.config.now shared.table.items) olds

@@ -15,14 +15,14 @@ use Rattle.session_calls.specs.Rings.{AllLater}
 use Rattle.session_model.specs.Run.{Histories, nothing_called}
 use Rattle.session_model.specs.Setting.{caps}
 use Rattle.caster_press.specs.declared.line.Line.{Line}
-use Rattle.caster_press.specs.declared.press.Start.{Start}
+use Rattle.caster_press.specs.declared.press.OutputStart.{OutputStart}
 use Rattle.caster_press.specs.Lines.{text_of}
 use Rattle.caster_places.specs.Known.{Fit, Known}
 use Rattle.caster_places.specs.Rows.{AreAt, ArePiles, AreWornWithin}
-use Rattle.caster_places.specs.declared.piles.Piles.{Piles}
+use Rattle.caster_places.specs.declared.pass_piles.PassPiles.{PassPiles}
 use Rattle.caster_link.specs.Wear.{lacks_in}
 use Rattle.caster_seats.specs.declared.shared.Shared.{Shared}
-use Rattle.caster_seats.specs.Hands.{HandTold}
+use Rattle.caster_seats.specs.SeatedCallers.{SeatedTold}
 use Rattle.caster_seats.specs.Seated.{IsSeated}
 use Rattle.caster_seats.specs.Sharing.{IsReady}
 use Rattle.keep_porter.specs.declared.end.WaitEnd.{WaitEnd}
@@ -48,7 +48,7 @@ may_wait shared number booth work ready same seated = record {
 
 -- it sat down at its booth
 pub sat_down : {C : Type 0} (shared : Shared) (number : ℕ) (work : Porter C) (booth : BoothTold C) (c : Config)
-    (hand : HandTold (Porter C)) → booth ≡ booth_of c hand → c ≡ shared.config.now → IsSeated shared number work hand
+    (hand : SeatedTold (Porter C)) → booth ≡ booth_of c hand → c ≡ shared.config.now → IsSeated shared number work hand
     → (booth.config ≡ shared.config.now) × IsSeated shared number work booth.hand
 sat_down {C} shared number work booth c hand is same seated = (
   ap (λ (b : BoothTold C). b.config) is ∙ same,
@@ -57,11 +57,11 @@ sat_down {C} shared number work booth c hand is same seated = (
 
 -- it has a place at each of the rings as it leaves
 pub still_there : {C P : Type 0} (home : P → Gv) (places : List P) (shared : Shared) (number : ℕ) (work : Porter C)
-    (hand before now : HandTold (Porter C)) (mounts : ℕ) → map home places ≡ hand.known.homes → hand ≡ now
+    (hand before now : SeatedTold (Porter C)) (mounts : ℕ) → map home places ≡ hand.known.homes → hand ≡ now
     → now.known ≡ before.known → IsSeated shared number work before → mounts ≡ length shared.rings.items
     → length places ≡ mounts
 still_there {C} home places shared number work hand before now mounts are same still seated long =
-    sym (length-map places home) ∙ ap length are ∙ ap (λ (h : HandTold (Porter C)). length h.known.homes) same
+    sym (length-map places home) ∙ ap length are ∙ ap (λ (h : SeatedTold (Porter C)). length h.known.homes) same
     ∙ ap (λ (k : Known). length k.homes) still ∙ ap length seated.at.homes ∙ length-map shared.rings.items turn_home
     ∙ sym long
 
@@ -121,9 +121,9 @@ module _ {G C : Type 0} (told : G → DoorTold) (over : G → Bool) (peer : G �
   }
 
   -- all have left
-  pub have_all_worked : (shared : Shared) (start : Start) (torn : Bool) (notes : NotesTold) (firsts : List G)
+  pub have_all_worked : (shared : Shared) (start : OutputStart) (torn : Bool) (notes : NotesTold) (firsts : List G)
       (keepers : List (Keeper G)) (first : C) (before now : BoothTold C) (porter : Porter C) (count : ℕ)
-      (old new : Piles)
+      (old new : PassPiles)
       → (kept : HaveKept told over peer heard shared start torn notes firsts keepers before now old)
       → IsNewConsole (heard first) → before.config ≡ shared.config.now
       → IsSeated shared count (new_porter first) before.hand → length old.book.items ≡ count
@@ -177,9 +177,9 @@ module _ {G C : Type 0} (told : G → DoorTold) (over : G → Bool) (peer : G �
       }
 
   -- the same, where it left by this hand
-  pub all_left : (shared : Shared) (start : Start) (torn : Bool) (notes : NotesTold) (firsts : List G)
+  pub all_left : (shared : Shared) (start : OutputStart) (torn : Bool) (notes : NotesTold) (firsts : List G)
       (were keepers : List (Keeper G)) (first : C) (before now : BoothTold C) (porter : Porter C) (count : ℕ)
-      (hand : HandTold (Porter C)) (old new : Piles)
+      (hand : SeatedTold (Porter C)) (old new : PassPiles)
       → (kept : HaveKept told over peer heard shared start torn notes firsts keepers before now old)
       → IsNewConsole (heard first) → before.config ≡ shared.config.now
       → IsSeated shared count (new_porter first) before.hand → map role_at were ≡ roles_of shared.config.now
@@ -202,11 +202,11 @@ module _ {G C : Type 0} (told : G → DoorTold) (over : G → Bool) (peer : G �
         ap length roles,
         length-map were role_at,
         many,
-      )) (work ∙ ap (λ (h : HandTold (Porter C)). h.work) is)
-      (subst (λ (h : HandTold (Porter C)). (number : ℕ) (rows : List Histories) (rings : _) (book : _)
+      )) (work ∙ ap (λ (h : SeatedTold (Porter C)). h.work) is)
+      (subst (λ (h : SeatedTold (Porter C)). (number : ℕ) (rows : List Histories) (rings : _) (book : _)
       → AreAt number h.known rings book → number ≡ length rows → ArePiles rows old rings book
       → ArePiles (rows ++ h.seen ∷ []) new rings book) is left)
-      (subst (λ (h : HandTold (Porter C)). IsLegal (fits h.known.caps_are) h.seen.book) is legal)
-      (subst (λ (h : HandTold (Porter C)). (mounts : List ℕ) (book : ℕ) → AreWornWithin mounts book new
+      (subst (λ (h : SeatedTold (Porter C)). IsLegal (fits h.known.caps_are) h.seen.book) is legal)
+      (subst (λ (h : SeatedTold (Porter C)). (mounts : List ℕ) (book : ℕ) → AreWornWithin mounts book new
       → AreWornWithin mounts book old × AllLater h.worn (mounts ++ book ∷ [])) is worn)
       one_more

@@ -4,19 +4,19 @@ use Rattle.std.specs.Prelude.{Option, Result, Ok, Err, OnOk, OnErr, is_err, is_o
 use Rattle.std.specs.Io.KnownBytes.{Appends}
 use Rattle.cast_io.specs.Causes.{Rose, HasCause}
 use Rattle.cast_io.specs.Pieces.{AppendsPrefix}
-use Rattle.caster_press.specs.declared.press.Start.{Start}
+use Rattle.caster_press.specs.declared.press.OutputStart.{OutputStart}
 use Rattle.caster_press.specs.Written.{IsWritten}
 use Rattle.caster_press.proofs.WrittenLemmas.{appends_more, cut_now, cut_still}
 
 -- behind a text whose writing is torn nothing more is written
-pub still_torn : (was : Bool) (start : Start) (now : Option (List ℕ)) (faults : ℕ) (text more : List ℕ) → was ≡ true
+pub still_torn : (was : Bool) (start : OutputStart) (now : Option (List ℕ)) (faults : ℕ) (text more : List ℕ) → was ≡ true
     → IsWritten was start now faults text → IsWritten true start now faults (text ++ more)
 still_torn was start now faults text more is written =
     let torn = subst (λ (b : Bool). IsWritten b start now faults text) is written in
     (cut_still start.taken now text more torn.0, torn.1)
 
 -- behind one that is whole more was written, or the write of it failed
-pub written_behind : {T E : Type 0} (r : Result T E) (was torn : Bool) (start : Start) (now next : Option (List ℕ))
+pub written_behind : {T E : Type 0} (r : Result T E) (was torn : Bool) (start : OutputStart) (now next : Option (List ℕ))
     (then after : ℕ) (text piece more : List ℕ) → was ≡ false → torn ≡ is_err r → piece ≡ more
     → IsWritten was start now then text → OnOk r (Appends now next piece) → OnErr r (AppendsPrefix now next piece)
     → HasCause then after r → OnOk r (after ≡ then) → IsWritten torn start next after (text ++ more)

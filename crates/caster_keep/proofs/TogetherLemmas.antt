@@ -22,7 +22,7 @@ use Rattle.caster_link.specs.declared.role.Role.{Role}
 use Rattle.caster_link.specs.Wear.{Wear, lacks_in, only_worn, wear_of}
 use Rattle.caster_link.proofs.WornLemmas.{WearsOn}
 use Rattle.caster_seats.specs.declared.shared.Shared.{Shared}
-use Rattle.caster_seats.specs.Hands.{HandTold}
+use Rattle.caster_seats.specs.SeatedCallers.{SeatedTold}
 use Rattle.caster_seats.specs.Seated.{AreAllAt, AreBelow, AreSeated, IsSeated}
 use Rattle.caster_keep.specs.declared.keeper.Keeper.{Keeper}
 use Rattle.caster_keep.specs.declared.stop.Stop.{Stop}
@@ -82,7 +82,7 @@ module _ {G : Type 0} (told : G → DoorTold) (over : G → Bool) (peer : G → 
       same_sum kept))))
 
   -- what is told of a keeper that had served nothing, at its post
-  abbrev told_at : (keeper : Keeper G) (old : HandTold (Keeper G)) (c : Config) (table : List ℕ) (post : PostTold G)
+  abbrev told_at : (keeper : Keeper G) (old : SeatedTold (Keeper G)) (c : Config) (table : List ℕ) (post : PostTold G)
       (lines : List Line) (met : ℕ) → HasWorkedOn told over peer (posted c table old) post lines met → KeeperTold G
   told_at keeper old c table post lines met worked = record {
     role = keeper.role;
@@ -95,7 +95,7 @@ module _ {G : Type 0} (told : G → DoorTold) (over : G → Bool) (peer : G → 
     lines = lines;
   }
 
-  is_keeper : (shared : Shared) (table : List ℕ) (most n met : ℕ) (keeper : Keeper G) (old : HandTold (Keeper G))
+  is_keeper : (shared : Shared) (table : List ℕ) (most n met : ℕ) (keeper : Keeper G) (old : SeatedTold (Keeper G))
       (post : PostTold G) (lines : List Line) (worn : List ℕ) → IsNewKeeper keeper → IsNewDoor (told keeper.gate)
       → IsSeated shared n keeper old → met ≤ most → AllLater post.hand.worn worn
       → (worked : HasWorkedOn told over peer (posted shared.config.now table old) post lines met)
@@ -165,7 +165,7 @@ module _ {G : Type 0} (told : G → DoorTold) (over : G → Bool) (peer : G → 
     pub at : AreAllAt n (map hand_at posts) shared.rings.items shared.book
 
   pub collected : (shared : Shared) (table : List ℕ) (whole : History Line) (n : ℕ) (keepers : List (Keeper G))
-      (olds : List (HandTold (Keeper G))) (posts : List (PostTold G)) → All IsNewKeeper keepers
+      (olds : List (SeatedTold (Keeper G))) (posts : List (PostTold G)) → All IsNewKeeper keepers
       → All (λ (keeper : Keeper G). IsNewDoor (told keeper.gate)) keepers → AreSeated shared n keepers olds
       → AllWorked whole n (map (posted shared.config.now table) olds) posts
       → Collected shared whole n keepers posts

@@ -23,12 +23,12 @@ use Rattle.session_model.specs.Run.{Histories}
 use Rattle.session_model.specs.Setting.{caps}
 use Rattle.session_model.specs.Text.{closed_text}
 use Rattle.session_model.proofs.ReportSums.{sums_long}
-use Rattle.caster_press.specs.declared.press.Start.{Start}
+use Rattle.caster_press.specs.declared.press.OutputStart.{OutputStart}
 use Rattle.caster_press.specs.Lines.{text_in}
 use Rattle.caster_press.specs.Written.{IsWritten}
 use Rattle.caster_places.specs.Piles.{AreMatched}
 use Rattle.caster_places.specs.Rows.{ArePiles}
-use Rattle.caster_places.specs.declared.piles.Piles.{Piles}
+use Rattle.caster_places.specs.declared.pass_piles.PassPiles.{PassPiles}
 use Rattle.caster_seats.specs.declared.shared.Shared.{Shared}
 use Rattle.caster_keep.specs.declared.keeper.Keeper.{Keeper}
 use Rattle.caster_keep.specs.declared.stop.Stop.{Stop}
@@ -189,12 +189,12 @@ module _ {G O : Type 0} (told : G → DoorTold) (over : G → Bool) (peer : G �
   -- came back
   pub has_ended : {C : Type 0} (heard : C → ConsoleTold) (console : C) (porter : Porter C) (shared : Shared)
       (first notes : O) (pressed : NotesTold) (was torn : Bool)
-      (before keepers : List (Keeper G)) (piles : Piles) (closed : Closed) (stop : Stop) (old back new : YardTold)
+      (before keepers : List (Keeper G)) (piles : PassPiles) (closed : Closed) (stop : Stop) (old back new : YardTold)
       → AreNewNotes (notes_told taken faults_of first)
       → (worked : HaveWorked told over peer heard shared (start_of taken faults_of first) was pressed
       (map gate_at before) keepers console porter piles)
       → HasTakenBack (gates_of told over keepers) old back → Closes shared piles closed
-      → ((start : Start) (lines : List ℕ) → IsWritten was start pressed.taken pressed.faults lines
+      → ((start : OutputStart) (lines : List ℕ) → IsWritten was start pressed.taken pressed.faults lines
       → IsWritten torn start (taken notes) (faults_of notes) (lines ++ closed_text shared.config.now closed))
       → HasTakenNotes (notes_told taken faults_of notes) back new
       → back_now ≡ back_before ++ heard porter.console ∷ []
@@ -282,12 +282,12 @@ module _ {G O : Type 0} (told : G → DoorTold) (over : G → Bool) (peer : G �
   -- all served, and nothing was asked
   pub went_ready : {C : Type 0} (heard : C → ConsoleTold) (console : C) (porter : Porter C) (shared : Shared)
       (config : Config) (first notes : O) (pressed : NotesTold) (was torn : Bool)
-      (before keepers : List (Keeper G)) (piles : Piles) (closed : Closed) (stop : Stop) (old back new : YardTold)
+      (before keepers : List (Keeper G)) (piles : PassPiles) (closed : Closed) (stop : Stop) (old back new : YardTold)
       → config ≡ shared.config.now → AreNewNotes (notes_told taken faults_of first)
       → HaveWorked told over peer heard shared (start_of taken faults_of first) was pressed (map gate_at before) keepers
       console porter piles
       → HasTakenBack (gates_of told over keepers) old back → Closes shared piles closed
-      → ((start : Start) (lines : List ℕ) → IsWritten was start pressed.taken pressed.faults lines
+      → ((start : OutputStart) (lines : List ℕ) → IsWritten was start pressed.taken pressed.faults lines
       → IsWritten torn start (taken notes) (faults_of notes) (lines ++ closed_text config closed))
       → HasTakenNotes (notes_told taken faults_of notes) back new
       → back_now ≡ back_before ++ heard porter.console ∷ []
@@ -299,7 +299,7 @@ module _ {G O : Type 0} (told : G → DoorTold) (over : G → Bool) (peer : G �
         asked = subst (λ l. Grew old.asked l []) (sym (notes_back.asked ∙ gates.asked)) (grew_none old.asked);
         ended = has_ended heard console porter shared first notes pressed was torn before keepers piles closed stop old
             back new untaken worked gates closes
-            (subst (λ (c : Config). (start : Start) (lines : List ℕ)
+            (subst (λ (c : Config). (start : OutputStart) (lines : List ℕ)
             → IsWritten was start pressed.taken pressed.faults lines
             → IsWritten torn start (taken notes) (faults_of notes) (lines ++ closed_text c closed)) same behind)
             notes_back console_back stop_is;
@@ -348,7 +348,7 @@ module _ {G O : Type 0} (told : G → DoorTold) (over : G → Bool) (peer : G �
   }
 
 -- there is a total for each mountpoint, and a sum for each account
-pub closed_sizes : (shared : Shared) (piles : Piles) (closed : Closed) (rows : List Histories)
+pub closed_sizes : (shared : Shared) (piles : PassPiles) (closed : Closed) (rows : List Histories)
     → Closes shared piles closed → ArePiles rows piles shared.rings.items shared.book
     → All (λ (row : Histories). IsLegal (fits (caps shared.config.now)) row.book) rows
     → (length closed.mounts ≡ length shared.config.now.mount) × (length closed.accounts ≡ length shared.config.now.account)
@@ -360,8 +360,8 @@ closed_sizes shared piles closed rows closes are legal =
 
 module _ {G C : Type 0} {told : G → DoorTold} {over : G → Bool} {peer : G → List ℕ} {heard : C → ConsoleTold} where
   -- as many passes came back as there are keepers, and that of the porter
-  pub passes_are : (shared : Shared) (start : Start) (torn : Bool) (notes : NotesTold) (firsts : List G)
-      (before keepers : List (Keeper G)) (console : C) (porter : Porter C) (piles : Piles)
+  pub passes_are : (shared : Shared) (start : OutputStart) (torn : Bool) (notes : NotesTold) (firsts : List G)
+      (before keepers : List (Keeper G)) (console : C) (porter : Porter C) (piles : PassPiles)
       → HaveWorked told over peer heard shared start torn notes firsts keepers console porter piles
       → map role_at before ≡ roles_of shared.config.now → length piles.book.items ≡ length before + 1
   passes_are shared start torn notes firsts before keepers console porter piles worked roles =
@@ -373,8 +373,8 @@ module _ {G C : Type 0} {told : G → DoorTold} {over : G → Bool} {peer : G �
         ap length (worked.roles_are ∙ sym roles),
       )
 
-  pub sizes_are : (shared : Shared) (start : Start) (torn : Bool) (notes : NotesTold) (firsts : List G)
-      (keepers : List (Keeper G)) (console : C) (porter : Porter C) (piles : Piles) (closed : Closed)
+  pub sizes_are : (shared : Shared) (start : OutputStart) (torn : Bool) (notes : NotesTold) (firsts : List G)
+      (keepers : List (Keeper G)) (console : C) (porter : Porter C) (piles : PassPiles) (closed : Closed)
       → HaveWorked told over peer heard shared start torn notes firsts keepers console porter piles
       → Closes shared piles closed
       → (length closed.mounts ≡ length shared.config.now.mount)

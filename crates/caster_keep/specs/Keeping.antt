@@ -18,7 +18,7 @@ use Rattle.session_model.specs.Reports.{closed_of}
 use Rattle.session_model.specs.Run.{Histories, nothing_called}
 use Rattle.session_model.specs.Text.{closed_text}
 use Rattle.caster_press.specs.declared.line.Line.{Line}
-use Rattle.caster_press.specs.declared.press.Start.{Start}
+use Rattle.caster_press.specs.declared.press.OutputStart.{OutputStart}
 use Rattle.caster_press.specs.Lines.{text_in, text_of}
 use Rattle.caster_press.specs.Written.{IsWritten}
 use Rattle.caster_places.specs.Rows.{AreWhole}
@@ -120,7 +120,7 @@ abbrev pub notes_told : {O : Type 0} → (O → Option (List ℕ)) → (O → �
 notes_told taken faults notes = record { taken = taken notes; faults = faults notes }
 
 -- what they told before the first line
-abbrev pub start_of : {O : Type 0} → (O → Option (List ℕ)) → (O → ℕ) → O → Start
+abbrev pub start_of : {O : Type 0} → (O → Option (List ℕ)) → (O → ℕ) → O → OutputStart
 start_of taken faults notes = record { taken = taken notes; faults = faults notes }
 
 -- the yard took these gates and these notes back, in order, as they are told
@@ -154,10 +154,10 @@ module _ {G : Type 0} (told : G → DoorTold) (over : G → Bool) (peer : G → 
     pub met : ℕ
     pub few : met ≤ most
     pub kept : KeptOn told over peer c keeper.role me (only_worn worn) (nothing_called c)
-        keeper.seen keeper.first keeper.gate nothing keeper.tally keeper.links (map text_of keeper.lines)
-        met keeper.stop
+        keeper.seen keeper.first keeper.gate nothing keeper.tally keeper.links
+        (map text_of keeper.lines) met keeper.stop
 
-  -- so did each of these, numbered from this number on
+  -- these keepers kept serving so, numbered from this number on
   abbrev pub AreKeepers : Config → List ℕ → ℕ → ℕ → List (KeeperTold G) → Type 0
   AreKeepers c worn most n [] = ⊤
   AreKeepers c worn most n (keeper ∷ keepers) =

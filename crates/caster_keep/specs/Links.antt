@@ -1,5 +1,5 @@
 -- One link of a caster that keeps serving: the lines that tell of it, by what it came to.
-use Rattle.std.specs.Prelude.{◌≡◌, ℕ, ◌+◌, List, [], ◌∷◌, ◌++◌, codes, map, slice_get, Option, None, Some, Bool, true, false}
+use Rattle.std.specs.Prelude.{◌≡◌, ℕ, ◌+◌, List, [], ◌∷◌, ◌++◌, codes, map, slice_get, Option, None, Some, Bool}
 use Rattle.turn_log.specs.History.{History}
 use Rattle.cast_io.specs.Told.{LinkTold, DoorTold}
 use Rattle.cast_io.specs.Doors.{HasHungUp}
@@ -28,12 +28,12 @@ use Rattle.keep_lines.specs.declared.told.Who.{Who}
 use Rattle.keep_lines.specs.declared.told.Who.TheVariants as whos
 use Rattle.keep_lines.specs.Words.{dash, shown}
 use Rattle.keep_lines.specs.Lines.{entered_line, line_with, receipt_lines, user_shown, version_word}
-use Rattle.keep_lines.specs.Puts.{HasTold, HasBegun}
 use Rattle.caster_link.specs.declared.role.Role.{Role}
 use Rattle.caster_link.specs.declared.role.Role.TheVariants as roles
 use Rattle.caster_link.specs.Links.{opening_of}
 use Rattle.caster_link.specs.Wear.{Wear}
 use Rattle.caster_serve.specs.Works.{Record, RecordGoes, LinkCounted}
+use Rattle.keep_porter.specs.Porters.{ArePut}
 
 -- ---- its lines
 
@@ -159,7 +159,7 @@ pub record KeptGoes (c : Config) (role : Role) (me : ℕ) (wear : Wear) (kept : 
       kept.held
   pub asked_is : AsksAs role goes.goes.events goes.goes.ended kept.asked
 
--- so did each of these, one after the other, from the histories that the one before it left
+-- the connections of these links went so, each from the histories that the one before it left
 abbrev pub Follow : Config → Role → ℕ → Wear → List Kept → Histories → Histories → Type 0
 Follow c role me wear [] start now = now ≡ start
 Follow c role me wear (kept ∷ links) start now = (between : Histories)
@@ -167,14 +167,10 @@ Follow c role me wear (kept ∷ links) start now = (between : Histories)
 
 -- ---- one link is kept
 
--- The caller put all of these lines; or some first ones of them, and not all.
-abbrev pub ArePut : Bool → ℕ → List (List ℕ) → History Line → History Line → Type 0
-ArePut true by texts old new = HasTold by texts old new
-ArePut false by texts old new = HasBegun by texts old new
-
 -- Behind a first line, whichever it is, the caller put all of these: where it put all or not all of
 -- what came first, it put all or not all of the whole.
-abbrev pub ArePutBehind : Bool → Bool → ℕ → List (List ℕ) → History Line → History Line → Type 0
+abbrev pub ArePutBehind : (begun : Bool) → (whole : Bool) → ℕ → List (List ℕ) → History Line
+    → History Line → Type 0
 ArePutBehind begun whole by texts old new = (first : List ℕ) (sheet : History Line)
     → ArePut begun by (first ∷ []) sheet old → ArePut whole by (first ∷ texts) sheet new
 

@@ -12,7 +12,7 @@ use Rattle.caster_places.specs.Known.{Fit}
 use Rattle.caster_link.specs.declared.role.Role.{Role}
 use Rattle.caster_link.specs.declared.role.Role.TheVariants as roles
 use Rattle.caster_link.specs.Wear.{lacks_in, wear_of}
-use Rattle.caster_seats.specs.Hands.{HandTold}
+use Rattle.caster_seats.specs.SeatedCallers.{SeatedTold}
 use Rattle.caster_keep.specs.declared.keeper.Keeper.{Keeper}
 use Rattle.caster_keep.specs.declared.stop.Stop.{Stop}
 use Rattle.caster_keep.specs.Links.{Kept}
@@ -37,12 +37,12 @@ IsRoleOf c role = (number : ℕ) → role ≡ roles.Relay number → number < le
 pub record PostTold (G : Type 0) : Type 0 where
   pub config : Config
   pub table : List ℕ
-  pub hand : HandTold (Keeper G)
+  pub hand : SeatedTold (Keeper G)
 
-abbrev pub posted : {G : Type 0} → Config → List ℕ → HandTold (Keeper G) → PostTold G
+abbrev pub posted : {G : Type 0} → Config → List ℕ → SeatedTold (Keeper G) → PostTold G
 posted c table hand = record { config = c; table = table; hand = hand }
 
-abbrev pub hand_at : {G : Type 0} → PostTold G → HandTold (Keeper G)
+abbrev pub hand_at : {G : Type 0} → PostTold G → SeatedTold (Keeper G)
 hand_at post = post.hand
 
 -- it has served nothing, and may keep serving here
@@ -77,9 +77,9 @@ new_porter console = record { console = console; end = None }
 -- the configuration, and the porter at its seats
 pub record BoothTold (C : Type 0) : Type 0 where
   pub config : Config
-  pub hand : HandTold (Porter C)
+  pub hand : SeatedTold (Porter C)
 
-abbrev pub booth_of : {C : Type 0} → Config → HandTold (Porter C) → BoothTold C
+abbrev pub booth_of : {C : Type 0} → Config → SeatedTold (Porter C) → BoothTold C
 booth_of c hand = record { config = c; hand = hand }
 
 -- it has said nothing, and may wait here

@@ -14,12 +14,12 @@ use Rattle.session_model.specs.Run.{Histories}
 use Rattle.session_model.specs.Setting.{caps}
 use Rattle.session_text.specs.Room.{closed_room}
 use Rattle.caster_press.specs.declared.line.Line.{Line}
-use Rattle.caster_press.specs.declared.press.Start.{Start}
+use Rattle.caster_press.specs.declared.press.OutputStart.{OutputStart}
 use Rattle.caster_press.specs.Lines.{text_in}
 use Rattle.caster_press.specs.Written.{IsWritten}
 use Rattle.caster_places.specs.Piles.{AreMatched}
 use Rattle.caster_places.specs.Rows.{ArePiles, AreWornWithin, HaveRoom, IsRoomFor}
-use Rattle.caster_places.specs.declared.piles.Piles.{Piles}
+use Rattle.caster_places.specs.declared.pass_piles.PassPiles.{PassPiles}
 use Rattle.caster_link.specs.declared.role.Role.{Role}
 use Rattle.caster_seats.specs.declared.shared.Passes.{Passes}
 use Rattle.caster_seats.specs.declared.shared.Shared.{Shared}
@@ -101,8 +101,9 @@ pub record IsPorterToldBy {C : Type 0} (heard : C → ConsoleTold) (told : Porte
 -- or torn. What they were refused was refused as worn as these passes met the locks. And the porter
 -- waited at its booth, behind them, put its own lines in that history, and is there still.
 pub record HaveKept {G C : Type 0} (door : G → DoorTold) (over : G → Bool) (peer : G → List ℕ)
-    (heard : C → ConsoleTold) (shared : Shared) (start : Start) (torn : Bool) (notes : NotesTold)
-    (firsts : List G) (keepers : List (Keeper G)) (before now : BoothTold C) (piles : Piles)
+    (heard : C → ConsoleTold) (shared : Shared) (start : OutputStart) (torn : Bool)
+    (notes : NotesTold)
+    (firsts : List G) (keepers : List (Keeper G)) (before now : BoothTold C) (piles : PassPiles)
     : Type 0 where
   pub tolds : List (KeeperTold G)
   pub lines : History Line
@@ -123,11 +124,12 @@ pub record HaveKept {G C : Type 0} (door : G → DoorTold) (over : G → Bool) (
       (map seen_by tolds)
   pub passes : length piles.book.items ≡ length tolds
 
--- The same once the porter has left too.
+-- All keepers kept serving, and the porter waited; then all of them left.
 pub record HaveWorked {G C : Type 0} (door : G → DoorTold) (over : G → Bool) (peer : G → List ℕ)
-    (heard : C → ConsoleTold) (shared : Shared) (start : Start) (torn : Bool) (notes : NotesTold)
-    (firsts : List G) (keepers : List (Keeper G)) (first : C) (porter : Porter C) (piles : Piles)
-    : Type 0 where
+    (heard : C → ConsoleTold) (shared : Shared) (start : OutputStart) (torn : Bool)
+    (notes : NotesTold)
+    (firsts : List G) (keepers : List (Keeper G)) (first : C) (porter : Porter C)
+    (piles : PassPiles) : Type 0 where
   pub tolds : List (KeeperTold G)
   pub porter_told : PorterTold
   pub lines : History Line

@@ -8,14 +8,14 @@ use crate::waiting::wait;
 use cast_config::Config;
 use cast_console::Console;
 use caster_press::{AtPress, Writer};
-use caster_seats::{AtPlaces, Hand};
+use caster_seats::{AtPlaces, SeatedCaller};
 use std::sync::Wait;
 
 /// The porter at the seats of the locks.
 pub(crate) struct Booth<'a, C, R: Wait + Sync> {
     rt: &'a R,
     config: &'a Config,
-    hand: Hand<'a, Porter<C>, R>,
+    hand: SeatedCaller<'a, Porter<C>, R>,
 }
 
 /// A booth as clauses see it.
@@ -30,7 +30,7 @@ impl<'a, C, R: Wait + Sync> AtBooth<C> for Booth<'a, C, R> {
     ghost use Rattle.caster_keep.specs.Stations.{booth_of};
 
     ghost told = { λ booth. booth_of booth.config.now
-        (⟦<Hand<'a, Porter<C>, R> as AtPlaces<Porter<C>>>⟧.told booth.hand) };
+        (⟦<SeatedCaller<'a, Porter<C>, R> as AtPlaces<Porter<C>>>⟧.told booth.hand) };
 }
 
 impl<'a, C, R: Wait + Sync> Booth<'a, C, R> {
@@ -38,17 +38,17 @@ impl<'a, C, R: Wait + Sync> Booth<'a, C, R> {
     pub(crate) fn new(
         rt: &'a R,
         config: &'a Config,
-        hand: Hand<'a, Porter<C>, R>,
+        hand: SeatedCaller<'a, Porter<C>, R>,
     ) -> Booth<'a, C, R>
         ensures { ⟦<Booth<'a, C, R> as AtBooth<C>>⟧.told result ≡ booth_of config.now
-            (⟦<Hand<'a, Porter<C>, R> as AtPlaces<Porter<C>>>⟧.told hand.entry) }
+            (⟦<SeatedCaller<'a, Porter<C>, R> as AtPlaces<Porter<C>>>⟧.told hand.entry) }
     {
         Booth { rt, config, hand }
     }
 
     /// Its hand.
-    pub(crate) fn into_hand(self) -> Hand<'a, Porter<C>, R>
-        ensures { ⟦<Hand<'a, Porter<C>, R> as AtPlaces<Porter<C>>>⟧.told result
+    pub(crate) fn into_hand(self) -> SeatedCaller<'a, Porter<C>, R>
+        ensures { ⟦<SeatedCaller<'a, Porter<C>, R> as AtPlaces<Porter<C>>>⟧.told result
             ≡ (⟦<Booth<'a, C, R> as AtBooth<C>>⟧.told self.entry).hand }
     {
         let Booth {

@@ -14,7 +14,8 @@ ghost use Rattle.caster_press.specs.declared.line.Line.{Line as LineValue};
 ghost use Rattle.caster_press.specs.Lines.{text_of};
 ghost use Rattle.caster_press.specs.Places.{IsSamePlace};
 ghost use Rattle.keep_lines.specs.Lines.{user_shown};
-ghost use Rattle.caster_keep.specs.Links.{ArePut, asked_line, entered_lines, entered_of, first_line, named_user, told_lines, who_of, whose};
+ghost use Rattle.keep_porter.specs.Porters.{ArePut};
+ghost use Rattle.caster_keep.specs.Links.{asked_line, entered_lines, entered_of, first_line, named_user, told_lines, who_of, whose};
 ghost use Rattle.caster_keep.specs.Stations.{IsRoleOf};
 
 use cast_config::Config;
@@ -178,7 +179,7 @@ fn tell_entered<P: AtPress>(
 /// What was told of a connection: whether what its head asks, what it held then, and whether all
 /// lines of its link were put so far.
 #[derive(Drop)]
-pub(crate) struct Told {
+pub(crate) struct ToldSoFar {
     pub is_asked: bool,
     pub held: Held,
     pub so_far: Result<(), Worn>,
@@ -190,9 +191,9 @@ pub(crate) fn tell_session<P: AtPress>(
     place: &mut P,
     config: &Config,
     teller: Teller,
-    told: Told,
+    told: ToldSoFar,
     session: &Session,
-) -> Told
+) -> ToldSoFar
     requires { IsTrue ((P.told place.old).speaks teller.by) }
     ensures same { IsSamePlace (P.told place.old) (P.told place.new) }
     ensures worn { OnErr told.so_far (2 ^ 62 ≤ (P.told place.old).worn)
@@ -213,7 +214,7 @@ pub(crate) fn tell_session<P: AtPress>(
     let asked = session.asked();
     let so_far = tell_asked(place, teller, told.is_asked, asked, told.so_far);
     let held = session.held();
-    Told {
+    ToldSoFar {
         is_asked: asked.is_some(),
         held,
         so_far: tell_entered(place, config, teller, told.held, held, so_far),

@@ -24,7 +24,7 @@ use std::sync::Wait;
 use turn_log::Turns;
 
 /// How many links a keeper serves at most: their counts are held in a `u64`.
-const MOST: u64 = 1 << 62;
+const MAX_LINKS: u64 = 1 << 62;
 
 /// Keeps the links that the gate gives, one after the other, until the gate is over or fails, a
 /// line could not be put, or 2^62 links were served. The gate is asked whether it is over before
@@ -63,7 +63,7 @@ pub(crate) fn keep_gate<T: Turns<Ring>, B: Turns<Book>, G: Gate, P: AtPress, R: 
         if keeper.gate.is_over() {
             return Stop::Over;
         }
-        if keeper.count >= MOST {
+        if keeper.count >= MAX_LINKS {
             return Stop::Full;
         }
         match keeper.gate.accept() {

@@ -14,18 +14,7 @@ use crate::keeper::Keeper;
 use cast_config::{Config, Relay};
 use cast_io::{Door, Gate, StreetFault, Yard};
 use caster_link::Role;
-use std::str;
-
-/// The address of a relay's peer.
-fn address_of(relay: &Relay) -> &str
-    requires { (mounts : ℕ) × KeepsRelay mounts relay.now }
-    ensures { result.now ≡ relay.now.address }
-{
-    match str::from_utf8(relay.address.bytes()) {
-        Ok(address) => address,
-        Err(_) => unreachable!(),
-    }
-}
+use caster_serve::address_of;
 
 /// Puts a worker's keeper at each gate behind what stands in `keepers`, in order.
 fn put_workers<G>(mut gates: Vec<G>, keepers: &mut Vec<Keeper<G>>)

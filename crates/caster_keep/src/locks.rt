@@ -22,9 +22,9 @@ use crate::porter::Porter;
 use crate::posts::{leave_posts, room_for_posts, take_posts};
 use cast_console::Console;
 use cast_io::{Door, Gate, Link, Sink};
-use caster_places::{Piles, leave};
+use caster_places::{PassPiles, leave};
 use caster_press::{Closed, write_at_once};
-use caster_seats::{Hand, Passes, Shared, leave_all, sit_all};
+use caster_seats::{Passes, SeatedCaller, Shared, leave_all, sit_all};
 use std::alloc::{AllocError, Global};
 use std::sync::Wait;
 use std::thread::Threads;
@@ -47,7 +47,7 @@ fn keep_at_seats<
     passes: Vec<Passes>,
     keepers: &mut Vec<Keeper<G>>,
     booth: Booth<'a, C, R>,
-    piles: &mut Piles,
+    piles: &mut PassPiles,
     notes: O,
 ) -> (Result<Closed<O>, AllocError>, Booth<'a, C, R>)
     requires ready { IsReady shared.now }
@@ -123,7 +123,7 @@ pub(crate) fn keep_at_locks<
     mut passes: Vec<Passes>,
     keepers: &mut Vec<Keeper<G>>,
     console: C,
-    piles: &mut Piles,
+    piles: &mut PassPiles,
     notes: O,
 ) -> (Result<Closed<O>, AllocError>, Porter<C>)
     requires ready { IsReady shared.now }
@@ -155,14 +155,14 @@ pub(crate) fn keep_at_locks<
         Ok(places) => places,
         Err(AllocError) => return (Err(AllocError), porter),
     };
-    let hand = Hand {
+    let hand = SeatedCaller {
         number,
         places,
         work: porter,
     };
     let booth = Booth::new(rt, shared.config(), hand);
     let (written, booth) = keep_at_seats(rt, alloc, shared, passes, keepers, booth, piles, notes);
-    let Hand {
+    let SeatedCaller {
         number: _,
         places,
         work,

@@ -13,10 +13,11 @@ ghost use Rattle.caster_press.specs.declared.line.Line.{Line as LineValue};
 ghost use Rattle.caster_press.specs.Lines.{text_of};
 ghost use Rattle.caster_press.specs.Places.{IsSamePlace};
 ghost use Rattle.caster_serve.specs.Works.{IsWithin};
-ghost use Rattle.caster_keep.specs.Links.{ArePut, ArePutBehind, LinkKept, first_line, link_lines, told_lines};
+ghost use Rattle.keep_porter.specs.Porters.{ArePut};
+ghost use Rattle.caster_keep.specs.Links.{ArePutBehind, LinkKept, first_line, link_lines, told_lines};
 ghost use Rattle.caster_keep.specs.Stations.{IsRoleOf};
 
-use crate::first::{Teller, Told, first_line, tell_session, whose};
+use crate::first::{Teller, ToldSoFar, first_line, tell_session, whose};
 use crate::keeper::Keeper;
 use cast_config::Config;
 use cast_io::{Gate, Link};
@@ -36,7 +37,7 @@ use turn_log::Turns;
 struct Served {
     receipt: Receipt,
     /// What was told of its connection, before that was closed.
-    told: Told,
+    told: ToldSoFar,
 }
 
 /// Serves the connection of a link in this role, step by step, to its receipt, and puts the line of
@@ -78,7 +79,7 @@ fn serve_steps<T: Turns<Ring>, B: Turns<Book>, L: Link, P: AtPress, R: Wait>(
     ensures same { IsSamePlace (P.told place.old) (P.told place.new) }
     ensures refused { OnErr result.told.so_far (2 ^ 62 ≤ (P.told place.new).worn) }
 {
-    let mut told = Told {
+    let mut told = ToldSoFar {
         is_asked: false,
         held: Held::Nothing,
         so_far: begun,

@@ -8,7 +8,7 @@ use crate::keeper::Keeper;
 use cast_config::Config;
 use cast_io::{Gate, Link};
 use caster_press::{AtPress, Writer};
-use caster_seats::{AtPlaces, Hand};
+use caster_seats::{AtPlaces, SeatedCaller};
 use session_core::Setup;
 use std::alloc::Global;
 use std::sync::Wait;
@@ -19,7 +19,7 @@ pub(crate) struct Post<'a, G: Gate, R: Wait + Sync> {
     alloc: Global,
     config: &'a Config,
     table: &'a [u8],
-    hand: Hand<'a, Keeper<G>, R>,
+    hand: SeatedCaller<'a, Keeper<G>, R>,
 }
 
 /// A post as clauses see it.
@@ -34,7 +34,7 @@ impl<'a, G: Gate, R: Wait + Sync> AtPost<G> for Post<'a, G, R> {
     ghost use Rattle.caster_keep.specs.Stations.{posted};
 
     ghost told = { λ post. posted post.config.now post.table.now
-        (⟦<Hand<'a, Keeper<G>, R> as AtPlaces<Keeper<G>>>⟧.told post.hand) };
+        (⟦<SeatedCaller<'a, Keeper<G>, R> as AtPlaces<Keeper<G>>>⟧.told post.hand) };
 }
 
 impl<'a, G: Gate, R: Wait + Sync> Post<'a, G, R> {
@@ -44,10 +44,10 @@ impl<'a, G: Gate, R: Wait + Sync> Post<'a, G, R> {
         alloc: Global,
         config: &'a Config,
         table: &'a [u8],
-        hand: Hand<'a, Keeper<G>, R>,
+        hand: SeatedCaller<'a, Keeper<G>, R>,
     ) -> Post<'a, G, R>
         ensures { ⟦<Post<'a, G, R> as AtPost<G>>⟧.told result ≡ posted config.now table.now
-            (⟦<Hand<'a, Keeper<G>, R> as AtPlaces<Keeper<G>>>⟧.told hand.entry) }
+            (⟦<SeatedCaller<'a, Keeper<G>, R> as AtPlaces<Keeper<G>>>⟧.told hand.entry) }
     {
         Post {
             rt,
@@ -59,8 +59,8 @@ impl<'a, G: Gate, R: Wait + Sync> Post<'a, G, R> {
     }
 
     /// Its hand.
-    pub(crate) fn into_hand(self) -> Hand<'a, Keeper<G>, R>
-        ensures { ⟦<Hand<'a, Keeper<G>, R> as AtPlaces<Keeper<G>>>⟧.told result
+    pub(crate) fn into_hand(self) -> SeatedCaller<'a, Keeper<G>, R>
+        ensures { ⟦<SeatedCaller<'a, Keeper<G>, R> as AtPlaces<Keeper<G>>>⟧.told result
             ≡ (⟦<Post<'a, G, R> as AtPost<G>>⟧.told self.entry).hand }
     {
         let Post {

@@ -8,7 +8,7 @@ use crate::keeper::Keeper;
 use crate::post::{AtPost, Post};
 use cast_config::Config;
 use cast_io::Gate;
-use caster_seats::{AtPlaces, Hand};
+use caster_seats::{AtPlaces, SeatedCaller};
 use std::alloc::{AllocError, Global};
 use std::sync::Wait;
 
@@ -39,7 +39,7 @@ pub(crate) fn take_posts<'a, G: Gate, B, R: Wait + Sync>(
     alloc: Global,
     config: &'a Config,
     table: &'a [u8],
-    hands: &mut Vec<Hand<'a, Keeper<G>, R>>,
+    hands: &mut Vec<SeatedCaller<'a, Keeper<G>, R>>,
     posts: &mut Vec<Duty<Post<'a, G, R>, B>>,
 )
     requires room { vec_len posts.old + length hands.old.items ≤ vec_capacity posts.old }
@@ -47,7 +47,7 @@ pub(crate) fn take_posts<'a, G: Gate, B, R: Wait + Sync>(
         × (posts.new.items ≡ posts.old.items ++ map (λ post. Duty.Gate post) more)
         × (map ⟦<Post<'a, G, R> as AtPost<G>>⟧.told more
         ≡ map (posted config.now table.now)
-        (map ⟦<Hand<'a, Keeper<G>, R> as AtPlaces<Keeper<G>>>⟧.told hands.old.items)) }
+        (map ⟦<SeatedCaller<'a, Keeper<G>, R> as AtPlaces<Keeper<G>>>⟧.told hands.old.items)) }
     ensures taken { hands.new.items ≡ [] }
     ensures space { vec_capacity hands.old ≤ vec_capacity hands.new }
     ensures count { vec_len posts.new ≡ vec_len posts.old + length hands.old.items }
@@ -64,14 +64,15 @@ pub(crate) fn take_posts<'a, G: Gate, B, R: Wait + Sync>(
 /// the console to the other, in order.
 pub(crate) fn leave_posts<'a, G: Gate, B, R: Wait + Sync>(
     mut posts: Vec<Duty<Post<'a, G, R>, B>>,
-    hands: &mut Vec<Hand<'a, Keeper<G>, R>>,
+    hands: &mut Vec<SeatedCaller<'a, Keeper<G>, R>>,
     booths: &mut Vec<B>,
 )
     requires room { vec_len hands.old + length (gates_in posts.items) ≤ vec_capacity hands.old }
     requires place { vec_len booths.old + length (consoles_in posts.items)
         ≤ vec_capacity booths.old }
-    ensures hands { map ⟦<Hand<'a, Keeper<G>, R> as AtPlaces<Keeper<G>>>⟧.told hands.new.items
-        ≡ map ⟦<Hand<'a, Keeper<G>, R> as AtPlaces<Keeper<G>>>⟧.told hands.old.items
+    ensures hands { map ⟦<SeatedCaller<'a, Keeper<G>, R> as AtPlaces<Keeper<G>>>⟧.told
+        hands.new.items
+        ≡ map ⟦<SeatedCaller<'a, Keeper<G>, R> as AtPlaces<Keeper<G>>>⟧.told hands.old.items
         ++ map hand_at (map ⟦<Post<'a, G, R> as AtPost<G>>⟧.told (gates_in posts.entry.items)) }
     ensures booths { booths.new.items ≡ booths.old.items ++ consoles_in posts.entry.items }
     ensures count { vec_len hands.new ≡ vec_len hands.old + length (gates_in posts.entry.items) }

@@ -3,7 +3,7 @@
 ghost use Rattle.std.specs.Prelude.{◌≡◌, ◌≤◌, ℕ, List, [], ◌∷◌, ◌++◌, length, map, vec_capacity};
 ghost use Rattle.session_model.specs.Text.{closed_text};
 ghost use Rattle.session_text.specs.Room.{closed_room};
-ghost use Rattle.caster_press.specs.declared.press.Start.{Start};
+ghost use Rattle.caster_press.specs.declared.press.OutputStart.{OutputStart};
 ghost use Rattle.caster_press.specs.Written.{IsWritten};
 ghost use Rattle.caster_keep.specs.Keeping.{first_stop};
 ghost use Rattle.caster_keep.specs.Together.{porter_stop_at, stop_at, stop_of_wait};
@@ -33,7 +33,7 @@ pub(crate) fn first_stop<G>(keepers: &[Keeper<G>]) -> Stop
     }
 }
 
-/// The same of these keepers, and behind them of the porter.
+/// Why the first of these keepers stopped whose gate was not over, or else why the porter did.
 pub(crate) fn first_stop_of_all<G, C>(keepers: &[Keeper<G>], porter: &Porter<C>) -> Stop
     ensures { result ≡ first_stop (map stop_at keepers.now ++ porter_stop_at porter.now ∷ []) }
 {
@@ -65,7 +65,7 @@ pub(crate) fn write_totals<O: Sink>(
     requires accounts { length closed.now.accounts ≡ length config.now.account }
     requires empty { text.items ≡ [] }
     requires room { closed_room config.now ≤ vec_capacity text }
-    ensures { (start : Start) (lines : List ℕ)
+    ensures { (start : OutputStart) (lines : List ℕ)
         → IsWritten pressed.is_torn start (O.taken pressed.sink) (O.faults pressed.sink) lines
         → IsWritten result.1 start (O.taken result.0) (O.faults result.0)
         (lines ++ closed_text config.now closed.now) }

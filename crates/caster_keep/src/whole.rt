@@ -19,7 +19,7 @@ use crate::totals::{first_stop_of_all, write_totals};
 use cast_config::Config;
 use cast_console::{Console, Lodge};
 use cast_io::{Door, Gate, Sink, Street, StreetFault, Yard};
-use caster_places::{Piles, Totals};
+use caster_places::{PassPiles, Totals};
 use caster_seats::{Passes, Shared};
 use session_core::Closed;
 use session_text::room_for_closed;
@@ -69,7 +69,7 @@ impl From<StreetFault> for KeepFault {
 struct Ready<'c> {
     shared: Shared<'c>,
     passes: Vec<Passes>,
-    piles: Piles,
+    piles: PassPiles,
     totals: Totals,
     text: Vec<u8>,
 }
@@ -82,7 +82,7 @@ fn prepare<'c>(alloc: Global, config: &'c Config, callers: u32) -> Result<Ready<
     ensures prepared { IfOk result (IsPrepared callers) }
 {
     let (shared, passes) = Shared::new(alloc, config, callers)?;
-    let piles = Piles::with_room(alloc, config.mount.as_slice().len(), callers)?;
+    let piles = PassPiles::with_room(alloc, config.mount.as_slice().len(), callers)?;
     let totals = Totals::with_room(alloc, config)?;
     let text = room_for_closed(alloc, config)?;
     Ok(Ready {
@@ -165,8 +165,8 @@ where
     })
 }
 
-/// The same once all gates are given. Where memory or a place for lines is lacking, the gates are
-/// given back as they came.
+/// Keeps serving at these gates, which are all that a caster asks for. Where memory or a place for
+/// lines is lacking, the gates are given back as they came.
 fn keep_given<Y: Yard, Z: Lodge, R: Threads + Wait + Sync>(
     rt: &R,
     alloc: Global,
@@ -187,7 +187,8 @@ where
     ensures later { (Y.kept yard.old).faults ≤ (Y.kept yard.new).faults }
     ensures answered { Answered Y.Gate.told Y.Gate.over Y.Gate.peer Y.Gate.origin Y.Notes.taken
         Y.Notes.faults (Z.back lodge.old) (Z.back lodge.new) config.now
-        (map (λ keeper. Y.Gate.origin keeper.gate) keepers.items) (asked.Notes ∷ []) (Y.kept yard.old) (Y.kept yard.new) result }
+        (map (λ keeper. Y.Gate.origin keeper.gate) keepers.items) (asked.Notes ∷ [])
+        (Y.kept yard.old) (Y.kept yard.new) result }
     ensures street { Y.told yard.new ≡ Y.told yard.old }
 {
     let Ok(ready) = prepare(alloc, config, keepers.len() as u32 + 1) else {

@@ -1,6 +1,6 @@
 //! It is wanted how things stand while a worker serves a source.
 
-use crate::fakes::{FRAMES, SOURCE, link_of};
+use crate::fakes::SOURCE;
 use crate::full_tests::{lines_from, two_workers};
 use caster_keep::{Stop, keep};
 use std::alloc::Global;
@@ -10,6 +10,7 @@ use std::sync::atomic::AtomicBool;
 use std::test::Fail;
 use std::thread::Threads;
 use std::time::Clock;
+use test_support::{FRAMES_AB, link_of};
 use timed_io::{Stop as Pause, TimedDoor, TimedLink, TimedLodge, TimedYard};
 
 /// No flag.
@@ -44,7 +45,7 @@ fn door_of<'a, R: Clock>(
     pieces: &[&[u8]],
     at: Pause,
 ) -> Result<TimedDoor<'a, R>, Fail> {
-    let link = link_of(alloc, pieces)?;
+    let link = link_of(alloc, pieces, &[])?;
     let pauses = vec![in alloc; at]?;
     Ok(TimedDoor::new(TimedLink::new(rt, alloc, flags, pauses, link)))
 }
@@ -56,13 +57,16 @@ fn yard_of<'a, R: Clock>(
     alloc: Global,
     flags: &'a [AtomicBool],
 ) -> Result<TimedYard<'a, R>, Fail> {
-    let source = door_of(rt, alloc, flags, &[SOURCE, FRAMES], pause(4, 0, 1))?;
+    let source = door_of(rt, alloc, flags, &[SOURCE, FRAMES_AB], pause(4, 0, 1))?;
     let late = door_of(rt, alloc, flags, &[], pause(1, NONE, 1))?;
     Ok(TimedYard::new(alloc, source, late))
 }
 
 /// The lines of a caster of these two: of the source, and of no link.
-fn said<R: Clock + Threads + Wait + Sync>(rt: &R, alloc: Global) -> Result<[Vec<u8>; 2], Fail> {
+fn keep_busy<R: Clock + Threads + Wait + Sync>(
+    rt: &R,
+    alloc: Global,
+) -> Result<[Vec<u8>; 2], Fail> {
     let flags = [AtomicBool::new(false), AtomicBool::new(false)];
     let mut yard = yard_of(rt, alloc, &flags)?;
     let stops = [pause(1, NONE, 0), pause(2, 1, NONE)];
@@ -83,7 +87,7 @@ fn said<R: Clock + Threads + Wait + Sync>(rt: &R, alloc: Global) -> Result<[Vec<
 // It is wanted once the source has sent its frames, and the source ends only once it was said.
 #[test]
 fn what_a_source_did_is_said_while_it_is_there(rt: HostRuntime) -> Result<(), Fail> {
-    let lines = said(&rt, rt.alloc())?;
+    let lines = keep_busy(&rt, rt.alloc())?;
     for (lines, wanted) in lines.iter().zip([LINES, SAID]) {
         assert!(rt; lines.as_slice() == wanted);
     }

@@ -4,7 +4,7 @@
 ghost use Rattle.std.specs.Prelude.{IfOk};
 ghost use Rattle.cast_config.specs.Kept.{KeepsRules};
 
-use crate::fakes::{ROVER, link_of};
+use crate::fakes::ROVER;
 use cast_config::{Config, read_config};
 use cast_console::MemLodge;
 use caster_keep::{Stop, keep};
@@ -15,6 +15,7 @@ use std::sync::atomic::AtomicBool;
 use std::test::Fail;
 use std::thread::Threads;
 use std::time::Clock;
+use test_support::link_of;
 use timed_io::{Stop as Pause, TimedDoor, TimedLink, TimedYard};
 
 // Two workers, and an account for one rover at a time.
@@ -74,7 +75,7 @@ fn rover_door<'a, R: Clock>(
     flags: &'a [AtomicBool],
     pauses: &[Pause],
 ) -> Result<TimedDoor<'a, R>, Fail> {
-    let rover = link_of(alloc, &[ROVER])?;
+    let rover = link_of(alloc, &[ROVER], &[])?;
     let pauses = pauses.to_vec(alloc)?;
     Ok(TimedDoor::new(TimedLink::new(rt, alloc, flags, pauses, rover)))
 }
@@ -123,7 +124,10 @@ pub(crate) fn lines_from(alloc: Global, text: &str, front: Option<&str>) -> Resu
 }
 
 /// The lines of a caster of these rovers: of each of them, and of no link.
-fn met<R: Clock + Threads + Wait + Sync>(rt: &R, alloc: Global) -> Result<[Vec<u8>; 3], Fail> {
+fn keep_full<R: Clock + Threads + Wait + Sync>(
+    rt: &R,
+    alloc: Global,
+) -> Result<[Vec<u8>; 3], Fail> {
     let flags = [AtomicBool::new(false), AtomicBool::new(false)];
     let mut yard = yard_of(rt, alloc, &flags)?;
     let config = two_workers(alloc)?;
@@ -154,7 +158,7 @@ fn met<R: Clock + Threads + Wait + Sync>(rt: &R, alloc: Global) -> Result<[Vec<u
 // The lines of the two rovers may alternate, and those of each stand in order.
 #[test]
 fn a_full_account_is_told(rt: HostRuntime) -> Result<(), Fail> {
-    let lines = met(&rt, rt.alloc())?;
+    let lines = keep_full(&rt, rt.alloc())?;
     for (lines, wanted) in lines.iter().zip([FIRST, REFUSED, TOTALS]) {
         assert!(rt; lines.as_slice() == wanted);
     }

@@ -1,12 +1,13 @@
 //! Whole casters that keep serving: their text, why they stopped, and what came back.
 
-use crate::fakes::{FRAMES, ROVER, Ran, SOURCE, TABLE, gate_of, run, serve_both};
+use crate::fakes::{ROVER, Ran, SOURCE, TABLE, gate_of, run, serve_both};
 use cast_io::{GateEnd, MemSink};
 use caster_keep::Stop;
 use std::alloc::Global;
 use std::sync::Wait;
 use std::test::Fail;
 use std::thread::Threads;
+use test_support::FRAMES_AB;
 
 /// The totals where nobody was let in.
 const NONE: &[u8] = b"mount ALPHA 0 0\naccount rover1 0 0 0\ntotal 0 0 0\n";
@@ -15,7 +16,7 @@ const NONE: &[u8] = b"mount ALPHA 0 0\naccount rover1 0 0 0\ntotal 0 0 0\n";
 // left to be sent; the relay serves none.
 #[test]
 fn each_link_has_its_lines(rt: HostRuntime) -> Result<(), Fail> {
-    let ran = serve_both(&rt, rt.alloc(), &[&[SOURCE, FRAMES], &[ROVER]], &[])?;
+    let ran = serve_both(&rt, rt.alloc(), &[&[SOURCE, FRAMES_AB], &[ROVER]], &[])?;
     let text: &[u8] = b"0.1 from 192.0.2.7:51234\n\
 0.1 asks 1 source ALPHA -\n\
 0.1 source ALPHA 1\n\
@@ -38,7 +39,7 @@ fn a_relay_has_its_own_lines(rt: HostRuntime) -> Result<(), Fail> {
         &rt,
         rt.alloc(),
         &[],
-        &[&[b"ICY 200 OK\r\n\r\n", FRAMES], &[]],
+        &[&[b"ICY 200 OK\r\n\r\n", FRAMES_AB], &[]],
     )?;
     let text: &[u8] = b"1.1 to 127.0.0.1:2101\n\
 1.1 relay ALPHA 1\n\

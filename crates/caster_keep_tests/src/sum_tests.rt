@@ -1,8 +1,9 @@
 //! The totals are the sums of the lines of links, whatever the links met.
 
-use crate::fakes::{FRAMES, ROVER, TABLE, serve_both};
+use crate::fakes::{ROVER, TABLE, serve_both};
 use std::str;
 use std::test::Fail;
+use test_support::FRAMES_AB;
 
 /// Sessions, frames that were sent, and frames that were overrun.
 type Sum = (u64, u64, u64);
@@ -75,7 +76,7 @@ fn sums_in(text: &[u8]) -> Result<[Sum; 3], Fail> {
 #[test]
 fn totals_are_the_sums_of_receipts(rt: HostRuntime) -> Result<(), Fail> {
     let rover: &[&[u8]] = &[ROVER, b"", b"", b""];
-    let relay: &[&[u8]] = &[b"ICY 200 OK\r\n", FRAMES, b"", FRAMES, b"", FRAMES];
+    let relay: &[&[u8]] = &[b"ICY 200 OK\r\n", FRAMES_AB, b"", FRAMES_AB, b"", FRAMES_AB];
     let worker: &[&[&[u8]]] = &[rover, &[TABLE], rover, rover];
     let ran = serve_both(&rt, rt.alloc(), worker, &[relay])?;
     let [receipts, account, total] = sums_in(ran.text())?;

@@ -33,7 +33,7 @@ use Rattle.session_core.proofs.ClosingLemmas.{free_closed, free_junk, free_out, 
 use Rattle.session_model.specs.Courses.{happened, steps_of, text_of}
 use Rattle.caster_link.specs.Links.{Stopped, is_torn}
 use Rattle.session_core.specs.declared.held.Held.TheVariants.{Nothing}
-use Rattle.session_core.specs.declared.stage.Stage.{Stage}
+use Rattle.session_core.specs.declared.session_stage.SessionStage.{SessionStage}
 use Rattle.session_core.specs.Holding.{HoldsAs}
 use Rattle.session_core.specs.States.{holding_at, session_holding}
 use Rattle.session_core.specs.Asking.{IsAsking, asked_in}
@@ -215,7 +215,7 @@ goes_on_stands c opening me alone start between now session before after last re
     closed.called (lost_settled receipt.settled j steps closed.more lost.uncalled closed.settled)
     (lost_receipt session.ended j steps last receipt lost.ended lost.uncalled closed.receipt_is)
     (stands_sound c session opening (text_of came.whats) steps between came.sent (inr lost))
-    (subst (λ (stage : Stage). HoldsAs c opening (came_to waiting steps) (holding_at stage)) (sym lost.stage)
+    (subst (λ (stage : SessionStage). HoldsAs c opening (came_to waiting steps) (holding_at stage)) (sym lost.stage)
     (uncalled_free steps lost.uncalled waiting))
 
 pub came_closed : (c : Config) (opening : Opening) (me : ℕ) (alone : Bool) (start between now : Histories)

@@ -11,8 +11,8 @@ use Rattle.rover_session.specs.Made.{segments_after, owed_among, is_owed}
 use Rattle.cast_config.specs.declared.config.Config.{Config}
 use Rattle.session_model.specs.declared.ending.Ending.{Ending}
 use Rattle.session_core.specs.declared.session.Session.{Session}
-use Rattle.session_core.specs.declared.stage.Stage.{Stage}
-use Rattle.session_core.specs.declared.stage.Stage.TheVariants as stages
+use Rattle.session_core.specs.declared.session_stage.SessionStage.{SessionStage}
+use Rattle.session_core.specs.declared.session_stage.SessionStage.TheVariants as stages
 use Rattle.session_model.specs.Headings.{Heading}
 use Rattle.session_model.specs.Judged.{Opening, Judged, judged}
 use Rattle.session_model.specs.Owed.{Happening, arrives, takes_turn, plan_of}
@@ -161,7 +161,7 @@ reach_bytes c opening me alone start now later session next sent before after by
 
 -- what is no rover has no segment
 no_segments : (c : Config) (me : ℕ) (now : Histories) (opening : Opening) (j : Judged) (text : List ℕ)
-    (steps : List Step) (stage : Stage) → is_rover stage ≡ false → IsAtStage c me now opening j text steps stage
+    (steps : List Step) (stage : SessionStage) → is_rover stage ≡ false → IsAtStage c me now opening j text steps stage
     → segments_after [] steps ≡ []
 no_segments c me now opening j text steps (stages.Head head) apart at = ap (segments_after []) at.2
 no_segments c me now opening j text steps stages.Over apart at = at.segments

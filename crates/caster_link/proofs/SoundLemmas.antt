@@ -19,8 +19,8 @@ use Rattle.rover_session.specs.Body.{body_of}
 use Rattle.rover_session.specs.Standing.{IsResumable, IsSoundAt}
 use Rattle.cast_config.specs.declared.config.Config.{Config}
 use Rattle.session_core.specs.declared.session.Session.{Session}
-use Rattle.session_core.specs.declared.stage.Stage.{Stage}
-use Rattle.session_core.specs.declared.stage.Stage.TheVariants as stages
+use Rattle.session_core.specs.declared.session_stage.SessionStage.{SessionStage}
+use Rattle.session_core.specs.declared.session_stage.SessionStage.TheVariants as stages
 use Rattle.session_model.specs.Judged.{Opening, Judged}
 use Rattle.session_model.specs.Owed.{came_to}
 use Rattle.session_model.specs.Replies.{opening_text, reply_of, version_of, kept_of, kept_frames, sent_by}
@@ -48,7 +48,7 @@ no_segment_sound : (c : Config) (h : List (History RingCall)) (segments : List S
 no_segment_sound c h segments none = subst (AllSound c h) (sym none) (All-nil (IsSoundIn c h))
 
 stage_sound : (c : Config) (me : ℕ) (h : Histories) (opening : Opening) (j : Judged) (text : List ℕ)
-    (steps : List Step) (stage : Stage) → IsAtStage c me h opening j text steps stage
+    (steps : List Step) (stage : SessionStage) → IsAtStage c me h opening j text steps stage
     → AllSound c h.rings (segments_after [] steps)
 stage_sound c me h opening j text steps (stages.Head head) at =
     no_segment_sound c h.rings (segments_after [] steps) (ap (segments_after []) at.2)

@@ -36,7 +36,7 @@ abbrev pub happens_in : List Step → List Happening
 happens_in taken = flat_map happens_by taken
 
 -- all of that happened, but that no turn follows bytes that ended the connection
-abbrev pub IsLeftOut : Bool → List Happening → Type 0
+abbrev pub IsLeftOut : (ended : Bool) → List Happening → Type 0
 IsLeftOut false missing = missing ≡ []
 IsLeftOut true missing = (missing ≡ []) ⊎ (missing ≡ takes_turn 16 ∷ [])
 
@@ -50,7 +50,7 @@ closes_by took.WriteFailed = Some lasts.WriteFault
 
 -- The last step that was taken closed the connection so; or it had ended before, or it had been
 -- given 2^62 bytes or more, and then it came to its end.
-abbrev pub Stopped : Bool → ℕ → List Step → Last → Type 0
+abbrev pub Stopped : (ended : Bool) → ℕ → List Step → Last → Type 0
 Stopped ended count taken last =
     ((before : List Step) × (step : Step) × (taken ≡ before ++ step ∷ [])
     × (closes_by step ≡ Some last))

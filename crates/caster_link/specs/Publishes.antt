@@ -11,7 +11,7 @@ use Rattle.session_model.specs.Judged.{SourceTerms}
 use Rattle.session_model.specs.Run.{Histories}
 
 -- all frames that are due, and of a source that was halted the first of them
-abbrev pub AreDue : Bool → List (List ℕ) → List (List ℕ) → Type 0
+abbrev pub AreDue : (halted : Bool) → List (List ℕ) → List (List ℕ) → Type 0
 AreDue false frames due = frames ≡ due
 AreDue true frames due = (rest : List (List ℕ)) × (due ≡ frames ++ rest)
 
@@ -29,7 +29,8 @@ pub record HasPublished (me claim : ℕ) (start now : History RingCall) (frames 
 
 -- The caller was given this claim as a source of these terms, and published the frames of this body
 -- at its mountpoint; where it was halted, the first of them.
-abbrev pub PublishesBody : Bool → SourceTerms → List ℕ → ℕ → ℕ → Histories → Histories → Type 0
+abbrev pub PublishesBody : (halted : Bool) → SourceTerms → List ℕ → ℕ → ℕ → Histories
+    → Histories → Type 0
 PublishesBody halted terms body me claim start now =
     (frames : List (List ℕ)) × AreDue halted frames (frames_of terms.chunked body)
     × HasPublished me claim (history_at start.rings terms.mount)

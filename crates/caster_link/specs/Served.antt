@@ -71,7 +71,7 @@ pub record Serving (c : Config) (opening : Opening) (me : ℕ) (start now : Hist
   pub left_out : IsLeftOut (is_some session.ended) missing
   pub count : given ≡ length (text_of whats)
 
--- The connection is to be closed so.
+-- The connection is to be closed for this reason.
 pub record Came (c : Config) (opening : Opening) (me : ℕ) (start now : Histories)
     (session : Session) (before after : LinkTold) (last : Last) : Type 0 where
   pub taken : List LinkTook
@@ -98,8 +98,8 @@ IsJudged c opening text steps ended j =
     × (j ≡ judged c opening heading text))
     ⊎ ((ended ≡ Some Memory) × (steps ≡ []) × (j ≡ waiting))
 
--- A link took these steps and was given these bytes, and its connection went with them from these
--- histories to those, was closed so, and came to this receipt.
+-- A link took these steps and was given these bytes. With them its connection went from these
+-- histories to those, was closed for this reason, and came to this receipt.
 pub record LinkGoes (c : Config) (opening : Opening) (me : ℕ) (start now : Histories)
     (taken : List LinkTook) (written : List ℕ) (last : Last) (receipt : Receipt) : Type 0 where
   -- what happened until it was closed, each event with its calls

@@ -33,7 +33,8 @@ use Rattle.caster_link.specs.Served.{Serving, Came, LinkServed}
 -- events came to of which the receipt tells; and this was told of it: what the bytes among them
 -- ask.
 pub record HasClosed (c : Config) (opening : Opening) (me : ℕ) (start now : Histories)
-    (before after : LinkTold) (holding : Held) (told : Option Asked) (receipt : Receipt) : Type 0 where
+    (before after : LinkTold) (holding : Held) (told : Option Asked) (receipt : Receipt)
+    : Type 0 where
   pub served : LinkServed c opening me start now before after receipt
   pub held : HoldsAs c opening (came_to served.goes.j (steps_of served.goes.events)) holding
   pub asked : (heading : Heading)
@@ -112,8 +113,8 @@ HasStopped before after service lasts.End =
     ⊎ (HasSent before after service.out.items
     × (IsTrue (is_some service.session.ended) ⊎ (2 ^ 62 ≤ service.given)))
 
--- The step stopped, the session is as it was, and from whatever beginning the connection was served
--- so far, it is to be closed so.
+-- The step stopped, and the session is as it was. From whatever beginning the connection was
+-- served so far, it is to be closed for this reason.
 pub record ComesTo (c : Config) (now later : Histories) (before after : LinkTold)
     (service next : Service) (last : Last) : Type 0 where
   pub stopped : HasStopped before after service last
@@ -124,7 +125,8 @@ pub record ComesTo (c : Config) (now later : Histories) (before after : LinkTold
 
 -- ---- how it is closed
 
--- The connection is to be closed so, from some beginning, at places that fit its caller.
+-- The connection, served from some beginning at places that fit its caller, is to be closed for
+-- this reason.
 pub record IsToClose (now : Histories) (known : Known) (service : Service) (last : Last)
     : Type 0 where
   pub config : Config
@@ -136,8 +138,8 @@ pub record IsToClose (now : Histories) (known : Known) (service : Service) (last
   pub fit : Fit config me known
   pub came : Came config opening me start now service.session before after last
 
--- From whatever beginning it is to be closed so, its link was served to this receipt, and this is
--- what the session held and asked.
+-- From whatever beginning it is to be closed for this reason, its link was served to this receipt.
+-- This is what the session held and asked.
 abbrev pub IsClosedFrom : Histories → Histories → Known → Service → Last → Receipt → Type 0
 IsClosedFrom now later known service last receipt =
     (c : Config) (opening : Opening) (me : ℕ) (start : Histories) (before after : LinkTold)

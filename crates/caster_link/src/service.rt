@@ -26,10 +26,10 @@ use std::alloc::{AllocError, Global};
 use turn_log::Turns;
 
 /// How many bytes of one link are taken; then it is closed as if it had ended.
-const MOST: u64 = 1 << 62;
+const MAX_LINK_BYTES: u64 = 1 << 62;
 
 /// How many bytes one read takes at most.
-const PIECE: usize = 4096;
+const MAX_READ_BYTES: usize = 4096;
 
 /// A connection that is served over its link, between two of its steps.
 #[derive(Drop)]
@@ -42,7 +42,7 @@ pub struct Service {
     /// Whether the link may rest before the next read.
     may_rest: bool,
     /// Where a read puts its bytes.
-    piece: [u8; PIECE],
+    piece: [u8; MAX_READ_BYTES],
 }
 
 /// Opens the session of a connection that is served so. What it asks of another caster is appended.
@@ -104,7 +104,7 @@ impl Service {
             out,
             given: 0,
             may_rest: false,
-            piece: [0; PIECE],
+            piece: [0; MAX_READ_BYTES],
         })
     }
 
@@ -154,7 +154,7 @@ impl Service {
         let Ok(()) = send(mount, link, &mut self.out, self.may_rest) else {
             return Some(Last::WriteFault);
         };
-        if ended || self.given >= MOST {
+        if ended || self.given >= MAX_LINK_BYTES {
             return Some(Last::End);
         }
         match link.read(&mut self.piece) {

@@ -17,22 +17,22 @@ use Rattle.session_model.specs.declared.report.Receipt.{Receipt}
 use Rattle.session_model.specs.Judged.{Opening}
 use Rattle.session_model.specs.Reports.{added}
 use Rattle.session_model.specs.Run.{Histories, nothing_called}
-use Rattle.caster_serve.specs.Ends.{EndTold, at_door, over_link, kind_of, kinds, doors_in, links_in}
+use Rattle.caster_serve.specs.Endpoints.{EndpointTold, at_door, over_link, kind_of, kinds, doors_in, links_in}
 use Rattle.caster_serve.specs.Callers.{Caller, ends_of as told_ends, is_whole}
 use Rattle.caster_serve.specs.Caster.{HasServed}
 use Rattle.caster_serve.specs.Works.{Record, IsTold, links_of, receipts_of, tallied}
 use Rattle.serve_promise.specs.Links.{IsLinkKept}
 use Rattle.serve_promise.specs.Callers as told
 use Rattle.serve_promise.proofs.CallerLemmas.{all_promised}
-use Rattle.caster_logged.specs.Callers.{Entry, IsKept, AreKept, End, door, link, end_logged, opening_at, CallerLog, caller_logged, AreLinksAt, IsCallerKept, AreCallersKept, doors_among, links_among, ends_of, HasServedAll}
+use Rattle.caster_logged.specs.Callers.{LoggedLink, IsKept, AreKept, EndpointLog, door, link, end_logged, opening_at, CallerLog, caller_logged, AreLinksAt, IsCallerKept, AreCallersKept, doors_among, links_among, ends_of, HasServedAll}
 use Rattle.caster_logged.proofs.LogLemmas.{grew_by, map_grew, link_back, link_is, door_back, door_is, cons_head, cons_tail}
 
 -- ---- entries
 
-abbrev entry_logged : Entry → Record
+abbrev entry_logged : LoggedLink → Record
 entry_logged entry = record { link = link_logged entry.link; receipt = entry.receipt }
 
-abbrev entry_of : LinkLog → Receipt → Entry
+abbrev entry_of : LinkLog → Receipt → LoggedLink
 entry_of log receipt = record { link = log; receipt = receipt }
 
 abbrev record_of : LinkTold → Receipt → Record
@@ -40,7 +40,7 @@ record_of told receipt = record { link = told; receipt = receipt }
 
 -- the links of these records are logged, and so are the records
 entries_of : (entries : List Record) (logs : List LinkLog) → links_of entries ≡ map link_logged logs
-    → (own : List Entry) × (entries ≡ map entry_logged own) × (map (λ (e : Entry). e.link) own ≡ logs)
+    → (own : List LoggedLink) × (entries ≡ map entry_logged own) × (map (λ (e : LoggedLink). e.link) own ≡ logs)
 entries_of [] [] same = ([], refl, refl)
 entries_of [] (log ∷ logs) same = absurd cc
 entries_of (entry ∷ entries) [] same = absurd cc
@@ -55,14 +55,14 @@ entries_of (entry ∷ entries) (log ∷ logs) same =
       ap (λ more. log ∷ more) rest.2,
     )
 
-receipts_are : (own : List Entry) → receipts_of (map entry_logged own) ≡ map (λ (e : Entry). e.receipt) own
+receipts_are : (own : List LoggedLink) → receipts_of (map entry_logged own) ≡ map (λ (e : LoggedLink). e.receipt) own
 receipts_are [] = refl
 receipts_are (entry ∷ own) = ap (λ more. entry.receipt ∷ more) (receipts_are own)
 
 -- ---- what they keep
 
 entry_kept : (c : Config) (opening : Opening) (me : ℕ) (start now : List (History RingCall)) (histories : Histories)
-    (entry : Entry) → told.IsEntryKept c opening me start now histories (entry_logged entry)
+    (entry : LoggedLink) → told.IsEntryKept c opening me start now histories (entry_logged entry)
     → IsKept c opening me start now histories entry
 entry_kept c opening me start now histories entry is =
     let taken : entry.link.taken ≡ is.taken = is.taken_is entry.link.taken refl in
@@ -77,7 +77,7 @@ entry_kept c opening me start now histories entry is =
           entry.receipt) (sym taken) is.kept);
     }
 
-in_turn : (c : Config) (opening : Opening) (me : ℕ) (histories : Histories) (own : List Entry)
+in_turn : (c : Config) (opening : Opening) (me : ℕ) (histories : Histories) (own : List LoggedLink)
     (start now : List (History RingCall)) → told.AreKeptInTurn c opening me histories (map entry_logged own) start now
     → AreKept c opening me histories own start now
 in_turn c opening me histories [] start now is = is
@@ -85,8 +85,8 @@ in_turn c opening me histories (entry ∷ own) start now is =
     (is.0, entry_kept c opening me start is.0 histories entry is.1, in_turn c opening me histories own is.0 now is.2)
 
 -- the links that were served over this are logged
-links_at : (end : End) (count : ℕ) (entries : List Record) → told.AreLinksAt (end_logged end) count entries
-    → (own : List Entry) × (entries ≡ map entry_logged own) × AreLinksAt end count own
+links_at : (end : EndpointLog) (count : ℕ) (entries : List Record) → told.AreLinksAt (end_logged end) count entries
+    → (own : List LoggedLink) × (entries ≡ map entry_logged own) × AreLinksAt end count own
 links_at (door log) count entries is =
     let all = entries_of entries log.back (sym (is.0 _ refl)) in (
       all.0,
@@ -99,7 +99,7 @@ links_at (door log) count entries is =
 links_at (link number log) count entries is =
     let all = entries_of entries (log ∷ []) is in (all.0, all.1, all.2)
 
-opening_is : (end : End) → told.opening_at (end_logged end) ≡ opening_at end
+opening_is : (end : EndpointLog) → told.opening_at (end_logged end) ≡ opening_at end
 opening_is (door log) = refl
 opening_is (link number log) = refl
 
@@ -128,10 +128,10 @@ callers_kept c histories n (caller ∷ own) is =
 
 -- ---- whose they are
 
-abbrev caller_of : Histories → Sum → ℕ → End → CallerLog
+abbrev caller_of : Histories → Sum → ℕ → EndpointLog → CallerLog
 caller_of seen tally served end = record { seen = seen; tally = tally; served = served; end = end }
 
-abbrev told_caller : Histories → Sum → ℕ → EndTold → Caller
+abbrev told_caller : Histories → Sum → ℕ → EndpointTold → Caller
 told_caller seen tally served end = record { seen = seen; tally = tally; served = served; end = end }
 
 -- callers over these doors and links are logged
@@ -139,7 +139,7 @@ abbrev AreLogged : List Caller → List DoorLog → List LinkLog → Type 0
 AreLogged callers doors links = (own : List CallerLog) × (callers ≡ map caller_logged own)
     × (doors_among (ends_of own) ≡ doors) × (links_among (ends_of own) ≡ links)
 
-one_more : (seen : Histories) (tally : Sum) (served : ℕ) (told : EndTold) (end : End) (callers : List Caller)
+one_more : (seen : Histories) (tally : Sum) (served : ℕ) (told : EndpointTold) (end : EndpointLog) (callers : List Caller)
     (doors : List DoorLog) (links : List LinkLog) → told ≡ end_logged end → (rest : AreLogged callers doors links)
     → told_caller seen tally served told ∷ callers ≡ map caller_logged (caller_of seen tally served end ∷ rest.0)
 one_more seen tally served told end callers doors links same rest =
@@ -152,7 +152,7 @@ Follow callers = (doors : List DoorLog) (links : List LinkLog)
     → doors_in (told_ends callers) ≡ map door_logged doors → links_in (told_ends callers) ≡ map link_logged links
     → AreLogged callers doors links
 
-logged_over : (seen : Histories) (tally : Sum) (served : ℕ) (end : EndTold) (callers : List Caller) → Follow callers
+logged_over : (seen : Histories) (tally : Sum) (served : ℕ) (end : EndpointTold) (callers : List Caller) → Follow callers
     → (doors : List DoorLog) (links : List LinkLog) → doors_in (end ∷ told_ends callers) ≡ map door_logged doors
     → links_in (end ∷ told_ends callers) ≡ map link_logged links
     → AreLogged (told_caller seen tally served end ∷ callers) doors links
@@ -188,7 +188,7 @@ are_logged (caller ∷ callers) doors links d l =
 -- ---- the whole
 
 kinds_of : (own : List CallerLog)
-    → map kind_of (told_ends (map caller_logged own)) ≡ map (λ (end : End). kind_of (end_logged end)) (ends_of own)
+    → map kind_of (told_ends (map caller_logged own)) ≡ map (λ (end : EndpointLog). kind_of (end_logged end)) (ends_of own)
 kinds_of [] = refl
 kinds_of (caller ∷ own) = ap (λ more. kind_of (end_logged caller.end) ∷ more) (kinds_of own)
 

@@ -12,9 +12,9 @@ use Rattle.cast_config.specs.Bare as settings
 use Rattle.config_table.specs.Table.{table_records}
 use Rattle.session_model.specs.declared.report.Closed.{Closed}
 use Rattle.session_model.specs.Text.{closed_text}
-use Rattle.run_texts.specs.Texts.{IsRunText, IsWarmText, report}
-use Rattle.caster_top.specs.declared.command.Aim.TheVariants.{Check, Migrate, Table}
-use Rattle.caster_top.specs.declared.command.Start.TheVariants.{Cold, Warm}
+use Rattle.run_texts.specs.Texts.{IsRunText, IsWarmText, bare_report_text}
+use Rattle.caster_top.specs.declared.command.ConfigCommand.TheVariants.{Check, Migrate, Table}
+use Rattle.caster_top.specs.declared.command.RoverStart.TheVariants.{Cold, Warm}
 use Rattle.caster_top.specs.Command.{AreBare, AreOver, AreRecord, AreReplay, AreServe, AreWarm}
 use Rattle.caster_top.specs.Done.{WasDone}
 use Rattle.caster_top.specs.Outcome.{IsDocumentOf, one_line}
@@ -30,15 +30,15 @@ module _ {words : List (List ℕ)} {input : Input} {files : Files} {before after
     (done : WasDone words input files before after (Some old) (Some new)) where
   pub over_report : (capacity : ℕ) → AreBare words capacity
       → (bytes : List ℕ) × (events : List Event) × input bytes × (script_of Bare bytes ≡ Ok events)
-      × IsPromisedText (settings.bare capacity) events (report (settings.bare capacity) events)
-      × (new ≡ old ++ report (settings.bare capacity) events)
+      × IsPromisedText (settings.bare capacity) events (bare_report_text (settings.bare capacity) events)
+      × (new ≡ old ++ bare_report_text (settings.bare capacity) events)
   over_report capacity are =
       let is = done.bare capacity are in (
         is.0,
         is.1,
         is.2,
         is.3,
-        bare_promised words capacity is.0 is.1 (report (settings.bare capacity) is.1) are is.3 is.4,
+        bare_promised words capacity is.0 is.1 (bare_report_text (settings.bare capacity) is.1) are is.3 is.4,
         is.5,
       )
 

@@ -16,7 +16,7 @@ use Rattle.session_model.specs.declared.report.Receipt.{Receipt}
 use Rattle.session_model.specs.Judged.{Opening, sends_head, relays}
 use Rattle.session_model.specs.Reports.{added, mount_total, sums_from}
 use Rattle.session_model.specs.Run.{Histories, nothing_called}
-use Rattle.caster_serve.specs.Ends.{EndTold, at_door, over_link, asked_of, kind_of, kinds}
+use Rattle.caster_serve.specs.Endpoints.{EndpointTold, at_door, over_link, asked_of, kind_of, kinds}
 use Rattle.caster_link.specs.Links.{IsCausedBy}
 use Rattle.caster_link.specs.Wear.{only_worn, IsRefusedBy}
 use Rattle.caster_serve.specs.Works.{tallied}
@@ -26,7 +26,7 @@ use Rattle.serve_promise.specs.Links.{AllFrames, IsLinkKept}
 -- ---- the links of one caller
 
 -- a link as it logged itself when it came back, and the receipt of its connection
-pub record Entry : Type 0 where
+pub record LoggedLink : Type 0 where
   pub link : LinkLog
   pub receipt : Receipt
 
@@ -34,15 +34,15 @@ pub record Entry : Type 0 where
 -- its writes took. A fault of the link is told only where it counts one. A place told that it was
 -- worn, or a closing turn was refused, only where one of the histories has 2^62 calls or more.
 pub record IsKept (c : Config) (opening : Opening) (me : ℕ) (start now : List (History RingCall))
-    (histories : Histories) (entry : Entry) : Type 0 where
+    (histories : Histories) (entry : LoggedLink) : Type 0 where
   pub last : Last
   pub caused : IsCausedBy last 0 entry.link.faults
   pub refused : IsRefusedBy (only_worn (calls_in histories)) entry.receipt
   pub kept : IsLinkKept c opening me start now histories.rings (bytes_in entry.link.taken)
       entry.link.bytes last entry.receipt
 
--- so did each of these, one after the other, from the histories that the one before it left
-abbrev pub AreKept : Config → Opening → ℕ → Histories → List Entry → List (History RingCall)
+-- the connections of these links kept it, each from the histories that the one before it left
+abbrev pub AreKept : Config → Opening → ℕ → Histories → List LoggedLink → List (History RingCall)
     → List (History RingCall) → Type 0
 AreKept c opening me histories [] start now = now ≡ start
 AreKept c opening me histories (entry ∷ entries) start now =
@@ -52,17 +52,17 @@ AreKept c opening me histories (entry ∷ entries) start now =
 -- ---- a caller
 
 -- over what it served: a worker's door, or the link of the relay of this number
-pub data End : Type 0 where
-  door : DoorLog → End
-  link : ℕ → LinkLog → End
+pub data EndpointLog : Type 0 where
+  door : DoorLog → EndpointLog
+  link : ℕ → LinkLog → EndpointLog
 
 -- the same, as it is told
-abbrev pub end_logged : End → EndTold
+abbrev pub end_logged : EndpointLog → EndpointTold
 end_logged (door log) = at_door (door_logged log)
 end_logged (link number log) = over_link number (link_logged log)
 
 -- how its links open
-abbrev pub opening_at : End → Opening
+abbrev pub opening_at : EndpointLog → Opening
 opening_at (door log) = sends_head
 opening_at (link number log) = relays number
 
@@ -72,7 +72,7 @@ pub record CallerLog : Type 0 where
   pub seen : Histories
   pub tally : Sum
   pub served : ℕ
-  pub end : End
+  pub end : EndpointLog
 
 abbrev pub caller_logged : CallerLog → Caller
 caller_logged caller = record {
@@ -84,26 +84,26 @@ caller_logged caller = record {
 
 -- the links that came back to a worker's door, as many as it served, in order; and the one link of
 -- a relay
-abbrev pub AreLinksAt : End → ℕ → List Entry → Type 0
+abbrev pub AreLinksAt : EndpointLog → ℕ → List LoggedLink → Type 0
 AreLinksAt (door log) count entries =
-    (log.back ≡ map (λ (entry : Entry). entry.link) entries) × (length entries ≡ count)
+    (log.back ≡ map (λ (entry : LoggedLink). entry.link) entries) × (length entries ≡ count)
 AreLinksAt (link number log) count entries =
-    map (λ (entry : Entry). entry.link) entries ≡ log ∷ []
+    map (λ (entry : LoggedLink). entry.link) entries ≡ log ∷ []
 
 -- The caller of this number served these links, from the first call on, and called nothing else;
 -- its tally counts the receipts of the rovers among them.
 pub record IsCallerKept (c : Config) (histories : Histories) (me : ℕ) (caller : CallerLog) : Type 0
   where
-    pub entries : List Entry
+    pub entries : List LoggedLink
     pub links : AreLinksAt caller.end caller.served entries
     pub in_turn : AreKept c (opening_at caller.end) me histories entries (nothing_called c).rings
         caller.seen.rings
     pub nothing_else : (mount : ℕ)
         → GoesOn me (history_at caller.seen.rings mount) (history_at histories.rings mount)
     pub tally : caller.tally
-        ≡ fold tallied nothing (map (λ (entry : Entry). entry.receipt) entries)
+        ≡ fold tallied nothing (map (λ (entry : LoggedLink). entry.receipt) entries)
 
--- so did each of these, numbered from this number on
+-- these callers served their links so, numbered from this number on
 abbrev pub AreCallersKept : Config → Histories → ℕ → List CallerLog → Type 0
 AreCallersKept c histories n [] = ⊤
 AreCallersKept c histories n (caller ∷ callers) =
@@ -111,17 +111,17 @@ AreCallersKept c histories n (caller ∷ callers) =
 
 -- ---- all of them
 
-abbrev pub doors_among : List End → List DoorLog
+abbrev pub doors_among : List EndpointLog → List DoorLog
 doors_among [] = []
 doors_among (door log ∷ more) = log ∷ doors_among more
 doors_among (link number log ∷ more) = doors_among more
 
-abbrev pub links_among : List End → List LinkLog
+abbrev pub links_among : List EndpointLog → List LinkLog
 links_among [] = []
 links_among (door log ∷ more) = links_among more
 links_among (link number log ∷ more) = log ∷ links_among more
 
-abbrev pub ends_of : List CallerLog → List End
+abbrev pub ends_of : List CallerLog → List EndpointLog
 ends_of callers = map (λ (caller : CallerLog). caller.end) callers
 
 -- A caster served to its end. The street was asked for a door for each worker at one address, and
@@ -134,7 +134,7 @@ pub record HasServedAll (c : Config) (addr : List ℕ) (limit : ℕ) (old new : 
     (closed : Closed) : Type 0 where
   pub asked : new.asked ≡ old.asked ++ asked_of c addr
   pub callers : List CallerLog
-  pub kinds_are : map (λ (end : End). kind_of (end_logged end)) (ends_of callers) ≡ kinds c
+  pub kinds_are : map (λ (end : EndpointLog). kind_of (end_logged end)) (ends_of callers) ≡ kinds c
   pub doors : new.doors ≡ old.doors ++ doors_among (ends_of callers)
   pub links : new.links ≡ old.links ++ links_among (ends_of callers)
   pub histories : Histories

@@ -8,11 +8,11 @@ ghost use Rattle.sourcetable.specs.Table.{table_text};
 ghost use Rattle.cast_config.specs.declared.config.Config.{Config};
 ghost use Rattle.cast_config.specs.Bare.{bare};
 ghost use Rattle.config_table.specs.Table.{table_records};
-ghost use Rattle.run_texts.specs.Texts.{IsRunText, IsWarmText, made_text, report};
+ghost use Rattle.run_texts.specs.Texts.{IsRunText, IsWarmText, made_text, bare_report_text};
 ghost use Rattle.session_model.specs.declared.report.Closed.{Closed};
 ghost use Rattle.session_model.specs.Text.{closed_text};
 ghost use Rattle.ntrip_fetch.specs.declared.target.Target.{Target};
-ghost use Rattle.caster_top.specs.declared.command.Aim.TheVariants.{Check, Migrate, Table};
+ghost use Rattle.caster_top.specs.declared.command.ConfigCommand.TheVariants.{Check, Migrate, Table};
 ghost use Rattle.caster_top.specs.Command.{AreBare, AreFetch, AreMake, AreOver, AreRecord, AreReplay, AreServe, AreWarm, texts};
 ghost use Rattle.cast_io.specs.Logged.{street_logged};
 ghost use Rattle.caster_top.specs.Done.{WasDone};
@@ -50,8 +50,8 @@ pub fn caster_over<R: Threads + Wait + Sync>(
     ensures report { result ≡ 0 → (capacity : ℕ) → AreBare (texts words.now) capacity
         → (bytes : List ℕ) × (events : List Event) × HasRead input.old.log input.new.log bytes
         × (script_of Bare bytes ≡ Ok events) × IsPromisedText (bare capacity) events
-        (report (bare capacity) events)
-        × (out.new.taken ≡ out.old.taken ++ report (bare capacity) events) }
+        (bare_report_text (bare capacity) events)
+        × (out.new.taken ≡ out.old.taken ++ bare_report_text (bare capacity) events) }
 
     // What is done with the configuration that the reads of the file CONFIG gave, from its opening
     // to its end.
@@ -108,8 +108,8 @@ pub fn caster_over<R: Threads + Wait + Sync>(
     run_logged(rt, alloc, words, store, input, out, street, lodge)
 }
 
-// The same, with what was done in one word: by the logs of the input and of the files, and by what
-// street and output tell.
+// Runs the command, and says what was done in one word: by the logs of the input and of the files,
+// and by what street and output tell.
 fn run_logged<R: Threads + Wait + Sync>(
     rt: &R,
     alloc: Global,

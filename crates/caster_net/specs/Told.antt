@@ -40,8 +40,8 @@ count_of got.End = 0
 count_of got.Failed = 0
 
 -- the stream took just these bytes, and just these came to the record of the wire
-pub record Took {S : Type 0} (contents : S → Option (List ℕ)) (old new : WireState S) (bytes : List ℕ)
-    : Type 0 where
+pub record Took {S : Type 0} (contents : S → Option (List ℕ)) (old new : WireState S)
+    (bytes : List ℕ) : Type 0 where
   pub both : BothTake (contents old.stream) (contents new.stream) old.bytes new.bytes bytes
   pub taken : new.taken ≡ old.taken
   pub faults : new.faults ≡ old.faults

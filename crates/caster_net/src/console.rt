@@ -3,7 +3,7 @@ ghost use Rattle.std.specs.Prelude.{◌≡◌, ◌∷◌, ◌++◌, [], false};
 ghost use Rattle.cast_console.specs.Consoles.{HasHeard};
 
 use crate::halt::Halt;
-use crate::waiting::LONGEST_KEPT;
+use crate::waiting::MAX_KEPT_REST;
 use cast_console::{Console, Lodge, Wanted};
 use cast_io::Journal;
 use std::marker::Model;
@@ -54,7 +54,7 @@ impl<'a> InputConsole<'a> {
 
     // Whether the thread that waits here is needed at a gate.
     fn is_in_the_way(&self) -> bool {
-        self.rests > LONGEST_BEGIN / LONGEST_KEPT && self.halt.has_unasked_gate()
+        self.rests > LONGEST_BEGIN / MAX_KEPT_REST && self.halt.has_unasked_gate()
     }
 
     // One line more was heard, while so many workers are busy.
@@ -89,7 +89,7 @@ impl Console for InputConsole<'_> {
         ensures { self.new ≡ self.old }
     {
         self.rests = self.rests.saturating_add(1);
-        thread::sleep(self.rt, Duration::from_millis(LONGEST_KEPT));
+        thread::sleep(self.rt, Duration::from_millis(MAX_KEPT_REST));
     }
 }
 

@@ -1,6 +1,6 @@
 //! Connections that gates make to their peers.
 use crate::halt::Halt;
-use crate::waiting::{LONGEST_KEPT, wait_ready};
+use crate::waiting::{MAX_KEPT_REST, wait_ready};
 use libc::net::POLLOUT;
 use mio::net;
 use std::io;
@@ -10,10 +10,10 @@ use std::os::fd::AsRawFd;
 use std::time::{Duration, Instant};
 
 /// How long a dial may take, all addresses of a name together, in seconds.
-pub(crate) const LONGEST_DIAL: u64 = 5;
+pub(crate) const MAX_DIAL: u64 = 5;
 
 /// Connects to this address, one address of its name after the other, unless the stop is asked for.
-pub(crate) fn connected(rt: &HostRuntime, halt: &Halt, addr: &str) -> io::Result<TcpStream> {
+pub(crate) fn connect(rt: &HostRuntime, halt: &Halt, addr: &str) -> io::Result<TcpStream> {
     let begun = Instant::now(rt)?;
     for addr in addr.to_socket_addrs(rt)? {
         if let Ok(stream) = connected_at(rt, halt, addr, &begun) {
@@ -43,8 +43,8 @@ fn wait_connected(
     stream: &net::TcpStream,
     begun: &Instant,
 ) -> io::Result<()> {
-    let limit = Duration::from_secs(LONGEST_DIAL);
-    let slice = Duration::from_millis(LONGEST_KEPT);
+    let limit = Duration::from_secs(MAX_DIAL);
+    let slice = Duration::from_millis(MAX_KEPT_REST);
     for _ in 0..u64::MAX {
         let left = limit.saturating_sub(begun.elapsed(rt)?);
         halt.look(rt);

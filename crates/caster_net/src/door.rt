@@ -6,7 +6,7 @@ ghost use Rattle.caster_net.specs.Told.{new_door, new_wire};
 use crate::bells::Bells;
 use crate::link::TcpLink;
 use crate::options::limit_accepts;
-use crate::waiting::{SHORT, failed, rest};
+use crate::waiting::{SHORT, count_fault, rest};
 use crate::watch::Watch;
 use cast_io::{Arrived, Door, Journal, StreetFault};
 use libc::net::{SHUT_RD, shutdown};
@@ -21,11 +21,11 @@ use std::sync::atomic::{AtomicBool, Ordering};
 use std::time::{Duration, Instant};
 
 // How long the end of one connection may take, in milliseconds.
-pub(crate) const LONGEST_END: u64 = 500;
+pub(crate) const MAX_END: u64 = 500;
 
 // How long the ends of all connections together may take that come one after another, with no
 // connection accepted between them, in milliseconds.
-const LONGEST_ENDS: u64 = 2_000;
+const MAX_ENDS: u64 = 2_000;
 
 /// What the doors at one address share.
 #[derive(Drop)]
@@ -82,7 +82,10 @@ impl Porch {
 }
 
 /// This place, for all of its doors.
-pub(crate) fn shared(rt: &HostRuntime, porch: Porch) -> Result<Arc<Porch, Global>, StreetFault> {
+pub(crate) fn share_porch(
+    rt: &HostRuntime,
+    porch: Porch,
+) -> Result<Arc<Porch, Global>, StreetFault> {
     match Arc::new(rt.alloc(), porch) {
         Ok(porch) => Ok(porch),
         Err(_) => Err(StreetFault::Memory),
@@ -141,7 +144,7 @@ impl<'a> TcpDoor<'a> {
             watch: alone_at(rt, &porch),
             porch,
             came: None,
-            patience: Duration::from_millis(LONGEST_ENDS),
+            patience: Duration::from_millis(MAX_ENDS),
             back: Journal::new(),
             faults: 0,
         }
@@ -214,13 +217,13 @@ impl<'a> Door for TcpDoor<'a> {
     fn accept(&mut self) -> Arrived<TcpLink<'a>> {
         match self.next() {
             Ok(stream) => {
-                self.patience = Duration::from_millis(LONGEST_ENDS);
+                self.patience = Duration::from_millis(MAX_ENDS);
                 match self.welcome(stream) {
                     Ok(link) => Arrived::Link(link),
                     Err(_) => Arrived::Idle,
                 }
             }
-            Err(fault) if is_dead(&fault) => failed(&mut self.faults, Arrived::Failed),
+            Err(fault) if is_dead(&fault) => count_fault(&mut self.faults, Arrived::Failed),
             Err(_) => Arrived::Idle,
         }
     }
@@ -244,7 +247,7 @@ impl<'a> Door for TcpDoor<'a> {
 
     fn hang_up(&mut self, link: TcpLink<'a>) {
         self.back.add(&link);
-        let limit = self.patience.min(Duration::from_millis(LONGEST_END));
+        let limit = self.patience.min(Duration::from_millis(MAX_END));
         let begun = Instant::now(self.rt);
         link.close(limit);
         let taken = match begun {

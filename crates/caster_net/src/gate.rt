@@ -6,12 +6,12 @@ ghost use Rattle.caster_net.specs.Gates.{new_gate, quiet_of};
 ghost use Rattle.caster_net.specs.Told.{link_told, new_wire};
 
 use crate::bells::Bells;
-use crate::door::{LONGEST_END, Porch, is_dead};
+use crate::door::{MAX_END, Porch, is_dead};
 use crate::halt::Halt;
 use crate::keep::Keep;
 use crate::link::TcpLink;
 use crate::redial::Redial;
-use crate::waiting::{LONGEST_KEPT, failed, rest, would_wait};
+use crate::waiting::{MAX_KEPT_REST, count_fault, rest, would_wait};
 use cast_io::{Arrived, Door, Gate, Journal, Origin, PeerAddr};
 use std::alloc::Global;
 use std::fmt::InlineText;
@@ -79,7 +79,7 @@ impl<'a> TcpGate<'a> {
     ghost use Rattle.cast_io.specs.declared.yard_asked.YardAsked.TheVariants as asked;
 
     /// One of so many gates at this place, which is at this address.
-    pub(crate) fn opened(
+    pub(crate) fn over_porch(
         ground: Ground<'a>,
         porch: Arc<Porch, Global>,
         addr: &str,
@@ -97,7 +97,7 @@ impl<'a> TcpGate<'a> {
     }
 
     /// A gate that dials this peer, which is at this address.
-    pub(crate) fn reached(ground: Ground<'a>, peer: Redial, addr: &str, quiet: u32) -> Self
+    pub(crate) fn to_peer(ground: Ground<'a>, peer: Redial, addr: &str, quiet: u32) -> Self
         ensures { result ≡ new_gate (asked.Reach addr.now quiet) }
     {
         TcpGate::over(ground, Way::Peer(peer), Origin::reached(addr, quiet), quiet)
@@ -141,7 +141,7 @@ impl<'a> TcpGate<'a> {
                 Some(came) => came,
                 None => Err(nothing_yet()),
             },
-            Way::Peer(peer) => dialled(self.ground, peer),
+            Way::Peer(peer) => dial_peer(self.ground, peer),
         }
     }
 
@@ -152,7 +152,7 @@ impl<'a> TcpGate<'a> {
     {
         let Ground { rt, bells, halt } = self.ground;
         let keep = Keep::from_now(rt, halt, self.quiet)?;
-        let link = TcpLink::kept(rt, bells, stream, keep)?;
+        let link = TcpLink::of_gate(rt, bells, stream, keep)?;
         self.peer = word_of(peer);
         Ok(link)
     }
@@ -207,7 +207,7 @@ impl<'a> Door for TcpGate<'a> {
                     Arrived::Idle
                 }
             },
-            Err(fault) if is_dead(&fault) => failed(&mut self.faults, Arrived::Failed),
+            Err(fault) if is_dead(&fault) => count_fault(&mut self.faults, Arrived::Failed),
             Err(_) => Arrived::Idle,
         }
     }
@@ -227,7 +227,7 @@ impl<'a> Door for TcpGate<'a> {
         ensures same { self.new ≡ record self.old { door = self.new.door } }
     {
         self.back.add(&link);
-        link.close(Duration::from_millis(LONGEST_END));
+        link.close(Duration::from_millis(MAX_END));
         match &mut self.way {
             Way::Porch(_) => self.ground.halt.end_link(),
             Way::Peer(peer) => peer.end(self.ground.rt),
@@ -262,9 +262,9 @@ impl Gate for TcpGate<'_> {
 // What comes in a while, if anything does. Where the peer is dialled, nothing comes.
 fn what_comes(ground: Ground<'_>, way: &Way) -> Option<io::Result<(TcpStream, SocketAddr)>> {
     match way {
-        Way::Porch(porch) => taken(ground, porch),
+        Way::Porch(porch) => accept_at(ground, porch),
         Way::Peer(_) => {
-            thread::sleep(ground.rt, Duration::from_millis(LONGEST_KEPT));
+            thread::sleep(ground.rt, Duration::from_millis(MAX_KEPT_REST));
             None
         }
     }
@@ -272,7 +272,7 @@ fn what_comes(ground: Ground<'_>, way: &Way) -> Option<io::Result<(TcpStream, So
 
 // What comes to the porch in a while, if anything does. An accept that failed for a while may do so
 // again at once: so it is tried again after a short rest.
-fn taken(ground: Ground<'_>, porch: &Porch) -> Option<io::Result<(TcpStream, SocketAddr)>> {
+fn accept_at(ground: Ground<'_>, porch: &Porch) -> Option<io::Result<(TcpStream, SocketAddr)>> {
     match porch.take(ground.bells) {
         Err(fault) if would_wait(fault.kind()) => None,
         Err(fault) if !is_dead(&fault) => {
@@ -284,7 +284,7 @@ fn taken(ground: Ground<'_>, porch: &Porch) -> Option<io::Result<(TcpStream, Soc
 }
 
 // A connection to this peer and its address, where it may be dialled now and could be.
-fn dialled(ground: Ground<'_>, peer: &mut Redial) -> io::Result<(TcpStream, SocketAddr)> {
+fn dial_peer(ground: Ground<'_>, peer: &mut Redial) -> io::Result<(TcpStream, SocketAddr)> {
     let Some(stream) = peer.dial(ground.rt, ground.halt) else {
         return Err(nothing_yet());
     };

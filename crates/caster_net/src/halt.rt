@@ -12,7 +12,7 @@ use std::time::{Duration, Instant};
 const LOOK_EVERY: u64 = 100;
 
 // The most bytes that one look takes.
-const MOST_TAKEN: usize = 4096;
+const MAX_TAKEN: usize = 4096;
 
 /// Whether all gates of a street are to be over and all links of these to end. It is asked for by
 /// the line `stop` of an input, and by who else finds a cause for it; then it stands for good.
@@ -60,7 +60,7 @@ impl Halt {
         Halt::over(rt.stdin().as_raw_fd())
     }
 
-    /// The same by the line `stop` of what is open there. It is to stay open.
+    /// A stop that the line `stop` from this descriptor asks for. The descriptor is to stay open.
     pub fn over(fd: RawFd) -> Halt {
         Halt {
             is_asked: AtomicBool::new(false),
@@ -129,7 +129,7 @@ impl Halt {
             return;
         };
         if input.is_due(rt) {
-            self.heed(input.come());
+            self.heed(input.take_words());
         }
     }
 
@@ -160,12 +160,12 @@ impl Input {
     }
 
     // Takes what is there, and answers which words its lines are.
-    fn come(&mut self) -> Came {
+    fn take_words(&mut self) -> Came {
         let mut came = Came {
             stop: false,
             statuses: 0,
         };
-        let mut taken = [0u8; MOST_TAKEN];
+        let mut taken = [0u8; MAX_TAKEN];
         let Some(bytes) = self.take(&mut taken) else {
             return came;
         };

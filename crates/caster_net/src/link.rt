@@ -5,7 +5,7 @@ ghost use Rattle.caster_net.specs.Told.{link_told, new_wire};
 use crate::bells::Bells;
 use crate::keep::{Cut, Keep};
 use crate::options::keep_alive;
-use crate::waiting::{LONGEST, LONGEST_KEPT, SHORT, rest, wait_ready};
+use crate::waiting::{MAX_KEPT_REST, MAX_REST, SHORT, rest, wait_ready};
 use crate::watch::{Watch, Woken};
 use crate::wire::Wire;
 use cast_io::{Failed, Got, Link};
@@ -21,10 +21,10 @@ use std::{io, thread};
 const PREAMBLE: u8 = 0xD3;
 
 // The longest pause before a rest, in milliseconds.
-const LONGEST_PAUSE: u64 = 16;
+const MAX_PAUSE: u64 = 16;
 
 // The most that is taken of what a peer sends after its connection has ended, in bytes.
-const MOST_DRAINED: usize = 64 * 1024;
+const MAX_DRAINED: usize = 64 * 1024;
 
 /// A TCP connection, and how often it failed. A read does not wait for the peer; a write waits
 /// while the peer takes nothing. Contracts see the wire below it: a rest leaves that as it was.
@@ -86,9 +86,9 @@ impl<'a> TcpLink<'a> {
         })
     }
 
-    /// The same as a link of a gate. It ends where the stop is asked for, and fails where it is
-    /// quiet for too long.
-    pub(crate) fn kept(
+    /// A link of a gate over this connection. It ends once the stop is asked for, and fails where
+    /// it is quiet for too long.
+    pub(crate) fn of_gate(
         rt: &'a HostRuntime,
         bells: &'a Bells,
         stream: TcpStream,
@@ -227,8 +227,8 @@ impl<'a> TcpLink<'a> {
     // How long its longest rest is.
     fn longest(&self) -> Duration {
         Duration::from_millis(match self.keep {
-            Some(_) => LONGEST_KEPT,
-            None => LONGEST,
+            Some(_) => MAX_KEPT_REST,
+            None => MAX_REST,
         })
     }
 
@@ -294,7 +294,7 @@ impl Link for TcpLink<'_> {
         self.prepare();
         match self.wait() {
             Woken::Peer => {}
-            Woken::Bell => self.pause = self.pause.saturating_mul(2).clamp(1, LONGEST_PAUSE),
+            Woken::Bell => self.pause = self.pause.saturating_mul(2).clamp(1, MAX_PAUSE),
             Woken::Late => self.pause = self.pause.min(1),
         }
     }
@@ -310,7 +310,7 @@ impl Link for TcpLink<'_> {
 fn drain(rt: &HostRuntime, stream: &mut TcpStream, limit: Duration) -> io::Result<()> {
     let begun = Instant::now(rt)?;
     let mut buf = [0u8; 4096];
-    let mut left = MOST_DRAINED;
+    let mut left = MAX_DRAINED;
     stream.set_nonblocking(false)?;
     while left > 0 {
         stream.set_read_timeout(Some(limit.saturating_sub(begun.elapsed(rt)?)))?;

@@ -2,17 +2,17 @@
 ghost use Rattle.std.specs.Prelude.{◌≡◌, ◌⊎◌, IsSome};
 ghost use Rattle.caster_net.specs.Gates.{pause_behind};
 
-use crate::dial::connected;
+use crate::dial::connect;
 use crate::halt::Halt;
 use std::marker::Model;
 use std::net::TcpStream;
 use std::time::{Duration, Instant};
 
 // How long the shortest pause before a dial is, in seconds.
-const SHORTEST_PAUSE: u64 = 5;
+const MIN_PAUSE: u64 = 5;
 
 // How long the longest one is.
-const LONGEST_PAUSE: u64 = 80;
+const MAX_PAUSE: u64 = 80;
 
 // How long a link lives after which the pause is the shortest one again, in seconds.
 const LONG_LIFE: u64 = 60;
@@ -42,11 +42,11 @@ impl Model for Redial {
 impl Redial {
     /// The peer at this address, which was not dialled yet.
     pub(crate) fn of(addr: String) -> Redial
-        ensures { result ≡ SHORTEST_PAUSE }
+        ensures { result ≡ MIN_PAUSE }
     {
         Redial {
             addr,
-            pause: SHORTEST_PAUSE,
+            pause: MIN_PAUSE,
             begun: None,
             due: None,
         }
@@ -60,7 +60,7 @@ impl Redial {
         if self.is_early(rt) {
             return None;
         }
-        let Ok(stream) = connected(rt, halt, &self.addr) else {
+        let Ok(stream) = connect(rt, halt, &self.addr) else {
             self.put_off(rt);
             return None;
         };
@@ -70,10 +70,10 @@ impl Redial {
 
     /// The last link has ended.
     pub(crate) fn end(&mut self, rt: &HostRuntime)
-        ensures { (self.new ≡ pause_behind self.old) ⊎ (self.new ≡ pause_behind SHORTEST_PAUSE) }
+        ensures { (self.new ≡ pause_behind self.old) ⊎ (self.new ≡ pause_behind MIN_PAUSE) }
     {
         if self.has_lived(rt) {
-            self.pause = SHORTEST_PAUSE;
+            self.pause = MIN_PAUSE;
         }
         self.put_off(rt);
     }
@@ -83,7 +83,7 @@ impl Redial {
         ensures { self.new ≡ pause_behind self.old }
     {
         self.due = later(rt, Duration::from_secs(self.pause));
-        self.pause = self.pause.saturating_mul(2).min(LONGEST_PAUSE);
+        self.pause = self.pause.saturating_mul(2).min(MAX_PAUSE);
     }
 
     // It may not be dialled yet.

@@ -6,15 +6,15 @@ ghost use Rattle.caster_net.specs.Gates.{new_net};
 ghost use Rattle.caster_net.specs.Told.{IsUnused, new_door};
 
 use crate::bells::Bells;
-use crate::dial::LONGEST_DIAL;
-use crate::door::{Porch, TcpDoor, shared};
+use crate::dial::MAX_DIAL;
+use crate::door::{Porch, TcpDoor, share_porch};
 use crate::gate::{Ground, TcpGate};
 use crate::halt::Halt;
 use crate::link::TcpLink;
 use crate::note_out::NoteOut;
 use crate::note_sink::NoteSink;
 use crate::notes::{AskedNote, CallNote};
-use crate::waiting::failed;
+use crate::waiting::count_fault;
 use cast_io::{Journal, Street, StreetFault};
 use std::alloc::{AllocError, Global};
 use std::io;
@@ -115,7 +115,7 @@ impl<'a> Street for TcpStreet<'a> {
     fn open(&mut self, addr: &str, doors: u32) -> Result<Vec<TcpDoor<'a>>, StreetFault> {
         self.asked.add(&AskedNote::Open(Journal::of_bytes(addr.as_bytes()), doors));
         match opened_at(self.rt, self.bells, addr, doors) {
-            Err(StreetFault::Failed) => failed(&mut self.faults, Err(StreetFault::Failed)),
+            Err(StreetFault::Failed) => count_fault(&mut self.faults, Err(StreetFault::Failed)),
             answer => answer,
         }
     }
@@ -123,9 +123,9 @@ impl<'a> Street for TcpStreet<'a> {
     fn dial(&mut self, addr: &str) -> Result<TcpLink<'a>, StreetFault> {
         self.asked
             .add(&AskedNote::Dial(Journal::of_bytes(addr.as_bytes())));
-        match dialled(self.rt, self.bells, addr) {
+        match link_to(self.rt, self.bells, addr) {
             Ok(link) => Ok(link),
-            Err(_) => failed(&mut self.faults, Err(StreetFault::Failed)),
+            Err(_) => count_fault(&mut self.faults, Err(StreetFault::Failed)),
         }
     }
 
@@ -164,7 +164,7 @@ fn opened_at<'a>(
 // A place for so many doors at this address, which they share.
 fn porch_at(rt: &HostRuntime, addr: &str, doors: u32) -> Result<Arc<Porch, Global>, StreetFault> {
     match bound_at(rt, addr, doors) {
-        Ok(porch) => shared(rt, porch),
+        Ok(porch) => share_porch(rt, porch),
         Err(_) => Err(StreetFault::Failed),
     }
 }
@@ -194,14 +194,14 @@ fn open_all<'a>(
 }
 
 // A link over a connection to this address.
-fn dialled<'a>(rt: &'a HostRuntime, bells: &'a Bells, addr: &str) -> io::Result<TcpLink<'a>>
+fn link_to<'a>(rt: &'a HostRuntime, bells: &'a Bells, addr: &str) -> io::Result<TcpLink<'a>>
     ensures { IfOk result IsUnused }
 {
-    TcpLink::over(rt, bells, reached(rt, addr)?)
+    TcpLink::over(rt, bells, connect_to(rt, addr)?)
 }
 
 // Connects to this address, one address of its name after the other.
-fn reached(rt: &HostRuntime, addr: &str) -> io::Result<TcpStream> {
+fn connect_to(rt: &HostRuntime, addr: &str) -> io::Result<TcpStream> {
     let begun = Instant::now(rt)?;
     for addr in addr.to_socket_addrs(rt)? {
         if let Ok(stream) = reached_at(rt, &addr, &begun) {
@@ -213,6 +213,6 @@ fn reached(rt: &HostRuntime, addr: &str) -> io::Result<TcpStream> {
 
 // Connects to this one address, in what is left of the time for a dial that began then.
 fn reached_at(rt: &HostRuntime, addr: &SocketAddr, begun: &Instant) -> io::Result<TcpStream> {
-    let limit = Duration::from_secs(LONGEST_DIAL);
+    let limit = Duration::from_secs(MAX_DIAL);
     TcpStream::connect_timeout(rt, addr, limit.saturating_sub(begun.elapsed(rt)?))
 }

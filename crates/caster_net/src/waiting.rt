@@ -15,14 +15,14 @@ use std::time::Duration;
 pub(crate) const SHORT: u64 = 20;
 
 /// The longest rest of a link, in milliseconds, and how long a write waits between two tries.
-pub(crate) const LONGEST: u64 = 500;
+pub(crate) const MAX_REST: u64 = 500;
 
 /// The longest rest of a gate and of its links, in milliseconds: each of them sees twice a second
 /// or more often whether it is to stop.
-pub(crate) const LONGEST_KEPT: u64 = 250;
+pub(crate) const MAX_KEPT_REST: u64 = 250;
 
 /// Counts a failure, and gives this answer.
-pub(crate) fn failed<X>(faults: &mut u64, answer: X) -> X
+pub(crate) fn count_fault<X>(faults: &mut u64, answer: X) -> X
     ensures later { faults.old ≤ faults.new }
     ensures rose { Rose faults.old faults.new }
     ensures answer { result ≡ answer }

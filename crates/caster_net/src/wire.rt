@@ -6,7 +6,7 @@ ghost use Rattle.caster_net.specs.Told.{link_told, new_wire};
 
 use crate::keep::Cut;
 use crate::notes::{StepNote, step_of_read};
-use crate::waiting::{LONGEST, failed, wait_ready, would_wait};
+use crate::waiting::{MAX_REST, count_fault, wait_ready, would_wait};
 use cast_io::{Failed, Got, Journal};
 use libc::net::POLLOUT;
 use std::io;
@@ -17,7 +17,7 @@ use std::os::fd::{AsRawFd, RawFd};
 use std::time::{Duration, Instant};
 
 // How long a write waits for room with no byte taken, in seconds.
-const LONGEST_WRITE: u64 = 10;
+const MAX_WRITE: u64 = 10;
 
 /// A stream, and how often it failed. For contracts alone it has a record of what its reads
 /// answered and of the bytes that its writes took, which costs nothing.
@@ -147,7 +147,7 @@ impl<S: Write> Wire<S> {
         while at < piece.len() {
             let Some(count) = self.write_some(rt, fd, &piece[at..]) else {
                 self.steps.add(&StepNote::WriteFailed);
-                return failed(&mut self.faults, Err(Failed));
+                return count_fault(&mut self.faults, Err(Failed));
             };
             at += count;
         }
@@ -224,9 +224,9 @@ fn got_of(answer: io::Result<usize>) -> Got
 // called writable only when a good part of its buffer is free.
 fn pause_in(rt: &HostRuntime, begun: &Instant) -> Option<Duration> {
     let waited = begun.elapsed(rt).ok()?;
-    let left = Duration::from_secs(LONGEST_WRITE).saturating_sub(waited);
+    let left = Duration::from_secs(MAX_WRITE).saturating_sub(waited);
     if left.is_zero() {
         return None;
     }
-    Some(left.min(Duration::from_millis(LONGEST)))
+    Some(left.min(Duration::from_millis(MAX_REST)))
 }

@@ -2,7 +2,7 @@
 use std::mem;
 
 // The most bytes of a line that is looked at, with a CR at its end. A longer line is no word.
-const MOST: usize = 32;
+const MAX_WORD_BYTES: usize = 32;
 
 /// A word of the input.
 #[derive(Clone, Copy, Debug, PartialEq, Eq)]
@@ -16,7 +16,7 @@ pub(crate) enum Word {
 /// The line that has not ended yet.
 #[derive(Drop)]
 pub(crate) struct Line {
-    bytes: [u8; MOST],
+    bytes: [u8; MAX_WORD_BYTES],
     // How many bytes came of it, and 2^64 - 1 where there are more.
     count: usize,
 }
@@ -25,7 +25,7 @@ impl Line {
     /// A line of which nothing came yet.
     pub(crate) fn new() -> Line {
         Line {
-            bytes: [0; MOST],
+            bytes: [0; MAX_WORD_BYTES],
             count: 0,
         }
     }

@@ -4,14 +4,14 @@ ghost use Rattle.std.specs.List.{All};
 ghost use Rattle.cast_io.specs.declared.yard_asked.YardAsked.TheVariants as asked;
 ghost use Rattle.caster_net.specs.Gates.{new_gate, yard_logged};
 
-use crate::door::{Porch, shared};
+use crate::door::{Porch, share_porch};
 use crate::gate::{Ground, TcpGate};
 use crate::note_out::NoteOut;
 use crate::note_sink::NoteSink;
 use crate::notes::CallNote;
 use crate::redial::Redial;
 use crate::street::TcpStreet;
-use crate::waiting::{LONGEST_KEPT, failed};
+use crate::waiting::{MAX_KEPT_REST, count_fault};
 use cast_io::{Origin, StreetFault, Yard};
 use std::alloc::{AllocError, Global};
 use std::io;
@@ -34,7 +34,10 @@ impl<'a> Yard for TcpStreet<'a> {
         self.calls
             .add(&CallNote::Gates(Origin::opened(addr, gates, quiet)));
         match opened_at(self.ground(), addr, gates, quiet) {
-            Err(StreetFault::Failed) => failed(&mut self.yard_faults, Err(StreetFault::Failed)),
+            Err(StreetFault::Failed) => count_fault(
+                &mut self.yard_faults,
+                Err(StreetFault::Failed),
+            ),
             answer => answer,
         }
     }
@@ -44,7 +47,7 @@ impl<'a> Yard for TcpStreet<'a> {
             .add(&CallNote::Gates(Origin::reached(addr, quiet)));
         let ground = self.ground();
         match String::from_str(ground.rt.alloc(), addr) {
-            Ok(peer) => Ok(TcpGate::reached(ground, Redial::of(peer), addr, quiet)),
+            Ok(peer) => Ok(TcpGate::to_peer(ground, Redial::of(peer), addr, quiet)),
             Err(AllocError) => Err(StreetFault::Memory),
         }
     }
@@ -90,14 +93,14 @@ fn opened_at<'a>(
 // A place for gates at this address, which they share.
 fn porch_at(rt: &HostRuntime, addr: &str) -> Result<Arc<Porch, Global>, StreetFault> {
     match bound_at(rt, addr) {
-        Ok(porch) => shared(rt, porch),
+        Ok(porch) => share_porch(rt, porch),
         Err(_) => Err(StreetFault::Failed),
     }
 }
 
 // The place itself.
 fn bound_at(rt: &HostRuntime, addr: &str) -> io::Result<Porch> {
-    Porch::of_gates(TcpListener::bind(rt, addr)?, LONGEST_KEPT)
+    Porch::of_gates(TcpListener::bind(rt, addr)?, MAX_KEPT_REST)
 }
 
 // Opens so many gates at this place, which is at this address, into a list with room for them.
@@ -116,7 +119,7 @@ fn open_all<'a>(
         opened.new.items) }
 {
     for _ in 0..gates {
-        opened.push_reserved(TcpGate::opened(ground, porch.clone()?, addr, gates, quiet));
+        opened.push_reserved(TcpGate::over_porch(ground, porch.clone()?, addr, gates, quiet));
     }
     Ok(())
 }

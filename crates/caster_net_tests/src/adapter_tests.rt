@@ -35,8 +35,8 @@ impl Write for Narrow {
     }
 }
 
-// A reader and a writer whose first calls are interrupted, this many. The next ones give or take one
-// byte.
+// A reader and a writer whose first calls are interrupted, this many.
+// The next ones give or take one byte.
 #[derive(Drop)]
 struct Interrupted {
     left: usize,

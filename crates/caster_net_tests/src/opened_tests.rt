@@ -1,7 +1,7 @@
 //! What is opened, and what is reached, is what the record names. No contract can say so: the calls
 //! go through `records`, where contracts say what the record is, and each test looks at what was
 //! opened.
-use crate::records::{dialled, opened, opened_at, read_on};
+use crate::records::{dial_link, open_doors, opened_at, read_on};
 use cast_io::{Arrived, Door, Failed, Street};
 use caster_net::{Bells, FileStore, Halt, TcpDoor, TcpStreet};
 use std::net::{TcpListener, TcpStream};
@@ -61,7 +61,7 @@ fn is_dialled(rt: &HostRuntime, place: &str) -> bool {
     let bells = Bells::new(rt);
     let halt = Halt::new(rt);
     let mut street = TcpStreet::new(rt, &bells, &halt);
-    match dialled(&mut street, place) {
+    match dial_link(&mut street, place) {
         Ok(link) => {
             street.hang_up(link);
             true
@@ -87,7 +87,7 @@ fn door_of<'a>(
 ) -> Result<(Option<TcpDoor<'a>>, String), Fail> {
     let (listener, place) = listener_of(rt)?;
     drop(listener);
-    let door = match opened(street, &place, 1) {
+    let door = match open_doors(street, &place, 1) {
         Ok(mut doors) => doors.pop(),
         Err(_) => None,
     };

@@ -48,7 +48,7 @@ pub fn heard(link: &mut TcpLink<'_>, buf: &mut [u8]) -> Got
 }
 
 /// One write of a link.
-pub fn sent(link: &mut TcpLink<'_>, piece: &[u8]) -> Result<(), Failed>
+pub fn write_piece(link: &mut TcpLink<'_>, piece: &[u8]) -> Result<(), Failed>
     ensures { OnOk result (link.new.bytes ≡ link.old.bytes ++ piece.now) }
 {
     link.write(piece)
@@ -63,7 +63,7 @@ pub fn hung_up<'a>(door: &mut TcpDoor<'a>, link: TcpLink<'a>)
 }
 
 /// Doors are opened at an address.
-pub fn opened<'a>(
+pub fn open_doors<'a>(
     street: &mut TcpStreet<'a>,
     addr: &str,
     doors: u32,
@@ -74,7 +74,7 @@ pub fn opened<'a>(
 }
 
 /// An address is dialled.
-pub fn dialled<'a>(street: &mut TcpStreet<'a>, addr: &str) -> Result<TcpLink<'a>, StreetFault>
+pub fn dial_link<'a>(street: &mut TcpStreet<'a>, addr: &str) -> Result<TcpLink<'a>, StreetFault>
     ensures asked { street.new.street.asked ≡ street.old.street.asked ++ asked.Dial addr.now ∷ [] }
     ensures none_yet { IfOk result (λ link. (link.taken ≡ []) × (link.bytes ≡ [])) }
 {
@@ -82,7 +82,7 @@ pub fn dialled<'a>(street: &mut TcpStreet<'a>, addr: &str) -> Result<TcpLink<'a>
 }
 
 /// A link is given back to its street.
-pub fn left<'a>(street: &mut TcpStreet<'a>, link: TcpLink<'a>)
+pub fn give_link_back<'a>(street: &mut TcpStreet<'a>, link: TcpLink<'a>)
     ensures { map link_logged street.new.street.links
         ≡ map link_logged street.old.street.links ++ link_told link.entry ∷ [] }
 {
@@ -90,7 +90,7 @@ pub fn left<'a>(street: &mut TcpStreet<'a>, link: TcpLink<'a>)
 }
 
 /// A door is given back to its street.
-pub fn shut<'a>(street: &mut TcpStreet<'a>, door: TcpDoor<'a>)
+pub fn give_door_back<'a>(street: &mut TcpStreet<'a>, door: TcpDoor<'a>)
     ensures { map door_logged street.new.street.doors
         ≡ map door_logged street.old.street.doors ++ door_logged door.entry ∷ [] }
 {
@@ -126,7 +126,7 @@ pub fn gates_opened<'a>(
 }
 
 /// A gate is made that dials an address.
-pub fn reached<'a>(
+pub fn reach_gate<'a>(
     street: &mut TcpStreet<'a>,
     addr: &str,
     quiet: u32,
@@ -170,7 +170,7 @@ pub fn read_of<R: Read>(source: &mut ReaderSource<R>, buf: &mut [u8]) -> Result<
 }
 
 /// One write of a sink.
-pub fn written<W: Write>(sink: &mut WriterSink<W>, piece: &[u8]) -> Result<(), Failed>
+pub fn write_to_sink<W: Write>(sink: &mut WriterSink<W>, piece: &[u8]) -> Result<(), Failed>
     ensures { OnOk result (sink.new.taken ≡ sink.old.taken ++ piece.now) }
 {
     sink.write(piece)

@@ -8,13 +8,13 @@ use Rattle.mount_ring.specs.declared.call.RingCall.{RingCall}
 use Rattle.caster_accounts.specs.declared.call.BookCall.{BookCall}
 use Rattle.session_calls.specs.Rings.{history_at}
 use Rattle.session_model.specs.Run.{Histories}
-use Rattle.caster_places.specs.declared.piles.Piles.{Piles}
+use Rattle.caster_places.specs.declared.pass_piles.PassPiles.{PassPiles}
 use Rattle.caster_places.specs.Piles.{AreAllOf, HasAllOf, IsWhole}
 use Rattle.caster_places.specs.Rows.{ArePiles, AreWhole, BookLock, RingLocks, seen_of, seen_in_book}
 use Rattle.caster_places.proofs.ListLemmas.{matched_by, matched_at, matched-length, all_at, within}
 use Rattle.caster_places.proofs.PileLemmas.{AllClosing, AllClosed, pile_length, all_of_pile, whole_of_pile}
 
-module _ (rows : List Histories) (piles : Piles) (rings : RingLocks) (book : BookLock)
+module _ (rows : List Histories) (piles : PassPiles) (rings : RingLocks) (book : BookLock)
     (are : ArePiles rows piles rings book) where
   -- as many passes of the book were given back as there are callers
   count : length piles.book.items ≡ length rows

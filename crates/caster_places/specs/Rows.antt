@@ -21,7 +21,7 @@ use Rattle.caster_accounts.specs.declared.call.BookCall.{BookCall}
 use Rattle.session_calls.specs.Rings.{history_at}
 use Rattle.session_model.specs.Run.{Histories}
 use Rattle.cast_config.specs.declared.config.Config.{Config}
-use Rattle.caster_places.specs.declared.piles.Piles.{Piles}
+use Rattle.caster_places.specs.declared.pass_piles.PassPiles.{PassPiles}
 use Rattle.caster_places.specs.declared.totals.Totals.{Totals}
 use Rattle.caster_places.specs.Known.{Known}
 use Rattle.caster_places.specs.Leaves.{left_in}
@@ -57,7 +57,7 @@ seen_in_book rows = map (λ (row : Histories). row.book) rows
 
 -- the piles hold the passes of callers numbered from 0, which have seen this: of each lock one pass
 -- of each caller, in the order of their numbers
-pub record ArePiles (rows : List Histories) (piles : Piles) (ring_locks : RingLocks)
+pub record ArePiles (rows : List Histories) (piles : PassPiles) (ring_locks : RingLocks)
     (book_lock : BookLock) : Type 0 where
   pub size : length piles.rings.items ≡ length ring_locks
   pub rings : (mount : ℕ) (pile : _) (lock : _) → get_elem? piles.rings.items mount ≡ some pile
@@ -65,13 +65,13 @@ pub record ArePiles (rows : List Histories) (piles : Piles) (ring_locks : RingLo
   pub book : IsPile (seen_in_book rows) piles.book.items book_lock
 
 -- each pile has room for the passes of so many more callers
-pub record HaveRoom (callers : ℕ) (piles : Piles) : Type 0 where
+pub record HaveRoom (callers : ℕ) (piles : PassPiles) : Type 0 where
   pub rings : All (HasRoom callers) piles.rings.items
   pub book : HasRoom callers piles.book
 
 -- no pass of the piles met its lock worn by more turns than these, one number for each mountpoint
 -- and one for the book
-pub record AreWornWithin (mounts : List ℕ) (book : ℕ) (piles : Piles) : Type 0 where
+pub record AreWornWithin (mounts : List ℕ) (book : ℕ) (piles : PassPiles) : Type 0 where
   pub rings : AreMatched (λ pile most. AreWithin most pile.items) piles.rings.items mounts
   pub book_within : AreWithin book piles.book.items
 

@@ -17,7 +17,7 @@ ghost use Rattle.session_model.specs.Setting.{caps, shapes};
 ghost use Rattle.caster_places.specs.Piles.{AreAllOf, AreMatched, HasAllOf};
 ghost use Rattle.caster_places.specs.Rows.{ArePiles, AreWhole, AreWornWithin, IsRoomFor, left_by};
 
-use crate::piles::Piles;
+use crate::pass_piles::PassPiles;
 use crate::totals::Totals;
 use cast_config::{Account, Config};
 use caster_accounts::{Book, Sum};
@@ -107,7 +107,7 @@ pub fn close(
     config: &Config,
     rings: Vec<Turn<Ring>>,
     book: Turn<Book>,
-    piles: Piles,
+    piles: PassPiles,
     totals: Totals,
 ) -> Closed
     requires kept { (cap : ℕ) × KeepsRules cap config.now }
@@ -128,7 +128,7 @@ pub fn close(
         mut mounts,
         mut accounts,
     } = totals;
-    let Piles {
+    let PassPiles {
         rings: of_rings,
         book: of_book,
     } = piles;

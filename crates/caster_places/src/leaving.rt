@@ -12,7 +12,7 @@ ghost use Rattle.caster_places.specs.Piles.{AreThree, HasRoom, IsGivenBack};
 ghost use Rattle.caster_places.specs.Rows.{AreAt, ArePiles, AreWornWithin, HaveRoom};
 
 use crate::known::AllPlaces;
-use crate::piles::Piles;
+use crate::pass_piles::PassPiles;
 use caster_accounts::Book;
 use mount_ring::Ring;
 use session_core::Places;
@@ -45,7 +45,7 @@ fn leave_each<V: Played, T: Leaves<V>>(mut places: Vec<T>, piles: &mut Vec<Vec<P
 /// Gives the passes of these places back, each to the pile of its lock. Piles with room for the
 /// passes of so many callers have room for one less afterwards. Where no pass of the piles met its
 /// lock worn by more turns than so many, no place was worn by more.
-pub fn leave<T: Leaves<Ring>, B: Leaves<Book>>(places: Places<T, B>, piles: &mut Piles)
+pub fn leave<T: Leaves<Ring>, B: Leaves<Book>>(places: Places<T, B>, piles: &mut PassPiles)
     requires same { length places.rings.items ≡ length piles.old.rings.items }
     requires room { HaveRoom 1 piles.old }
     ensures left { (number : ℕ) (rows : List Histories) (rings : _) (book : _)

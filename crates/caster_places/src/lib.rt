@@ -4,11 +4,11 @@
 mod closing;
 mod known;
 mod leaving;
-mod piles;
+mod pass_piles;
 mod totals;
 
 pub use closing::close;
 pub use known::AllPlaces;
 pub use leaving::leave;
-pub use piles::Piles;
+pub use pass_piles::PassPiles;
 pub use totals::Totals;

@@ -1,9 +1,9 @@
 -- Callers at a press, each with its work.
-use Rattle.std.proofs.Common.{◌≡◌, ◌∙◌, ◌+◌, ◌<◌, ℕ, zero, suc, false, true, Bool, IsTrue, List, [], ◌∷◌, ◌++◌, length, map, take, drop, refl, sym, ap, subst, arith, append_assoc, append-nil, length-append}
+use Rattle.std.proofs.Common.{◌≡◌, ◌∙◌, ◌+◌, ◌<◌, ℕ, zero, suc, false, true, Bool, IsTrue, List, [], ◌∷◌, ◌++◌, length, map, take, drop, refl, sym, ap, subst, arith, append_assoc, length-append}
 use Rattle.std.specs.Prelude.{Option, slice_index_or}
 use Rattle.std.specs.List.{All}
 use Rattle.std.proofs.lemmas.Bool.{eq-eqb}
-use Rattle.std.proofs.lemmas.List.{length-map, map-append, take_all, drop_all}
+use Rattle.std.proofs.lemmas.List.{length-map, map-append}
 use Rattle.std.proofs.lemmas.List.Elements.{All-nil, All-cons, All-head, All-tail}
 use mathlib.Core.Option.{some, some-injective, some-ne-none}
 use lib.ListN.{get_elem?}
@@ -11,12 +11,13 @@ use Rattle.turn_log.specs.declared.object.Played.{Ghosts}
 use Rattle.turn_log.specs.declared.lock.parts.Pass.{Pass}
 use Rattle.turn_log.specs.History.{History, own}
 use Rattle.caster_press.specs.declared.line.Line.{Line}
-use Rattle.caster_press.specs.declared.press.Start.{Start}
+use Rattle.caster_press.specs.declared.press.OutputStart.{OutputStart}
 use Rattle.caster_press.specs.Callers.{AreCallers, AreNewCallers, CallerTold, HasCalled, HaveCalled, HaveLeft, HaveWritten, IsCaller, MayCall, Wrote, lines_put, rows_of}
 use Rattle.caster_press.specs.Lines.{text_in}
 use Rattle.caster_press.specs.Piles.{IsPile, IsWhole, Row, row_of}
 use Rattle.caster_press.specs.Places.{IsAt, LockTold}
 use Rattle.caster_press.specs.Written.{IsWritten}
+use Rattle.turn_log.proofs.LockLists.{as_it_is}
 
 -- ---- all at once
 
@@ -38,14 +39,6 @@ all_both P Q f slice xs is all more = subst (All (λ x. P (f x) × Q x)) (sym is
       All-cons (λ x. P (f x) × Q x) x l (All-head P (f x) (map f l) each, All-head Q x l and_each)
       (both l (All-tail P (f x) (map f l) each) (All-tail Q x l and_each))
 
--- a slice of a whole list, given back as it is now
-as_it_is : {X : Type 0} (olds news : List X) (len : ℕ) → len ≡ length olds → length news ≡ length olds
-    → take len (news ++ drop (length news) olds) ≡ news
-as_it_is olds news len long same =
-    ap (λ (n : ℕ). take len (news ++ drop n olds)) same
-    ∙ ap (λ l. take len (news ++ l)) (drop_all (length olds) olds (omega arith))
-    ∙ ap (take len) (append-nil news) ∙ take_all len news (omega (arith, long, same))
-
 called_each : {X : Type 0} (told : X → CallerTold) (olds news : List X) → length news ≡ length olds
     → ((k : ℕ) (d : X) → k < length olds → HasCalled (told (slice_index_or olds k d)) (told (slice_index_or news k d)))
     → HaveCalled (map told olds) (map told news)
@@ -56,11 +49,6 @@ called_each told (x ∷ olds) (y ∷ news) same each = (
   each 0 x (omega arith),
   called_each told olds news (omega (arith, same)) (λ k d less. each (suc k) d (omega (arith, less))),
 )
-
-pub slice_size : {X : Type 0} (olds slice news : List X) (len : ℕ) → slice ≡ olds → len ≡ length olds
-    → length news ≡ length slice → length (take len (news ++ drop (length news) olds)) ≡ length olds
-slice_size olds slice news len is long same =
-    ap length (as_it_is olds news len long (same ∙ ap length is)) ∙ same ∙ ap length is
 
 pub slice_called : {X : Type 0} (told : X → CallerTold) (olds slice news : List X) (len : ℕ) → slice ≡ olds
     → len ≡ length olds → length news ≡ length slice
@@ -239,9 +227,9 @@ place_below [] k x at = absurd (some-ne-none x (sym at))
 place_below (y ∷ xs) zero x at = omega arith
 place_below (y ∷ xs) (suc k) x at = let rest = place_below xs k x at in omega (arith, rest)
 
-module _ {V A R W : Type 0} {g : Ghosts V Line A R Start} where
+module _ {V A R W : Type 0} {g : Ghosts V Line A R OutputStart} where
   pub have_left : {X : Type 0} (told : X → CallerTold) (work : X → W) (wrote : Wrote W) (befores afters : List X)
-      (lock : LockTold) (olds mid news : List W) (passes : List (Pass V Line A R Start g))
+      (lock : LockTold) (olds mid news : List W) (passes : List (Pass V Line A R OutputStart g))
       → AreCallers 0 (map told afters) lock → olds ≡ map work befores → mid ≡ []
       → news ≡ mid ++ map work afters → IsPile (rows_of (map told afters)) passes lock
       → ((k : ℕ) (old new : X) → get_elem? befores k ≡ some old → get_elem? afters k ≡ some new
@@ -274,7 +262,7 @@ module _ {V A R W : Type 0} {g : Ghosts V Line A R Start} where
 
   -- the lock was closed with the passes of all
   pub have_written : (wrote : Wrote W) (lock : LockTold) (olds news : List W)
-      (passes : List (Pass V Line A R Start g)) (torn : Bool) (start : Start) (taken : Option (List ℕ)) (faults : ℕ)
+      (passes : List (Pass V Line A R OutputStart g)) (torn : Bool) (start : OutputStart) (taken : Option (List ℕ)) (faults : ℕ)
       → HaveLeft wrote lock olds news passes
       → ((rows : List Row) → IsPile rows passes lock
       → (whole : History Line) × IsWhole rows whole × IsWritten torn start taken faults (text_in whole))
@@ -306,8 +294,8 @@ module _ {V A R W : Type 0} {g : Ghosts V Line A R Start} where
         long = omega (arith, left.as_many, length-map left.callers (λ (c : CallerTold). row_of c.place))
 
 -- the same start by another name
-pub from_start : {W : Type 0} (wrote : Wrote W) (start from : Start) (torn : Bool) (taken : Option (List ℕ))
+pub from_start : {W : Type 0} (wrote : Wrote W) (start from : OutputStart) (torn : Bool) (taken : Option (List ℕ))
     (faults : ℕ) (olds news : List W) → start ≡ from → HaveWritten wrote start torn taken faults olds news
     → HaveWritten wrote from torn taken faults olds news
 from_start wrote start from torn taken faults olds news same written =
-    subst (λ (s : Start). HaveWritten wrote s torn taken faults olds news) same written
+    subst (λ (s : OutputStart). HaveWritten wrote s torn taken faults olds news) same written

@@ -9,14 +9,14 @@ use Rattle.turn_log.specs.History.{History, GoesOn, own}
 use Rattle.turn_log.specs.Lock.{pass_number, pass_seen, pass_worn, pass_home, HasShape}
 use Rattle.turn_log.proofs.HistoryLaws.{own-append}
 use Rattle.caster_press.specs.declared.line.Line.{Line}
-use Rattle.caster_press.specs.declared.press.Start.{Start}
+use Rattle.caster_press.specs.declared.press.OutputStart.{OutputStart}
 use Rattle.caster_press.specs.Piles.{Row, IsLeft, IsPileFrom, IsPile, IsWhole, row_of}
 use Rattle.caster_press.specs.Places.{IsAt, LockTold, PlaceTold}
 use Rattle.caster_press.proofs.PlaceLemmas.{same_number}
 
-module _ {V A R : Type 0} {g : Ghosts V Line A R Start} where
-  pub pile-snoc : (n : ℕ) (rows : List Row) (passes : List (Pass V Line A R Start g)) (row : Row)
-      (pass : Pass V Line A R Start g) (lock : LockTold) → IsPileFrom n rows passes lock
+module _ {V A R : Type 0} {g : Ghosts V Line A R OutputStart} where
+  pub pile-snoc : (n : ℕ) (rows : List Row) (passes : List (Pass V Line A R OutputStart g)) (row : Row)
+      (pass : Pass V Line A R OutputStart g) (lock : LockTold) → IsPileFrom n rows passes lock
       → IsLeft (n + length rows) row pass lock → IsPileFrom n (rows ++ row ∷ []) (passes ++ pass ∷ []) lock
   pile-snoc n [] [] row pass lock pile left =
       (subst (λ (k : ℕ). IsLeft k row pass lock) (let e : n + 0 ≡ n = omega arith in e) left, tt)
@@ -31,18 +31,18 @@ module _ {V A R : Type 0} {g : Ghosts V Line A R Start} where
     moved a b = omega arith
 
   -- the same rows by another name
-  pub pile_is : (rows more : List Row) (passes : List (Pass V Line A R Start g)) (lock : LockTold) → more ≡ rows
+  pub pile_is : (rows more : List Row) (passes : List (Pass V Line A R OutputStart g)) (lock : LockTold) → more ≡ rows
       → IsPile rows passes lock → IsPile more passes lock
   pile_is rows more passes lock is pile = subst (λ (r : List Row). IsPile r passes lock) (sym is) pile
 
   -- a place gave its pass back
-  pub pile_more : (rows : List Row) (old new : List (Pass V Line A R Start g)) (place : PlaceTold)
-      (pass : Pass V Line A R Start g) (lock : LockTold) → new ≡ old ++ pass ∷ []
+  pub pile_more : (rows : List Row) (old new : List (Pass V Line A R OutputStart g)) (place : PlaceTold)
+      (pass : Pass V Line A R OutputStart g) (lock : LockTold) → new ≡ old ++ pass ∷ []
       → ((k : ℕ) → place.speaks k ≡ (k == pass_number pass)) → pass_seen pass ≡ place.seen
       → pass_worn pass ≡ place.worn → pass_home pass ≡ place.home → HasShape pass place.start
       → IsAt (length rows) place lock → IsPile rows old lock → IsPile (rows ++ row_of place ∷ []) new lock
   pile_more rows old new place pass lock is speaks saw wore home fits at pile =
-      subst (λ (l : List (Pass V Line A R Start g)). IsPile (rows ++ row_of place ∷ []) l lock) (sym is)
+      subst (λ (l : List (Pass V Line A R OutputStart g)). IsPile (rows ++ row_of place ∷ []) l lock) (sym is)
       (pile-snoc 0 rows old (row_of place) pass lock pile (record {
         numbered = same_number (pass_number pass) (length rows) (λ k. sym (speaks k) ∙ at.speaks k)
             ∙ from_zero (length rows);
@@ -53,7 +53,7 @@ module _ {V A R : Type 0} {g : Ghosts V Line A R Start} where
         from_zero : (k : ℕ) → k ≡ 0 + k
         from_zero k = omega arith
 
-  pile_length : (n : ℕ) (rows : List Row) (passes : List (Pass V Line A R Start g)) (lock : LockTold)
+  pile_length : (n : ℕ) (rows : List Row) (passes : List (Pass V Line A R OutputStart g)) (lock : LockTold)
       → IsPileFrom n rows passes lock → length rows ≡ length passes
   pile_length n [] [] lock pile = refl
   pile_length n [] (p ∷ passes) lock pile = absurd pile
@@ -61,15 +61,15 @@ module _ {V A R : Type 0} {g : Ghosts V Line A R Start} where
   pile_length n (r ∷ rows) (p ∷ passes) lock pile = ap suc (pile_length (suc n) rows passes lock pile.1)
 
   -- what is at the same place of the other list
-  left_of : (n : ℕ) (rows : List Row) (passes : List (Pass V Line A R Start g)) (lock : LockTold) (i : ℕ)
-      (pass : Pass V Line A R Start g) → IsPileFrom n rows passes lock → get_elem? passes i ≡ some pass
+  left_of : (n : ℕ) (rows : List Row) (passes : List (Pass V Line A R OutputStart g)) (lock : LockTold) (i : ℕ)
+      (pass : Pass V Line A R OutputStart g) → IsPileFrom n rows passes lock → get_elem? passes i ≡ some pass
       → (row : Row) × IsLeft (n + i) row pass lock
   left_of n [] [] lock i pass pile at = absurd (some-ne-none pass (sym at))
   left_of n [] (p ∷ passes) lock i pass pile at = absurd pile
   left_of n (r ∷ rows) [] lock i pass pile at = absurd pile
   left_of n (r ∷ rows) (p ∷ passes) lock zero pass pile at = (
     r,
-    subst (λ (x : Pass V Line A R Start g). IsLeft (n + 0) r x lock) (some-injective p pass at)
+    subst (λ (x : Pass V Line A R OutputStart g). IsLeft (n + 0) r x lock) (some-injective p pass at)
         (subst (λ (k : ℕ). IsLeft k r p lock) (let e : n ≡ n + 0 = omega arith in e) pile.0),
   )
   left_of n (r ∷ rows) (p ∷ passes) lock (suc i) pass pile at =
@@ -78,9 +78,9 @@ module _ {V A R : Type 0} {g : Ghosts V Line A R Start} where
         moved : (a b : ℕ) → suc a + b ≡ a + suc b
         moved a b = omega arith
 
-  pass_of : (n : ℕ) (rows : List Row) (passes : List (Pass V Line A R Start g)) (lock : LockTold) (i : ℕ)
+  pass_of : (n : ℕ) (rows : List Row) (passes : List (Pass V Line A R OutputStart g)) (lock : LockTold) (i : ℕ)
       (row : Row) → IsPileFrom n rows passes lock → get_elem? rows i ≡ some row
-      → (pass : Pass V Line A R Start g) × (get_elem? passes i ≡ some pass) × IsLeft (n + i) row pass lock
+      → (pass : Pass V Line A R OutputStart g) × (get_elem? passes i ≡ some pass) × IsLeft (n + i) row pass lock
   pass_of n [] [] lock i row pile at = absurd (some-ne-none row (sym at))
   pass_of n [] (p ∷ passes) lock i row pile at = absurd pile
   pass_of n (r ∷ rows) [] lock i row pile at = absurd pile
@@ -97,18 +97,18 @@ module _ {V A R : Type 0} {g : Ghosts V Line A R Start} where
         moved a b = omega arith
 
   -- each pass of a pile is one of its lock
-  pub pile_here : (rows : List Row) (passes : List (Pass V Line A R Start g)) (lock : LockTold) (i : ℕ)
-      (pass : Pass V Line A R Start g) → IsPile rows passes lock → get_elem? passes i ≡ some pass
+  pub pile_here : (rows : List Row) (passes : List (Pass V Line A R OutputStart g)) (lock : LockTold) (i : ℕ)
+      (pass : Pass V Line A R OutputStart g) → IsPile rows passes lock → get_elem? passes i ≡ some pass
       → (pass_home pass ≡ lock.home) × HasShape pass lock.start
   pile_here rows passes lock i pass pile at = (left_of 0 rows passes lock i pass pile at).1.here
 
   -- the history that the lock of these passes was closed with
-  pub whole_of : (rows : List Row) (passes : List (Pass V Line A R Start g)) (lock : LockTold) (most : ℕ)
+  pub whole_of : (rows : List Row) (passes : List (Pass V Line A R OutputStart g)) (lock : LockTold) (most : ℕ)
       (whole : History Line) → IsPile rows passes lock → length passes ≡ most
       → All (λ (e : ℕ × Line). e.0 < most) whole
-      → ((i : ℕ) (pass : Pass V Line A R Start g) → get_elem? passes i ≡ some pass
+      → ((i : ℕ) (pass : Pass V Line A R OutputStart g) → get_elem? passes i ≡ some pass
       → GoesOn (pass_number pass) (pass_seen pass) whole)
-      → ((i : ℕ) (pass : Pass V Line A R Start g) → get_elem? passes i ≡ some pass → pass_worn pass ≤ length whole)
+      → ((i : ℕ) (pass : Pass V Line A R OutputStart g) → get_elem? passes i ≡ some pass → pass_worn pass ≤ length whole)
       → IsWhole rows whole
   whole_of rows passes lock most whole pile all numbers each worn = record {
     numbers = subst (λ (n : ℕ). All (λ (e : ℕ × Line). e.0 < n) whole)

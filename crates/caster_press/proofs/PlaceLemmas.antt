@@ -1,11 +1,8 @@
 -- Lines that one caller put.
-use Rattle.std.proofs.Common.{◌≡◌, ◌∙◌, ◌==◌, ℕ, ◌<◌, ◌≤◌, ◌+◌, ◌^◌, false, List, [], ◌∷◌, ◌++◌, length, take, get_or, refl, sym, ap, subst, arith, append_assoc, append-nil, cond}
+use Rattle.std.proofs.Common.{◌≡◌, ◌∙◌, ◌==◌, ℕ, ◌<◌, ◌+◌, List, [], ◌∷◌, ◌++◌, length, take, get_or, refl, sym, ap, subst, arith, append_assoc, append-nil, cond}
 use Rattle.std.proofs.lemmas.Bool.{eqb-true, eq-eqb}
 use Rattle.std.proofs.lemmas.List.{take_more}
 use Rattle.turn_log.specs.History.{History, own}
-use Rattle.turn_log.specs.Faults.{IsFault}
-use Rattle.turn_log.specs.declared.place.TurnFault.{TurnFault}
-use Rattle.turn_log.specs.declared.place.TurnFault.TheVariants.{Worn, Memory}
 use Rattle.turn_log.proofs.HistoryLaws.{own-append}
 use Rattle.caster_press.specs.declared.line.Line.{Line}
 use Rattle.caster_press.specs.Places.{HasPut, IsAt, IsSamePlace, LockTold, PlaceTold}
@@ -53,11 +50,6 @@ pub put_next : (me : ℕ) (lines : List Line) (i : ℕ) (d line : Line) (old mid
 put_next me lines i d line old mid new below at so_far one =
     subst (λ l. HasPut me l old new) (ap (λ x. take i lines ++ x ∷ []) at ∙ sym (take_more lines i d below))
     (put_then me (take i lines) (line ∷ []) old mid new so_far one)
-
--- a place that never lacks memory refuses only where it is worn
-pub worn_by : (worn : ℕ) (fault : TurnFault) → IsFault false worn fault → 2 ^ 62 ≤ worn
-worn_by worn (Worn turns) is = omega (arith, is.0, is.1)
-worn_by worn Memory is = absurd cc
 
 -- who speaks for the same callers has the same number
 pub same_number : (n m : ℕ) → ((k : ℕ) → (k == n) ≡ (k == m)) → n ≡ m

@@ -9,7 +9,7 @@ use Rattle.cast_io.specs.Causes.{Rose, HasCause}
 use Rattle.cast_io.specs.Pieces.{AppendsPrefix}
 use Rattle.turn_log.specs.History.{History}
 use Rattle.caster_press.specs.declared.line.Line.{Line}
-use Rattle.caster_press.specs.declared.press.Start.{Start}
+use Rattle.caster_press.specs.declared.press.OutputStart.{OutputStart}
 use Rattle.caster_press.specs.Lines.{IsFirstOf, text_of, text_in}
 use Rattle.caster_press.specs.Written.{IsCut, IsWritten}
 
@@ -104,7 +104,7 @@ first_lines (Some xs) (Some ys) h cut =
     let k = length ys - length xs in (take k (text_in h), cut, first_of h k)
 
 -- a line was written, or the write of it failed
-written_by : {T E : Type 0} (r : Result T E) (start : Start) (now next : Option (List ℕ)) (then after : ℕ)
+written_by : {T E : Type 0} (r : Result T E) (start : OutputStart) (now next : Option (List ℕ)) (then after : ℕ)
     (text piece : List ℕ) → IsWritten false start now then text → OnOk r (Appends now next piece)
     → OnErr r (AppendsPrefix now next piece) → HasCause then after r → OnOk r (after ≡ then)
     → IsWritten (is_err r) start next after (text ++ piece)
@@ -118,7 +118,7 @@ written_by (Err e) start now next then after text piece so_far whole torn cause 
 -- ---- in the words of a press
 
 -- nothing more was written
-pub written_still : (torn : Bool) → torn ≡ true → (start : Start) (now : Option (List ℕ)) (then : ℕ)
+pub written_still : (torn : Bool) → torn ≡ true → (start : OutputStart) (now : Option (List ℕ)) (then : ℕ)
     (h : History Line) (me : ℕ) (line : Line) → IsWritten torn start now then (text_in h)
     → IsWritten torn start now then (text_in (h ++ (me, line) ∷ []))
 written_still torn is start now then h me line stands =
@@ -129,7 +129,7 @@ written_still torn is start now then h me line stands =
 
 -- a line was written, or the write of it failed
 pub written_line : {T E : Type 0} (r : Result T E) (was torn : Bool) → was ≡ false → torn ≡ is_err r
-    → (start : Start) (now next : Option (List ℕ)) (then after : ℕ) (h : History Line) (me : ℕ) (line : Line)
+    → (start : OutputStart) (now next : Option (List ℕ)) (then after : ℕ) (h : History Line) (me : ℕ) (line : Line)
     (piece : List ℕ) → piece ≡ text_of line
     → IsWritten was start now then (text_in h) → OnOk r (Appends now next piece)
     → OnErr r (AppendsPrefix now next piece) → HasCause then after r → OnOk r (after ≡ then)
@@ -142,13 +142,13 @@ written_line r was torn whole is start now next then after h me line piece same 
     (subst (λ (b : Bool). IsWritten b start now then (text_in h)) whole stands) all cut cause unharmed)))
 
 -- the same start by another name
-pub written_from : (torn : Bool) (start from : Start) (taken : Option (List ℕ)) (faults : ℕ) (text : List ℕ)
+pub written_from : (torn : Bool) (start from : OutputStart) (taken : Option (List ℕ)) (faults : ℕ) (text : List ℕ)
     → start ≡ from → IsWritten torn start taken faults text → IsWritten torn from taken faults text
 written_from torn start from taken faults text same written =
-    subst (λ (s : Start). IsWritten torn s taken faults text) same written
+    subst (λ (s : OutputStart). IsWritten torn s taken faults text) same written
 
 -- what an output told at the start
-pub start_is : (start : Start) (taken : Option (List ℕ)) (faults : ℕ) → start.taken ≡ taken → start.faults ≡ faults
+pub start_is : (start : OutputStart) (taken : Option (List ℕ)) (faults : ℕ) → start.taken ≡ taken → start.faults ≡ faults
     → start ≡ record { taken = taken; faults = faults }
 start_is start taken faults same as_often =
     ap (λ (t : Option (List ℕ)). record { taken = t; faults = start.faults }) same

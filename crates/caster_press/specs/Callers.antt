@@ -9,7 +9,7 @@ use Rattle.turn_log.specs.declared.lock.parts.Pass.{Pass}
 use Rattle.turn_log.specs.History.{History, own}
 use Rattle.turn_log.specs.Lock.{pass_number, pass_seen, IsPassOf}
 use Rattle.caster_press.specs.declared.line.Line.{Line}
-use Rattle.caster_press.specs.declared.press.Start.{Start}
+use Rattle.caster_press.specs.declared.press.OutputStart.{OutputStart}
 use Rattle.caster_press.specs.Lines.{text_in}
 use Rattle.caster_press.specs.Piles.{Row, IsPile, row_of}
 use Rattle.caster_press.specs.Places.{PlaceTold, IsSamePlace, IsAt, LockTold}
@@ -48,10 +48,10 @@ HaveCalled [] (new ∷ news) = ⊥
 HaveCalled (old ∷ olds) [] = ⊥
 HaveCalled (old ∷ olds) (new ∷ news) = HasCalled old new × HaveCalled olds news
 
-module _ {V A R : Type 0} {g : Ghosts V Line A R Start} where
+module _ {V A R : Type 0} {g : Ghosts V Line A R OutputStart} where
   -- a pass of this lock under this number, which has seen nothing
-  pub record IsNew (number : ℕ) (pass : Pass V Line A R Start g) (lock : Turn V Line A R Start)
-      : Type 0 where
+  pub record IsNew (number : ℕ) (pass : Pass V Line A R OutputStart g)
+      (lock : Turn V Line A R OutputStart) : Type 0 where
     pub numbered : pass_number pass ≡ number
     pub unseen : pass_seen pass ≡ []
     pub here : IsPassOf pass lock
@@ -76,12 +76,12 @@ AreNewCallers n (caller ∷ callers) lock =
 abbrev pub rows_of : List CallerTold → List Row
 rows_of callers = map (λ (caller : CallerTold). row_of caller.place) callers
 
-module _ {V A R W : Type 0} {g : Ghosts V Line A R Start} where
+module _ {V A R W : Type 0} {g : Ghosts V Line A R OutputStart} where
   -- Callers numbered from 0, each with the work at the same place of the first list, did their
   -- works at this lock, and left: the works as they are now are the second list, and these passes
   -- were given back. Each work put exactly the lines of its caller.
   pub record HaveLeft (wrote : Wrote W) (lock : LockTold) (olds news : List W)
-      (passes : List (Pass V Line A R Start g)) : Type 0 where
+      (passes : List (Pass V Line A R OutputStart g)) : Type 0 where
     pub count : length news ≡ length olds
     pub callers : List CallerTold
     pub as_many : length callers ≡ length news
@@ -96,7 +96,7 @@ module _ {V A R W : Type 0} {g : Ghosts V Line A R Start} where
 -- order, and nobody else put any. It was written whole; or a write failed, and some first part was.
 -- Each work did what it does at a place that met the lock worn by at most so many turns as there
 -- are lines.
-pub record HaveWritten {W : Type 0} (wrote : Wrote W) (start : Start) (torn : Bool)
+pub record HaveWritten {W : Type 0} (wrote : Wrote W) (start : OutputStart) (torn : Bool)
     (taken : Option (List ℕ)) (faults : ℕ) (olds news : List W) : Type 0 where
   pub count : length news ≡ length olds
   pub whole : History Line

@@ -5,7 +5,7 @@ use Rattle.turn_log.specs.declared.lock.parts.Turn.{Turn}
 use Rattle.turn_log.specs.History.{History, own}
 use Rattle.turn_log.specs.Lock.{turn_home, turn_value}
 use Rattle.caster_press.specs.declared.line.Line.{Line}
-use Rattle.caster_press.specs.declared.press.Start.{Start}
+use Rattle.caster_press.specs.declared.press.OutputStart.{OutputStart}
 
 -- A place: the callers that it speaks for, which lock it is at, what the output told before the
 -- first line, the lines that were put so far as the place has seen them, and the last count of
@@ -13,7 +13,7 @@ use Rattle.caster_press.specs.declared.press.Start.{Start}
 pub record PlaceTold : Type 0 where
   pub speaks : ℕ → Bool
   pub home : Gv
-  pub start : Start
+  pub start : OutputStart
   pub seen : History Line
   pub worn : ℕ
 
@@ -34,10 +34,10 @@ pub record HasPut (me : ℕ) (lines : List Line) (old new : History Line) : Type
 -- the lock of a press: which one it is, and what the output told before the first line
 pub record LockTold : Type 0 where
   pub home : Gv
-  pub start : Start
+  pub start : OutputStart
 
 -- of this lock, whose objects have such a shape
-abbrev pub lock_told : {V C A R : Type 0} → (V → Start) → Turn V C A R Start → LockTold
+abbrev pub lock_told : {V C A R : Type 0} → (V → OutputStart) → Turn V C A R OutputStart → LockTold
 lock_told shape lock = record { home = turn_home lock; start = shape (turn_value lock) }
 
 -- the place speaks for this caller alone, at this lock

@@ -104,7 +104,7 @@ fn call_each<H: Calls, R: Threads + Sync>(rt: &R, callers: &mut [H])
     );
 }
 
-/// The same of callers at the seats of one press.
+/// Each caller at the seats of a press does its work, in a thread where one can be made.
 pub(crate) fn call_all<'a, O: Sink + Drop + Send, W: Writer, R: Threads + Wait + Sync>(
     rt: &R,
     callers: &mut Vec<Caller<Seat<'a, Press<O>, R>, W>>,
@@ -162,7 +162,8 @@ pub(crate) fn sit_all<'a, O: Sink + Drop + Send, W: Writer, R: Threads + Wait + 
     });
 }
 
-/// All of these leave: their passes come to the pile, and their works to the list, in order.
+/// Takes all of these callers from their seats. Their passes go to the pile, and their works to the
+/// list, in order.
 pub(crate) fn leave_all<'a, O: Sink + Drop + Send, W: Writer, R: Wait + Sync>(
     mut callers: Vec<Caller<Seat<'a, Press<O>, R>, W>>,
     pile: &mut Vec<Pass<Press<O>>>,

@@ -4,7 +4,7 @@ ghost use Rattle.std.specs.Fmt.{decimal};
 ghost use Rattle.caster_press.specs.Texts.{has_newline, newline};
 ghost use Rattle.caster_press.specs.Lines.{text_of};
 
-use crate::line::{LONGEST, Line};
+use crate::line::{Line, MAX_LINE_BYTES};
 use itoa::Buffer;
 use std::marker::Model;
 use thiserror::Error;
@@ -23,7 +23,7 @@ pub enum LineFault {
 /// A line that is being written: up to 511 bytes, and no newline. Contracts see its bytes.
 #[derive(Drop)]
 pub struct Draft {
-    bytes: [u8; LONGEST],
+    bytes: [u8; MAX_LINE_BYTES],
     len: usize,
 }
 
@@ -54,7 +54,7 @@ impl Draft {
         ensures { result ≡ [] }
     {
         Draft {
-            bytes: [0; LONGEST],
+            bytes: [0; MAX_LINE_BYTES],
             len: 0,
         }
     }
@@ -67,7 +67,7 @@ impl Draft {
         ensures newline { (result ≡ Err LineFault.Newline)
             ↔ (length self.old + length text.now < 512) × (has_newline text.now ≡ true) }
     {
-        if text.len() >= LONGEST - self.len {
+        if text.len() >= MAX_LINE_BYTES - self.len {
             return Err(LineFault::Long);
         }
         if text.contains(&b'\n') {

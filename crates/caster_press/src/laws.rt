@@ -7,7 +7,7 @@ ghost use Rattle.std.specs.Io.KnownBytes.{Appends};
 ghost use Rattle.turn_log.specs.History.{History, own};
 ghost use Rattle.cast_io.specs.Pieces.{AppendsPrefix};
 ghost use Rattle.caster_press.specs.declared.line.Line.{Line};
-ghost use Rattle.caster_press.specs.declared.press.Start.{Start};
+ghost use Rattle.caster_press.specs.declared.press.OutputStart.{OutputStart};
 ghost use Rattle.caster_press.specs.Lines.{IsFirstOf, lines_of, text_in, text_of};
 ghost use Rattle.caster_press.specs.Places.{HasPut};
 ghost use Rattle.caster_press.specs.Texts.{lines_in};
@@ -20,13 +20,13 @@ pub fn lines_are_found()
 
 /// A text whose writing is torn was written up to some byte, from none to all of it.
 pub fn torn_is_a_first_part()
-    ensures { (start : Start) (taken : Option (List ℕ)) (faults : ℕ) (text : List ℕ)
+    ensures { (start : OutputStart) (taken : Option (List ℕ)) (faults : ℕ) (text : List ℕ)
         → IsWritten true start taken faults text → AppendsPrefix start.taken taken text }
 {}
 
 /// What was written of a history is some first lines, each whole, and a part of the next line.
 pub fn torn_is_whole_lines_and_a_part()
-    ensures { (start : Start) (taken : Option (List ℕ)) (faults : ℕ) (h : History Line)
+    ensures { (start : OutputStart) (taken : Option (List ℕ)) (faults : ℕ) (h : History Line)
         → IsWritten true start taken faults (text_in h)
         → (text : List ℕ) × Appends start.taken taken text × IsFirstOf text h }
 {}

@@ -2,7 +2,7 @@ ghost use Rattle.std.specs.Prelude.{◌≡◌, ◌≤◌, ◌++◌, true, take};
 ghost use Rattle.caster_press.specs.Texts.{is_line};
 
 /// How many bytes a line has at most, with the newline at its end.
-pub const LONGEST: usize = 512;
+pub const MAX_LINE_BYTES: usize = 512;
 
 /// One line of an output, as plain data: up to 512 bytes, of which the last is the only newline.
 ///
@@ -10,7 +10,7 @@ pub const LONGEST: usize = 512;
 /// 31, a name 100, an address 100, and a number 20.
 #[derive(Clone, Copy)]
 pub struct Line {
-    pub(crate) bytes: [u8; LONGEST],
+    pub(crate) bytes: [u8; MAX_LINE_BYTES],
     pub(crate) len: usize,
     ghost within: { len ≤ 512 },
     ghost whole: { is_line (take len bytes) ≡ true },

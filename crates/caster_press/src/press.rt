@@ -11,7 +11,7 @@ use turn_log::Played;
 /// What an output told before the first line. No value of this type is ever made: clauses alone
 /// speak of it.
 #[derive(Drop)]
-pub struct Start {
+pub struct OutputStart {
     /// The bytes that it had taken, where it tells them.
     pub taken: Option<LinkedList<u8>>,
     /// How often it had failed.
@@ -71,7 +71,7 @@ impl<O: Sink> Played for Press<O> {
 
     type Room = ();
 
-    type Shape = Start;
+    type Shape = OutputStart;
 
     ghost shape = { λ press. record {
       taken = O.taken press.start.value;

@@ -66,7 +66,8 @@ fn work_at<'a, O: Sink + Drop + Send, W: Writer, R: Threads + Wait + Sync>(
     pile
 }
 
-/// The same where the list of callers is still to be made. After a refusal nobody did anything.
+/// Makes the list of callers, who then do their work at the press. After a refusal nobody did
+/// anything.
 fn work_all<O: Sink + Drop + Send, W: Writer, R: Threads + Wait + Sync>(
     rt: &R,
     alloc: Global,
@@ -93,7 +94,7 @@ fn work_all<O: Sink + Drop + Send, W: Writer, R: Threads + Wait + Sync>(
     Ok(work_at(rt, press, passes, works, callers, pile))
 }
 
-/// The same, and then the press is closed. After a refusal nobody did anything.
+/// Callers do their work at the press, which is closed then. After a refusal nobody did anything.
 fn work_and_close<O: Sink + Drop + Send, W: Writer, R: Threads + Wait + Sync>(
     rt: &R,
     alloc: Global,

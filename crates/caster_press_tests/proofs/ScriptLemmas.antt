@@ -1,9 +1,9 @@
 -- A script that has put one line more.
-use Rattle.std.proofs.Common.{◌≡◌, ◌∙◌, ℕ, ◌+◌, ◌<◌, List, [], ◌∷◌, ◌++◌, length, take, get_or, refl, sym, ap, subst, append_assoc, append-nil}
+use Rattle.std.proofs.Common.{◌≡◌, ◌∙◌, ℕ, ◌+◌, ◌<◌, List, [], ◌∷◌, ◌++◌, length, take, get_or, sym, ap, append_assoc}
 use Rattle.std.proofs.lemmas.List.{take_more}
 use Rattle.caster_press.specs.declared.line.Line.{Line}
 use Rattle.caster_press.specs.Places.{HasPut, IsSamePlace, PlaceTold}
-use Rattle.caster_press.proofs.PlaceLemmas.{put_none, put_then, same_as_it_is, same_then}
+use Rattle.caster_press.proofs.PlaceLemmas.{put_then, same_then}
 
 -- A work went on at this place: what it has put of its list is what it had put, and behind that
 -- exactly what was put since then.
@@ -12,14 +12,6 @@ pub record GoesOn (me : ℕ) (old new : PlaceTold) (before after : List Line) : 
   pub more : List Line
   pub next : after ≡ before ++ more
   pub put : HasPut me more old.seen new.seen
-
-pub on_none : (me : ℕ) (place : PlaceTold) (lines : List Line) → GoesOn me place place lines lines
-on_none me place lines = record {
-  same = same_as_it_is place;
-  more = [];
-  next = sym (append-nil lines);
-  put = put_none me place.seen place.seen refl;
-}
 
 -- a line was put behind those of before
 pub on_more : (me : ℕ) (old mid new : PlaceTold) (before lines : List Line) (i : ℕ) (d line : Line)
@@ -31,14 +23,4 @@ on_more me old mid new before lines i d line below at so_far same put = record {
   next = take_more lines i d below ∙ ap (λ l. l ++ get_or lines i d ∷ []) so_far.next
       ∙ ap (λ x. (before ++ so_far.more) ++ x ∷ []) (sym at) ∙ append_assoc before so_far.more (line ∷ []);
   put = put_then me so_far.more (line ∷ []) old.seen mid.seen new.seen so_far.put put;
-}
-
--- no line was put
-pub on_still : (me : ℕ) (old mid new : PlaceTold) (before after : List Line) → GoesOn me old mid before after
-    → IsSamePlace mid new → new.seen ≡ mid.seen → GoesOn me old new before after
-on_still me old mid new before after so_far same seen = record {
-  same = same_then old mid new so_far.same same;
-  more = so_far.more;
-  next = so_far.next;
-  put = subst (λ h. HasPut me so_far.more old.seen h) (sym seen) so_far.put;
 }

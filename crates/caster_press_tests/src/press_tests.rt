@@ -24,7 +24,7 @@ fn works_of(alloc: Global, left: u64, right: u64) -> Result<Vec<Script>, Fail>
 
 // What the output took of these works where the write of this number, from 1, takes so many bytes
 // and fails, how often it failed, and whether it is torn.
-fn written<R: Threads + Wait + Sync>(
+fn write_works<R: Threads + Wait + Sync>(
     rt: &R,
     alloc: Global,
     fails: (u64, u64),
@@ -48,7 +48,7 @@ fn a_failed_write_is_the_last(rt: HostRuntime) -> Result<(), Fail> {
         ((3, 7), b"left 0\nleft 1\nleft 2\n", 1),
         ((4, 1), b"left 0\nleft 1\nleft 2\n", 0),
     ] {
-        let (found, count, is_torn) = written(&rt, rt.alloc(), fails, 3, 0)?;
+        let (found, count, is_torn) = write_works(&rt, rt.alloc(), fails, 3, 0)?;
         expect_eq(
             &rt,
             (found.as_slice(), count, is_torn),
@@ -76,7 +76,7 @@ fn is_mixture(text: &[u8]) -> Result<bool, Fail> {
 
 #[test]
 fn two_callers_write_whole_lines(rt: HostRuntime) -> Result<(), Fail> {
-    let (text, faults, is_torn) = written(&rt, rt.alloc(), (0, 0), LINES, LINES)?;
+    let (text, faults, is_torn) = write_works(&rt, rt.alloc(), (0, 0), LINES, LINES)?;
     expect_eq(&rt, (is_mixture(&text)?, faults, is_torn), (true, 0, false));
     Ok(())
 }

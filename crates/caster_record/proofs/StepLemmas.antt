@@ -18,8 +18,8 @@ use Rattle.caster_replay.specs.Going.{GoesOn, IsBehind, is_going, is_behind, has
 use Rattle.caster_replay.specs.Kept.{lives_of, sent_by_run}
 use Rattle.caster_replay.specs.Lives.{Live}
 use Rattle.caster_replay.specs.Sends.{IsSilent, SendsTo, sent_in}
-use Rattle.caster_record.specs.declared.hearing.Heard.{Heard}
-use Rattle.caster_record.specs.declared.hearing.Heard.TheVariants as heard
+use Rattle.caster_record.specs.declared.hearing.GotText.{GotText}
+use Rattle.caster_record.specs.declared.hearing.GotText.TheVariants as heard
 use Rattle.caster_record.specs.declared.recorder.Recorder.{Recorder}
 use Rattle.caster_record.specs.Giving.{HasGiven}
 use Rattle.caster_record.specs.Hearing.{Answers, HasHeard, step_heard}
@@ -59,7 +59,7 @@ sends_none k before after silent = record {
 
 -- ---- a step
 
-same_step : (result : Got) (buf : List ℕ) (answer : Heard) → Answers result buf answer
+same_step : (result : Got) (buf : List ℕ) (answer : GotText) → Answers result buf answer
     → step_of result buf ≡ step_heard answer
 same_step (got.Bytes n) buf (heard.Bytes bytes) is = rw (is) refl
 same_step got.Idle buf heard.Idle is = refl
@@ -78,7 +78,7 @@ same_step got.Failed buf (heard.Bytes bytes) is = absurd is
 same_step got.Failed buf heard.Idle is = absurd is
 same_step got.Failed buf heard.End is = absurd is
 
-heard_calm : (answer : Heard) → is_torn (step_heard answer) ≡ false
+heard_calm : (answer : GotText) → is_torn (step_heard answer) ≡ false
 heard_calm (heard.Bytes bytes) = refl
 heard_calm heard.Idle = refl
 heard_calm heard.End = refl
@@ -92,7 +92,7 @@ since old new more from is all =
     ∙ sym all
 
 pub step_served : (c : Config) (k from : ℕ) (before read now : LinkTold) (old first second new : Recorder)
-    (answer : Heard)
+    (answer : GotText)
     (behind going torn : Bool) → GoesOn c (events_in old) k true → from ≡ length (sent_by_run old.run k)
     → HasHeard before read answer
     → events_in first ≡ events_in old ++ heard_by k (step_heard answer)

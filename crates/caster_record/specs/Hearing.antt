@@ -7,18 +7,18 @@ use Rattle.cast_io.specs.declared.steps.Step.{Step}
 use Rattle.cast_io.specs.declared.steps.Step.TheVariants as took
 use Rattle.cast_io.specs.Told.{LinkTold}
 use Rattle.cast_io.specs.Links.{HasRead}
-use Rattle.caster_record.specs.declared.hearing.Heard.{Heard}
-use Rattle.caster_record.specs.declared.hearing.Heard.TheVariants as heard
+use Rattle.caster_record.specs.declared.hearing.GotText.{GotText}
+use Rattle.caster_record.specs.declared.hearing.GotText.TheVariants as heard
 
 -- as a step that the link took
-abbrev pub step_heard : Heard → Step
+abbrev pub step_heard : GotText → Step
 step_heard (heard.Bytes bytes) = took.Bytes bytes
 step_heard heard.Idle = took.Idle
 step_heard heard.End = took.End
 step_heard heard.Failed = took.ReadFailed
 
 -- the bytes are 1 to 4,096
-abbrev pub IsPiece : Heard → Type 0
+abbrev pub IsPiece : GotText → Type 0
 IsPiece (heard.Bytes bytes) =
     (1 ≤ length bytes) × (length bytes ≤ 4096) × (list_all (λ b. nat_lt b 256) bytes ≡ true)
 IsPiece heard.Idle = ⊤
@@ -26,7 +26,7 @@ IsPiece heard.End = ⊤
 IsPiece heard.Failed = ⊤
 
 -- the answer of a read is this
-abbrev pub Answers : Got → List ℕ → Heard → Type 0
+abbrev pub Answers : Got → List ℕ → GotText → Type 0
 Answers (got.Bytes n) buf (heard.Bytes bytes) = bytes ≡ take n buf
 Answers got.Idle buf heard.Idle = ⊤
 Answers got.End buf heard.End = ⊤
@@ -45,7 +45,7 @@ Answers got.Failed buf heard.Idle = ⊥
 Answers got.Failed buf heard.End = ⊥
 
 -- a read with a buffer of 4,096 bytes gave this
-pub record HasHeard (old new : LinkTold) (answer : Heard) : Type 0 where
+pub record HasHeard (old new : LinkTold) (answer : GotText) : Type 0 where
   pub piece : IsPiece answer
   pub got : Got
   pub buf : List ℕ

@@ -44,7 +44,7 @@ pub record RestsAfter {L : Type 0} (told : L → LinkTold) (c : Config) (limit :
   pub calm : now.faults ≡ before.faults
   pub keeps : Keeps told c recorder links torn (moves_of rounds)
 
--- and so in the midst of one, where the links up to number n had their places
+-- The same holds within a round, once each link up to number n had its place in it.
 pub record IsWithin {L : Type 0} (told : L → LinkTold) (c : Config) (limit n : ℕ)
     (before now : DoorTold) (recorder : Recorder) (links : List L) (torn : List Bool)
     : Type 0 where

@@ -29,12 +29,12 @@ heard_by k took.ReadFailed = events.Break k ∷ []
 heard_by k took.WriteFailed = []
 
 -- a turn of 16 frames, where it has frames to read
-abbrev pub turn_if : ℕ → Bool → List Event
+abbrev pub turn_if : ℕ → (waiting : Bool) → List Event
 turn_if k true = events.Turn k 16 ∷ []
 turn_if k false = []
 
 -- a break, where a write was torn of a connection that goes on
-abbrev pub break_if : ℕ → Bool → List Event
+abbrev pub break_if : ℕ → (torn : Bool) → List Event
 break_if k true = events.Break k ∷ []
 break_if k false = []
 
@@ -80,7 +80,7 @@ AskAll (move ∷ moves) old new =
 
 -- ---- what the link of a number took
 
-abbrev pub torn_step : Bool → List Step
+abbrev pub torn_step : (torn : Bool) → List Step
 torn_step true = took.WriteFailed ∷ []
 torn_step false = []
 

@@ -1,20 +1,20 @@
 //! What a link answers to a read.
 
-ghost use Rattle.std.specs.Prelude.{◌≡◌, ◌≤◌, length, nat_lt, true, IfOk};
+ghost use Rattle.std.specs.Prelude.{◌≡◌, nat_lt, true, IfOk};
 ghost use Rattle.std.specs.List.{list_all};
 ghost use Rattle.caster_record.specs.Giving.{HasGiven};
 ghost use Rattle.caster_record.specs.Hearing.{HasHeard};
 
 use cast_io::{Got, Link};
-use cast_text::{Text, TextFault};
+use cast_text::Text;
 use std::alloc::{AllocError, Global};
 
 /// How many bytes one read takes at most.
-const PIECE: usize = 4096;
+const MAX_READ_BYTES: usize = 4096;
 
 /// What a read of a link gave.
 #[derive(Drop)]
-pub(crate) enum Heard {
+pub(crate) enum GotText {
     /// These bytes, 1 to 4,096 of them.
     Bytes(Text),
     /// Nothing yet.
@@ -25,22 +25,10 @@ pub(crate) enum Heard {
     Failed,
 }
 
-impl Heard {
+impl GotText {
     /// Whether there was nothing yet.
     pub(crate) fn is_idle(&self) -> bool {
-        matches!(self, Heard::Idle)
-    }
-}
-
-/// A text of these bytes, at most 4,096.
-fn text_of(alloc: Global, bytes: &[u8]) -> Result<Text, AllocError>
-    requires { length bytes.now ≤ 4096 }
-    ensures { IfOk result (λ text. text ≡ bytes.now) }
-{
-    match Text::new(alloc, bytes) {
-        Ok(text) => Ok(text),
-        Err(TextFault::Memory) => Err(AllocError),
-        Err(TextFault::Long(_)) => unreachable!(),
+        matches!(self, GotText::Idle)
     }
 }
 
@@ -54,20 +42,20 @@ fn are_bytes(piece: &[u8])
 }
 
 /// Reads a link.
-pub(crate) fn hear<L: Link>(alloc: Global, link: &mut L) -> Result<Heard, AllocError>
+pub(crate) fn hear<L: Link>(alloc: Global, link: &mut L) -> Result<GotText, AllocError>
     ensures heard { IfOk result (HasHeard (L.told link.old) (L.told link.new)) }
     ensures given { (L.told link.new).given ≡ (L.told link.old).given }
 {
-    let mut piece = [0u8; PIECE];
+    let mut piece = [0u8; MAX_READ_BYTES];
     match link.read(&mut piece) {
         Got::Bytes(count) => {
             are_bytes(&piece[..count]);
-            let text = text_of(alloc, &piece[..count])?;
-            Ok(Heard::Bytes(text))
+            let text = Text::of(alloc, &piece[..count])?;
+            Ok(GotText::Bytes(text))
         }
-        Got::Idle => Ok(Heard::Idle),
-        Got::End => Ok(Heard::End),
-        Got::Failed => Ok(Heard::Failed),
+        Got::Idle => Ok(GotText::Idle),
+        Got::End => Ok(GotText::End),
+        Got::Failed => Ok(GotText::Failed),
     }
 }
 

@@ -18,7 +18,7 @@ ghost use Rattle.caster_record.specs.Recording.{Records, events_in};
 
 use crate::fault::RecorderFault;
 use crate::recorder::Recorder;
-use crate::rounds::MOST;
+use crate::rounds::MAX_TAPE_BYTES;
 use crate::setup::RecordSetup;
 use cast_config::Config;
 use cast_io::{Arrived, Door, Link};
@@ -40,7 +40,7 @@ pub struct Recorded<L> {
 
 /// The events and the report.
 #[derive(Drop)]
-struct Told {
+struct RecordedRun {
     events: Vec<Event>,
     report: Report,
 }
@@ -66,7 +66,7 @@ impl Recorder {
         requires few { count ≤ 256 }
         ensures { IsTrue result → IsAtEnd config.now limit (events_in self.now) count }
     {
-        self.tape.size > MOST || count as u32 == limit && self.none_goes_on(config, limit)
+        self.tape.size > MAX_TAPE_BYTES || count as u32 == limit && self.none_goes_on(config, limit)
     }
 
     /// Whether the door is to be asked for a link: fewer came than may, and the record has not come
@@ -76,7 +76,7 @@ impl Recorder {
         ensures open { IsTrue result → (count < limit) × (self.now.tape.size ≤ 8370000) }
         ensures full { result ≡ false → (limit ≤ count) ⊎ (8370000 < self.now.tape.size) }
     {
-        (count as u32) < limit && self.tape.size <= MOST
+        (count as u32) < limit && self.tape.size <= MAX_TAPE_BYTES
     }
 
     /// A link came: its connection opens, and no write to it was torn.
@@ -244,7 +244,7 @@ fn run<D: Door, R: Wait>(
 }
 
 /// The events and the report of what was recorded.
-fn finished(alloc: Global, config: &Config, recorder: Recorder) -> Result<Told, AllocError>
+fn finish_run(alloc: Global, config: &Config, recorder: Recorder) -> Result<RecordedRun, AllocError>
     requires kept { (cap : ℕ) × KeepsRules cap config.now }
     requires records { Records config.now recorder }
     requires bound { recorder.tape.size ≤ 8378380 }
@@ -256,7 +256,7 @@ fn finished(alloc: Global, config: &Config, recorder: Recorder) -> Result<Told, 
 {
     let Recorder { run, tape } = recorder;
     let report = run.finish(alloc, config)?;
-    Ok(Told {
+    Ok(RecordedRun {
         events: tape.events,
         report,
     })
@@ -270,7 +270,7 @@ fn session<D: Door, R: Wait>(
     limit: u32,
     door: &mut D,
     links: &mut Vec<D::Link>,
-) -> Result<Told, RecorderFault>
+) -> Result<RecordedRun, RecorderFault>
     requires kept { (cap : ℕ) × KeepsRules cap config.now }
     requires limit { limit ≤ 256 }
     requires empty { links.old.items ≡ [] }
@@ -290,7 +290,7 @@ fn session<D: Door, R: Wait>(
         limit,
     };
     run(rt, &setup, door, &mut recorder, links, &mut torn)?;
-    let told = finished(alloc, config, recorder)?;
+    let told = finish_run(alloc, config, recorder)?;
     Ok(told)
 }
 
@@ -339,7 +339,7 @@ pub fn record<D: Door, R: Wait>(
 {
     let mut links = Vec::new(alloc);
     match session(rt, alloc, config, limit, door, &mut links) {
-        Ok(Told { events, report }) => Ok(Recorded {
+        Ok(RecordedRun { events, report }) => Ok(Recorded {
             events,
             report,
             links,

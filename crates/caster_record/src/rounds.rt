@@ -18,7 +18,7 @@ use cast_io::Link;
 use std::alloc::AllocError;
 
 /// So many bytes the lines of the events have at most before one more link or one more step.
-pub(crate) const MOST: u64 = 8_370_000;
+pub(crate) const MAX_TAPE_BYTES: u64 = 8_370_000;
 
 impl Recorder {
     /// Whether the connection of this number is due for a step: it goes on, no write to its link
@@ -32,7 +32,7 @@ impl Recorder {
         ensures passed { result ≡ false → (earlier : List Move) → torn ≡ has_torn number earlier
             → IsPassed config.now earlier number (events_in self.now) }
     {
-        !torn && self.tape.size <= MOST && self.run.goes_on(number)
+        !torn && self.tape.size <= MAX_TAPE_BYTES && self.run.goes_on(number)
     }
 
     /// Serves the link at this place, where it is due. Answers whether anything was read or

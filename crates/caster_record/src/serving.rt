@@ -12,7 +12,7 @@ ghost use Rattle.caster_record.specs.Moves.{break_if, heard_by, turn_if};
 ghost use Rattle.caster_record.specs.Recording.{Records, events_in};
 ghost use Rattle.caster_record.specs.Steps.{IsServed};
 
-use crate::hearing::{Heard, give, hear};
+use crate::hearing::{GotText, give, hear};
 use crate::recorder::Recorder;
 use cast_config::Config;
 use cast_io::Link;
@@ -43,7 +43,7 @@ impl Recorder {
         alloc: Global,
         config: &Config,
         number: u32,
-        heard: Heard,
+        heard: GotText,
     ) -> Result<(), AllocError>
         requires kept { (cap : ℕ) × KeepsRules cap config.now }
         requires records { Records config.now self.old }
@@ -59,10 +59,10 @@ impl Recorder {
         ensures size { OnOk result (self.new.tape.size ≤ self.old.tape.size + 8300) }
     {
         match heard {
-            Heard::Bytes(bytes) => self.play(alloc, config, Event::In(number, bytes)),
-            Heard::Idle => Ok(()),
-            Heard::End => self.play(alloc, config, Event::End(number)),
-            Heard::Failed => self.play(alloc, config, Event::Break(number)),
+            GotText::Bytes(bytes) => self.play(alloc, config, Event::In(number, bytes)),
+            GotText::Idle => Ok(()),
+            GotText::End => self.play(alloc, config, Event::End(number)),
+            GotText::Failed => self.play(alloc, config, Event::Break(number)),
         }
     }
 

@@ -1,12 +1,13 @@
 //! A door that fails, and one at which a link comes late.
 
-use crate::fakes::{FRAME, ICY, ROVER, ROVER_LINE, SOURCE, door_of, link_of, rover_of};
+use crate::fakes::{ROVER, ROVER_LINE, SOURCE, door_of, rover_of};
 use crate::telling::{Given, SOURCE_LINES, given_of, record_at, recorded_at, script_of};
 use cast_io::MemDoor;
 use caster_record::RecorderFault;
 use std::alloc::{AllocError, Global};
 use std::sync::Wait;
 use std::test::Fail;
+use test_support::{FRAME_A, ICY, link_of};
 
 /// A door whose second accept fails.
 fn failing_door(alloc: Global) -> Result<MemDoor, AllocError> {
@@ -49,7 +50,7 @@ const JUNK: &[u8] = &[0; 600];
 
 /// A door at which a source comes, then nothing three times, and then a rover.
 fn late_door(alloc: Global) -> Result<MemDoor, AllocError> {
-    let source = link_of(alloc, &[SOURCE, JUNK, b"", b"", FRAME], &[])?;
+    let source = link_of(alloc, &[SOURCE, JUNK, b"", b"", FRAME_A], &[])?;
     let rover = rover_of(alloc, &[])?;
     let arrivals = vec![in alloc; Some(source), None, None, None, Some(rover)]?;
     MemDoor::new(alloc, arrivals, Vec::new(alloc))

@@ -3,7 +3,7 @@
 ghost use Rattle.std.specs.Prelude.{IfOk, IsTrue};
 ghost use Rattle.cast_io.specs.FakeLinks.{is_new_link};
 
-use crate::fakes::{SOURCE, link_of};
+use crate::fakes::SOURCE;
 use crate::telling::{recorded_at, script_of};
 use cast_io::{MemDoor, MemLink};
 use caster_record::Recorded;
@@ -11,6 +11,7 @@ use session_core::Ending;
 use std::alloc::{AllocError, Global};
 use std::sync::Wait;
 use std::test::Fail;
+use test_support::link_of;
 
 /// As many bytes of junk as one read takes.
 const PIECE: &[u8] = &[0; 4096];

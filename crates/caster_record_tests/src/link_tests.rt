@@ -1,13 +1,14 @@
 //! What is recorded of a source and a rover, and of a rover whose link fails.
 
-use crate::fakes::{ICY, ICY_AND_FRAME, ROVER_LINE, door_of, rover_of, torn_rover};
-use crate::telling::{Told, told_at};
+use crate::fakes::{ROVER_LINE, door_of, rover_of, torn_rover};
+use crate::telling::{RecordOutcome, told_at};
 use std::alloc::Global;
 use std::sync::Wait;
 use std::test::Fail;
+use test_support::{ICY, ICY_A};
 
 /// What is told of the source and a rover of whose link these calls fail.
-fn with_rover<R: Wait>(rt: &R, alloc: Global, fails: &[u64]) -> Result<Told, Fail> {
+fn with_rover<R: Wait>(rt: &R, alloc: Global, fails: &[u64]) -> Result<RecordOutcome, Fail> {
     let door = door_of(alloc, rover_of(alloc, fails)?, &[])?;
     told_at(rt, alloc, door)
 }
@@ -20,12 +21,12 @@ fn a_source_and_a_rover_are_recorded_until_both_ended(rt: HostRuntime) -> Result
     let told = with_rover(&rt, rt.alloc(), &[])?;
     let end = b"turn 2 16\nend 1\nend 2\n";
     assert!(rt; told.has_lines(rt.alloc(), [ROVER_LINE, SENT, end]));
-    assert!(rt; told.second.is(ICY_AND_FRAME, 0));
+    assert!(rt; told.second.is(ICY_A, 0));
     Ok(())
 }
 
 /// What is told of the source and a rover of which the second write takes three bytes and fails.
-fn with_torn_rover<R: Wait>(rt: &R, alloc: Global) -> Result<Told, Fail> {
+fn with_torn_rover<R: Wait>(rt: &R, alloc: Global) -> Result<RecordOutcome, Fail> {
     let door = door_of(alloc, torn_rover(alloc, 2, 3)?, &[])?;
     told_at(rt, alloc, door)
 }
@@ -65,14 +66,8 @@ fn after_failure(call: u64) -> ([&'static [u8]; 3], &'static [u8]) {
         ),
         3 => ([ROVER_LINE, SENT, b"break 2\nend 1\n"], ICY),
         4 => ([ROVER_LINE, SENT, b"turn 2 16\nbreak 2\nend 1\n"], ICY),
-        5 => (
-            [ROVER_LINE, SENT, b"turn 2 16\nend 1\nbreak 2\n"],
-            ICY_AND_FRAME,
-        ),
-        _ => (
-            [ROVER_LINE, SENT, b"turn 2 16\nend 1\nbreak 2\n"],
-            ICY_AND_FRAME,
-        ),
+        5 => ([ROVER_LINE, SENT, b"turn 2 16\nend 1\nbreak 2\n"], ICY_A),
+        _ => ([ROVER_LINE, SENT, b"turn 2 16\nend 1\nbreak 2\n"], ICY_A),
     }
 }
 

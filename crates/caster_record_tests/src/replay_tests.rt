@@ -25,7 +25,7 @@ total 1 1 0
 ";
 
 /// The report of the replay of this script.
-fn replayed(alloc: Global, script: &[u8]) -> Result<Vec<u8>, Fail> {
+fn replay_script(alloc: Global, script: &[u8]) -> Result<Vec<u8>, Fail> {
     let config = read_config(alloc, FILE)?;
     let events = parse(alloc, script, ScriptKind::Replay { relays: 0 })?;
     let report = replay(alloc, &config, &events)?;
@@ -36,7 +36,7 @@ fn replayed(alloc: Global, script: &[u8]) -> Result<Vec<u8>, Fail> {
 fn reports<R: Wait>(rt: &R, alloc: Global) -> Result<[Vec<u8>; 2], Fail> {
     let door = door_of(alloc, rover_of(alloc, &[])?, &[])?;
     let told = told_at(rt, alloc, door)?;
-    let replayed = replayed(alloc, &told.script)?;
+    let replayed = replay_script(alloc, &told.script)?;
     Ok([replayed, told.report])
 }
 

@@ -1,6 +1,6 @@
 //! When the door of a recorded session is asked, and when it rests.
 
-use crate::fakes::{FILE, FRAME, SOURCE, link_of, rover_of};
+use crate::fakes::{FILE, SOURCE, rover_of};
 use crate::noted::NotedDoor;
 use cast_config::read_config;
 use cast_io::MemDoor;
@@ -8,11 +8,12 @@ use caster_record::record;
 use std::alloc::Global;
 use std::sync::Wait;
 use std::test::Fail;
+use test_support::{FRAME_A, link_of};
 
 /// A door at which a source comes, which sends its head and, after a while, the frame, then nobody
 /// twice, and then a rover.
 fn noted_door(alloc: Global) -> Result<NotedDoor, Fail> {
-    let source = link_of(alloc, &[SOURCE, b"", FRAME, b""], &[])?;
+    let source = link_of(alloc, &[SOURCE, b"", FRAME_A, b""], &[])?;
     let rover = rover_of(alloc, &[])?;
     let arrivals = vec![in alloc; Some(source), None, None, Some(rover)]?;
     let door = MemDoor::new(alloc, arrivals, Vec::new(alloc))?;

@@ -6,7 +6,7 @@ ghost use Rattle.session_script.specs.declared.Event.{Event as EventValue};
 ghost use Rattle.caster_replay.specs.Kept.{StandsFor};
 
 use cast_config::Config;
-use caster_replay::{RingPlace, Run, played};
+use caster_replay::{RingPlace, Run, play_script};
 use session_script::{ScriptKind, parse};
 use std::alloc::Global;
 use std::test::Fail;
@@ -32,7 +32,7 @@ fn stands<P: RingPlace>(run: &Run<P>, number: u32, sent: &[u8]) -> [bool; 3]
 fn stands_after(alloc: Global, script: &[u8], number: u32, sent: &[u8]) -> Result<[bool; 3], Fail> {
     let config = Config::bare(alloc, 4)?;
     let events = parse(alloc, script, ScriptKind::Bare)?;
-    let run = played(alloc, &config, &events)?;
+    let run = play_script(alloc, &config, &events)?;
     Ok(stands(&run, number, sent))
 }
 

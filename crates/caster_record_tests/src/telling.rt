@@ -103,13 +103,13 @@ pub(crate) fn given_of(alloc: Global, recorded: &Recorded<MemLink>) -> Result<Gi
 /// What is told of a source and a second link that were recorded: the script, the report, and what
 /// the second link was given.
 #[derive(Drop)]
-pub(crate) struct Told {
+pub(crate) struct RecordOutcome {
     pub(crate) script: Vec<u8>,
     pub(crate) report: Vec<u8>,
     pub(crate) second: Given,
 }
 
-impl Told {
+impl RecordOutcome {
     /// Its script is that of the source's head, the opening of the second connection, these lines
     /// and `stop`.
     pub(crate) fn has_lines(&self, alloc: Global, lines: [&[u8]; 3]) -> bool {
@@ -121,8 +121,8 @@ impl Told {
 }
 
 /// What is told of this record.
-fn told_in(alloc: Global, recorded: &Recorded<MemLink>) -> Result<Told, Fail> {
-    Ok(Told {
+fn told_in(alloc: Global, recorded: &Recorded<MemLink>) -> Result<RecordOutcome, Fail> {
+    Ok(RecordOutcome {
         script: script_of(alloc, &recorded.events)?,
         report: text_of(alloc, &recorded.report)?,
         second: given_of(alloc, recorded)?,
@@ -130,7 +130,11 @@ fn told_in(alloc: Global, recorded: &Recorded<MemLink>) -> Result<Told, Fail> {
 }
 
 /// What is told of the two links that come to this door.
-pub(crate) fn told_at<R: Wait>(rt: &R, alloc: Global, door: MemDoor) -> Result<Told, Fail> {
+pub(crate) fn told_at<R: Wait>(
+    rt: &R,
+    alloc: Global,
+    door: MemDoor,
+) -> Result<RecordOutcome, Fail> {
     let recorded = recorded_at(rt, alloc, door, 2)?;
     told_in(alloc, &recorded)
 }

@@ -21,12 +21,12 @@ use Rattle.session_model.specs.declared.ending.Last.TheVariants as lasts
 use Rattle.session_model.specs.declared.report.Receipt.{Receipt}
 use Rattle.session_model.specs.Judged.{Opening, sends_head, relays, bare_source, bare_rover}
 use Rattle.session_model.specs.Owed.{ends}
-use Rattle.caster_replay.specs.declared.entry.Entry.{Entry}
-use Rattle.caster_replay.specs.declared.entry.State.TheVariants.{Closed}
+use Rattle.caster_replay.specs.declared.run_connection.RunConnection.{RunConnection}
+use Rattle.caster_replay.specs.declared.run_connection.State.TheVariants.{Closed}
 use Rattle.caster_replay.specs.Caster.{DesksValue}
 use Rattle.caster_replay.specs.Lives.{Live, live_of, live_in, lives_in, place_of}
 use Rattle.session_model.specs.Run.{Histories}
-use Rattle.caster_replay.specs.Entries.{StandsAt, NamesRelay, ClosedAt, IsClosedAt}
+use Rattle.caster_replay.specs.RunConnections.{HasNumberAt, NamesRelay, ClosedAt, IsClosedAt}
 use Rattle.caster_replay.specs.Scripts.{IsKindFor, IsScriptFor, Begins, Ends, Plays}
 use Rattle.caster_replay.proofs.WorldKnownLemmas.{IsClean}
 use Rattle.caster_replay.proofs.WorldRunnerLemmas.{IsAbout, IsAbsent, about_break, about_end}
@@ -35,22 +35,22 @@ use Rattle.caster_replay.proofs.WorldSessionLemmas.{session_clean}
 
 -- ---- what stands at a place
 
-pub live_at : (entries : List Entry) (place : ℕ) (d : Entry)
+pub live_at : (entries : List RunConnection) (place : ℕ) (d : RunConnection)
     → get_or (lives_in entries) place (live_in d) ≡ live_in (slice_index_or entries place d)
 live_at [] place d = refl
 live_at (entry ∷ entries) zero d = refl
 live_at (entry ∷ entries) (suc place) d = live_at entries place d
 
-pub within_lives : (entries : List Entry) (place : ℕ) → place < length entries → place < length (lives_in entries)
+pub within_lives : (entries : List RunConnection) (place : ℕ) → place < length entries → place < length (lives_in entries)
 within_lives entries place within = omega (arith, within, length-map entries live_in)
 
 -- the connection that was found there
-pub here_at : (entries : List Entry) (place number : ℕ) (entry : Entry) → StandsAt entries place number
+pub here_at : (entries : List RunConnection) (place number : ℕ) (entry : RunConnection) → HasNumberAt entries place number
     → entry ≡ slice_index_or entries place entry
     → get_or (lives_in entries) place (live_in entry) ≡ live_of number entry.state entry.bytes.items
 here_at entries place number entry there is =
     live_at entries place entry ∙ ap live_in (sym is)
-    ∙ ap (λ (n : ℕ). live_of n entry.state entry.bytes.items) (ap (λ (e : Entry). e.number) is ∙ there.1 entry)
+    ∙ ap (λ (n : ℕ). live_of n entry.state entry.bytes.items) (ap (λ (e : RunConnection). e.number) is ∙ there.1 entry)
 
 -- ---- and where it does not
 
@@ -68,14 +68,14 @@ no_receipt = record {
 abbrev pub no_live : Live
 no_live = live_of 0 (Closed no_receipt) []
 
-pub number_at : (entries : List Entry) (place : ℕ) (y : Live) (d : Entry) → place < length entries
+pub number_at : (entries : List RunConnection) (place : ℕ) (y : Live) (d : RunConnection) → place < length entries
     → (slice_index_or entries place d).number ≡ (get_or (lives_in entries) place y).number
 number_at [] place y d within = absurd (omega (arith, within))
 number_at (entry ∷ entries) zero y d within = refl
 number_at (entry ∷ entries) (suc place) y d within = number_at entries place y d (omega (arith, within))
 
-pub absent_at : (entries : List Entry) (place number : ℕ) → place ≡ place_of number (lives_in entries)
-    → (StandsAt entries place number → ⊥) → IsAbsent number (lives_in entries) no_live
+pub absent_at : (entries : List RunConnection) (place number : ℕ) → place ≡ place_of number (lives_in entries)
+    → (HasNumberAt entries place number → ⊥) → IsAbsent number (lives_in entries) no_live
 absent_at entries place number is not within here =
     let inside : place < length entries = omega (arith, is, within, length-map entries live_in) in
     not (
@@ -86,34 +86,34 @@ absent_at entries place number is not within here =
 
 -- ---- from the answers of the program
 
-pub placed_at : (slice entries : List Entry) (place number : ℕ) → slice ≡ entries
+pub placed_at : (slice entries : List RunConnection) (place number : ℕ) → slice ≡ entries
     → place ≡ place_of number (lives_in slice) → place ≡ place_of number (lives_in entries)
-placed_at slice entries place number same is = is ∙ ap (λ (l : List Entry). place_of number (lives_in l)) same
+placed_at slice entries place number same is = is ∙ ap (λ (l : List RunConnection). place_of number (lives_in l)) same
 
-pub found_at : (slice entries : List Entry) (place number : ℕ) (answer : Bool) → slice ≡ entries
-    → (IsTrue answer ↔ StandsAt slice place number) → answer ≡ true → StandsAt entries place number
+pub found_at : (slice entries : List RunConnection) (place number : ℕ) (answer : Bool) → slice ≡ entries
+    → (IsTrue answer ↔ HasNumberAt slice place number) → answer ≡ true → HasNumberAt entries place number
 found_at slice entries place number answer same test holds =
-    subst (λ (l : List Entry). StandsAt l place number) same (test.0 holds)
+    subst (λ (l : List RunConnection). HasNumberAt l place number) same (test.0 holds)
 
-pub missing_at : (slice entries : List Entry) (place number : ℕ) (answer : Bool) → slice ≡ entries
-    → (IsTrue answer ↔ StandsAt slice place number) → answer ≡ false → StandsAt entries place number → ⊥
+pub missing_at : (slice entries : List RunConnection) (place number : ℕ) (answer : Bool) → slice ≡ entries
+    → (IsTrue answer ↔ HasNumberAt slice place number) → answer ≡ false → HasNumberAt entries place number → ⊥
 missing_at slice entries place number answer same test fails there =
-    let holds : answer ≡ true = test.1 (subst (λ (l : List Entry). StandsAt l place number) (sym same) there) in
+    let holds : answer ≡ true = test.1 (subst (λ (l : List RunConnection). HasNumberAt l place number) (sym same) there) in
     absurd cc
 
 -- ---- another in its place
 
-get_or_within : (entries : List Entry) (place : ℕ) (d e : Entry) → place < length entries
+get_or_within : (entries : List RunConnection) (place : ℕ) (d e : RunConnection) → place < length entries
     → get_or entries place d ≡ get_or entries place e
 get_or_within [] place d e within = absurd (omega (arith, within))
 get_or_within (first ∷ entries) zero d e within = refl
 get_or_within (first ∷ entries) (suc place) d e within = get_or_within entries place d e (omega (arith, within))
 
-pub lives_set : (entries : List Entry) (place : ℕ) (entry : Entry)
+pub lives_set : (entries : List RunConnection) (place : ℕ) (entry : RunConnection)
     → lives_in (set entries place entry) ≡ set (lives_in entries) place (live_in entry)
 lives_set entries place entry = map-set live_in entries place entry
 
-pub lives_insert : (entries : List Entry) (place : ℕ) (entry : Entry)
+pub lives_insert : (entries : List RunConnection) (place : ℕ) (entry : RunConnection)
     → lives_in (insert entries place entry) ≡ insert (lives_in entries) place (live_in entry)
 lives_insert [] zero entry = refl
 lives_insert [] (suc place) entry = refl
@@ -122,27 +122,27 @@ lives_insert (first ∷ entries) (suc place) entry =
     ap (λ (l : List Live). live_in first ∷ l) (lives_insert entries place entry)
 
 -- one more, and what stands there then
-pub placed_is : (entries placed : List Entry) (place : ℕ) (entry found : Entry) → place ≤ length entries
+pub placed_is : (entries placed : List RunConnection) (place : ℕ) (entry found : RunConnection) → place ≤ length entries
     → placed ≡ insert entries place entry → found ≡ get_or placed place found → found ≡ entry
 placed_is entries placed place entry found within more is =
-    is ∙ ap (λ (l : List Entry). get_or l place found) more ∙ get_or-insert_at entries place entry found within
+    is ∙ ap (λ (l : List RunConnection). get_or l place found) more ∙ get_or-insert_at entries place entry found within
 
-pub set_insert : (entries : List Entry) (place : ℕ) (entry next : Entry) → place ≤ length entries
+pub set_insert : (entries : List RunConnection) (place : ℕ) (entry next : RunConnection) → place ≤ length entries
     → set (insert entries place entry) place next ≡ insert entries place next
 set_insert [] zero entry next within = refl
 set_insert [] (suc place) entry next within = absurd (omega (arith, within))
 set_insert (first ∷ entries) zero entry next within = refl
 set_insert (first ∷ entries) (suc place) entry next within =
-    ap (λ (l : List Entry). first ∷ l) (set_insert entries place entry next (omega (arith, within)))
+    ap (λ (l : List RunConnection). first ∷ l) (set_insert entries place entry next (omega (arith, within)))
 
 -- a connection that was closed in its place
-pub closed_put : (c : Config) (old now : Histories) (last : Last) (place : ℕ) (before : List Entry)
-    (d entry next : Entry) → place < length before → entry ≡ get_or before place entry
+pub closed_put : (c : Config) (old now : Histories) (last : Last) (place : ℕ) (before : List RunConnection)
+    (d entry next : RunConnection) → place < length before → entry ≡ get_or before place entry
     → next.number ≡ entry.number → next.bytes.items ≡ entry.bytes.items
     → ClosedAt c old now last entry.state next.state
     → IsClosedAt c old now last place (get_or before place d) before (set before place next)
 closed_put c old now last place before d entry next within is number bytes closed =
-    subst (λ (e : Entry). IsClosedAt c old now last place e before (set before place next))
+    subst (λ (e : RunConnection). IsClosedAt c old now last place e before (set before place next))
     (is ∙ get_or_within before place entry d within) (
       next.state,
       closed,
@@ -187,7 +187,7 @@ opening_by (events.End k) number o is = absurd is
 
 -- ---- room
 
-module _ (c : Config) (script : List Event) (event : Event) (entries : List Entry) (desks : DesksValue)
+module _ (c : Config) (script : List Event) (event : Event) (entries : List RunConnection) (desks : DesksValue)
     (plays : Plays c script event entries desks) where
   pub room_for : sum_by input_length script + input_length event < 2 ^ 63
   room_for =

@@ -17,8 +17,8 @@ use Rattle.session_script.specs.Script as scripts
 use Rattle.cast_config.specs.declared.config.Config.{Config}
 use Rattle.session_model.specs.declared.ending.Ending.{Ending}
 use Rattle.session_core.specs.declared.session.Session.{Session}
-use Rattle.session_core.specs.declared.stage.Stage.{Stage}
-use Rattle.session_core.specs.declared.stage.Stage.TheVariants as stages
+use Rattle.session_core.specs.declared.session_stage.SessionStage.{SessionStage}
+use Rattle.session_core.specs.declared.session_stage.SessionStage.TheVariants as stages
 use Rattle.session_model.specs.Headings.{Heading}
 use Rattle.session_model.specs.Judged.{Opening, sends_head, relays, bare_source, bare_rover, Judged}
 use Rattle.session_model.specs.Endings.{goes_on}
@@ -26,9 +26,9 @@ use Rattle.session_model.specs.Reports.{IsHeadingOf, AreHeadings, opened_if, ope
 use Rattle.session_model.specs.Run.{Histories, Connected, World, judged_of, is_concerned, is_opened, after_events}
 use Rattle.session_core.specs.Standing.{IsAtStage, Stands}
 use Rattle.session_core.specs.States.{state_in, state_at, rover_state}
-use Rattle.caster_replay.specs.declared.entry.State.{State}
-use Rattle.caster_replay.specs.declared.entry.State.TheVariants.{Open, Closed}
-use Rattle.caster_replay.specs.Entries.{is_open_at, is_behind_by, is_behind_at}
+use Rattle.caster_replay.specs.declared.run_connection.State.{State}
+use Rattle.caster_replay.specs.declared.run_connection.State.TheVariants.{Open, Closed}
+use Rattle.caster_replay.specs.RunConnections.{is_open_at, is_behind_by, is_behind_at}
 use Rattle.caster_replay.specs.Going.{is_going, has_frames, is_behind, numbers_from, MaySpeak}
 use Rattle.caster_replay.specs.Lives.{IsKept, Live, live_of}
 use Rattle.caster_replay.specs.Runs.{is_cut, Runs, IsIncreasing}
@@ -72,7 +72,7 @@ state_frames rings version [] = refl
 state_frames rings version (newest ∷ older) = refl
 
 stage_frames : (rings : List (History RingCall)) (c : Config) (me : ℕ) (h : Histories) (o : Opening) (j : Judged)
-    (text : List ℕ) (steps : List Step) (stage : Stage) → IsAtStage c me h o j text steps stage
+    (text : List ℕ) (steps : List Step) (stage : SessionStage) → IsAtStage c me h o j text steps stage
     → is_behind_by rings (state_at None stage) ≡ has_frames rings (segments_after [] steps)
 stage_frames rings c me h o j text steps (stages.Head head) s =
     ap (λ (l : List Step). has_frames rings (segments_after [] l)) (sym s.2)

@@ -11,18 +11,18 @@ use Rattle.session_model.specs.Headings.{Heading}
 use Rattle.session_model.specs.Judged.{Opening}
 use Rattle.session_model.specs.Owed.{Happening, arrives, takes_turn, ends}
 use Rattle.session_model.specs.Run.{Histories, Connected, after_events}
-use Rattle.caster_replay.specs.declared.entry.Act.{Act}
-use Rattle.caster_replay.specs.declared.entry.Act.TheVariants as acts
-use Rattle.caster_replay.specs.declared.entry.Entry.{Entry}
+use Rattle.caster_replay.specs.declared.run_connection.Act.{Act}
+use Rattle.caster_replay.specs.declared.run_connection.Act.TheVariants as acts
+use Rattle.caster_replay.specs.declared.run_connection.RunConnection.{RunConnection}
 use Rattle.caster_replay.specs.Caster.{DesksValue, SamePlaces}
-use Rattle.caster_replay.specs.Entries.{ActedAt, IsClosedAt, IsUnsent, HasOpened, SettledAt}
+use Rattle.caster_replay.specs.RunConnections.{ActedAt, IsClosedAt, IsUnsent, HasOpened, SettledAt}
 use Rattle.caster_replay.specs.Lives.{Live, live_of, live_in, lives_in, place_of, IsLive}
-use Rattle.caster_replay.specs.Runs.{Runs, StandsAt, AreAbove, IsIncreasing, Pairs}
+use Rattle.caster_replay.specs.Runs.{Runs, LivesStandAt, AreAbove, IsIncreasing, Pairs}
 use Rattle.caster_replay.specs.Scripts.{Acts, Begins, Plays, Stands}
 use Rattle.caster_replay.specs.Sends.{sent_in, IsSilent, SendsTo, Sends}
 use Rattle.caster_replay.proofs.SendsLemmas.{sends_set, set_silent, sends_opened, sends_silent}
 use Rattle.caster_replay.proofs.WorldRunnerLemmas.{IsAbout, IsAbsent, about_in, about_turn, headings_now, are_now}
-use Rattle.caster_replay.specs.Entries as looks
+use Rattle.caster_replay.specs.RunConnections as looks
 use Rattle.caster_replay.proofs.EntryLemmas.{no_live, number_at, within_lives, absent_at, placed_at, found_at, missing_at, lives_set, lives_insert, about_of, opening_by, is_clean}
 use Rattle.caster_replay.proofs.PlayLemmas.{fed_more, turned_more, play_absent, play_again, play_opened}
 use Rattle.caster_replay.proofs.ReplayLemmas.{entry_at, live_get, places_stay}
@@ -57,13 +57,13 @@ rising c headings now (d ∷ ds) (live ∷ lives) order pairs (suc i) (suc j) y 
     rising c headings now ds lives order.1 pairs.1 i j y (omega (arith, before)) (omega (arith, within))
 
 -- the connections stand in the order of their numbers
-pub in_order : (c : Config) (script : List Event) (entries slice : List Entry) (now : Histories)
+pub in_order : (c : Config) (script : List Event) (entries slice : List RunConnection) (now : Histories)
     → Runs c script (lives_in entries) now → slice ≡ entries
-    → IsNonDecreasingBy (λ (entry : Entry). entry.number) slice
+    → IsNonDecreasingBy (λ (entry : RunConnection). entry.number) slice
 in_order c script entries slice now run same =
-    subst (IsNonDecreasingBy (λ (entry : Entry). entry.number)) (sym same) (λ i j d before within.
+    subst (IsNonDecreasingBy (λ (entry : RunConnection). entry.number)) (sym same) (λ i j d before within.
     let headings = headings_now script run.has in
-    let at : StandsAt c headings (after_events c headings script) (lives_in entries) now =
+    let at : LivesStandAt c headings (after_events c headings script) (lives_in entries) now =
     run.stands [] headings (are_now script run.has) in
     omega (
       arith,
@@ -74,9 +74,9 @@ in_order c script entries slice now run same =
     ))
 
 -- where a search over that order ends
-pub point_is : (entries : List Entry) (number i : ℕ) → i ≤ length entries
-    → IsPartitionPoint (λ (entry : Entry). nat_lt entry.number number ≡ true)
-    (λ (entry : Entry). nat_lt entry.number number ≡ false) entries i
+pub point_is : (entries : List RunConnection) (number i : ℕ) → i ≤ length entries
+    → IsPartitionPoint (λ (entry : RunConnection). nat_lt entry.number number ≡ true)
+    (λ (entry : RunConnection). nat_lt entry.number number ≡ false) entries i
     → i ≡ place_of number (lives_in entries)
 point_is entries number i within point =
     sym (prefix_len_is (λ (live : Live). nat_lt live.number number) (lives_in entries) i no_live
@@ -90,14 +90,14 @@ point_is entries number i within point =
 
 -- ---- what a look for a number finds
 
-pub record Looked (entries : List Entry) (number place : ℕ) (answer : Bool) : Type 0 where
-  pub here : answer ≡ true → looks.StandsAt entries place number
+pub record Looked (entries : List RunConnection) (number place : ℕ) (answer : Bool) : Type 0 where
+  pub here : answer ≡ true → looks.HasNumberAt entries place number
   pub place_is : place ≡ place_of number (lives_in entries)
   pub absent : answer ≡ false → IsAbsent number (lives_in entries) no_live
 
-pub looked : (first second entries : List Entry) (number place : ℕ) (answer : Bool) → first ≡ entries
+pub looked : (first second entries : List RunConnection) (number place : ℕ) (answer : Bool) → first ≡ entries
     → second ≡ entries → place ≡ place_of number (lives_in first)
-    → (IsTrue answer ↔ looks.StandsAt second place number) → Looked entries number place answer
+    → (IsTrue answer ↔ looks.HasNumberAt second place number) → Looked entries number place answer
 looked first second entries number place answer same same_too is test =
     let placed = placed_at first entries place number same is in
     record {
@@ -117,7 +117,7 @@ about_act event number (acts.Turn budget) so =
 about_act event number (acts.Close last) so = (ends last, about_of event number last so)
 
 -- nobody has the number
-pub stands_absent : (c : Config) (script : List Event) (event : Event) (entries : List Entry) (desks : DesksValue)
+pub stands_absent : (c : Config) (script : List Event) (event : Event) (entries : List RunConnection) (desks : DesksValue)
     (number : ℕ) (what : Happening) → IsAbout event number what → Plays c script event entries desks
     → IsAbsent number (lives_in entries) no_live → Stands c (script ++ event ∷ []) entries desks
 stands_absent c script event entries desks number what about plays absent = record {
@@ -126,12 +126,12 @@ stands_absent c script event entries desks number what about plays absent = reco
 }
 
 -- the number was opened before
-pub stands_again : (c : Config) (script : List Event) (event : Event) (entries : List Entry) (desks : DesksValue)
+pub stands_again : (c : Config) (script : List Event) (event : Event) (entries : List RunConnection) (desks : DesksValue)
     (number place : ℕ) (o : Opening) → Begins event number o → Plays c script event entries desks
-    → looks.StandsAt entries place number → Stands c (script ++ event ∷ []) entries desks
+    → looks.HasNumberAt entries place number → Stands c (script ++ event ∷ []) entries desks
 stands_again c script event entries desks number place o begins plays there =
-    let d : Entry = entry_at entries place there.0 in
-    let entry : Entry = get_or entries place d in
+    let d : RunConnection = entry_at entries place there.0 in
+    let entry : RunConnection = get_or entries place d in
     let is : get_or (lives_in entries) place (live_in d) ≡ live_of number entry.state entry.bytes.items =
     live_get entries place d there.0
     ∙ ap (λ (n : ℕ). live_of n entry.state entry.bytes.items) (there.1 d) in
@@ -143,7 +143,7 @@ stands_again c script event entries desks number place o begins plays there =
 
 -- ---- another in its place
 
-pub runs_put : (c : Config) (script : List Event) (entries : List Entry) (place number : ℕ) (new : Entry)
+pub runs_put : (c : Config) (script : List Event) (entries : List RunConnection) (place number : ℕ) (new : RunConnection)
     (now : Histories) → new.number ≡ number
     → Runs c script (set (lives_in entries) place (live_of number new.state new.bytes.items)) now
     → Runs c script (lives_in (set entries place new)) now
@@ -154,8 +154,8 @@ runs_put c script entries place number new now same run =
 
 -- ---- one more
 
-pub stands_opened : (c : Config) (script : List Event) (event : Event) (entries : List Entry) (old mid now : DesksValue)
-    (number place : ℕ) (o : Opening) (entry next : Entry) → Begins event number o → Plays c script event entries old
+pub stands_opened : (c : Config) (script : List Event) (event : Event) (entries : List RunConnection) (old mid now : DesksValue)
+    (number place : ℕ) (o : Opening) (entry next : RunConnection) → Begins event number o → Plays c script event entries old
     → IsAbsent number (lives_in entries) no_live → place ≡ place_of number (lives_in entries)
     → SamePlaces old mid → SamePlaces mid now → entry.number ≡ number → next.number ≡ entry.number
     → next.bytes.items ≡ entry.bytes.items
@@ -181,8 +181,8 @@ stands_opened c script event entries old mid now number place o entry next begin
 -- ---- what they were sent
 
 -- the connection at this place was sent more
-pub sends_at : (entries : List Entry) (place number : ℕ) (entry : Entry) (new : Live) (after : List Live)
-    → looks.StandsAt entries place number → place ≡ place_of number (lives_in entries)
+pub sends_at : (entries : List RunConnection) (place number : ℕ) (entry : RunConnection) (new : Live) (after : List Live)
+    → looks.HasNumberAt entries place number → place ≡ place_of number (lives_in entries)
     → get_or (lives_in entries) place (live_in entry) ≡ live_of number entry.state entry.bytes.items
     → new.number ≡ number → (more : List ℕ) × (new.bytes ≡ entry.bytes.items ++ more)
     → after ≡ set (lives_in entries) place new → SendsTo number (lives_in entries) after
@@ -193,9 +193,9 @@ sends_at entries place number entry new after there is here own more changed =
     (more.1 ∙ ap (λ (b : List ℕ). b ++ more.0) (sym (ap (λ (l : Live). l.bytes) here))))
 
 -- something happened to the connection at this place
-pub sends_applied : (c : Config) (script : List Event) (event : Event) (act : Act) (entries : List Entry)
-    (old now : Histories) (place number : ℕ) (entry new : Entry) → Acts event number act
-    → Runs c script (lives_in entries) old → looks.StandsAt entries place number
+pub sends_applied : (c : Config) (script : List Event) (event : Event) (act : Act) (entries : List RunConnection)
+    (old now : Histories) (place number : ℕ) (entry new : RunConnection) → Acts event number act
+    → Runs c script (lives_in entries) old → looks.HasNumberAt entries place number
     → place ≡ place_of number (lives_in entries)
     → get_or (lives_in entries) place (live_in entry) ≡ live_of number entry.state entry.bytes.items
     → new.number ≡ number → ActedAt c old now act entry.state new.state entry.bytes.items new.bytes.items
@@ -219,19 +219,19 @@ sends_applied c script event (acts.Close last) entries old now place number entr
     (ap (λ (l : Live). l.number) here ∙ sym own) (ap (λ (l : Live). l.bytes) here ∙ sym acted.1))
 
 -- the connection at this place was closed
-pub silent_closed : (c : Config) (old now : Histories) (last : Last) (place : ℕ) (entries after : List Entry)
-    (d : Entry) → place < length entries
+pub silent_closed : (c : Config) (old now : Histories) (last : Last) (place : ℕ) (entries after : List RunConnection)
+    (d : RunConnection) → place < length entries
     → IsClosedAt c old now last place (get_or entries place d) entries after
     → IsSilent (lives_in entries) (lives_in after)
 silent_closed c old now last place entries after d within closed =
-    let entry : Entry = get_or entries place d in
+    let entry : RunConnection = get_or entries place d in
     λ n. ap (sent_in n) closed.2
     ∙ set_silent n place (lives_in entries) (live_in d) (live_of entry.number closed.0 entry.bytes.items)
     (within_lives entries place within) (ap (λ (l : Live). l.number) (live_get entries place d within))
     (ap (λ (l : Live). l.bytes) (live_get entries place d within))
 
 -- one more opened
-pub sends_placed : (event : Event) (number place : ℕ) (o : Opening) (entries : List Entry) (next : Entry)
+pub sends_placed : (event : Event) (number place : ℕ) (o : Opening) (entries : List RunConnection) (next : RunConnection)
     → Begins event number o → IsAbsent number (lives_in entries) no_live
     → place ≡ place_of number (lives_in entries) → next.number ≡ number → IsUnsent o next.bytes.items
     → Sends event (lives_in entries) (lives_in (insert entries place next))

@@ -25,12 +25,12 @@ use Rattle.session_core.specs.Standing.{is_halted, StandsFor, Follows}
 use Rattle.session_core.specs.Closed.{ending_by}
 use Rattle.session_core.specs.Turned.{flow_of, is_rover}
 use Rattle.session_model.proofs.WellLemmas.{events_well}
-use Rattle.caster_replay.specs.declared.entry.Act.{Act}
-use Rattle.caster_replay.specs.declared.entry.Act.TheVariants as acts
-use Rattle.caster_replay.specs.declared.entry.State.{State}
-use Rattle.caster_replay.specs.declared.entry.State.TheVariants.{Open, Closed}
+use Rattle.caster_replay.specs.declared.run_connection.Act.{Act}
+use Rattle.caster_replay.specs.declared.run_connection.Act.TheVariants as acts
+use Rattle.caster_replay.specs.declared.run_connection.State.{State}
+use Rattle.caster_replay.specs.declared.run_connection.State.TheVariants.{Open, Closed}
 use Rattle.caster_replay.specs.Calls.{Feeds, TakesTurn, Closes, Opens}
-use Rattle.caster_replay.specs.Entries.{MayGoOn, MayBeClosed, MayAct, FedAt, TurnedAt, ClosedAt, ActedAt, HasOpened, SettledBy, SettledAt, is_ended_at}
+use Rattle.caster_replay.specs.RunConnections.{MayGoOn, MayBeClosed, MayAct, FedAt, TurnedAt, ClosedAt, ActedAt, HasOpened, SettledBy, SettledAt, is_ended_at}
 use Rattle.caster_replay.specs.Lives.{Live, live_of, place_of}
 use Rattle.caster_replay.specs.Runs.{Runs}
 use Rattle.caster_replay.specs.Scripts.{Acts}

@@ -13,11 +13,11 @@ use Rattle.session_model.specs.declared.ending.Last.TheVariants as lasts
 use Rattle.session_model.specs.declared.report.Connection.{Connection}
 use Rattle.session_model.specs.Reports.{closed_of, IsReport}
 use Rattle.session_model.specs.Run.{Histories}
-use Rattle.caster_replay.specs.declared.entry.Entry.{Entry}
-use Rattle.caster_replay.specs.declared.entry.State.{State}
-use Rattle.caster_replay.specs.declared.entry.State.TheVariants.{Open, Closed}
+use Rattle.caster_replay.specs.declared.run_connection.RunConnection.{RunConnection}
+use Rattle.caster_replay.specs.declared.run_connection.State.{State}
+use Rattle.caster_replay.specs.declared.run_connection.State.TheVariants.{Open, Closed}
 use Rattle.caster_replay.specs.Caster.{DesksValue, ArePlaces, SamePlaces}
-use Rattle.caster_replay.specs.Entries.{MayBeClosed, ClosedAt, IsClosedAt, IsOverAt, AreOver}
+use Rattle.caster_replay.specs.RunConnections.{MayBeClosed, ClosedAt, IsClosedAt, IsOverAt, AreOver}
 use Rattle.caster_replay.specs.Lives.{Live, live_of, live_in, lives_in, end_of, IsTold, AreTold}
 use Rattle.caster_replay.specs.Runs.{Runs}
 use Rattle.caster_replay.specs.Scripts.{IsShort, Stands}
@@ -55,22 +55,22 @@ split_at (first ∷ list) (suc i) event within is =
 -- ---- over the connections
 
 -- the first of them were closed
-pub record Closes (c : Config) (script : List Event) (at : ℕ) (entries : List Entry) (desks : DesksValue)
+pub record Closes (c : Config) (script : List Event) (at : ℕ) (entries : List RunConnection) (desks : DesksValue)
     : Type 0 where
   pub stands : Stands c (script ++ map end_of (take at (lives_in entries))) entries desks
   pub short : IsShort (script ++ map end_of (take at (lives_in entries)))
 
 -- an entry of a list that has one there
-pub entry_at : (entries : List Entry) (place : ℕ) → place < length entries → Entry
+pub entry_at : (entries : List RunConnection) (place : ℕ) → place < length entries → RunConnection
 entry_at [] place within = absurd (omega (arith, within))
 entry_at (entry ∷ entries) place within = entry
 
-pub live_get : (entries : List Entry) (place : ℕ) (d : Entry) → place < length entries
+pub live_get : (entries : List RunConnection) (place : ℕ) (d : RunConnection) → place < length entries
     → get_or (lives_in entries) place (live_in d) ≡ live_in (get_or entries place d)
 live_get entries place d within = get_or-map live_in entries place d (live_in d) within
 
-pub may_close_at : (c : Config) (script : List Event) (entries : List Entry) (desks : DesksValue) (place : ℕ)
-    (d : Entry)
+pub may_close_at : (c : Config) (script : List Event) (entries : List RunConnection) (desks : DesksValue) (place : ℕ)
+    (d : RunConnection)
     → place < length entries → IsShort script → Stands c script entries desks
     → MayBeClosed c desks.seen (get_or entries place d).state
 may_close_at c script entries desks place d within short stands =
@@ -83,11 +83,11 @@ is_over : (c : Config) (old now : Histories) (last : Last) (before after : State
 is_over c old now last (Open session) after closed = subst IsOverAt (sym closed.1) tt
 is_over c old now last (Closed receipt) after closed = subst IsOverAt (sym closed.0) tt
 
-module _ (c : Config) (script : List Event) (entries after : List Entry) (desks now : DesksValue) (place : ℕ)
-    (d : Entry)
+module _ (c : Config) (script : List Event) (entries after : List RunConnection) (desks now : DesksValue) (place : ℕ)
+    (d : RunConnection)
     (within : place < length entries)
     (closed : IsClosedAt c desks.seen now.seen lasts.End place (get_or entries place d) entries after) where
-  abbrev entry : Entry
+  abbrev entry : RunConnection
   entry = get_or entries place d
 
   abbrev new : Live
@@ -143,26 +143,26 @@ told_more [] (first ∷ told) live one so is = absurd so
 told_more (first ∷ lives) [] live one so is = absurd so
 told_more (first ∷ lives) (two ∷ told) live one so is = (so.0, told_more lives told live one so.1 is)
 
-pub told_next : (entries : List Entry) (told : List Connection) (entry : Entry) (one : Connection)
+pub told_next : (entries : List RunConnection) (told : List Connection) (entry : RunConnection) (one : Connection)
     → AreTold (lives_in entries) told → IsTold (live_in entry) one
     → AreTold (lives_in (entries ++ entry ∷ [])) (told ++ one ∷ [])
 told_next entries told entry one so is =
     subst (λ (l : List Live). AreTold l (told ++ one ∷ [])) (sym (map-append live_in entries (entry ∷ [])))
     (told_more (lives_in entries) told (live_in entry) one so is)
 
-over_mid : (before : List Entry) (entry : Entry) (rest : List Entry) → AreOver (lives_in (before ++ entry ∷ rest))
+over_mid : (before : List RunConnection) (entry : RunConnection) (rest : List RunConnection) → AreOver (lives_in (before ++ entry ∷ rest))
     → IsOverAt entry.state
 over_mid [] entry rest over = All-head (λ (live : Live). IsOverAt live.state) (live_in entry) (lives_in rest) over
 over_mid (first ∷ before) entry rest over =
     over_mid before entry rest
     (All-tail (λ (live : Live). IsOverAt live.state) (live_in first) (lives_in (before ++ entry ∷ rest)) over)
 
-pub over_at : (before : List Entry) (entry : Entry) (rest all : List Entry) → before ++ entry ∷ rest ≡ all
+pub over_at : (before : List RunConnection) (entry : RunConnection) (rest all : List RunConnection) → before ++ entry ∷ rest ≡ all
     → AreOver (lives_in all) → IsOverAt entry.state
 over_at before entry rest all same over =
-    over_mid before entry rest (subst (λ (l : List Entry). AreOver (lives_in l)) (sym same) over)
+    over_mid before entry rest (subst (λ (l : List RunConnection). AreOver (lives_in l)) (sym same) over)
 
-pub report_is : (c : Config) (script : List Event) (entries : List Entry) (desks : DesksValue) (told : List Connection)
+pub report_is : (c : Config) (script : List Event) (entries : List RunConnection) (desks : DesksValue) (told : List Connection)
     → Stands c (script ++ map end_of (lives_in entries)) entries desks → AreTold (lives_in entries) told
     → IsReport c script (record { connections = told; closed = closed_of c desks.seen })
 report_is c script entries desks told stands so =

@@ -10,8 +10,8 @@ use Rattle.session_script.specs.declared.Event.{Event}
 use Rattle.cast_config.specs.declared.config.Config.{Config}
 use Rattle.session_model.specs.declared.ending.Ending.{Ending}
 use Rattle.session_core.specs.declared.rover_state.RoverState.{RoverState}
-use Rattle.session_core.specs.declared.stage.Stage.{Stage}
-use Rattle.session_core.specs.declared.stage.Stage.TheVariants as stages
+use Rattle.session_core.specs.declared.session_stage.SessionStage.{SessionStage}
+use Rattle.session_core.specs.declared.session_stage.SessionStage.TheVariants as stages
 use Rattle.session_model.specs.Headings.{Heading}
 use Rattle.session_model.specs.Judged.{Opening, Judged}
 use Rattle.session_model.specs.Owed.{Came, came_to}
@@ -21,9 +21,9 @@ use Rattle.session_model.specs.Run.{Histories, Connected, World, is_concerned, i
 use Rattle.session_core.specs.Standing.{IsAtStage, is_halted}
 use Rattle.session_core.specs.States.{state_in, state_at}
 use Rattle.session_core.proofs.ReceiptLemmas.{rover_inside}
-use Rattle.caster_replay.specs.declared.entry.State.{State}
-use Rattle.caster_replay.specs.declared.entry.State.TheVariants.{Open, Closed}
-use Rattle.caster_replay.specs.Entries.{is_open_at, rover_at}
+use Rattle.caster_replay.specs.declared.run_connection.State.{State}
+use Rattle.caster_replay.specs.declared.run_connection.State.TheVariants.{Open, Closed}
+use Rattle.caster_replay.specs.RunConnections.{is_open_at, rover_at}
 use Rattle.caster_replay.specs.Going.{rover_of, rover_among}
 use Rattle.caster_replay.specs.Lives.{IsKept, Live, live_of}
 use Rattle.caster_replay.specs.Runs.{Runs, IsIncreasing}
@@ -71,7 +71,7 @@ no_rover : (version : Version) (segments : List Segment) → segments ≡ [] →
 no_rover version segments none = sym (ap (state_in version) none)
 
 stage_rover : (c : Config) (me : ℕ) (h : Histories) (o : Opening) (j : Judged) (text : List ℕ) (steps : List Step)
-    (stage : Stage) → IsAtStage c me h o j text steps stage
+    (stage : SessionStage) → IsAtStage c me h o j text steps stage
     → state_at None stage ≡ state_in (version_of (came_to j steps)) (segments_after [] steps)
 stage_rover c me h o j text steps (stages.Head head) s =
     no_rover (version_of (came_to j steps)) (segments_after [] steps) (ap (segments_after []) s.2)

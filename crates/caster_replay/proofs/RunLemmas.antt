@@ -9,11 +9,11 @@ use Rattle.session_script.specs.declared.Event.{Event}
 use Rattle.cast_config.specs.declared.config.Config.{Config}
 use Rattle.session_core.specs.declared.rover_state.RoverState.{RoverState}
 use Rattle.session_model.specs.Run.{nothing_called}
-use Rattle.caster_replay.specs.declared.entry.Entry.{Entry}
-use Rattle.caster_replay.specs.declared.entry.State.{State}
-use Rattle.caster_replay.specs.declared.entry.State.TheVariants.{Open, Closed}
+use Rattle.caster_replay.specs.declared.run_connection.RunConnection.{RunConnection}
+use Rattle.caster_replay.specs.declared.run_connection.State.{State}
+use Rattle.caster_replay.specs.declared.run_connection.State.TheVariants.{Open, Closed}
 use Rattle.caster_replay.specs.declared.run.Run.{Run}
-use Rattle.caster_replay.specs.Entries.{IsFoundAt, IsMissing, IsRoverIn, is_open_at, is_behind_at, is_behind_by, rover_at}
+use Rattle.caster_replay.specs.RunConnections.{IsFoundAt, IsMissing, IsRoverIn, is_open_at, is_behind_at, is_behind_by, rover_at}
 use Rattle.caster_replay.specs.Going.{GoesOn, IsBehind, IsRover, MaySpeak}
 use Rattle.caster_replay.specs.Kept.{StandsFor, MayCome, lives_of}
 use Rattle.caster_replay.specs.Lives.{Live, live_in, lives_in, live_of, place_of}
@@ -60,21 +60,21 @@ stands_whole c list i run over stands = subst (λ (l : List Event). StandsFor c 
 
 -- ---- what is found
 
-pub run_order : {P : Type 0} (c : Config) (script : List Event) (run : Run P) (slice : List Entry) → StandsFor c script run
-    → slice ≡ run.entries.items → IsNonDecreasingBy (λ (entry : Entry). entry.number) slice
+pub run_order : {P : Type 0} (c : Config) (script : List Event) (run : Run P) (slice : List RunConnection) → StandsFor c script run
+    → slice ≡ run.entries.items → IsNonDecreasingBy (λ (entry : RunConnection). entry.number) slice
 run_order c script run slice stands same =
     in_order c script run.entries.items slice run.desks.seen stands.stands.runs same
 
-module _ (entries : List Entry) (number : ℕ) where
+module _ (entries : List RunConnection) (number : ℕ) where
   pub missing_absent : IsMissing entries number → IsAbsent number (lives_in entries) no_live
   missing_absent missing = absent_at entries (place_of number (lives_in entries)) number refl missing
 
-  pub found_live : (entry : Entry) → IsFoundAt entries number entry
+  pub found_live : (entry : RunConnection) → IsFoundAt entries number entry
       → get_or (lives_in entries) (place_of number (lives_in entries)) (live_in entry)
       ≡ live_of number entry.state entry.bytes.items
   found_live entry f = here_at entries (place_of number (lives_in entries)) number entry f.there f.is
 
-  pub found_sent : (entry : Entry) → IsFoundAt entries number entry
+  pub found_sent : (entry : RunConnection) → IsFoundAt entries number entry
       → sent_in number (lives_in entries) ≡ entry.bytes.items
   found_sent entry f =
       sent_here number (lives_in entries) (live_in entry)
@@ -105,7 +105,7 @@ module _ {P : Type 0} (c : Config) (script : List Event) (run : Run P) (number :
       none ∙ sym (behind_missing c script (lives_of run) run.desks.seen stands.stands.runs headings are number no_live
       (missing_absent run.entries.items number missing))
 
-  pub found_goes : (entry : Entry) → IsFoundAt run.entries.items number entry → (answer : Bool)
+  pub found_goes : (entry : RunConnection) → IsFoundAt run.entries.items number entry → (answer : Bool)
       → answer ≡ is_open_at entry.state → GoesOn c script number answer
   found_goes entry f answer told headings are =
       told ∙ sym (going_found c script (lives_of run) run.desks.seen stands.stands.runs headings are number
@@ -113,7 +113,7 @@ module _ {P : Type 0} (c : Config) (script : List Event) (run : Run P) (number :
       (within_lives run.entries.items (place_of number (lives_of run)) f.there.0)
       (found_live run.entries.items number entry f))
 
-  found_lags : (entry : Entry) → IsFoundAt run.entries.items number entry → (answer : Bool)
+  found_lags : (entry : RunConnection) → IsFoundAt run.entries.items number entry → (answer : Bool)
       → answer ≡ is_behind_at run.desks.seen.rings entry.state → IsBehind c script number answer
   found_lags entry f answer told headings are =
       told ∙ sym (behind_found c script (lives_of run) run.desks.seen stands.stands.runs headings are number
@@ -128,7 +128,7 @@ module _ {P : Type 0} (c : Config) (script : List Event) (run : Run P) (number :
       no_live
       (missing_absent run.entries.items number missing))
 
-  found_rover : (entry : Entry) → IsFoundAt run.entries.items number entry → (answer : Option RoverState)
+  found_rover : (entry : RunConnection) → IsFoundAt run.entries.items number entry → (answer : Option RoverState)
       → answer ≡ rover_at entry.state → IsRover c script number answer
   found_rover entry f answer told more headings are =
       told ∙ sym (rover_found c script (lives_of run) run.desks.seen stands.stands.runs more headings are number
@@ -150,7 +150,7 @@ module _ {P : Type 0} (c : Config) (script : List Event) (run : Run P) (number :
   told_behind rover answer (inr missing) is =
       missing_behind missing.0 answer (is ∙ ap (is_behind_by run.desks.seen.rings) missing.1)
 
-  pub found_may_speak : (entry : Entry) → IsFoundAt run.entries.items number entry → IsTrue (is_open_at entry.state)
+  pub found_may_speak : (entry : RunConnection) → IsFoundAt run.entries.items number entry → IsTrue (is_open_at entry.state)
       → MaySpeak script number
   found_may_speak entry f told =
       let runs = stands.stands.runs in

@@ -8,9 +8,9 @@ use Rattle.session_script.specs.declared.Event.TheVariants as events
 use Rattle.session_model.specs.declared.ending.Last.{Last}
 use Rattle.session_model.specs.declared.report.Connection.{Connection}
 use Rattle.session_model.specs.Judged.{Opening}
-use Rattle.caster_replay.specs.declared.entry.State.{State}
-use Rattle.caster_replay.specs.declared.entry.State.TheVariants.{Open, Closed}
-use Rattle.caster_replay.specs.Entries.{IsUnsent}
+use Rattle.caster_replay.specs.declared.run_connection.State.{State}
+use Rattle.caster_replay.specs.declared.run_connection.State.TheVariants.{Open, Closed}
+use Rattle.caster_replay.specs.RunConnections.{IsUnsent}
 use Rattle.caster_replay.specs.Lives.{Live, place_of, IsToldBy, AreTold}
 use Rattle.caster_replay.specs.Scripts.{Begins, Ends}
 use Rattle.caster_replay.specs.Sends.{sent_in, told_sent, IsSilent, SendsTo, Sends}

@@ -26,8 +26,8 @@ use Rattle.session_model.proofs.GoodLemmas.{good_left, good_plan}
 use Rattle.session_model.proofs.KeepLemmas.{AreFrames, AllSound}
 use Rattle.session_model.proofs.WellLemmas.{IsSoundOf, makes_moves}
 use Rattle.caster_replay.specs.Lives.{IsGoing, IsKept}
-use Rattle.caster_replay.specs.declared.entry.State.{State}
-use Rattle.caster_replay.specs.declared.entry.State.TheVariants.{Open, Closed}
+use Rattle.caster_replay.specs.declared.run_connection.State.{State}
+use Rattle.caster_replay.specs.declared.run_connection.State.TheVariants.{Open, Closed}
 use Rattle.caster_replay.proofs.WorldMadeLemmas.{owed_made}
 use Rattle.caster_replay.proofs.WorldLaterLemmas.{called_after}
 use Rattle.caster_replay.proofs.WorldStepLemmas.{owes_so, stepped, makes_so, judged_so, owes_all, ended_so, sent_all, going_now, came_moved, closed_as, over_now}

@@ -234,7 +234,7 @@ pub record Starts (event : Event) (number : ℕ) (o : Opening) : Type 0 where
 abbrev pub IsClean : ℕ → List Event → Type 0
 IsClean n list = opened_as n list ≡ None → (bytes_to n list ≡ []) × (is_cut n list ≡ false)
 
-known_placed : (P : Connected → Type 0) (d : Connected) (ds : List Connected) → P d → All P ds → All P (placed d ds)
+pub known_placed : (P : Connected → Type 0) (d : Connected) (ds : List Connected) → P d → All P ds → All P (placed d ds)
 known_placed P d [] one all = All-cons P d [] one all
 known_placed P d (e ∷ ds) one all =
     elim (nat_lt e.number d.number) as (λ b. All P (placed_if b d e ds (placed d ds))) [

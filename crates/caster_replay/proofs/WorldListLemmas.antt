@@ -50,7 +50,7 @@ abbrev pub moved_by : Config → (ℕ → Heading) → ℕ → Happening → His
 moved_by c headings number what h d =
     moved_if (is_concerned c (headings d.number) number d) c (headings d.number) h d what
 
-abbrev onto : Connected → World → World
+abbrev pub onto : Connected → World → World
 onto d w = record { connections = d ∷ w.connections; histories = w.histories }
 
 abbrev behind : Config → (ℕ → Heading) → ℕ → Happening → Moved → List Connected → World

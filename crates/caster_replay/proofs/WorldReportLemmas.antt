@@ -17,15 +17,15 @@ use Rattle.session_core.specs.declared.session.Session.{Session}
 use Rattle.session_model.specs.Headings.{Heading}
 use Rattle.session_model.specs.Judged.{Opening, sends_head, relays, bare_source, bare_rover}
 use Rattle.session_model.specs.Owed.{Happening, arrives, ends}
-use Rattle.session_model.specs.Reports.{IsHeadingOf, AreHeadings, opened_as, bytes_to, told_of, closed_of, report_of, IsReport}
+use Rattle.session_model.specs.Reports.{IsHeadingOf, AreHeadings, opened_as, bytes_to, told_of, closed_of, world_report, IsReport}
 use Rattle.session_model.specs.Run.{Histories, Connected, World, fresh, happens, happens_in, is_concerned, opens, is_opened, after_event, after_events, closes, world}
 use Rattle.session_core.specs.Standing.{is_halted, StandsFor}
 use Rattle.session_model.proofs.KeepLemmas.{AreFrames}
 use Rattle.caster_replay.specs.Lives.{Live, live_of, IsLive, place_of, end_of, AreTold}
 use Rattle.caster_replay.specs.Runs.{is_cut, AreKnown, Pairs}
 use Rattle.caster_replay.specs.Calls.{Opens, Closes}
-use Rattle.caster_replay.specs.declared.entry.State.{State}
-use Rattle.caster_replay.specs.declared.entry.State.TheVariants.{Open, Closed}
+use Rattle.caster_replay.specs.declared.run_connection.State.{State}
+use Rattle.caster_replay.specs.declared.run_connection.State.TheVariants.{Open, Closed}
 use Rattle.caster_replay.proofs.WorldHeadingLemmas.{or_later, opened-append, opened_stays, unless_cut, bytes-append}
 use Rattle.session_core.proofs.FeedHeadLemmas.{others_none}
 use Rattle.caster_replay.proofs.WorldListLemmas.{was_opened, moved_by}
@@ -278,7 +278,7 @@ run_report c script lives now told run so =
       ap (λ (l : List Connection). report_with l (closed_of c now)) (sym (run_told c headings w lives now told at so))
           ∙ ap (λ (h : Histories). report_with (map (told_of c headings w.histories) w.connections) (closed_of c h))
           (sym at.histories)
-          ∙ ap (λ (x : World). report_of c headings x) (world_is c headings script lives now at),
+          ∙ ap (λ (x : World). world_report c headings x) (world_is c headings script lives now at),
     )
 
 one_next : (n : ℕ) → n + 1 ≡ suc n

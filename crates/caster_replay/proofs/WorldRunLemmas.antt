@@ -19,8 +19,8 @@ use Rattle.session_model.proofs.KeepLemmas.{Later}
 use Rattle.session_model.proofs.WellLemmas.{IsSoundOf, IsWell, happens_stays, opens_stays}
 use Rattle.caster_replay.specs.Lives.{IsKept, Live, IsLive, place_of, connection_of, IsToldBy, AreTold}
 use Rattle.caster_replay.specs.Runs.{AreAbove, IsIncreasing, Pairs}
-use Rattle.caster_replay.specs.declared.entry.State.{State}
-use Rattle.caster_replay.specs.declared.entry.State.TheVariants.{Open, Closed}
+use Rattle.caster_replay.specs.declared.run_connection.State.{State}
+use Rattle.caster_replay.specs.declared.run_connection.State.TheVariants.{Open, Closed}
 use Rattle.caster_replay.proofs.WorldLaterLemmas.{called_later, called_others}
 use Rattle.caster_replay.proofs.WorldListLemmas.{above_less, moved_by, happens_nowhere, happens_at, before, placed_insert, pairs_place, pairs_set, pairs_insert, none_later, apart_first}
 use Rattle.caster_replay.proofs.WorldStepLemmas.{going_on, over_on, over_told}

@@ -17,8 +17,8 @@ use Rattle.session_model.specs.declared.ending.Last.{Last}
 use Rattle.session_model.specs.declared.ending.Last.TheVariants as lasts
 use Rattle.session_model.specs.declared.report.Receipt.{Receipt}
 use Rattle.session_core.specs.declared.session.Session.{Session}
-use Rattle.session_core.specs.declared.stage.Stage.{Stage}
-use Rattle.session_core.specs.declared.stage.Stage.TheVariants as stages
+use Rattle.session_core.specs.declared.session_stage.SessionStage.{SessionStage}
+use Rattle.session_core.specs.declared.session_stage.SessionStage.TheVariants as stages
 use Rattle.rover_cursor.specs.declared.segment.Segment.{Segment}
 use Rattle.session_core.specs.Turned.{is_rover}
 use Rattle.session_core.proofs.CloseLemmas.{called_none}
@@ -35,8 +35,8 @@ use Rattle.session_model.proofs.WellLemmas.{IsSoundOf, events_well}
 use Rattle.caster_replay.specs.Lives.{IsGoing, IsKept, Live, live_of, IsLive, place_of}
 use Rattle.caster_replay.specs.Runs.{IsKnown, AreKnown, HasHeadings}
 use Rattle.caster_replay.specs.Calls.{Feeds, TakesTurn, Closes}
-use Rattle.caster_replay.specs.declared.entry.State.{State}
-use Rattle.caster_replay.specs.declared.entry.State.TheVariants.{Open, Closed}
+use Rattle.caster_replay.specs.declared.run_connection.State.{State}
+use Rattle.caster_replay.specs.declared.run_connection.State.TheVariants.{Open, Closed}
 use Rattle.caster_replay.proofs.WorldHeadingLemmas.{heading_keeps, over_judged, or_later, opened-append, opened_stays, bytes_begin, bytes_on, bytes_stay}
 use Rattle.session_core.proofs.FeedHeadLemmas.{others_none}
 use Rattle.caster_replay.proofs.WorldListLemmas.{pairs_length, pairs_at, not_opened, before}
@@ -374,7 +374,7 @@ run_turned c script lives old now number budget at y session next before after r
 
 -- no rover, which a turn leaves as it is
 quiet_stage : (c : Config) (me : ℕ) (h : Histories) (o : Opening) (j : Judged) (text : List ℕ) (steps : List Step)
-    (stage : Stage) → IsAtStage c me h o j text steps stage → is_rover stage ≡ false → segments_after [] steps ≡ []
+    (stage : SessionStage) → IsAtStage c me h o j text steps stage → is_rover stage ≡ false → segments_after [] steps ≡ []
 quiet_stage c me h o j text steps (stages.Head head) at apart = ap (segments_after []) at.2
 quiet_stage c me h o j text steps stages.Over at apart = at.segments
 quiet_stage c me h o j text steps (stages.Source mount session) at apart = at.segments

@@ -25,7 +25,7 @@ use Rattle.caster_replay.specs.Lives.{Live, live_of}
 use Rattle.caster_replay.specs.Calls.{Feeds, TakesTurn}
 use Rattle.caster_replay.specs.Runs.{is_cut}
 use Rattle.session_calls.specs.Steps.{Step}
-use Rattle.caster_replay.specs.declared.entry.State.TheVariants.{Open}
+use Rattle.caster_replay.specs.declared.run_connection.State.TheVariants.{Open}
 use Rattle.caster_replay.proofs.WorldKnownLemmas.{IsClean}
 use Rattle.caster_replay.proofs.WorldRunnerLemmas.{IsRun, headings_now, are_now, there, IsFound, found}
 

@@ -53,13 +53,13 @@ rover_among c headings n (d ∷ more) =
 -- ---- the answers
 
 -- so it is answered whether the connection of this number goes on
-abbrev pub GoesOn : Config → List Event → ℕ → Bool → Type 0
+abbrev pub GoesOn : Config → List Event → ℕ → (goes_on : Bool) → Type 0
 GoesOn c script n answer =
     (headings : ℕ → Heading) → AreHeadings script headings
     → answer ≡ is_going c headings (after_events c headings script) n
 
 -- and whether it has frames to read
-abbrev pub IsBehind : Config → List Event → ℕ → Bool → Type 0
+abbrev pub IsBehind : Config → List Event → ℕ → (behind : Bool) → Type 0
 IsBehind c script n answer =
     (headings : ℕ → Heading) → AreHeadings script headings
     → answer ≡ is_behind c headings (after_events c headings script) n

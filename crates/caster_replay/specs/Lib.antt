@@ -2,7 +2,7 @@ pub mod Lives
 pub mod Runs
 pub mod Calls
 pub mod Caster
-pub mod Entries
+pub mod RunConnections
 pub mod Scripts
 pub mod Sends
 pub mod Going

@@ -18,9 +18,9 @@ use Rattle.session_model.specs.Reports.{receipt_of}
 use Rattle.session_model.specs.Run.{Histories, Connected, judged_of}
 use Rattle.session_model.specs.Called.{OthersCalled}
 use Rattle.session_core.specs.Standing.{Stands}
-use Rattle.caster_replay.specs.declared.entry.Entry.{Entry}
-use Rattle.caster_replay.specs.declared.entry.State.{State}
-use Rattle.caster_replay.specs.declared.entry.State.TheVariants.{Open, Closed}
+use Rattle.caster_replay.specs.declared.run_connection.RunConnection.{RunConnection}
+use Rattle.caster_replay.specs.declared.run_connection.State.{State}
+use Rattle.caster_replay.specs.declared.run_connection.State.TheVariants.{Open, Closed}
 
 -- ---- of a connection
 
@@ -67,10 +67,10 @@ abbrev pub live_of : ℕ → State → List ℕ → Live
 live_of number state bytes = record { number = number; state = state; bytes = bytes }
 
 -- what the program keeps, as such
-abbrev pub live_in : Entry → Live
+abbrev pub live_in : RunConnection → Live
 live_in entry = live_of entry.number entry.state entry.bytes.items
 
-abbrev pub lives_in : List Entry → List Live
+abbrev pub lives_in : List RunConnection → List Live
 lives_in entries = map live_in entries
 
 -- it is kept of this connection

@@ -69,7 +69,7 @@ Pairs R (d ∷ ds) [] = ⊥
 Pairs R (d ∷ ds) (kept ∷ more) = R d kept × Pairs R ds more
 
 -- the histories are those of the run, and of each of its connections this is kept
-pub record StandsAt (c : Config) (headings : ℕ → Heading) (w : World) (lives : List Live)
+pub record LivesStandAt (c : Config) (headings : ℕ → Heading) (w : World) (lives : List Live)
     (now : Histories) : Type 0 where
   pub histories : w.histories ≡ now
   pub order : IsIncreasing w.connections
@@ -82,4 +82,4 @@ pub record Runs (c : Config) (script : List Event) (lives : List Live) (now : Hi
   pub known : (headings : ℕ → Heading) → AreKnown c headings script (after_events c headings script)
   pub has : HasHeadings script
   pub stands : (more : List Event) (headings : ℕ → Heading) → AreHeadings (script ++ more) headings
-      → StandsAt c headings (after_events c headings script) lives now
+      → LivesStandAt c headings (after_events c headings script) lives now

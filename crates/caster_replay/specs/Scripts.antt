@@ -9,13 +9,13 @@ use Rattle.cast_config.specs.declared.config.Config.{Config}
 use Rattle.session_model.specs.declared.ending.Last.{Last}
 use Rattle.session_model.specs.declared.ending.Last.TheVariants as lasts
 use Rattle.session_model.specs.Judged.{Opening, sends_head, relays, bare_source, bare_rover}
-use Rattle.caster_replay.specs.declared.entry.Act.{Act}
-use Rattle.caster_replay.specs.declared.entry.Act.TheVariants as acts
-use Rattle.caster_replay.specs.declared.entry.Entry.{Entry}
+use Rattle.caster_replay.specs.declared.run_connection.Act.{Act}
+use Rattle.caster_replay.specs.declared.run_connection.Act.TheVariants as acts
+use Rattle.caster_replay.specs.declared.run_connection.RunConnection.{RunConnection}
 use Rattle.caster_replay.specs.declared.event.Request.{Request}
 use Rattle.caster_replay.specs.declared.event.Request.TheVariants as requests
 use Rattle.caster_replay.specs.Caster.{DesksValue, ArePlaces}
-use Rattle.caster_replay.specs.Entries.{opening_of}
+use Rattle.caster_replay.specs.RunConnections.{opening_of}
 use Rattle.caster_replay.specs.Lives.{lives_in}
 use Rattle.caster_replay.specs.Runs.{Runs}
 
@@ -48,7 +48,7 @@ Begins (events.Turn k budget) number opening = ⊥
 Begins (events.Break k) number opening = ⊥
 Begins (events.End k) number opening = ⊥
 
--- by this event the connection of this number is closed so
+-- this event closes the connection of this number for this reason
 abbrev pub Ends : Event → ℕ → Last → Type 0
 Ends (events.Open k) number last = ⊥
 Ends (events.Relay k relay) number last = ⊥
@@ -73,13 +73,13 @@ Asks event number (requests.Apply act) = Acts event number act
 -- ---- while they are played
 
 -- what is kept stands for the run of these events at the desks of the caster
-pub record Stands (c : Config) (script : List Event) (entries : List Entry) (desks : DesksValue)
-    : Type 0 where
+pub record Stands (c : Config) (script : List Event) (entries : List RunConnection)
+    (desks : DesksValue) : Type 0 where
   pub places : ArePlaces c desks
   pub runs : Runs c script (lives_in entries) desks.seen
 
 -- and this is the next event of a script
-pub record Plays (c : Config) (script : List Event) (event : Event) (entries : List Entry)
+pub record Plays (c : Config) (script : List Event) (event : Event) (entries : List RunConnection)
     (desks : DesksValue) : Type 0 where
   pub later : List Event
   pub script_is : IsScriptFor c (script ++ event ∷ later)

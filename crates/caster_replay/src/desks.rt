@@ -15,13 +15,13 @@ ghost use Rattle.session_core.specs.Turned.{flow_of};
 ghost use Rattle.caster_replay.specs.Calls.{Closes, Feeds, Opens, TakesTurn};
 ghost use Rattle.caster_replay.specs.Caster.{AreNew, ArePlaces, AreRings, SameBook, SamePlaces};
 
-use crate::caps::caps_of;
 use crate::ring_place::RingPlace;
 use cast_config::Config;
 use cast_text::MountName;
 use caster_accounts::Book;
 use mount_ring::Ring;
 use session_core::{Bare, Flow, Last, Places, Receipt, Session};
+use session_model::caps_of;
 use std::alloc::{AllocError, Global};
 use std::marker::Model;
 use std::mem;

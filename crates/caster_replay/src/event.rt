@@ -2,8 +2,8 @@
 
 ghost use Rattle.caster_replay.specs.Scripts.{Asks};
 
-use crate::entry::Act;
 use crate::opening::Way;
+use crate::run_connection::Act;
 use session_core::{Bare, Last};
 use session_script::Event;
 

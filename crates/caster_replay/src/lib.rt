@@ -2,17 +2,16 @@
 //! and one of the book of accounts, and the report of it.
 #![tactic(auto)]
 
-mod caps;
 mod desks;
-mod entry;
 mod event;
 mod lives;
 mod opening;
 mod replaying;
 mod ring_place;
 mod run;
+mod run_connection;
 mod totals;
 
-pub use replaying::{played, replay};
+pub use replaying::{play_script, replay};
 pub use ring_place::RingPlace;
 pub use run::Run;

@@ -5,24 +5,24 @@ ghost use Rattle.cast_config.specs.declared.config.Config.{Config as ConfigValue
 ghost use Rattle.cast_config.specs.Kept.{KeepsRules};
 ghost use Rattle.session_model.specs.Setting as setting;
 ghost use Rattle.session_script.specs.declared.Event.{Event};
-ghost use Rattle.caster_replay.specs.declared.entry.Entry.{Entry as EntryValue};
+ghost use Rattle.caster_replay.specs.declared.run_connection.RunConnection.{RunConnection as EntryValue};
 ghost use Rattle.std.specs.List.Sorted.{IsNonDecreasingBy};
 ghost use Rattle.caster_replay.specs.Lives.{end_of, lives_in, place_of};
 ghost use Rattle.caster_replay.specs.Caster.{SamePlaces};
-ghost use Rattle.caster_replay.specs.Entries.{AreOver, IsFoundAt, IsMissing, IsRoverIn, opening_of};
+ghost use Rattle.caster_replay.specs.RunConnections.{AreOver, IsFoundAt, IsMissing, IsRoverIn, opening_of};
 ghost use Rattle.caster_replay.specs.Scripts.{Acts, Begins, IsShort, Plays, Stands};
 ghost use Rattle.caster_replay.specs.Sends.{IsSilent, Sends};
 
 use crate::desks::Desks;
-use crate::entry::{Act, Entry};
-use crate::opening::{Way, opened};
+use crate::opening::{Way, open_connection};
 use crate::ring_place::RingPlace;
+use crate::run_connection::{Act, RunConnection};
 use cast_config::Config;
 use session_core::{Last, RoverState};
 use std::alloc::{AllocError, Global};
 
 /// How many connections stand before a number.
-fn place_of(entries: &[Entry], number: u32) -> usize
+fn place_of(entries: &[RunConnection], number: u32) -> usize
     requires order { IsNonDecreasingBy (λ (entry : EntryValue). entry.number) entries.now }
     ensures place { result ≡ place_of number (lives_in entries.now) }
     ensures within { result ≤ length entries.now }
@@ -31,7 +31,7 @@ fn place_of(entries: &[Entry], number: u32) -> usize
 }
 
 /// Whether the connection of this number stands at this place.
-fn stands_at(entries: &[Entry], place: usize, number: u32) -> bool
+fn stands_at(entries: &[RunConnection], place: usize, number: u32) -> bool
     ensures { IsTrue result ↔ ((place < length entries.now)
         × ((d : EntryValue) → (slice_index_or entries.now place d).number ≡ number)) }
 {
@@ -39,7 +39,7 @@ fn stands_at(entries: &[Entry], place: usize, number: u32) -> bool
 }
 
 /// The connection of this number, if there is one.
-pub(crate) fn find(entries: &[Entry], number: u32) -> Option<&Entry>
+pub(crate) fn find(entries: &[RunConnection], number: u32) -> Option<&RunConnection>
     requires order { IsNonDecreasingBy (λ (entry : EntryValue). entry.number) entries.now }
     ensures found { IfSome result (λ entry. IsFoundAt entries.now number entry.now) }
     ensures none { IfNone result (IsMissing entries.now number) }
@@ -50,7 +50,7 @@ pub(crate) fn find(entries: &[Entry], number: u32) -> Option<&Entry>
 }
 
 /// Where the rover of this number stands, if it goes on and has a segment.
-pub(crate) fn rover_of(entries: &[Entry], number: u32) -> Option<RoverState>
+pub(crate) fn rover_of(entries: &[RunConnection], number: u32) -> Option<RoverState>
     requires order { IsNonDecreasingBy (λ (entry : EntryValue). entry.number) entries.now }
     ensures { IsRoverIn entries.now number result }
 {
@@ -64,7 +64,7 @@ pub(crate) fn rover_of(entries: &[Entry], number: u32) -> Option<RoverState>
 pub(crate) fn apply<P: RingPlace>(
     config: &Config,
     table: &[u8],
-    entries: &mut Vec<Entry>,
+    entries: &mut Vec<RunConnection>,
     desks: &mut Desks<P>,
     number: u32,
     act: Act<'_>,
@@ -89,7 +89,7 @@ pub(crate) fn apply<P: RingPlace>(
 
 /// Closes each connection that goes on, as its end, in increasing order of number.
 pub(crate) fn close_all<P: RingPlace>(
-    entries: &mut Vec<Entry>,
+    entries: &mut Vec<RunConnection>,
     desks: &mut Desks<P>,
 ) -> Result<(), AllocError>
     requires run { (c : ConfigValue) × (script : List Event)
@@ -111,7 +111,7 @@ pub(crate) fn close_all<P: RingPlace>(
 pub(crate) fn open<P: RingPlace>(
     alloc: Global,
     config: &Config,
-    entries: &mut Vec<Entry>,
+    entries: &mut Vec<RunConnection>,
     desks: &mut Desks<P>,
     number: u32,
     way: Way<'_>,
@@ -130,7 +130,7 @@ pub(crate) fn open<P: RingPlace>(
     if stands_at(entries, place, number) {
         return Ok(());
     }
-    let entry = opened(alloc, config, desks, number, way)?;
+    let entry = open_connection(alloc, config, desks, number, way)?;
     entries.insert(place, entry)?;
     entries[place].settle(desks)
 }

@@ -7,11 +7,11 @@ ghost use Rattle.session_model.specs.Run.{Histories};
 ghost use Rattle.session_model.specs.Judged.{relays, sends_head};
 ghost use Rattle.session_core.specs.Beginnings.{bare_opening};
 ghost use Rattle.caster_replay.specs.Caster.{ArePlaces, SamePlaces};
-ghost use Rattle.caster_replay.specs.Entries.{HasOpened, IsUnsent, NamesRelay, opening_of};
+ghost use Rattle.caster_replay.specs.RunConnections.{HasOpened, IsUnsent, NamesRelay, opening_of};
 
 use crate::desks::Desks;
-use crate::entry::{Entry, State};
 use crate::ring_place::RingPlace;
+use crate::run_connection::{RunConnection, State};
 use cast_config::Config;
 use cast_text::MountName;
 use session_core::{Bare, Session};
@@ -29,14 +29,14 @@ pub(crate) enum Way<'a> {
 }
 
 /// A connection that will send a head.
-fn head_opened(alloc: Global, number: u32) -> Result<Entry, AllocError>
+fn head_opened(alloc: Global, number: u32) -> Result<RunConnection, AllocError>
     ensures number { IfOk result (λ entry. entry.number ≡ number) }
     ensures opened { (c : ConfigValue) (seen : Histories) → IfOk result (λ entry.
         HasOpened c seen seen number sends_head entry.state entry.bytes.items) }
     ensures unsent { IfOk result (λ entry. entry.bytes.items ≡ []) }
 {
     let session = Session::open(alloc, number)?;
-    Ok(Entry {
+    Ok(RunConnection {
         number,
         state: State::Open(session),
         bytes: Vec::new(alloc),
@@ -49,7 +49,7 @@ fn relay_opened(
     config: &Config,
     number: u32,
     relay: u32,
-) -> Result<Entry, AllocError>
+) -> Result<RunConnection, AllocError>
     requires kept { (cap : ℕ) × KeepsRules cap config.now }
     requires there { relay < length config.now.relay }
     ensures number { IfOk result (λ entry. entry.number ≡ number) }
@@ -58,7 +58,7 @@ fn relay_opened(
 {
     let mut bytes = Vec::new(alloc);
     let session = Session::relay(alloc, config, number, relay, &mut bytes)?;
-    Ok(Entry {
+    Ok(RunConnection {
         number,
         state: State::Open(session),
         bytes,
@@ -73,7 +73,7 @@ fn bare_opened<P: RingPlace>(
     number: u32,
     role: Bare,
     mount: &MountName,
-) -> Result<Entry, AllocError>
+) -> Result<RunConnection, AllocError>
     requires kept { (cap : ℕ) × KeepsRules cap config.now }
     requires places { ArePlaces config.now desks.old }
     ensures same { SamePlaces desks.old desks.new }
@@ -83,7 +83,7 @@ fn bare_opened<P: RingPlace>(
     ensures unsent { IfOk result (λ entry. entry.bytes.items ≡ []) }
 {
     let session = desks.bare(alloc, config, number, role, mount)?;
-    Ok(Entry {
+    Ok(RunConnection {
         number,
         state: State::Open(session),
         bytes: Vec::new(alloc),
@@ -91,13 +91,13 @@ fn bare_opened<P: RingPlace>(
 }
 
 /// A connection opens under a number that no other has.
-pub(crate) fn opened<P: RingPlace>(
+pub(crate) fn open_connection<P: RingPlace>(
     alloc: Global,
     config: &Config,
     desks: &mut Desks<P>,
     number: u32,
     way: Way<'_>,
-) -> Result<Entry, AllocError>
+) -> Result<RunConnection, AllocError>
     requires kept { (cap : ℕ) × KeepsRules cap config.now }
     requires places { ArePlaces config.now desks.old }
     requires relay { NamesRelay config.now (opening_of way) }

@@ -21,7 +21,7 @@ use turn_log::Desk;
 ///
 /// # Errors
 /// For want of memory, also where a session or a turn was halted by it.
-pub fn played(
+pub fn play_script(
     alloc: Global,
     config: &Config,
     events: &[Event],
@@ -55,6 +55,6 @@ pub fn replay(alloc: Global, config: &Config, events: &[Event]) -> Result<Report
     requires script { IsScriptFor config.now events.now }
     ensures { IfOk result (λ report. IsReport config.now events.now report) }
 {
-    let run = played(alloc, config, events)?;
+    let run = play_script(alloc, config, events)?;
     run.finish(alloc, config)
 }

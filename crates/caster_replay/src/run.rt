@@ -1,13 +1,12 @@
 //! A run that is played event by event.
 
-ghost use Rattle.std.specs.Prelude.{◌≡◌, ℕ, ◌≤◌, ◌+◌, [], ◌∷◌, ◌++◌, List, length, IsTrue, IfOk, OnOk};
+ghost use Rattle.std.specs.Prelude.{◌≡◌, ℕ, ◌+◌, [], ◌∷◌, ◌++◌, List, IsTrue, IfOk, OnOk};
 ghost use Rattle.cast_config.specs.declared.config.Config.{Config as ConfigValue};
 ghost use Rattle.cast_config.specs.Kept.{KeepsRules};
 ghost use Rattle.session_model.specs.declared.report.Connection.{Connection as ConnectionValue};
 ghost use Rattle.session_model.specs.Reports.{IsReport};
-ghost use Rattle.session_model.specs.Setting as setting;
 ghost use Rattle.session_script.specs.declared.Event.{Event as EventValue};
-ghost use Rattle.caster_replay.specs.Entries.{AreOver, IsOverAt};
+ghost use Rattle.caster_replay.specs.RunConnections.{AreOver, IsOverAt};
 ghost use Rattle.caster_replay.specs.Going.{GoesOn, IsBehind, IsRover, MaySpeak};
 ghost use Rattle.caster_replay.specs.Kept.{HasRings, MayCome, SameButRings, StandsFor, homes_of, lives_of, sent_by_run};
 ghost use Rattle.caster_replay.specs.Lives.{AreTold, IsToldBy, lives_in};
@@ -15,17 +14,16 @@ ghost use Rattle.caster_replay.specs.Scripts.{IsShort, Stands};
 ghost use Rattle.caster_replay.specs.Sends.{IsSilent, Sends, told_sent};
 
 use crate::desks::Desks;
-use crate::entry::{Entry, State};
 use crate::event::{Request, request_of};
 use crate::lives::{apply, close_all, find, open, rover_of};
 use crate::ring_place::RingPlace;
+use crate::run_connection::{RunConnection, State};
 use crate::totals::totals;
 use cast_config::Config;
-use config_table::table_of;
+use config_table::table_text;
 use mount_ring::Ring;
 use session_core::{Closed, Connection, Connections, Report, RoverState, Sent};
 use session_script::Event;
-use sourcetable::write_table;
 use std::alloc::{AllocError, Global};
 use turn_log::Turns;
 
@@ -34,27 +32,16 @@ use turn_log::Turns;
 #[derive(Drop)]
 pub struct Run<P: Turns<Ring>> {
     table: Vec<u8>,
-    entries: Vec<Entry>,
+    entries: Vec<RunConnection>,
     desks: Desks<P>,
 }
 
-/// The sourcetable that clients are sent.
-fn table_text(alloc: Global, config: &Config) -> Result<Vec<u8>, AllocError>
-    requires few { length config.now.mount + length config.now.near ≤ 64 }
-    ensures { IfOk result (λ text. text.items ≡ setting.table config.now) }
-{
-    let table = table_of(alloc, config)?;
-    let mut text = Vec::new(alloc);
-    write_table(&table, &mut text)?;
-    Ok(text)
-}
-
 /// What is told of a connection that is over.
-fn told(entry: Entry) -> Connection
+fn outcome_of(entry: RunConnection) -> Connection
     requires over { IsOverAt entry.state }
     ensures { IsToldBy entry.state entry.number entry.bytes.items result }
 {
-    let Entry {
+    let RunConnection {
         number,
         state,
         bytes,
@@ -70,13 +57,13 @@ fn told(entry: Entry) -> Connection
 }
 
 /// What is told of all connections, which are over.
-fn told_all(alloc: Global, entries: Vec<Entry>) -> Result<Vec<Connection>, AllocError>
+fn told_all(alloc: Global, entries: Vec<RunConnection>) -> Result<Vec<Connection>, AllocError>
     requires over { AreOver (lives_in entries.items) }
     ensures { IfOk result (λ list. AreTold (lives_in entries.items) list.items) }
 {
     let mut list = Vec::new(alloc);
     for entry in entries {
-        list.push(told(entry))?;
+        list.push(outcome_of(entry))?;
     }
     Ok(list)
 }
@@ -86,7 +73,7 @@ fn told_all(alloc: Global, entries: Vec<Entry>) -> Result<Vec<Connection>, Alloc
 fn close_down<P: RingPlace>(
     alloc: Global,
     config: &Config,
-    entries: &mut Vec<Entry>,
+    entries: &mut Vec<RunConnection>,
     desks: &mut Desks<P>,
 ) -> Result<Closed, AllocError>
     requires kept { (cap : ℕ) × KeepsRules cap config.now }
@@ -241,7 +228,7 @@ impl<P: RingPlace> Run<P> {
         })
     }
 
-    /// The same, as the list of its connections and what the mountpoints and accounts came to.
+    /// The two parts of the report: the connections, and the totals of mountpoints and accounts.
     ///
     /// # Errors
     /// For want of memory, also where the turn that closes a session was halted by it.

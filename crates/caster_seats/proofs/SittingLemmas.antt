@@ -18,11 +18,11 @@ use Rattle.session_calls.specs.Rings.{AllLater}
 use Rattle.session_model.specs.Run.{Histories, nothing_called}
 use Rattle.caster_places.specs.Piles.{AreMatched}
 use Rattle.caster_places.specs.Rows.{AreAt, ArePiles, HaveRoom, RingLocks, BookLock}
-use Rattle.caster_places.specs.declared.piles.Piles.{Piles}
+use Rattle.caster_places.specs.declared.pass_piles.PassPiles.{PassPiles}
 use Rattle.caster_seats.specs.declared.shared.Shared.{Shared}
 use Rattle.caster_seats.specs.declared.shared.Passes.{Passes}
 use Rattle.caster_seats.specs.Sharing.{AreNewPasses, ArePassesOf, IsNewPass, IsReady, seen_by}
-use Rattle.caster_seats.specs.Hands.{HandTold}
+use Rattle.caster_seats.specs.SeatedCallers.{SeatedTold}
 use Rattle.caster_seats.specs.Seated.{AreSeated, IsSeated, AreAllAt, AreBelow, AreLegal, HaveLeft, HavePlaces, TookWork, rows_of, works_of}
 use Rattle.session_core.proofs.HeldLemmas.{length_shapes}
 use Rattle.caster_places.proofs.ListLemmas.{at_front, at_back}
@@ -85,8 +85,8 @@ pub seated_none : {X : Type 0} (shared : Shared) (works : List X) → length wor
 seated_none shared [] none = tt
 seated_none shared (work ∷ works) none = absurd (omega (arith, none))
 
-seated-snoc : {X : Type 0} (shared : Shared) (n : ℕ) (works : List X) (hands : List (HandTold X)) (work : X)
-    (hand : HandTold X) → AreSeated shared n works hands → IsSeated shared (n + length works) work hand
+seated-snoc : {X : Type 0} (shared : Shared) (n : ℕ) (works : List X) (hands : List (SeatedTold X)) (work : X)
+    (hand : SeatedTold X) → AreSeated shared n works hands → IsSeated shared (n + length works) work hand
     → AreSeated shared n (works ++ work ∷ []) (hands ++ hand ∷ [])
 seated-snoc shared n [] [] work hand so_far one = (subst (λ (k : ℕ). IsSeated shared k work hand) (omega arith) one, tt)
 seated-snoc shared n [] (x ∷ hands) work hand so_far one = absurd so_far
@@ -98,7 +98,7 @@ seated-snoc shared n (w ∷ works) (x ∷ hands) work hand so_far one = (
 )
 
 -- one more sat down behind the others
-pub seated_more : {X Y : Type 0} (shared : Shared) (told : Y → HandTold X) (works front : List X) (work : X)
+pub seated_more : {X Y : Type 0} (shared : Shared) (told : Y → SeatedTold X) (works front : List X) (work : X)
     (old mid new more : List Y) (hand : Y) (number : ℕ) → works ≡ front ++ work ∷ [] → mid ≡ old ++ more
     → AreSeated shared 0 front (map told more) → new ≡ mid ++ hand ∷ [] → number ≡ length front
     → IsSeated shared number work (told hand)
@@ -113,14 +113,14 @@ seated_more shared told works front work old mid new more hand number is before 
 )
 
 -- all, where nobody sat down before
-pub all_seated : {X Y : Type 0} (shared : Shared) (told : Y → HandTold X) (works : List X) (none all more : List Y)
+pub all_seated : {X Y : Type 0} (shared : Shared) (told : Y → SeatedTold X) (works : List X) (none all more : List Y)
     → none ≡ [] → all ≡ none ++ more → AreSeated shared 0 works (map told more) → AreSeated shared 0 works (map told all)
 all_seated shared told works none all more empty is seated =
     subst (λ l. AreSeated shared 0 works (map told l)) (sym (is ∙ ap (λ l. l ++ more) empty)) seated
 
 -- ---- callers that leave
 
-all_at-last : {X : Type 0} (n : ℕ) (hands : List (HandTold X)) (hand : HandTold X) (rings : RingLocks) (book : BookLock)
+all_at-last : {X : Type 0} (n : ℕ) (hands : List (SeatedTold X)) (hand : SeatedTold X) (rings : RingLocks) (book : BookLock)
     → AreAllAt n (hands ++ hand ∷ []) rings book
     → AreAllAt n hands rings book × AreAt (n + length hands) hand.known rings book
 all_at-last n [] hand rings book all = (tt, subst (λ (k : ℕ). AreAt k hand.known rings book) (omega arith) all.0)
@@ -128,14 +128,14 @@ all_at-last n (x ∷ hands) hand rings book all =
     let later = all_at-last (n + 1) hands hand rings book all.1 in
     ((all.0, later.0), subst (λ (k : ℕ). AreAt k hand.known rings book) (omega arith) later.1)
 
-pub left_none : {X Y : Type 0} (told : Y → HandTold X) (hands : List Y) (piles : Piles) → hands ≡ []
+pub left_none : {X Y : Type 0} (told : Y → SeatedTold X) (hands : List Y) (piles : PassPiles) → hands ≡ []
     → HaveLeft (map told hands) piles piles
 left_none told hands piles none rows rings book all so_far =
     subst (λ l. ArePiles (rows ++ rows_of (map told l)) piles rings book) (sym none)
     (subst (λ l. ArePiles l piles rings book) (sym (append-nil rows)) so_far)
 
 -- the last of them left behind the others
-pub left_more : {X Y : Type 0} (told : Y → HandTold X) (hands front : List Y) (last : Y) (old mid new : Piles)
+pub left_more : {X Y : Type 0} (told : Y → SeatedTold X) (hands front : List Y) (last : Y) (old mid new : PassPiles)
     → hands ≡ front ++ last ∷ [] → HaveLeft (map told front) old mid
     → ((number : ℕ) (rows : List Histories) (rings : RingLocks) (book : BookLock)
     → AreAt number (told last).known rings book → number ≡ length rows → ArePiles rows mid rings book
@@ -152,51 +152,51 @@ left_more {X} told hands front last old mid new is before one rows rings book al
     omega (
       arith,
       length-append rows (rows_of (map told front)),
-      length-map (map told front) (λ (hand : HandTold X). hand.seen),
+      length-map (map told front) (λ (hand : SeatedTold X). hand.seen),
     ) in
     subst (λ l. ArePiles l new rings book)
     (append_assoc rows (rows_of (map told front)) ((told last).seen ∷ [])
     ∙ ap (λ l. rows ++ l) (sym (ap rows_of told_are
-    ∙ map-append (λ (hand : HandTold X). hand.seen) (map told front) (told last ∷ []))))
+    ∙ map-append (λ (hand : SeatedTold X). hand.seen) (map told front) (told last ∷ []))))
     (one number (rows ++ rows_of (map told front)) rings book split.1 long first)
 
-places-last : {X : Type 0} (n : ℕ) (hands : List (HandTold X)) (hand : HandTold X) → HavePlaces n (hands ++ hand ∷ [])
+places-last : {X : Type 0} (n : ℕ) (hands : List (SeatedTold X)) (hand : SeatedTold X) → HavePlaces n (hands ++ hand ∷ [])
     → HavePlaces n hands × (length hand.known.homes ≡ n)
 places-last n [] hand all = (tt, all.0)
 places-last n (x ∷ hands) hand all =
     let later = places-last n hands hand all.1 in ((all.0, later.0), later.1)
 
 -- the last has its places, and so have those before it
-pub places_split : {X Y : Type 0} (told : Y → HandTold X) (n : ℕ) (hands front : List Y) (last : Y)
+pub places_split : {X Y : Type 0} (told : Y → SeatedTold X) (n : ℕ) (hands front : List Y) (last : Y)
     → hands ≡ front ++ last ∷ [] → HavePlaces n (map told hands)
     → HavePlaces n (map told front) × (length (told last).known.homes ≡ n)
 places_split told n hands front last is all =
     places-last n (map told front) (told last)
     (subst (HavePlaces n) (ap (map told) is ∙ map-append told front (last ∷ [])) all)
 
-legal-snoc : {X : Type 0} (hands : List (HandTold X)) (hand : HandTold X) → AreLegal hands
+legal-snoc : {X : Type 0} (hands : List (SeatedTold X)) (hand : SeatedTold X) → AreLegal hands
     → IsLegal (fits hand.known.caps_are) hand.seen.book → AreLegal (hands ++ hand ∷ [])
 legal-snoc [] hand all one = (one, tt)
 legal-snoc (x ∷ hands) hand all one = (all.0, legal-snoc hands hand all.1 one)
 
-pub legal_more : {X Y : Type 0} (told : Y → HandTold X) (hands front : List Y) (last : Y)
+pub legal_more : {X Y : Type 0} (told : Y → SeatedTold X) (hands front : List Y) (last : Y)
     → hands ≡ front ++ last ∷ [] → AreLegal (map told front)
     → IsLegal (fits (told last).known.caps_are) (told last).seen.book → AreLegal (map told hands)
 legal_more told hands front last is all one =
     subst AreLegal (sym (ap (map told) is ∙ map-append told front (last ∷ [])))
     (legal-snoc (map told front) (told last) all one)
 
-pub below_none : {X Y : Type 0} (told : Y → HandTold X) (worn : List ℕ) (hands : List Y) → length hands ≡ 0
+pub below_none : {X Y : Type 0} (told : Y → SeatedTold X) (worn : List ℕ) (hands : List Y) → length hands ≡ 0
     → AreBelow worn (map told hands)
 below_none told worn [] none = tt
 below_none told worn (hand ∷ hands) none = absurd (omega (arith, none))
 
-below-snoc : {X : Type 0} (worn : List ℕ) (hands : List (HandTold X)) (hand : HandTold X) → AreBelow worn hands → AllLater hand.worn worn
+below-snoc : {X : Type 0} (worn : List ℕ) (hands : List (SeatedTold X)) (hand : SeatedTold X) → AreBelow worn hands → AllLater hand.worn worn
     → AreBelow worn (hands ++ hand ∷ [])
 below-snoc worn [] hand all one = (one, tt)
 below-snoc worn (x ∷ hands) hand all one = (all.0, below-snoc worn hands hand all.1 one)
 
-pub below_more : {X Y : Type 0} (told : Y → HandTold X) (worn : List ℕ) (hands front : List Y) (last : Y)
+pub below_more : {X Y : Type 0} (told : Y → SeatedTold X) (worn : List ℕ) (hands front : List Y) (last : Y)
     → hands ≡ front ++ last ∷ [] → AreBelow worn (map told front) → AllLater (told last).worn worn
     → AreBelow worn (map told hands)
 below_more told worn hands front last is all one =
@@ -219,7 +219,7 @@ front_new passes front last shared is each number pass here =
 
 -- ---- room in the piles
 
-pub less_room : (more less : ℕ) (piles : Piles) → less ≤ more → HaveRoom more piles → HaveRoom less piles
+pub less_room : (more less : ℕ) (piles : PassPiles) → less ≤ more → HaveRoom more piles → HaveRoom less piles
 less_room more less piles fewer room = record {
   rings = λ k d within. omega (arith, fewer, room.rings k d within);
   book = omega (arith, fewer, room.book);
@@ -231,7 +231,7 @@ one_longer hands front last is = ap length is ∙ length-append front (last ∷ 
 
 -- ---- work that is taken in
 
-pub work_none : {X Y : Type 0} (told : Y → HandTold X) (hands : List Y) (list : Vec X Global) → length hands ≡ 0
+pub work_none : {X Y : Type 0} (told : Y → SeatedTold X) (hands : List Y) (list : Vec X Global) → length hands ≡ 0
     → TookWork told hands list list
 work_none told [] list none = record {
   works = sym (append-nil list.items);
@@ -240,14 +240,14 @@ work_none told [] list none = record {
 }
 work_none told (hand ∷ hands) list none = absurd (omega (arith, none))
 
-pub work_more : {X Y : Type 0} (told : Y → HandTold X) (hands front : List Y) (last : Y) (old mid new : Vec X Global)
+pub work_more : {X Y : Type 0} (told : Y → SeatedTold X) (hands front : List Y) (last : Y) (old mid new : Vec X Global)
     → hands ≡ front ++ last ∷ [] → TookWork told front old mid → new.items ≡ mid.items ++ (told last).work ∷ []
     → vec_len new ≡ vec_len mid + 1 → vec_capacity new ≡ vec_capacity mid → TookWork told hands old new
 work_more {X} told hands front last old mid new is before pushed longer same = record {
   works = pushed ∙ ap (λ l. l ++ (told last).work ∷ []) before.works
       ∙ append_assoc old.items (works_of (map told front)) ((told last).work ∷ [])
       ∙ ap (λ l. old.items ++ l) (sym (ap works_of (ap (map told) is ∙ map-append told front (last ∷ []))
-      ∙ map-append (λ (hand : HandTold X). hand.work) (map told front) (told last ∷ [])));
+      ∙ map-append (λ (hand : SeatedTold X). hand.work) (map told front) (told last ∷ [])));
   count = omega (arith, longer, before.count, one_longer hands front last is);
   capacity = omega (arith, same, before.capacity);
 }

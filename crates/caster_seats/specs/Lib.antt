@@ -1,3 +1,3 @@
 pub mod Sharing
-pub mod Hands
+pub mod SeatedCallers
 pub mod Seated

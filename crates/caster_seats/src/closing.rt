@@ -12,7 +12,7 @@ ghost use Rattle.caster_places.specs.Rows.{ArePiles, AreWhole, AreWornWithin, Is
 ghost use Rattle.caster_seats.specs.Sharing.{AreOpenFor, IsReady};
 
 use crate::shared::Shared;
-use caster_places::{Piles, Totals, close};
+use caster_places::{PassPiles, Totals, close};
 use session_core::Closed;
 
 impl<'c> Shared<'c> {
@@ -20,7 +20,7 @@ impl<'c> Shared<'c> {
     ///
     /// What is shared is taken apart here by all its four parts, so a further one, such as one more
     /// lock, could not stand in it unseen.
-    pub fn close(self, piles: Piles, totals: Totals) -> Closed
+    pub fn close(self, piles: PassPiles, totals: Totals) -> Closed
         requires ready { IsReady self }
         requires opened { AreOpenFor (length piles.book.items) self }
         requires rows { (rows : List Histories)

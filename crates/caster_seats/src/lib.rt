@@ -4,12 +4,12 @@
 #![tactic(auto)]
 
 mod closing;
-mod hands;
 mod locks;
 mod opening;
 mod passes;
+mod seated_callers;
 mod seats;
 mod shared;
 
-pub use hands::{AtPlaces, Hand, leave_all, sit_all};
+pub use seated_callers::{AtPlaces, SeatedCaller, leave_all, sit_all};
 pub use shared::{Passes, Shared};

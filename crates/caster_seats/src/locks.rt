@@ -6,13 +6,14 @@ ghost use Rattle.mount_ring.specs.Kept.{ring_shape};
 ghost use Rattle.caster_accounts.specs.Kept.{caps_of};
 ghost use Rattle.turn_log.specs.Lock.{turn_passes, turn_value};
 ghost use Rattle.cast_config.specs.Kept.{KeepsRules};
-ghost use Rattle.session_model.specs.Setting.{anonymous_cap, caps, shapes};
+ghost use Rattle.session_model.specs.Setting.{caps, shapes};
 ghost use Rattle.caster_places.specs.Piles.{AreMatched};
 ghost use Rattle.caster_seats.specs.Sharing.{AreDealt, ring_of};
 
-use cast_config::{Anonymous, Config};
+use cast_config::Config;
 use caster_accounts::Book;
 use mount_ring::Ring;
+use session_model::caps_of;
 use std::alloc::{AllocError, Global};
 use turn_log::{Pass, Turn};
 
@@ -61,28 +62,6 @@ pub(crate) fn open_rings(
         piles.push(pile)?;
     }
     Ok((rings, piles))
-}
-
-/// How many sessions may be open of rovers without credentials.
-fn anonymous_cap(anonymous: &Option<Anonymous>) -> u32
-    ensures { result ≡ anonymous_cap anonymous.now }
-{
-    match anonymous {
-        None => 0,
-        Some(anonymous) => anonymous.cap,
-    }
-}
-
-/// How many sessions of each account may be open, those of rovers without credentials first.
-fn caps_of(alloc: Global, config: &Config) -> Result<Vec<u32>, AllocError>
-    ensures { IfOk result (λ list. list.items ≡ caps config.now) }
-{
-    let mut list = Vec::new(alloc);
-    list.push(anonymous_cap(&config.anonymous))?;
-    for account in config.account.as_slice() {
-        list.push(account.cap)?;
-    }
-    Ok(list)
 }
 
 /// The lock of the book, with its passes.

@@ -4,7 +4,6 @@ ghost use Rattle.std.specs.Prelude.{◌≡◌, ◌<◌, ℕ, length, IfOk};
 ghost use mathlib.Core.Option.{some};
 ghost use lib.ListN.{get_elem?};
 ghost use Rattle.cast_config.specs.Kept.{KeepsRules};
-ghost use Rattle.session_model.specs.Setting as setting;
 ghost use Rattle.caster_places.specs.Known.{Fit};
 ghost use Rattle.caster_places.specs.Rows.{AreAt};
 ghost use Rattle.session_core.specs.Setups.{IsSetUp};
@@ -17,24 +16,12 @@ use crate::shared::{Passes, Shared};
 use cast_config::Config;
 use caster_accounts::Book;
 use caster_places::AllPlaces;
-use config_table::table_of;
+use config_table::table_text;
 use mount_ring::Ring;
 use session_core::{Places, Setup};
-use sourcetable::write_table;
 use std::alloc::{AllocError, Global};
 use std::sync::Wait;
 use turn_log::{Seat, Turn};
-
-/// The text of a configuration's sourcetable.
-fn table_text(alloc: Global, config: &Config) -> Result<Vec<u8>, AllocError>
-    requires { (cap : ℕ) × KeepsRules cap config.now }
-    ensures { IfOk result (λ text. text.items ≡ setting.table config.now) }
-{
-    let table = table_of(alloc, config)?;
-    let mut text = Vec::new(alloc);
-    write_table(&table, &mut text)?;
-    Ok(text)
-}
 
 impl<'c> Shared<'c> {
     /// What so many workers share, at least one, at locks where nothing was called yet; and the

@@ -5,22 +5,22 @@ use Rattle.std.specs.List.{All, list_all}
 use Rattle.std.proofs.lemmas.List.{length-map}
 use Rattle.std.proofs.lemmas.List.Elements.{All-head, All-tail}
 use Rattle.cast_io.specs.Told.{LinkTold, DoorTold}
-use Rattle.caster_serve.specs.declared.task.Task.{Task}
-use Rattle.caster_serve.specs.Ends.{EndTold, IsUnserved, IsUnused, end_told, kind_of, kinds}
+use Rattle.caster_serve.specs.declared.caller_task.CallerTask.{CallerTask}
+use Rattle.caster_serve.specs.Endpoints.{EndpointTold, IsUnserved, IsUnused, end_told, kind_of, kinds}
 use Rattle.caster_places.specs.Piles.{AreMatched}
 use Rattle.caster_places.specs.Rows.{ArePiles, AreWornWithin, RingLocks, BookLock}
-use Rattle.caster_places.specs.declared.piles.Piles.{Piles}
+use Rattle.caster_places.specs.declared.pass_piles.PassPiles.{PassPiles}
 use Rattle.caster_seats.specs.declared.shared.Shared.{Shared}
 use Rattle.caster_seats.specs.Sharing.{IsReady}
 use Rattle.caster_serve.specs.Callers.{ends_of, is_whole, seen_of}
-use Rattle.caster_seats.specs.Hands.{HandTold, with_work}
+use Rattle.caster_seats.specs.SeatedCallers.{SeatedTold, with_work}
 use Rattle.caster_seats.specs.Seated.{AreAllAt, AreBelow, AreLegal, AreSeated, HaveLeft, HavePlaces, rows_of, works_of}
-use Rattle.caster_serve.specs.Serving.{HandServed, HaveCalled, MayServe, TaskTold, caller_of, task_told}
+use Rattle.caster_serve.specs.Serving.{CallerServed, HaveCalled, MayServe, TaskTold, caller_of, task_told}
 use Rattle.caster_serve.proofs.CallersLemmas.{HaveServed, callers_of, fit_ends, have_places, have_served, legal_rows, may_serve_with, new_task, whole_are}
 
 -- ---- tasks of which nothing was done
 
-pub new_tasks : {D L : Type 0} (f : D → DoorTold) (g : L → LinkTold) (tasks : List (Task D L))
+pub new_tasks : {D L : Type 0} (f : D → DoorTold) (g : L → LinkTold) (tasks : List (CallerTask D L))
     → All IsUnserved tasks → map (task_told f g) tasks ≡ map new_task (map (end_told f g) tasks)
 new_tasks f g [] fresh = refl
 new_tasks f g (task ∷ tasks) fresh =
@@ -29,8 +29,8 @@ new_tasks f g (task ∷ tasks) fresh =
 
 -- ---- callers whose work is told as a task
 
-module _ {W Y : Type 0} (task : W → TaskTold) (told : Y → HandTold W) where
-  abbrev pub server : Y → HandTold TaskTold
+module _ {W Y : Type 0} (task : W → TaskTold) (told : Y → SeatedTold W) where
+  abbrev pub server : Y → SeatedTold TaskTold
   server hand = with_work task (told hand)
 
   pub seated_servers : (shared : Shared) (n : ℕ) (works : List W) (hands : List Y)
@@ -79,14 +79,14 @@ module _ {W Y : Type 0} (task : W → TaskTold) (told : Y → HandTold W) where
 
   -- ---- they served, and left
 
-  pub have_room : (mounts : ℕ) (shared : Shared) (limit : ℕ) (ends : List EndTold) (hands : List Y)
+  pub have_room : (mounts : ℕ) (shared : Shared) (limit : ℕ) (ends : List EndpointTold) (hands : List Y)
       → mounts ≡ length shared.rings.items → HaveServed shared limit 0 ends (map server hands)
       → HavePlaces mounts (map told hands)
   have_room mounts shared limit ends hands many served =
       places_at mounts hands (have_places mounts 0 (map server hands) shared.rings.items shared.book (sym many) served.at)
 
-  pub have_called : (shared : Shared) (limit : ℕ) (ends : List EndTold) (none after : List W) (hands : List Y)
-      (old new : Piles) (whole : Bool) → IsReady shared → none ≡ [] → map kind_of ends ≡ kinds shared.config.now
+  pub have_called : (shared : Shared) (limit : ℕ) (ends : List EndpointTold) (none after : List W) (hands : List Y)
+      (old new : PassPiles) (whole : Bool) → IsReady shared → none ≡ [] → map kind_of ends ≡ kinds shared.config.now
       → HaveServed shared limit 0 ends (map server hands) → after ≡ none ++ works_of (map told hands)
       → whole ≡ list_all (λ hand. is_whole limit (caller_of (server hand))) hands
       → HaveLeft (map told hands) old new
@@ -116,15 +116,15 @@ module _ {W Y : Type 0} (task : W → TaskTold) (told : Y → HandTold W) where
 
 -- ---- callers with new tasks
 
-module _ {D L Y : Type 0} (f : D → DoorTold) (g : L → LinkTold) (told : Y → HandTold (Task D L)) where
-  pub seated_new : (shared : Shared) (tasks : List (Task D L)) (hands : List Y) → All IsUnserved tasks
+module _ {D L Y : Type 0} (f : D → DoorTold) (g : L → LinkTold) (told : Y → SeatedTold (CallerTask D L)) where
+  pub seated_new : (shared : Shared) (tasks : List (CallerTask D L)) (hands : List Y) → All IsUnserved tasks
       → AreSeated shared 0 tasks (map told hands)
       → AreSeated shared 0 (map new_task (map (end_told f g) tasks)) (map (server (task_told f g) told) hands)
   seated_new shared tasks hands fresh seated =
       subst (λ l. AreSeated shared 0 l (map (server (task_told f g) told) hands)) (new_tasks f g tasks fresh)
       (seated_servers (task_told f g) told shared 0 tasks hands seated)
 
-  pub may_serve : (shared : Shared) (table : List ℕ) (limit : ℕ) (tasks : List (Task D L)) (hands : List Y)
+  pub may_serve : (shared : Shared) (table : List ℕ) (limit : ℕ) (tasks : List (CallerTask D L)) (hands : List Y)
       → table ≡ shared.table.items → IsReady shared → limit < 2 ^ 64
       → map kind_of (map (end_told f g) tasks) ≡ kinds shared.config.now → All IsUnused (map (end_told f g) tasks)
       → All IsUnserved tasks → AreSeated shared 0 tasks (map told hands)
@@ -134,9 +134,9 @@ module _ {D L Y : Type 0} (f : D → DoorTold) (g : L → LinkTold) (told : Y �
       small (fit_ends shared.config.now (map (end_told f g) tasks) kinds_are unused)
       (seated_new shared tasks hands fresh seated)
 
-  pub new_served : (shared : Shared) (limit : ℕ) (tasks : List (Task D L)) (olds news : List Y)
+  pub new_served : (shared : Shared) (limit : ℕ) (tasks : List (CallerTask D L)) (olds news : List Y)
       → All IsUnused (map (end_told f g) tasks) → All IsUnserved tasks → AreSeated shared 0 tasks (map told olds)
-      → AreMatched (HandServed shared.config.now limit) (map (server (task_told f g) told) olds)
+      → AreMatched (CallerServed shared.config.now limit) (map (server (task_told f g) told) olds)
       (map (server (task_told f g) told) news)
       → HaveServed shared limit 0 (map (end_told f g) tasks) (map (server (task_told f g) told) news)
   new_served shared limit tasks olds news unused fresh seated served =

@@ -17,24 +17,24 @@ use Rattle.cast_io.specs.Told.{LinkTold, DoorTold, StreetTold, Grew}
 use Rattle.cast_io.specs.declared.steps.Asked.{Asked}
 use Rattle.cast_io.specs.declared.steps.Asked.TheVariants as asked
 use Rattle.cast_io.specs.Doors.{IsNewDoor}
-use Rattle.caster_serve.specs.declared.task.End.{End}
-use Rattle.caster_serve.specs.declared.task.Task.{Task}
+use Rattle.caster_serve.specs.declared.caller_task.Endpoint.{Endpoint}
+use Rattle.caster_serve.specs.declared.caller_task.CallerTask.{CallerTask}
 use Rattle.cast_io.specs.Streets as streets
 use Rattle.cast_io.specs.Streets.{HasLeft, HasShut}
 use Rattle.cast_io.proofs.ToldLemmas.{grew_both}
-use Rattle.caster_serve.specs.Ends.{EndTold, at_door, over_link, HasAsked, HasTakenBack, IsUnserved, IsUnused, a_worker, asked_of, at_new_door, dial_of, end_told, kind_of, kinds, relays_from, doors_in, links_in, door_failed, unserved}
+use Rattle.caster_serve.specs.Endpoints.{EndpointTold, at_door, over_link, HasAsked, HasTakenBack, IsUnserved, IsUnused, a_worker, asked_of, at_new_door, dial_of, end_told, kind_of, kinds, relays_from, doors_in, links_in, door_failed, unserved}
 
 pub address_utf8 : (mounts : ℕ) (relay : Relay) → KeepsRelay mounts relay → IsTrue (is_utf8 relay.address)
 address_utf8 mounts relay kept = (and_parts _ _ (and_parts _ _ (and_parts _ _ kept.address).0).0).1
 
 -- ---- what comes back
 
-pub doors-append : (xs ys : List EndTold) → doors_in (xs ++ ys) ≡ doors_in xs ++ doors_in ys
+pub doors-append : (xs ys : List EndpointTold) → doors_in (xs ++ ys) ≡ doors_in xs ++ doors_in ys
 doors-append [] ys = refl
 doors-append (at_door door ∷ xs) ys = ap (λ l. door ∷ l) (doors-append xs ys)
 doors-append (over_link number link ∷ xs) ys = doors-append xs ys
 
-pub links-append : (xs ys : List EndTold) → links_in (xs ++ ys) ≡ links_in xs ++ links_in ys
+pub links-append : (xs ys : List EndpointTold) → links_in (xs ++ ys) ≡ links_in xs ++ links_in ys
 links-append [] ys = refl
 links-append (at_door door ∷ xs) ys = links-append xs ys
 links-append (over_link number link ∷ xs) ys = ap (λ l. link ∷ l) (links-append xs ys)
@@ -44,7 +44,7 @@ or_split true b h = inl refl
 or_split false b h = inr h
 
 -- one of them failed before the last, or the last did
-any_last : (xs : List EndTold) (x : EndTold) → IsTrue (list_any door_failed (xs ++ x ∷ []))
+any_last : (xs : List EndpointTold) (x : EndpointTold) → IsTrue (list_any door_failed (xs ++ x ∷ []))
     → IsTrue (list_any door_failed xs) ⊎ IsTrue (door_failed x)
 any_last xs x h = from (or_split _ _ (sym (list_any-append door_failed xs (x ∷ [])) ∙ h))
   where
@@ -58,7 +58,7 @@ any_last xs x h = from (or_split _ _ (sym (list_any-append door_failed xs (x ∷
     from (inr so) = inr (one (or_split _ _ so))
 
 -- a door more was shut
-pub back_door : (a b c : StreetTold) (xs : List EndTold) (door : DoorTold) → HasTakenBack xs a b
+pub back_door : (a b c : StreetTold) (xs : List EndpointTold) (door : DoorTold) → HasTakenBack xs a b
     → HasShut door b c → HasTakenBack (xs ++ at_door door ∷ []) a c
 back_door a b c xs door back shut = record {
   asked = shut.asked ∙ back.asked;
@@ -75,7 +75,7 @@ back_door a b c xs door back shut = record {
     risen (inr here) = omega (arith, back.later, shut.faults.rose (ltb-true 0 door.faults here))
 
 -- a link more was hung up
-pub back_link : (a b c : StreetTold) (xs : List EndTold) (n : ℕ) (link : LinkTold) → HasTakenBack xs a b
+pub back_link : (a b c : StreetTold) (xs : List EndpointTold) (n : ℕ) (link : LinkTold) → HasTakenBack xs a b
     → HasLeft link b c → HasTakenBack (xs ++ over_link n link ∷ []) a c
 back_link a b c xs n link back left = record {
   asked = left.asked ∙ back.asked;
@@ -150,7 +150,7 @@ doors_unused f g (door ∷ doors) fresh =
     (doors_unused f g doors (All-tail (λ door. IsNewDoor (f door)) door doors fresh))
 
 -- the list as it is told, with its last item apart
-pub told_snoc : {D L : Type 0} (f : D → DoorTold) (g : L → LinkTold) (all front : List (Task D L)) (last : Task D L)
+pub told_snoc : {D L : Type 0} (f : D → DoorTold) (g : L → LinkTold) (all front : List (CallerTask D L)) (last : CallerTask D L)
     → all ≡ front ++ last ∷ [] → map (end_told f g) all ≡ map (end_told f g) front ++ end_told f g last ∷ []
 told_snoc f g all front last is = ap (map (end_told f g)) is ∙ map-append (end_told f g) front (last ∷ [])
 
@@ -164,7 +164,7 @@ counted relay later relays (Err fault) n is all = tt
 -- the relays that were dialled behind what was given before
 pub kinds_more : {D L T E : Type 0} {relays : List Relay} (f : D → DoorTold) (g : L → LinkTold) (c : Config)
     (doors : List D)
-    (more all : List (Task D L)) (result : Result T E) → relays ≡ c.relay → length doors ≡ c.workers
+    (more all : List (CallerTask D L)) (result : Result T E) → relays ≡ c.relay → length doors ≡ c.workers
     → all ≡ map at_new_door doors ++ more
     → OnOk result (map kind_of (map (end_told f g) more) ≡ relays_from 0 relays)
     → OnOk result (map kind_of (map (end_told f g) all) ≡ kinds c)
@@ -176,7 +176,7 @@ kinds_more f g c doors more all (Ok answer) same size is told =
     ∙ ap (λ l. l ++ map kind_of (map (end_told f g) more)) (doors_told f g doors ∙ ap (λ n. replicate n a_worker) size)
     ∙ ap (λ l. replicate c.workers a_worker ++ l) (told ∙ ap (relays_from 0) same)
 
-pub unused_more : {D L : Type 0} (f : D → DoorTold) (g : L → LinkTold) (doors : List D) (more all : List (Task D L))
+pub unused_more : {D L : Type 0} (f : D → DoorTold) (g : L → LinkTold) (doors : List D) (more all : List (CallerTask D L))
     → all ≡ map at_new_door doors ++ more → All (λ door. IsNewDoor (f door)) doors
     → All IsUnused (map (end_told f g) more) → All IsUnused (map (end_told f g) all)
 unused_more f g doors more all is fresh unused =
@@ -206,15 +206,15 @@ doors_unserved [] = All-nil IsUnserved
 doors_unserved (door ∷ doors) =
     All-cons IsUnserved (at_new_door door) (map at_new_door doors) refl (doors_unserved doors)
 
-pub unserved_at : {D L : Type 0} (doors : List D) (none all : List (Task D L)) → none ≡ []
+pub unserved_at : {D L : Type 0} (doors : List D) (none all : List (CallerTask D L)) → none ≡ []
     → all ≡ none ++ map at_new_door doors → All IsUnserved all
 unserved_at doors none all empty is =
     subst (All IsUnserved) (sym (is ∙ ap (λ l. l ++ map at_new_door doors) empty)) (doors_unserved doors)
 
-pub unserved_more : {D L : Type 0} (end : End D L) (task : Task D L) (old new : List (Task D L))
+pub unserved_more : {D L : Type 0} (end : Endpoint D L) (task : CallerTask D L) (old new : List (CallerTask D L))
     → task ≡ unserved end → new ≡ old ++ task ∷ [] → All IsUnserved old → All IsUnserved new
 unserved_more end task old new fresh is all =
-    subst (All IsUnserved) (sym (is ∙ ap (λ (t : Task _ _). old ++ t ∷ []) fresh))
+    subst (All IsUnserved) (sym (is ∙ ap (λ (t : CallerTask _ _). old ++ t ∷ []) fresh))
     (All-append IsUnserved old (unserved end ∷ []) all
     (All-cons IsUnserved (unserved end) [] refl (All-nil IsUnserved)))
 

@@ -21,8 +21,8 @@ use Rattle.session_model.specs.Run.{Histories}
 use Rattle.session_model.specs.Reports.{added, closed_of}
 use Rattle.session_model.specs.Setting.{caps}
 use Rattle.session_core.proofs.HeldLemmas.{length_shapes}
-use Rattle.caster_serve.specs.Ends.{EndTold, HasAsked, HasTakenBack, IsUnused, a_worker, asked_of, doors_in, links_in, door_failed, kind_of, kinds, relays_from}
-use Rattle.caster_places.specs.declared.piles.Piles.{Piles}
+use Rattle.caster_serve.specs.Endpoints.{EndpointTold, HasAsked, HasTakenBack, IsUnused, a_worker, asked_of, doors_in, links_in, door_failed, kind_of, kinds, relays_from}
+use Rattle.caster_places.specs.declared.pass_piles.PassPiles.{PassPiles}
 use Rattle.caster_places.specs.Rows.{AreWhole, AreWornWithin, ArePiles, left_by}
 use Rattle.caster_seats.specs.declared.shared.Shared.{Shared}
 use Rattle.caster_serve.specs.declared.whole.ServeFault.{ServeFault}
@@ -54,18 +54,18 @@ length_kinds c =
     )
 
 -- as many as there are doors and links
-pub as_many_ends : {E : Type 0} (c : Config) (tell : E → EndTold) (ends : List E)
+pub as_many_ends : {E : Type 0} (c : Config) (tell : E → EndpointTold) (ends : List E)
     → map kind_of (map tell ends) ≡ kinds c → length ends ≡ c.workers + length c.relay
 as_many_ends c tell ends kinds_are =
     omega (arith, length-map (map tell ends) kind_of, length-map ends tell, ap length kinds_are, length_kinds c)
 
 -- ---- what comes back
 
-given_back : (ends : List EndTold) (old new : StreetTold) → HasTakenBack ends old new → HasGivenBack ends old new
+given_back : (ends : List EndpointTold) (old new : StreetTold) → HasTakenBack ends old new → HasGivenBack ends old new
 given_back ends old new back = record { doors = back.doors; links = back.links }
 
 -- it was all asked before
-pub since : (ends : List EndTold) (old mid new : StreetTold) → mid.doors ≡ old.doors → mid.links ≡ old.links
+pub since : (ends : List EndpointTold) (old mid new : StreetTold) → mid.doors ≡ old.doors → mid.links ≡ old.links
     → HasGivenBack ends mid new → HasGivenBack ends old new
 since ends old mid new doors links back = record {
   doors = subst (λ (told : Option (List DoorTold)). Grew told new.doors (doors_in ends)) doors back.doors;
@@ -74,7 +74,7 @@ since ends old mid new doors links back = record {
 
 -- ---- the callers served
 
-all_served : (shared : Shared) (limit : ℕ) (old new : StreetTold) (ends : List EndTold) (piles : Piles) (whole : Bool)
+all_served : (shared : Shared) (limit : ℕ) (old new : StreetTold) (ends : List EndpointTold) (piles : PassPiles) (whole : Bool)
     (histories : Histories) (called : HaveCalled shared limit ends piles whole)
     → AreWhole (seen_of called.callers) histories (length shared.config.now.mount)
     → AreWornWithin (map length histories.rings) (length histories.book) piles → HasTakenBack ends old new
@@ -82,20 +82,20 @@ all_served : (shared : Shared) (limit : ℕ) (old new : StreetTold) (ends : List
 all_served shared limit old new ends piles whole histories called is within back = record {
   kinds_are = ap (map kind_of) (sym called.ends_are) ∙ called.kinds_are;
   served = called.served (map length histories.rings) (length histories.book) within;
-  given_back = subst (λ (list : List EndTold). HasGivenBack list old new) called.ends_are
+  given_back = subst (λ (list : List EndpointTold). HasGivenBack list old new) called.ends_are
       (given_back ends old new back);
   whole = is;
 }
 
 -- what closing the locks says
-abbrev pub Closes : Shared → Piles → Closed → Type 0
+abbrev pub Closes : Shared → PassPiles → Closed → Type 0
 Closes shared piles closed = (rows : List Histories) → ArePiles rows piles shared.rings.items shared.book
     → All (λ (row : Histories). IsLegal (fits (caps shared.config.now)) row.book) rows
     → (whole : Histories) × AreWhole rows whole (length shared.config.now.mount)
     × (closed ≡ closed_of shared.config.now whole) × (closed.total ≡ added nothing (left_by 0 rows))
     × AreWornWithin (map length whole.rings) (length whole.book) piles
 
-pub closed_whole : (shared : Shared) (limit : ℕ) (old new : StreetTold) (ends : List EndTold) (piles : Piles)
+pub closed_whole : (shared : Shared) (limit : ℕ) (old new : StreetTold) (ends : List EndpointTold) (piles : PassPiles)
     (whole : Bool) (closed : Closed) → HaveCalled shared limit ends piles whole → Closes shared piles closed
     → HasTakenBack ends old new → IsTrue whole → ClosedWhole shared.config.now limit old new closed
 closed_whole shared limit old new ends piles whole closed called closes back all =
@@ -109,7 +109,7 @@ closed_whole shared limit old new ends piles whole closed called closes back all
           (called.served (map length is.0.rings) (length is.0.book) is.4));
     }
 
-pub ended_early : (shared : Shared) (limit : ℕ) (old new : StreetTold) (ends : List EndTold) (piles : Piles)
+pub ended_early : (shared : Shared) (limit : ℕ) (old new : StreetTold) (ends : List EndpointTold) (piles : PassPiles)
     (whole : Bool) (closed : Closed) → HaveCalled shared limit ends piles whole → Closes shared piles closed
     → HasTakenBack ends old new → whole ≡ false → EndedEarly shared.config.now limit old new
 ended_early shared limit old new ends piles whole closed called closes back short =
@@ -117,12 +117,12 @@ ended_early shared limit old new ends piles whole closed called closes back shor
       callers = called.callers;
       histories = is.0;
       all = all_served shared limit old new ends piles whole is.0 called is.1 is.4 back;
-      rose = back.rose (subst (λ (list : List EndTold). IsTrue (list_any door_failed list)) (sym called.ends_are)
+      rose = back.rose (subst (λ (list : List EndpointTold). IsTrue (list_any door_failed list)) (sym called.ends_are)
           (some_failed shared.config.now limit (calls_in is.0) 0 called.callers
           (called.served (map length is.0.rings) (length is.0.book) is.4) (sym called.whole_is ∙ short)));
     }
 
-pub none_served : (ends : List EndTold) (old new : StreetTold) → All IsUnused ends → HasTakenBack ends old new
+pub none_served : (ends : List EndpointTold) (old new : StreetTold) → All IsUnused ends → HasTakenBack ends old new
     → NoneServed old new
 none_served ends old new unused back = record {
   ends = ends;
@@ -160,7 +160,7 @@ asked_first : (wanted : List _) (old mid new : StreetTold) → HasAsked wanted o
 asked_first wanted old mid new first same = subst (λ told. Grew old.asked told wanted) (sym same) first.asked
 
 -- nobody served
-pub refused : (c : Config) (addr : List ℕ) (n : ℕ) (ends : List EndTold) (old mid new : StreetTold)
+pub refused : (c : Config) (addr : List ℕ) (n : ℕ) (ends : List EndpointTold) (old mid new : StreetTold)
     → HasAsked (take n (asked_of c addr)) old mid → All IsUnused ends → HasTakenBack ends mid new
     → Refused c addr old new
 refused c addr n ends old mid new first unused back = record {
@@ -169,7 +169,7 @@ refused c addr n ends old mid new first unused back = record {
   none = none_since old mid new first.doors first.links (none_served ends mid new unused back);
 }
 
-pub refused_network : (c : Config) (addr : List ℕ) (limit n : ℕ) (ends : List EndTold) (old mid new : StreetTold)
+pub refused_network : (c : Config) (addr : List ℕ) (limit n : ℕ) (ends : List EndpointTold) (old mid new : StreetTold)
     → HasAsked (take n (asked_of c addr)) old mid → Rose old.faults mid.faults → All IsUnused ends
     → HasTakenBack ends mid new → HasServed c addr limit old new (Err faults.Network)
 refused_network c addr limit n ends old mid new first rose unused back = record {
@@ -181,7 +181,7 @@ refused_network c addr limit n ends old mid new first rose unused back = record 
   );
 }
 
-pub refused_memory : (c : Config) (addr : List ℕ) (limit n : ℕ) (ends : List EndTold) (old mid new : StreetTold)
+pub refused_memory : (c : Config) (addr : List ℕ) (limit n : ℕ) (ends : List EndpointTold) (old mid new : StreetTold)
     → HasAsked (take n (asked_of c addr)) old mid → All IsUnused ends → HasTakenBack ends mid new
     → HasServed c addr limit old new (Err faults.Memory)
 refused_memory c addr limit n ends old mid new first unused back = record {
@@ -249,7 +249,7 @@ went c addr limit n old mid new (Err faults.Memory) first all same later ended =
 -- ---- what is taken before
 
 -- empty piles are those of no callers
-pub piles_empty : (shared : Shared) (piles : Piles) (mounts : ℕ) → IsReady shared
+pub piles_empty : (shared : Shared) (piles : PassPiles) (mounts : ℕ) → IsReady shared
     → mounts ≡ length shared.config.now.mount
     → ((rings : _) (book : _) → length rings ≡ mounts → ArePiles [] piles rings book)
     → ArePiles [] piles shared.rings.items shared.book
@@ -259,13 +259,13 @@ piles_empty shared piles mounts ready many empty =
     ∙ length_shapes shared.config.now ∙ sym many)
 
 -- ends that were not taken are as they were
-pub unused_still : {E : Type 0} (tell : E → EndTold) (now before : List E) → now ≡ before
+pub unused_still : {E : Type 0} (tell : E → EndpointTold) (now before : List E) → now ≡ before
     → All IsUnused (map tell before) → All IsUnused (map tell now)
 unused_still tell now before same unused = subst (λ l. All IsUnused (map tell l)) (sym same) unused
 
 -- as many passes came back as there are ends
-pub passes_are : {E : Type 0} (shared : Shared) (limit : ℕ) (tell : E → EndTold) (before : List E) (now : List EndTold)
-    (piles : Piles) (whole : Bool) → map kind_of (map tell before) ≡ kinds shared.config.now
+pub passes_are : {E : Type 0} (shared : Shared) (limit : ℕ) (tell : E → EndpointTold) (before : List E) (now : List EndpointTold)
+    (piles : PassPiles) (whole : Bool) → map kind_of (map tell before) ≡ kinds shared.config.now
     → HaveCalled shared limit now piles whole → length piles.book.items ≡ length before
 passes_are shared limit tell before now piles whole kinds_are called =
     omega (

@@ -23,6 +23,7 @@ use Rattle.caster_link.specs.Wear.{Wear, IsRefusedBy, only_worn}
 use Rattle.caster_serve.specs.Works.{Record, IsTold, RecordGoes, Followed, AreTaken, givens_among, givens_of, tallied, links_of, receipts_of, Works, LinkCounted, Worked}
 use Rattle.caster_link.proofs.PublishLemmas.{source_published}
 use Rattle.caster_link.proofs.WornLemmas.{WearsOn, refused_on}
+use Rattle.caster_accounts.specs.Sums.{added}
 
 -- ---- one link
 
@@ -63,14 +64,6 @@ link_counted c opening me wear start now before after receipt old new fresh serv
 
 -- ---- the tally
 
--- a sum with what a receipt counts for
-abbrev with_sums : Sum → ℕ → ℕ → Sum
-with_sums sum sent overrun = record {
-  sessions = sum.sessions + 1;
-  sent = sum.sent + sent;
-  overrun = sum.overrun + overrun;
-}
-
 count_for : (entered settled : Bool) (more same : Sum) → entered ≡ true → settled ≡ true
     → more ≡ (if entered && settled then more else same)
 count_for true true more same enters settles = refl
@@ -79,10 +72,10 @@ count_for false settled more same enters settles = absurd (let clash : false ≡
 
 pub tallied_by : (sum : Sum) (receipt : Receipt) (sent overrun : ℕ) → receipt.entered ≡ true
     → receipt.settled ≡ true → sent ≡ receipt.sent → overrun ≡ receipt.overrun
-    → with_sums sum sent overrun ≡ tallied sum receipt
+    → added sum sent overrun ≡ tallied sum receipt
 tallied_by sum receipt sent overrun enters settles is over =
-    ap (λ (n : ℕ). with_sums sum n overrun) is ∙ ap (with_sums sum receipt.sent) over
-    ∙ count_for receipt.entered receipt.settled (with_sums sum receipt.sent receipt.overrun) sum enters settles
+    ap (λ (n : ℕ). added sum n overrun) is ∙ ap (added sum receipt.sent) over
+    ∙ count_for receipt.entered receipt.settled (added sum receipt.sent receipt.overrun) sum enters settles
 
 -- a receipt counts for one session at most
 one_session : (counts : Bool) (old new more : Sum) → more.sessions ≡ old.sessions + 1
@@ -96,7 +89,7 @@ pub one_more : (c : Config) (opening : Opening) (me : ℕ) (wear : Wear) (start 
     (old new : Sum) → LinkCounted c opening me wear start now after old new → new.sessions ≤ old.sessions + 1
 one_more c opening me wear start now after old new counted =
     let receipt = counted.receipt in
-    one_session (receipt.entered && receipt.settled) old new (with_sums old receipt.sent receipt.overrun) refl
+    one_session (receipt.entered && receipt.settled) old new (added old receipt.sent receipt.overrun) refl
     counted.tally
 
 -- ---- arrivals

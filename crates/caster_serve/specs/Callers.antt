@@ -6,7 +6,7 @@ use Rattle.caster_accounts.specs.Sums.{nothing}
 use Rattle.cast_config.specs.declared.config.Config.{Config}
 use Rattle.session_model.specs.Judged.{relays}
 use Rattle.session_model.specs.Run.{Histories, nothing_called}
-use Rattle.caster_serve.specs.Ends.{EndTold, at_door, over_link, IsUnused}
+use Rattle.caster_serve.specs.Endpoints.{EndpointTold, at_door, over_link, IsUnused}
 use Rattle.caster_link.specs.Wear.{Wear, only_worn}
 use Rattle.caster_serve.specs.Works.{Worked, LinkCounted}
 
@@ -15,11 +15,12 @@ pub record Caller : Type 0 where
   pub seen : Histories
   pub tally : Sum
   pub served : ℕ
-  pub end : EndTold
+  pub end : EndpointTold
 
 -- A worker served the links of its door, as many as it was to, or until its door failed; a relay
 -- was served over its one link. Its places were worn so.
-abbrev pub ServedOver : Config → ℕ → ℕ → Wear → EndTold → EndTold → Caller → Caller → Type 0
+abbrev pub ServedOver : Config → ℕ → ℕ → Wear → EndpointTold → EndpointTold → Caller → Caller
+    → Type 0
 ServedOver c limit me wear (at_door before) (at_door after) old new =
     Worked c me wear old.seen new.seen before after old.tally new.tally limit new.served
 ServedOver c limit me wear (at_door before) (over_link number after) old new = ⊥
@@ -33,18 +34,18 @@ abbrev pub Served : Config → ℕ → ℕ → Wear → Caller → Caller → Ty
 Served c limit me wear old new = ServedOver c limit me wear old.end new.end old new
 
 -- a caller before its first call
-abbrev pub uncalled : Config → EndTold → Caller
+abbrev pub uncalled : Config → EndpointTold → Caller
 uncalled c end = record { seen = nothing_called c; tally = nothing; served = 0; end = end }
 
 -- The caller of this number did that from its first call on, over what nobody had used. Its places
 -- never lacked memory, and were worn by no more turns than these.
 pub record IsServed (c : Config) (limit : ℕ) (worn : List ℕ) (me : ℕ) (caller : Caller) : Type 0
   where
-    pub end : EndTold
+    pub end : EndpointTold
     pub unused : IsUnused end
     pub served : Served c limit me (only_worn worn) (uncalled c end) caller
 
--- so did each of these, numbered from this number on
+-- these callers served so, numbered from this number on
 abbrev pub AreServed : Config → ℕ → List ℕ → ℕ → List Caller → Type 0
 AreServed c limit worn n [] = ⊤
 AreServed c limit worn n (caller ∷ callers) =
@@ -55,14 +56,14 @@ abbrev pub calls_in : Histories → List ℕ
 calls_in histories = map length histories.rings ++ length histories.book ∷ []
 
 -- a worker that served as many links as it was to; a relay has but one
-abbrev pub is_whole_at : ℕ → ℕ → EndTold → Bool
+abbrev pub is_whole_at : ℕ → ℕ → EndpointTold → Bool
 is_whole_at limit served (at_door door) = nat_eq served limit
 is_whole_at limit served (over_link number link) = true
 
 abbrev pub is_whole : ℕ → Caller → Bool
 is_whole limit caller = is_whole_at limit caller.served caller.end
 
-abbrev pub ends_of : List Caller → List EndTold
+abbrev pub ends_of : List Caller → List EndpointTold
 ends_of callers = map (λ (caller : Caller). caller.end) callers
 
 abbrev pub seen_of : List Caller → List Histories

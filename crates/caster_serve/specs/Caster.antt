@@ -8,14 +8,14 @@ use Rattle.cast_config.specs.declared.config.Config.{Config}
 use Rattle.session_model.specs.declared.report.Closed.{Closed}
 use Rattle.session_model.specs.Run.{Histories}
 use Rattle.session_model.specs.Reports.{added, closed_of}
-use Rattle.caster_serve.specs.Ends.{EndTold, IsUnused, asked_of, doors_in, links_in, kind_of, kinds}
+use Rattle.caster_serve.specs.Endpoints.{EndpointTold, IsUnused, asked_of, doors_in, links_in, kind_of, kinds}
 use Rattle.caster_places.specs.Rows.{AreWhole}
 use Rattle.caster_serve.specs.declared.whole.ServeFault.{ServeFault}
 use Rattle.caster_serve.specs.declared.whole.ServeFault.TheVariants as faults
 use Rattle.caster_serve.specs.Callers.{Caller, AreServed, calls_in, ends_of, is_whole, seen_of}
 
 -- these doors were shut and these links hung up, in order, as they are told
-pub record HasGivenBack (ends : List EndTold) (old new : StreetTold) : Type 0 where
+pub record HasGivenBack (ends : List EndpointTold) (old new : StreetTold) : Type 0 where
   pub doors : Grew old.doors new.doors (doors_in ends)
   pub links : Grew old.links new.links (links_in ends)
 
@@ -33,7 +33,7 @@ pub record AllServed (c : Config) (limit : ℕ) (old new : StreetTold) (callers 
 
 -- Nobody served, and what the street had given was given back as it had come.
 pub record NoneServed (old new : StreetTold) : Type 0 where
-  pub ends : List EndTold
+  pub ends : List EndpointTold
   pub unused : All IsUnused ends
   pub given_back : HasGivenBack ends old new
 

@@ -4,4 +4,4 @@ pub mod Prepared
 pub mod Caster
 pub mod Visits
 pub mod Serving
-pub mod Ends
+pub mod Endpoints

@@ -11,26 +11,26 @@ use Rattle.cast_io.specs.Links.{IsNewLink}
 use Rattle.session_model.specs.Run.{Histories}
 use Rattle.session_model.specs.Setting as setting
 use Rattle.session_model.specs.Setting.{caps}
-use Rattle.caster_serve.specs.Ends.{EndTold, at_door, over_link, end_told, kind_of, kinds}
-use Rattle.caster_serve.specs.declared.task.Task.{Task}
+use Rattle.caster_serve.specs.Endpoints.{EndpointTold, at_door, over_link, end_told, kind_of, kinds}
+use Rattle.caster_serve.specs.declared.caller_task.CallerTask.{CallerTask}
 use Rattle.caster_places.specs.Known.{Fit}
 use Rattle.caster_places.specs.Rows.{ArePiles, AreWornWithin}
-use Rattle.caster_places.specs.declared.piles.Piles.{Piles}
+use Rattle.caster_places.specs.declared.pass_piles.PassPiles.{PassPiles}
 use Rattle.caster_seats.specs.declared.shared.Shared.{Shared}
 use Rattle.caster_link.specs.Wear.{wear_of}
 use Rattle.caster_serve.specs.Works.{IsWithin}
 use Rattle.caster_serve.specs.Callers.{Caller, AreServed, Served, ends_of, is_whole, seen_of}
-use Rattle.caster_seats.specs.Hands.{HandTold}
+use Rattle.caster_seats.specs.SeatedCallers.{SeatedTold}
 
 -- ---- its task
 
 -- what it serves over, as it is told, what its rovers add up to, and how many connections it served
 pub record TaskTold : Type 0 where
-  pub end : EndTold
+  pub end : EndpointTold
   pub tally : Sum
   pub served : ℕ
 
-abbrev pub task_told : {D L : Type 0} → (D → DoorTold) → (L → LinkTold) → Task D L → TaskTold
+abbrev pub task_told : {D L : Type 0} → (D → DoorTold) → (L → LinkTold) → CallerTask D L → TaskTold
 task_told door_told link_told task = record {
   end = end_told door_told link_told task;
   tally = task.tally;
@@ -38,7 +38,7 @@ task_told door_told link_told task = record {
 }
 
 -- the caller that has this task
-abbrev pub caller_of : HandTold TaskTold → Caller
+abbrev pub caller_of : SeatedTold TaskTold → Caller
 caller_of hand = record {
   seen = hand.seen;
   tally = hand.work.tally;
@@ -49,12 +49,12 @@ caller_of hand = record {
 -- ---- it serves
 
 -- a relay is one of the configuration, and its link is new
-abbrev pub FitsEnd : Config → EndTold → Type 0
-FitsEnd c (at_door door) = ⊤
-FitsEnd c (over_link number link) = (number < length c.relay) × IsNewLink link
+abbrev pub FitsEndpoint : Config → EndpointTold → Type 0
+FitsEndpoint c (at_door door) = ⊤
+FitsEndpoint c (over_link number link) = (number < length c.relay) × IsNewLink link
 
 -- it may serve so many links of its door
-pub record MayServe (c : Config) (table : List ℕ) (limit : ℕ) (hand : HandTold TaskTold) : Type 0
+pub record MayServe (c : Config) (table : List ℕ) (limit : ℕ) (hand : SeatedTold TaskTold) : Type 0
   where
     pub kept : (cap : ℕ) × KeepsRules cap c
     pub table_is : table ≡ setting.table c
@@ -62,10 +62,10 @@ pub record MayServe (c : Config) (table : List ℕ) (limit : ℕ) (hand : HandTo
     pub few : hand.work.tally.sessions + limit < 2 ^ 64
     pub room : hand.work.tally.sessions + 1 < 2 ^ 64
     pub within : IsWithin hand.work.tally
-    pub end : FitsEnd c hand.work.end
+    pub end : FitsEndpoint c hand.work.end
 
 -- it served, under its number and at its places
-pub record HandServed (c : Config) (limit : ℕ) (old new : HandTold TaskTold) : Type 0 where
+pub record CallerServed (c : Config) (limit : ℕ) (old new : SeatedTold TaskTold) : Type 0 where
   pub number : new.number ≡ old.number
   pub known : new.known ≡ old.known
   pub served : Served c limit old.number (wear_of new.known new.worn) (caller_of old)
@@ -76,7 +76,7 @@ pub record HandServed (c : Config) (limit : ℕ) (old new : HandTold TaskTold) :
 -- All callers served, each over its end, and left: as many as they were to or not, with the passes
 -- of all in the piles of their locks. What they were refused was refused as worn as these passes
 -- met the locks.
-pub record HaveCalled (shared : Shared) (limit : ℕ) (ends : List EndTold) (piles : Piles)
+pub record HaveCalled (shared : Shared) (limit : ℕ) (ends : List EndpointTold) (piles : PassPiles)
     (whole : Bool) : Type 0 where
   pub callers : List Caller
   pub ends_are : ends ≡ ends_of callers

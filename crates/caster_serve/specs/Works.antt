@@ -47,7 +47,7 @@ pub record RecordGoes (c : Config) (opening : Opening) (me : ℕ) (wear : Wear) 
       → came_to goes.j (steps_of goes.events) ≡ holding terms body claim
       → PublishesBody (is_halted goes.ended) terms body me claim start now
 
--- so did each of these, one after the other, from the histories that the one before it left
+-- the connections of these links went so, each from the histories that the one before it left
 abbrev pub Followed : Config → ℕ → Wear → List Record → Histories → Histories → Type 0
 Followed c me wear [] start now = now ≡ start
 Followed c me wear (entry ∷ entries) start now =

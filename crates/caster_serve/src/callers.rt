@@ -4,50 +4,50 @@ ghost use Rattle.std.specs.Prelude.{◌≡◌, ◌<◌, ◌^◌, ℕ, [], length
 ghost use Rattle.std.specs.List.{All, list_all};
 ghost use mathlib.Core.Option.{some};
 ghost use lib.ListN.{get_elem?};
-ghost use Rattle.caster_serve.specs.Ends.{IsUnserved, IsUnused, end_told, kind_of, kinds};
+ghost use Rattle.caster_serve.specs.Endpoints.{IsUnserved, IsUnused, end_told, kind_of, kinds};
 ghost use Rattle.caster_places.specs.Rows.{ArePiles, HaveRoom};
 ghost use Rattle.caster_places.specs.Piles.{AreMatched};
 ghost use Rattle.caster_serve.specs.Callers.{is_whole};
-ghost use Rattle.caster_serve.specs.Serving.{HandServed, HaveCalled, MayServe, caller_of};
+ghost use Rattle.caster_serve.specs.Serving.{CallerServed, HaveCalled, MayServe, caller_of};
 ghost use Rattle.caster_seats.specs.Sharing.{AreNewPasses, IsReady};
 
-use crate::task::Task;
+use crate::caller_task::CallerTask;
 use crate::threads::{Serves, serve_all};
 use cast_config::Config;
 use cast_io::{Door, Link};
-use caster_places::Piles;
-use caster_seats::{Hand, Passes, Shared, leave_all, sit_all};
+use caster_places::PassPiles;
+use caster_seats::{Passes, SeatedCaller, Shared, leave_all, sit_all};
 use std::alloc::{AllocError, Global};
 use std::sync::Wait;
 use std::thread::Threads;
 
-/// All of these callers serve.
+/// Lets each caller serve, in a thread of its own where one can be made.
 fn serve_hands<'a, L: Link + Send, D: Door<Link = L> + Send, R: Threads + Wait + Sync>(
     rt: &R,
     alloc: Global,
     config: &Config,
     table: &[u8],
-    hands: &mut Vec<Hand<'a, Task<D, L>, R>>,
+    hands: &mut Vec<SeatedCaller<'a, CallerTask<D, L>, R>>,
     limit: u64,
 )
     requires some_hand { 0 < length hands.old.items }
     requires fit { All (MayServe config.now table.now limit)
-        (map ⟦<Hand<'a, Task<D, L>, R> as Serves>⟧.told hands.old.items) }
+        (map ⟦<SeatedCaller<'a, CallerTask<D, L>, R> as Serves>⟧.told hands.old.items) }
     ensures size { length hands.new.items ≡ length hands.old.items }
-    ensures served { AreMatched (HandServed config.now limit)
-        (map ⟦<Hand<'a, Task<D, L>, R> as Serves>⟧.told hands.old.items)
-        (map ⟦<Hand<'a, Task<D, L>, R> as Serves>⟧.told hands.new.items) }
+    ensures served { AreMatched (CallerServed config.now limit)
+        (map ⟦<SeatedCaller<'a, CallerTask<D, L>, R> as Serves>⟧.told hands.old.items)
+        (map ⟦<SeatedCaller<'a, CallerTask<D, L>, R> as Serves>⟧.told hands.new.items) }
 {
     serve_all(rt, alloc, config, table, hands.as_mut_slice(), limit);
 }
 
 /// Each of these served as many links as it was to.
 fn are_whole<'a, L: Link + Send, D: Door<Link = L> + Send, R: Wait + Sync>(
-    hands: &[Hand<'a, Task<D, L>, R>],
+    hands: &[SeatedCaller<'a, CallerTask<D, L>, R>],
     limit: u64,
 ) -> bool
     ensures { result ≡ list_all (λ hand. is_whole limit
-        (caller_of (⟦<Hand<'a, Task<D, L>, R> as Serves>⟧.told hand))) hands.now }
+        (caller_of (⟦<SeatedCaller<'a, CallerTask<D, L>, R> as Serves>⟧.told hand))) hands.now }
 {
     hands.iter().all(|hand| hand.is_whole(limit))
 }
@@ -60,8 +60,8 @@ pub(crate) fn serve_tasks<L: Link + Send, D: Door<Link = L> + Send, R: Threads +
     alloc: Global,
     shared: &Shared,
     passes: Vec<Passes>,
-    tasks: &mut Vec<Task<D, L>>,
-    piles: &mut Piles,
+    tasks: &mut Vec<CallerTask<D, L>>,
+    piles: &mut PassPiles,
     limit: u64,
 ) -> Result<bool, AllocError>
     requires ready { IsReady shared.now }

@@ -3,11 +3,11 @@
 #![tactic(auto)]
 
 mod accept_loop;
+mod caller_task;
 mod callers;
 mod connection;
 mod listeners;
 mod tally;
-mod task;
 mod threads;
 mod whole;
 mod worker;
@@ -15,6 +15,7 @@ mod worker;
 pub use accept_loop::work_places;
 pub use caster_link::Role;
 pub use connection::serve_link;
+pub use listeners::address_of;
 pub use tally::{Tally, count_receipt};
 pub use whole::{ServeFault, serve};
 pub use worker::{Worker, work};

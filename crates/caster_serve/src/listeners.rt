@@ -6,15 +6,15 @@ ghost use Rattle.std.specs.List.{All};
 ghost use Rattle.cast_config.specs.Kept.{KeepsRelay, KeepsRules};
 ghost use Rattle.cast_io.specs.Causes.{Rose};
 ghost use Rattle.cast_io.specs.Told.{Grew};
-ghost use Rattle.caster_serve.specs.Ends.{HasAsked, HasTakenBack, IsUnserved, IsUnused, a_worker, asked_of, at_new_door, dial_of, end_told, kind_of, kinds, relays_from};
+ghost use Rattle.caster_serve.specs.Endpoints.{HasAsked, HasTakenBack, IsUnserved, IsUnused, a_worker, asked_of, at_new_door, dial_of, end_told, kind_of, kinds, relays_from};
 
-use crate::task::{End, Task};
+use crate::caller_task::{CallerTask, Endpoint};
 use cast_config::{Config, Relay};
 use cast_io::{Street, StreetFault};
 use std::str;
 
 /// The address of a relay's peer.
-fn address_of(relay: &Relay) -> &str
+pub fn address_of(relay: &Relay) -> &str
     requires { (mounts : ℕ) × KeepsRelay mounts relay.now }
     ensures { result.now ≡ relay.now.address }
 {
@@ -25,7 +25,7 @@ fn address_of(relay: &Relay) -> &str
 }
 
 /// Puts a task at each door behind what stands in `tasks`, in order.
-fn put_doors<D, L>(mut doors: Vec<D>, tasks: &mut Vec<Task<D, L>>)
+fn put_doors<D, L>(mut doors: Vec<D>, tasks: &mut Vec<CallerTask<D, L>>)
     requires room { vec_len tasks.old + length doors.items ≤ vec_capacity tasks.old }
     ensures put { tasks.new.items ≡ tasks.old.items ++ map at_new_door doors.items }
     ensures space { vec_capacity tasks.old ≤ vec_capacity tasks.new }
@@ -35,7 +35,7 @@ fn put_doors<D, L>(mut doors: Vec<D>, tasks: &mut Vec<Task<D, L>>)
         return;
     };
     put_doors(doors, tasks);
-    tasks.push_reserved(Task::new(End::Door(last)));
+    tasks.push_reserved(CallerTask::new(Endpoint::Door(last)));
 }
 
 /// Dials the peer of each of these relays, numbered from `number` on, until one is refused.
@@ -43,7 +43,7 @@ fn dial_from<N: Street>(
     relays: &[Relay],
     number: u32,
     street: &mut N,
-    tasks: &mut Vec<Task<N::Door, N::Link>>,
+    tasks: &mut Vec<CallerTask<N::Door, N::Link>>,
 ) -> Result<(), StreetFault>
     requires kept { (mounts : ℕ) × All (KeepsRelay mounts) relays.now }
     requires few { number + length relays.now < 2 ^ 32 }
@@ -63,7 +63,7 @@ fn dial_from<N: Street>(
         return Ok(());
     };
     let link = street.dial(address_of(relay))?;
-    tasks.push_reserved(Task::new(End::Link(number, link)));
+    tasks.push_reserved(CallerTask::new(Endpoint::Link(number, link)));
     dial_from(later, number + 1, street, tasks)
 }
 
@@ -76,7 +76,7 @@ pub fn ask_all<N: Street>(
     config: &Config,
     addr: &str,
     street: &mut N,
-    tasks: &mut Vec<Task<N::Door, N::Link>>,
+    tasks: &mut Vec<CallerTask<N::Door, N::Link>>,
 ) -> Result<(), StreetFault>
     requires kept { (cap : ℕ) × KeepsRules cap config.now }
     requires empty { tasks.old.items ≡ [] }
@@ -98,7 +98,7 @@ pub fn ask_all<N: Street>(
 
 /// Gives the ends of all of these back to the street that they came from, in order: each door is
 /// shut, and each link is hung up.
-pub fn give_back<N: Street>(street: &mut N, mut tasks: Vec<Task<N::Door, N::Link>>)
+pub fn give_back<N: Street>(street: &mut N, mut tasks: Vec<CallerTask<N::Door, N::Link>>)
     ensures { HasTakenBack (map (end_told N.Door.told N.Link.told) tasks.items) (N.told street.old)
         (N.told street.new) }
 {
@@ -107,13 +107,13 @@ pub fn give_back<N: Street>(street: &mut N, mut tasks: Vec<Task<N::Door, N::Link
         return;
     };
     give_back(street, tasks);
-    let Task {
+    let CallerTask {
         end,
         tally: _,
         served: _,
     } = last;
     match end {
-        End::Door(door) => street.shut(door),
-        End::Link(_, link) => street.hang_up(link),
+        Endpoint::Door(door) => street.shut(door),
+        Endpoint::Link(_, link) => street.hang_up(link),
     }
 }

@@ -2,18 +2,18 @@
 
 ghost use Rattle.std.specs.Prelude.{◌≡◌, ◌<◌, ℕ, length, slice_index_or};
 ghost use Rattle.std.specs.List.{All};
-ghost use Rattle.caster_seats.specs.Hands.{hand_told};
-ghost use Rattle.caster_serve.specs.Serving.{HandServed, MayServe, task_told};
+ghost use Rattle.caster_seats.specs.SeatedCallers.{seated_told};
+ghost use Rattle.caster_serve.specs.Serving.{CallerServed, MayServe, task_told};
 
 use crate::accept_loop::work_places;
+use crate::caller_task::{CallerTask, Endpoint};
 use crate::tally::serve_counted;
-use crate::task::{End, Task};
 use cast_config::Config;
 use cast_io::{Door, Link};
 use caster_accounts::Book;
 use caster_link::Role;
 use caster_places::AllPlaces;
-use caster_seats::Hand;
+use caster_seats::SeatedCaller;
 use mount_ring::Ring;
 use session_core::{Places, Setup};
 use std::alloc::Global;
@@ -26,25 +26,25 @@ fn do_task<T: Turns<Ring>, B: Turns<Book>, L: Link, D: Door<Link = L>, R: Wait>(
     rt: &R,
     setup: &Setup,
     places: &mut Places<T, B>,
-    task: &mut Task<D, L>,
+    task: &mut CallerTask<D, L>,
     limit: u64,
 )
-    requires { MayServe setup.now.config.now setup.now.table.now limit (hand_told setup.now.me
+    requires { MayServe setup.now.config.now setup.now.table.now limit (seated_told setup.now.me
         (⟦<Places<T, B> as AllPlaces>⟧.known places.old)
         (⟦<Places<T, B> as AllPlaces>⟧.seen places.old)
         (⟦<Places<T, B> as AllPlaces>⟧.worn places.old) (task_told D.told L.told task.old)) }
-    ensures { HandServed setup.now.config.now limit (hand_told setup.now.me
+    ensures { CallerServed setup.now.config.now limit (seated_told setup.now.me
         (⟦<Places<T, B> as AllPlaces>⟧.known places.old)
         (⟦<Places<T, B> as AllPlaces>⟧.seen places.old)
         (⟦<Places<T, B> as AllPlaces>⟧.worn places.old) (task_told D.told L.told task.old))
-        (hand_told setup.now.me (⟦<Places<T, B> as AllPlaces>⟧.known places.new)
+        (seated_told setup.now.me (⟦<Places<T, B> as AllPlaces>⟧.known places.new)
         (⟦<Places<T, B> as AllPlaces>⟧.seen places.new)
         (⟦<Places<T, B> as AllPlaces>⟧.worn places.new) (task_told D.told L.told task.new)) }
 {
     let tally = &mut task.tally;
     task.served = match &mut task.end {
-        End::Door(door) => { work_places(rt, setup, places, door, tally, limit) }
-        End::Link(relay, link) => {
+        Endpoint::Door(door) => { work_places(rt, setup, places, door, tally, limit) }
+        Endpoint::Link(relay, link) => {
             serve_counted(rt, setup, places, Role::Relay(*relay), link, tally);
             1
         }
@@ -54,16 +54,16 @@ fn do_task<T: Turns<Ring>, B: Turns<Book>, L: Link, D: Door<Link = L>, R: Wait>(
 /// What serves in a thread of its own.
 pub(crate) trait Serves: Send {
     ghost use Rattle.caster_serve.specs.Callers.{is_whole};
-    ghost use Rattle.caster_seats.specs.Hands.{HandTold};
-    ghost use Rattle.caster_serve.specs.Serving.{HandServed, MayServe, TaskTold, caller_of};
+    ghost use Rattle.caster_seats.specs.SeatedCallers.{SeatedTold};
+    ghost use Rattle.caster_serve.specs.Serving.{CallerServed, MayServe, TaskTold, caller_of};
 
     /// What is told of it.
-    ghost told: { Self → HandTold TaskTold };
+    ghost told: { Self → SeatedTold TaskTold };
 
     /// Serves the links of its door, as many as it is to, or the one link of its relay.
     fn serve<R: Wait>(&mut self, rt: &R, alloc: Global, config: &Config, table: &[u8], limit: u64)
         requires { MayServe config.now table.now limit (told self.old) }
-        ensures { HandServed config.now limit (told self.old) (told self.new) };
+        ensures { CallerServed config.now limit (told self.old) (told self.new) };
 
     /// It served as many links as it was to.
     fn is_whole(&self, limit: u64) -> bool
@@ -71,11 +71,11 @@ pub(crate) trait Serves: Send {
 }
 
 impl<'a, L: Link + Send, D: Door<Link = L> + Send, R: Wait + Sync> Serves
-    for Hand<'a, Task<D, L>, R> {
-    ghost use Rattle.caster_seats.specs.Hands.{hand_told};
+    for SeatedCaller<'a, CallerTask<D, L>, R> {
+    ghost use Rattle.caster_seats.specs.SeatedCallers.{seated_told};
     ghost use Rattle.caster_serve.specs.Serving.{task_told};
 
-    ghost told = { λ hand. hand_told hand.number
+    ghost told = { λ hand. seated_told hand.number
         (⟦<Places<Seat<'a, Ring, R>, Seat<'a, Book, R>> as AllPlaces>⟧.known hand.places)
         (⟦<Places<Seat<'a, Ring, R>, Seat<'a, Book, R>> as AllPlaces>⟧.seen hand.places)
         (⟦<Places<Seat<'a, Ring, R>, Seat<'a, Book, R>> as AllPlaces>⟧.worn hand.places)
@@ -93,8 +93,8 @@ impl<'a, L: Link + Send, D: Door<Link = L> + Send, R: Wait + Sync> Serves
 
     fn is_whole(&self, limit: u64) -> bool {
         match self.work.end {
-            End::Door(_) => self.work.served == limit,
-            End::Link(..) => true,
+            Endpoint::Door(_) => self.work.served == limit,
+            Endpoint::Link(..) => true,
         }
     }
 }
@@ -112,7 +112,7 @@ pub(crate) fn serve_all<H: Serves, R: Threads + Wait + Sync>(
     requires fit { All (λ hand. MayServe config.now table.now limit (H.told hand)) hands.old }
     ensures size { length hands.new ≡ length hands.old }
     ensures each { (k : ℕ) (d : _) → k < length hands.old
-        → HandServed config.now limit (H.told (slice_index_or hands.old k d))
+        → CallerServed config.now limit (H.told (slice_index_or hands.old k d))
         (H.told (slice_index_or hands.new k d)) }
 {
     let count = hands.len();

@@ -3,16 +3,16 @@
 ghost use Rattle.std.specs.Prelude.{◌≡◌, ◌<◌, ◌≤◌, ◌^◌, ℕ, length, map, IfOk};
 ghost use Rattle.std.specs.List.{All};
 ghost use Rattle.cast_config.specs.Kept.{KeepsRules};
-ghost use Rattle.caster_serve.specs.Ends.{IsUnserved, IsUnused, end_told, kind_of, kinds};
+ghost use Rattle.caster_serve.specs.Endpoints.{IsUnserved, IsUnused, end_told, kind_of, kinds};
 ghost use Rattle.caster_serve.specs.Caster.{Ended, HasServed};
 ghost use Rattle.caster_serve.specs.Prepared.{IsPrepared};
 
+use crate::caller_task::CallerTask;
 use crate::callers::serve_tasks;
 use crate::listeners::{ask_all, give_back};
-use crate::task::Task;
 use cast_config::Config;
 use cast_io::{Street, StreetFault};
-use caster_places::{Piles, Totals};
+use caster_places::{PassPiles, Totals};
 use caster_seats::{Passes, Shared};
 use session_core::Closed;
 use std::alloc::{AllocError, Global};
@@ -36,7 +36,7 @@ pub enum ServeFault {
 struct Ready<'c> {
     shared: Shared<'c>,
     passes: Vec<Passes>,
-    piles: Piles,
+    piles: PassPiles,
     totals: Totals,
 }
 
@@ -48,7 +48,7 @@ fn prepare<'c>(alloc: Global, config: &'c Config, callers: u32) -> Result<Ready<
     ensures prepared { IfOk result (IsPrepared callers) }
 {
     let (shared, passes) = Shared::new(alloc, config, callers)?;
-    let Ok(piles) = Piles::with_room(alloc, config.mount.as_slice().len(), callers) else {
+    let Ok(piles) = PassPiles::with_room(alloc, config.mount.as_slice().len(), callers) else {
         drop(shared);
         drop(passes);
         return Err(AllocError);
@@ -72,7 +72,7 @@ fn serve_given<N: Street, R: Threads + Wait + Sync>(
     rt: &R,
     alloc: Global,
     ready: Ready,
-    mut tasks: Vec<Task<N::Door, N::Link>>,
+    mut tasks: Vec<CallerTask<N::Door, N::Link>>,
     limit: u64,
     street: &mut N,
 ) -> Result<Closed, ServeFault>

@@ -4,12 +4,13 @@ use crate::casting::{
     Answer, came_back, carry_out, has_ended, is_closed, is_network, links_at, mount, sum,
 };
 use crate::fakes::street_of;
-use crate::setting::{FRAMES_AB, ICY, ROVER_BRAVO, SOURCE_ALPHA};
+use crate::setting::{ROVER_BRAVO, SOURCE_ALPHA};
 use crate::telling::Back;
 use std::alloc::Global;
 use std::sync::Wait;
 use std::test::Fail;
 use std::thread::Threads;
+use test_support::{FRAMES_AB, ICY};
 
 /// What a caster came to that is to serve two links at each of three doors: a source of ALPHA and
 /// two rovers of BRAVO come first. The second door fails at this accept.

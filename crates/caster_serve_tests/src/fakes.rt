@@ -2,52 +2,12 @@
 
 ghost use Rattle.std.specs.Prelude.{◌≡◌, IfOk, IsTrue};
 ghost use Rattle.std.specs.List.{list_all};
-ghost use Rattle.cast_io.specs.FakeLinks.{has_bytes, is_new_link};
+ghost use Rattle.cast_io.specs.FakeLinks.{is_new_link};
 ghost use Rattle.cast_io.specs.FakeDoors.{is_new_arrival, is_new_door};
 
-use cast_io::{ByteString, LinkStep, MemDoor, MemLink, MemStreet};
+use cast_io::{MemDoor, MemLink, MemStreet};
 use std::alloc::{AllocError, Global};
-
-/// The step that sends these bytes, or nothing yet where there are none.
-fn step_of(alloc: Global, bytes: &[u8]) -> Result<LinkStep, AllocError>
-    ensures { IfOk result (λ step. IsTrue (has_bytes step)) }
-{
-    if bytes.is_empty() {
-        return Ok(LinkStep::Idle);
-    }
-    Ok(LinkStep::Bytes(ByteString::copy_of(alloc, bytes)?))
-}
-
-/// A peer that sends these pieces and ends. Where a piece is empty, nothing is there yet.
-pub(crate) fn steps_of(alloc: Global, pieces: &[&[u8]]) -> Result<Vec<LinkStep>, AllocError>
-    ensures { IfOk result (λ steps. IsTrue (list_all has_bytes steps.items)) }
-{
-    let mut steps = Vec::new(alloc);
-    for piece in pieces {
-        steps.push(step_of(alloc, piece)?)?;
-    }
-    Ok(steps)
-}
-
-/// A link with such a peer, whose calls of these numbers fail.
-pub(crate) fn link_of(alloc: Global, pieces: &[&[u8]], fails: &[u64]) -> Result<MemLink, AllocError>
-    ensures { IfOk result (λ link. IsTrue (is_new_link link)) }
-{
-    Ok(MemLink::new(alloc, steps_of(alloc, pieces)?, fails.to_vec(alloc)?))
-}
-
-/// A link with such a peer, of which the write of this number takes so many bytes and fails.
-pub(crate) fn torn_link(
-    alloc: Global,
-    pieces: &[&[u8]],
-    write: u64,
-    most: u64,
-) -> Result<MemLink, AllocError>
-    ensures { IfOk result (λ link. IsTrue (is_new_link link)) }
-{
-    let fails = [(write, most)].to_vec(alloc)?;
-    Ok(MemLink::torn(alloc, steps_of(alloc, pieces)?, fails))
-}
+use test_support::{link_of, links_of, torn_link};
 
 /// How a link fails.
 #[derive(Clone, Copy)]
@@ -100,17 +60,6 @@ pub(crate) fn door_with(
     let first = link_of(alloc, pieces, &[])?;
     let second = link_of(alloc, &[], &[])?;
     door_of(alloc, first, second, fails)
-}
-
-/// No link, or one with such a peer.
-pub(crate) fn links_of(alloc: Global, peers: &[&[&[u8]]]) -> Result<Vec<MemLink>, AllocError>
-    ensures { IfOk result (λ links. IsTrue (list_all is_new_link links.items)) }
-{
-    let mut links = Vec::new(alloc);
-    for pieces in peers {
-        links.push(link_of(alloc, pieces, &[])?)?;
-    }
-    Ok(links)
 }
 
 /// A street of three doors, of which this is the first. At the others two links arrive that end at

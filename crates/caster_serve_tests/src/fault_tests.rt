@@ -2,9 +2,9 @@
 //! how they end, what they were sent, and that the next one of their kind is let in.
 
 use crate::casting::{Answer, carry_out, is_closed, links_at, mount, sum};
-use crate::fakes::{Failing, door_of, failing_link, link_of, street_at};
-use crate::one_caller::{Told, told_of};
-use crate::setting::{FRAME_A, FRAME_B, ICY, ROVER_ALPHA, SOURCE_ALPHA};
+use crate::fakes::{Failing, door_of, failing_link, street_at};
+use crate::one_caller::{LinkOutcome, told_of};
+use crate::setting::{ROVER_ALPHA, SOURCE_ALPHA};
 use crate::telling::{Back, Ended};
 use caster_serve::Role;
 use session_core::Ending;
@@ -12,18 +12,19 @@ use std::alloc::Global;
 use std::sync::Wait;
 use std::test::Fail;
 use std::thread::Threads;
+use test_support::{FRAME_A, FRAME_B, ICY, link_of};
 
 /// What came of a client whose link fails, and of a caster at which the next one sends the same.
 #[derive(Drop)]
 struct Came {
-    told: Told,
+    told: LinkOutcome,
     answer: Answer,
     back: Back,
 }
 
 /// What a caster came to at which a client sends these pieces and ends, whose link fails so, and
 /// another one follows, which sends the same and ends.
-fn followed<R: Threads + Wait + Sync>(
+fn serve_behind_failure<R: Threads + Wait + Sync>(
     rt: &R,
     alloc: Global,
     pieces: &[&[u8]],
@@ -45,7 +46,7 @@ fn failing_client<R: Threads + Wait + Sync>(
 ) -> Result<Came, Fail> {
     let link = failing_link(alloc, pieces, failing)?;
     let told = told_of(rt, alloc, b"", Role::Caller, link)?;
-    let (answer, back) = followed(rt, alloc, pieces, failing)?;
+    let (answer, back) = serve_behind_failure(rt, alloc, pieces, failing)?;
     Ok(Came { told, answer, back })
 }
 

@@ -1,18 +1,19 @@
 //! One connection over its link: how it ends, what it is sent, and what a worker counts.
 
 use crate::casting::{has_ended, sum};
-use crate::fakes::{door_of, link_of, torn_link};
-use crate::one_caller::{Told, told_at, told_of};
-use crate::setting::{FRAMES_AB, ICY, RELAY, REQUEST, ROVER_ALPHA, ROVER_BRAVO, SOURCE_ALPHA};
+use crate::fakes::door_of;
+use crate::one_caller::{LinkOutcome, told_at, told_of};
+use crate::setting::{RELAY, REQUEST, ROVER_ALPHA, ROVER_BRAVO, SOURCE_ALPHA};
 use crate::telling::Ended;
 use caster_serve::{Role, Tally};
 use session_core::Ending;
 use std::alloc::Global;
 use std::sync::Wait;
 use std::test::Fail;
+use test_support::{FRAMES_AB, ICY, link_of, torn_link};
 
 /// What is told of a client that sends these pieces and ends.
-fn client<R: Wait + Sync>(rt: &R, alloc: Global, pieces: &[&[u8]]) -> Result<Told, Fail> {
+fn client<R: Wait + Sync>(rt: &R, alloc: Global, pieces: &[&[u8]]) -> Result<LinkOutcome, Fail> {
     let link = link_of(alloc, pieces, &[])?;
     told_of(rt, alloc, b"", Role::Caller, link)
 }
@@ -45,7 +46,11 @@ fn connections_are_served_to_their_end(rt: HostRuntime) -> Result<(), Fail> {
 }
 
 /// What is told of a relay whose upstream caster sends these pieces.
-pub(crate) fn relay<R: Wait + Sync>(rt: &R, alloc: Global, pieces: &[&[u8]]) -> Result<Told, Fail> {
+pub(crate) fn relay<R: Wait + Sync>(
+    rt: &R,
+    alloc: Global,
+    pieces: &[&[u8]],
+) -> Result<LinkOutcome, Fail> {
     let link = link_of(alloc, pieces, &[])?;
     told_of(rt, alloc, RELAY, Role::Relay(0), link)
 }

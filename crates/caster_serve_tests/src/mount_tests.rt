@@ -3,14 +3,14 @@
 ghost use Rattle.std.specs.Prelude.{◌≡◌};
 ghost use Rattle.cast_io.specs.FakeLinks.{link_told};
 
-use crate::fakes::link_of;
 use crate::one_caller::serve_as;
-use crate::setting::{FRAMES_AB, ROVER_ALPHA, SOURCE_BRAVO, TWO_RELAYS};
+use crate::setting::{ROVER_ALPHA, SOURCE_BRAVO, TWO_RELAYS};
 use cast_io::{Failed, Got, Link, MemLink};
 use caster_serve::Role;
 use std::alloc::Global;
 use std::sync::Wait;
 use std::test::Fail;
+use test_support::{FRAMES_AB, link_of};
 
 /// A link that answers as one in memory. It notes the number of each mountpoint that it is told, as
 /// a digit, where it is another one than before; and `w` for a write and `r` for a rest.

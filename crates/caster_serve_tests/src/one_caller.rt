@@ -86,7 +86,7 @@ pub(crate) fn serve_as<L: Link, R: Wait + Sync>(
 
 /// This door after a worker with the last of these passes served so many of its links, and what the
 /// worker counted.
-fn worked<D: Door + Drop, R: Wait + Sync>(
+fn run_worker<D: Door + Drop, R: Wait + Sync>(
     rt: &R,
     alloc: Global,
     shared: &Shared,
@@ -119,19 +119,19 @@ pub(crate) fn work_at<D: Door + Drop, R: Wait + Sync>(
 {
     let config = config_of(alloc, b"")?;
     let (shared, mut list) = Shared::new(alloc, &config, 1)?;
-    worked(rt, alloc, &shared, &mut list, door, limit)
+    run_worker(rt, alloc, &shared, &mut list, door, limit)
 }
 
 /// What was told of a connection: how it ended, how much junk came, and what its link came to.
 #[derive(Drop)]
-pub(crate) struct Told {
+pub(crate) struct LinkOutcome {
     pub(crate) ending: Ending,
     pub(crate) settled: bool,
     pub(crate) junk: u64,
     pub(crate) link: Ended,
 }
 
-impl Told {
+impl LinkOutcome {
     /// It ended so, each turn that closed it was taken, and its link was sent this and took so many
     /// steps.
     pub(crate) fn is(&self, ending: Ending, bytes: &[u8], steps: usize) -> bool {
@@ -146,9 +146,9 @@ pub(crate) fn told_of<R: Wait + Sync>(
     more: &[u8],
     role: Role,
     mut link: MemLink,
-) -> Result<Told, Fail> {
+) -> Result<LinkOutcome, Fail> {
     let receipt = serve_as(rt, alloc, more, role, &mut link)?;
-    Ok(Told {
+    Ok(LinkOutcome {
         ending: receipt.ending,
         settled: receipt.settled,
         junk: receipt.junk,

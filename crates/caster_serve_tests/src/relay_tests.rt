@@ -3,16 +3,17 @@
 use crate::casting::{Answer, came_back, carry_out, has_ended, is_closed, mount, sum};
 use crate::fakes::street_of;
 use crate::link_tests::relay;
-use crate::setting::{FRAME_A, RELAY, REQUEST};
+use crate::setting::{RELAY, REQUEST};
 use crate::telling::Back;
 use session_core::Ending;
 use std::alloc::Global;
 use std::sync::Wait;
 use std::test::Fail;
 use std::thread::Threads;
+use test_support::FRAME_A;
 
 /// What a caster came to whose relay is answered so, with a frame behind it.
-fn answered<R: Threads + Wait + Sync>(
+fn serve_with_upstream<R: Threads + Wait + Sync>(
     rt: &R,
     alloc: Global,
     answer: &[u8],
@@ -28,7 +29,7 @@ fn a_refused_relay_publishes_nothing(rt: HostRuntime) -> Result<(), Fail> {
         b"HTTP/1.1 404 Not Found\r\n\r\n".as_slice(),
         b"HTTP/1.0 401 Unauthorized\r\nContent-Length: 0\r\n\r\n".as_slice(),
     ] {
-        let (answer, back) = answered(&rt, rt.alloc(), answer)?;
+        let (answer, back) = serve_with_upstream(&rt, rt.alloc(), answer)?;
         let none = sum(0, 0, 0);
         assert!(rt; is_closed(answer, [mount(0, 0), mount(0, 0)], [none, none], none));
         let asked = b"three at 127.0.0.1:0\ndial 127.0.0.1:2101\n";

@@ -3,9 +3,9 @@
 ghost use Rattle.std.specs.Prelude.{◌≡◌};
 ghost use Rattle.cast_io.specs.FakeDoors.{door_told};
 
-use crate::fakes::{door_with, link_of};
+use crate::fakes::door_with;
 use crate::one_caller::{serve_as, work_at};
-use crate::setting::{ADDRESS, FRAME_A, FRAMES_AB, ROVER_ALPHA, SOURCE_ALPHA};
+use crate::setting::{ADDRESS, ROVER_ALPHA, SOURCE_ALPHA};
 use crate::thread_tests::{NONE, timed_door};
 use cast_config::read_config;
 use cast_io::{Arrived, Door, MemDoor, MemLink};
@@ -16,6 +16,7 @@ use std::sync::atomic::AtomicBool;
 use std::test::Fail;
 use std::thread::Threads;
 use std::time::Clock;
+use test_support::{FRAME_A, FRAMES_AB, link_of};
 use timed_io::{Stop, TimedLink, TimedStreet};
 
 // Two workers, and a ring that holds more frames than a turn takes.

@@ -6,7 +6,7 @@ ghost use Rattle.caster_places.specs.Known.{Fit};
 ghost use Rattle.caster_seats.specs.Sharing.{IsReady};
 
 use crate::one_caller::sit_down;
-use crate::setting::{FRAME_A, config_of};
+use crate::setting::config_of;
 use caster_accounts::Book;
 use caster_places::AllPlaces;
 use caster_seats::Shared;
@@ -16,6 +16,7 @@ use session_core::Places;
 use std::alloc::Global;
 use std::sync::Wait;
 use std::test::Fail;
+use test_support::FRAME_A;
 use turn_log::Turns;
 
 /// Claims, joins, publishes a frame and reads.

@@ -4,14 +4,13 @@ use crate::casting::{
     Answer, came_back, carry_out, has_ended, is_closed, is_network, links_at, mount, sum,
 };
 use crate::fakes::street_of;
-use crate::setting::{
-    FRAME_A, FRAMES_AB, ICY, ICY_A, RELAY, REQUEST, ROVER_BRAVO, SOURCE_BRAVO, TWO_RELAYS,
-};
+use crate::setting::{RELAY, REQUEST, ROVER_BRAVO, SOURCE_BRAVO, TWO_RELAYS};
 use crate::telling::{Back, Ended};
 use std::alloc::Global;
 use std::sync::Wait;
 use std::test::Fail;
 use std::thread::Threads;
+use test_support::{FRAME_A, FRAMES_AB, ICY, ICY_A};
 
 /// A source of BRAVO that sends two frames.
 fn source() -> [&'static [u8]; 2] {
@@ -90,7 +89,7 @@ fn a_relay_is_served_beside_them(rt: HostRuntime) -> Result<(), Fail> {
 }
 
 /// What a caster came to with two upstream casters that refuse.
-fn refused<R: Threads + Wait + Sync>(
+fn serve_refused_relays<R: Threads + Wait + Sync>(
     rt: &R,
     alloc: Global,
     call: u64,
@@ -120,7 +119,7 @@ fn each_call_of_the_street_fails_once(rt: HostRuntime) -> Result<(), Fail> {
         (2, 3, 0, ONE_LINK),
         (3, 3, 1, TWO_LINKS),
     ] {
-        let (answer, back) = refused(&rt, rt.alloc(), call)?;
+        let (answer, back) = serve_refused_relays(&rt, rt.alloc(), call)?;
         assert!(rt; is_network(answer));
         assert!(rt; came_back(&back, doors, links, asked, 1));
         assert!(rt; is_unserved(&back, links));
@@ -130,7 +129,7 @@ fn each_call_of_the_street_fails_once(rt: HostRuntime) -> Result<(), Fail> {
 
 #[test]
 fn there_is_no_fourth_call_of_the_street(rt: HostRuntime) -> Result<(), Fail> {
-    let (answer, back) = refused(&rt, rt.alloc(), 4)?;
+    let (answer, back) = serve_refused_relays(&rt, rt.alloc(), 4)?;
     assert!(rt; are_three(answer, &back, 0));
     assert!(rt; came_back(&back, 3, 2, TWO_LINKS, 0));
     Ok(())

@@ -1,8 +1,8 @@
 //! Links that meet links of other workers within their calls.
 
 use crate::casting::{Answer, cast, is_closed, mount, sum};
-use crate::fakes::{Failing, failing_link, link_of};
-use crate::setting::{ICY, ROVER_ALPHA, ROVER_BRAVO, SOURCE_ALPHA};
+use crate::fakes::{Failing, failing_link};
+use crate::setting::{ROVER_ALPHA, ROVER_BRAVO, SOURCE_ALPHA};
 use cast_io::MemLink;
 use caster_accounts::Sum;
 use std::alloc::Global;
@@ -11,6 +11,7 @@ use std::sync::atomic::AtomicBool;
 use std::test::Fail;
 use std::thread::Threads;
 use std::time::Clock;
+use test_support::{ICY, link_of};
 use timed_io::{Stop, TimedDoor, TimedLink, TimedStreet};
 
 /// No flag.
@@ -51,7 +52,7 @@ struct Met {
 fn met_at<R: Clock>(alloc: Global, door: &TimedDoor<R>) -> Result<Met, Fail> {
     let link = door.back().ok_or("no link came back")?;
     Ok(Met {
-        met: link.met(),
+        met: link.has_met(),
         bytes: link.bytes().to_vec(alloc)?,
         faults: link.faults(),
     })
@@ -97,7 +98,7 @@ fn meeting_street<'a, R: Clock>(
 }
 
 /// What a caster came to over that street, and its links.
-fn meeting<R: Clock + Threads + Wait + Sync>(
+fn serve_meeting_links<R: Clock + Threads + Wait + Sync>(
     rt: &R,
     alloc: Global,
 ) -> Result<(Answer, Vec<Met>), Fail> {
@@ -109,7 +110,7 @@ fn meeting<R: Clock + Threads + Wait + Sync>(
 
 #[test]
 fn two_sessions_see_each_other_within_a_read(rt: HostRuntime) -> Result<(), Fail> {
-    let (answer, links) = meeting(&rt, rt.alloc())?;
+    let (answer, links) = serve_meeting_links(&rt, rt.alloc())?;
     let (none, two) = (sum(0, 0, 0), sum(2, 0, 0));
     assert!(rt; is_closed(answer, [mount(0, 0), mount(0, 0)], [none, two], two));
     for (number, bytes) in [(0, ICY), (1, ICY), (2, b"")] {

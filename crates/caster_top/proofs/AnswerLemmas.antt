@@ -22,12 +22,12 @@ use Rattle.cast_config.specs.Document.{IsRead}
 use Rattle.run_texts.specs.Texts.{made_text}
 use Rattle.caster_top.specs.declared.answers.Answer.{Answer}
 use Rattle.caster_top.specs.declared.answers.Answer.TheVariants.{Done, Valid, NoConfig, NoSession, Usage, Long, ReadFault, NetworkFault, Memory}
-use Rattle.caster_top.specs.declared.command.Aim.{Aim}
-use Rattle.caster_top.specs.declared.command.Start.{Start}
-use Rattle.caster_top.specs.declared.command.Start.TheVariants.{Cold}
+use Rattle.caster_top.specs.declared.command.ConfigCommand.{ConfigCommand}
+use Rattle.caster_top.specs.declared.command.RoverStart.{RoverStart}
+use Rattle.caster_top.specs.declared.command.RoverStart.TheVariants.{Cold}
 use Rattle.caster_top.specs.Command.{Form, bare, over, replay, made, casting, keeping, fetching, AreBare, AreOver, ArePlayed, AreMake, form_of}
 use Rattle.caster_top.specs.Reading.{config_in}
-use Rattle.caster_top.specs.Outcome.{Exit, Ending, exactly, EndsSo, Came, usage_exit, long_exit, read_fault_exit, memory_exit, whole_exit, session_in, exit_of_config_fault, ending_of_script, ending_of_config, ending_of_read, ending_of_bytes, ending_of, outcome}
+use Rattle.caster_top.specs.Outcome.{Exit, ExitRule, exactly, EndsSo, Came, usage_exit, long_exit, read_fault_exit, memory_exit, whole_exit, session_in, exit_of_config_fault, ending_of_script, ending_of_config, ending_of_read, ending_of_bytes, ending_of, outcome}
 use Rattle.caster_top.specs.Told.{Files, Input, IsConfigFrom, ComesFrom, HasCome, IsOutcome}
 use Rattle.caster_top.specs.Answers.{answer_of_fault, exit_of, GivesEnd, IsGiven, IsInputEnd, IsInputAnswer, IsFileEnd, IsFileAnswer, IsRefused, IsRefusedAt, IsRefusal, IsSessionEnd, IsSessionAnswer, IsReplayEnd, IsReplayAnswer, IsAnswer}
 use Rattle.caster_top.proofs.ReadingLemmas.{config_in-ok, config_in-fault}
@@ -75,7 +75,7 @@ pub outcome_of_read : (words : List (List ℕ)) (input : Input) (files : Files) 
 outcome_of_read words input files read came end h told ends = (
   came,
   subst (λ (f : Option Form). HasCome f input files came) (sym h) told,
-  subst (λ (e : Ending). EndsSo e end) (outcome-form words came read h) ends,
+  subst (λ (e : ExitRule). EndsSo e end) (outcome-form words came read h) ends,
 )
 
 abbrev pub nothing_came : Came
@@ -107,7 +107,7 @@ unfolding script_of
 script_of-long kind bytes long =
     let e : nat_lt 8388608 (length bytes) ≡ true = grind (arith, nat_tests, long) in rw e refl
 
-long_ends : (start : Start) (c : Config) (kind : ScriptKind) (bytes : List ℕ) → 8388608 < length bytes
+long_ends : (start : RoverStart) (c : Config) (kind : ScriptKind) (bytes : List ℕ) → 8388608 < length bytes
     → EndsSo (ending_of_script start c (script_of kind bytes)) long_exit
 long_ends start c kind bytes long =
     subst (λ (s : Result (List Event) ScriptFault). EndsSo (ending_of_script start c s) long_exit)
@@ -135,7 +135,7 @@ config_came config = record { script = []; config = config; failed = false }
 
 -- the answer to the file is that to the words
 pub file_answer : (words : List (List ℕ)) (input : Input) (files : Files) (of_input of_store : Type 0)
-    (aim : Aim) (path : List ℕ) (answer : Answer) → form_of words ≡ Some (over aim path) → AreOver aim words path
+    (aim : ConfigCommand) (path : List ℕ) (answer : Answer) → form_of words ≡ Some (over aim path) → AreOver aim words path
     → IsFileAnswer aim path files of_store answer → IsAnswer words input files of_input of_store answer
 file_answer words input files of_input of_store aim path answer h are is =
     given_such (IsFileEnd aim path files) (IsOutcome words input files)
@@ -144,18 +144,18 @@ file_answer words input files of_input of_store aim path answer h are is =
     answer is
 
 -- the size decides first
-pub ending_of_bytes-long : (next : Config → Ending) (bytes : List ℕ) → 8388608 < length bytes
+pub ending_of_bytes-long : (next : Config → ExitRule) (bytes : List ℕ) → 8388608 < length bytes
     → ending_of_bytes next bytes ≡ exactly long_exit
 ending_of_bytes-long next bytes long =
     let e : nat_lt 8388608 (length bytes) ≡ true = grind (arith, nat_tests, long) in rw e refl
 
-pub ending_of_bytes-short : (next : Config → Ending) (bytes : List ℕ) → length bytes ≤ 8388608
+pub ending_of_bytes-short : (next : Config → ExitRule) (bytes : List ℕ) → length bytes ≤ 8388608
     → ending_of_bytes next bytes ≡ ending_of_read next (config_in bytes)
 ending_of_bytes-short next bytes short =
     let e : nat_lt 8388608 (length bytes) ≡ false = grind (arith, nat_tests, short) in rw e refl
 
 -- and then what they say
-pub ending_of_bytes-read : (next : Config → Ending) (bytes : List ℕ) (read : Result Config ConfigFault)
+pub ending_of_bytes-read : (next : Config → ExitRule) (bytes : List ℕ) (read : Result Config ConfigFault)
     → length bytes ≤ 8388608 → config_in bytes ≡ read → ending_of_bytes next bytes ≡ ending_of_read next read
 ending_of_bytes-read next bytes read short h =
     ending_of_bytes-short next bytes short ∙ ap (λ (r : Result Config ConfigFault). ending_of_read next r) h
@@ -163,21 +163,21 @@ ending_of_bytes-read next bytes read short h =
 -- ---- configurations
 
 -- the file of this path ends so where it holds this configuration
-pub at_end : (next : Config → Ending) (files : Files) (path : List ℕ) (c : Config) (end : Exit)
+pub at_end : (next : Config → ExitRule) (files : Files) (path : List ℕ) (c : Config) (end : Exit)
     → (is : IsConfigFrom files path c) → EndsSo (next c) end → EndsSo (ending_of_bytes next is.0) end
 at_end next files path c end is ends =
-    subst (λ (e : Ending). EndsSo e end)
+    subst (λ (e : ExitRule). EndsSo e end)
     (sym (ending_of_bytes-read next is.0 (Ok c) is.2 (config_in-ok is.0 c is.3))) ends
 
 -- the answer to a configuration is that to its file
-pub config_answer : (aim : Aim) (path : List ℕ) (files : Files) (fault : Type 0) (c : Config) (answer : Answer)
+pub config_answer : (aim : ConfigCommand) (path : List ℕ) (files : Files) (fault : Type 0) (c : Config) (answer : Answer)
     → IsConfigFrom files path c → GivesEnd (ending_of_config aim c) answer → IsFileAnswer aim path files fault answer
 config_answer aim path files fault c answer is given =
     given_such (EndsSo (ending_of_config aim c)) (IsFileEnd aim path files) (λ memory. memory) (λ none. absurd none)
     (λ end ends. (is.0, is.1, at_end (ending_of_config aim) files path c end is ends)) answer given
 
 -- and so is the answer where there is none
-pub refused_file : (aim : Aim) (path : List ℕ) (files : Files) (fault : Type 0) (answer : Answer)
+pub refused_file : (aim : ConfigCommand) (path : List ℕ) (files : Files) (fault : Type 0) (answer : Answer)
     → IsRefusal path files fault answer → IsFileAnswer aim path files fault answer
 refused_file aim path files fault answer is =
     given_such (IsRefusedAt path files) (IsFileEnd aim path files) (λ memory. memory) (λ counted. counted)
@@ -205,7 +205,7 @@ other_fault bytes fault answer short is given =
     given_such (EndsSo (exactly (exit_of_config_fault fault))) (IsRefused bytes) (λ memory. memory) (λ none. none)
     (λ end ends. record {
       none = λ c config. absurd (let e = config.1 in cc);
-      ends = λ next. subst (λ (e : Ending). EndsSo e end)
+      ends = λ next. subst (λ (e : ExitRule). EndsSo e end)
           (sym (ending_of_bytes-read next bytes (Err fault) short is)) ends;
     }) answer given
 
@@ -230,7 +230,7 @@ fault_answer bytes (configs.Unknown key) answer short is given =
 -- ---- sessions over a configuration
 
 -- a session is too long
-pub long_session : (start : Start) (c : Config) (path : List ℕ) (files : Files) (fault : Type 0)
+pub long_session : (start : RoverStart) (c : Config) (path : List ℕ) (files : Files) (fault : Type 0)
     → (bytes : List ℕ) × files path bytes × (8388608 < length bytes)
     → IsSessionAnswer start c path files fault Long
 long_session start c path files fault is = (is.0, is.1, long_ends start c (Replay (length c.relay)) is.0 is.2)
@@ -239,7 +239,7 @@ abbrev pub both_came : List ℕ → List ℕ → Came
 both_came config script = record { script = script; config = config; failed = false }
 
 -- the answer to a session is that to both files
-pub replay_answer : (start : Start) (config session : List ℕ) (early late files : Files) (late_fault fault : Type 0)
+pub replay_answer : (start : RoverStart) (config session : List ℕ) (early late files : Files) (late_fault fault : Type 0)
     (c : Config) (answer : Answer) → IsConfigFrom early config c
     → ((bytes : List ℕ) → early config bytes → files config bytes)
     → ((bytes : List ℕ) → late session bytes → files session bytes) → (late_fault → fault)
@@ -254,7 +254,7 @@ replay_answer start config session early late files late_fault fault c answer is
     )) answer given
 
 -- and so is the answer where there is no configuration
-pub refused_replay : (start : Start) (config session : List ℕ) (files : Files) (fault : Type 0) (answer : Answer)
+pub refused_replay : (start : RoverStart) (config session : List ℕ) (files : Files) (fault : Type 0) (answer : Answer)
     → IsRefusal config files fault answer → IsReplayAnswer start config session files fault answer
 refused_replay start config session files fault answer is =
     given_such (IsRefusedAt config files) (IsReplayEnd start config session files) (λ memory. memory)
@@ -268,7 +268,7 @@ refused_replay start config session files fault answer is =
 
 -- the answer to the files is that to the words
 pub files_answer : (words : List (List ℕ)) (input : Input) (files : Files) (of_input of_store : Type 0)
-    (start : Start) (config session : List ℕ) (answer : Answer) → form_of words ≡ Some (replay start config session)
+    (start : RoverStart) (config session : List ℕ) (answer : Answer) → form_of words ≡ Some (replay start config session)
     → ArePlayed start words config session → IsReplayAnswer start config session files of_store answer
     → IsAnswer words input files of_input of_store answer
 files_answer words input files of_input of_store start config session answer h are is =
@@ -302,7 +302,7 @@ unread_input input capacity fault causes.Failed long failed = failed refl
 unread_input input capacity fault causes.Long long failed = long_input input capacity fault (long refl)
 unread_input input capacity fault causes.Memory long failed = tt
 
-pub unread_session : (start : Start) (c : Config) (path : List ℕ) (files : Files) (fault : Type 0) (cause : ReadAllFault)
+pub unread_session : (start : RoverStart) (c : Config) (path : List ℕ) (files : Files) (fault : Type 0) (cause : ReadAllFault)
     → (cause ≡ causes.Long → (bytes : List ℕ) × files path bytes × is_long bytes)
     → (cause ≡ causes.Failed → fault) → IsSessionAnswer start c path files fault (answer_of_fault cause)
 unread_session start c path files fault causes.Failed long failed = failed refl
@@ -316,7 +316,7 @@ long_refused path files is = (
   is.1,
   record {
     none = λ c inside. absurd (omega (arith, is.2, inside.0));
-    ends = λ next. subst (λ (e : Ending). EndsSo e long_exit) (sym (ending_of_bytes-long next is.0 is.2)) refl;
+    ends = λ next. subst (λ (e : ExitRule). EndsSo e long_exit) (sym (ending_of_bytes-long next is.0 is.2)) refl;
   },
 )
 

@@ -2,7 +2,7 @@
 use Rattle.std.proofs.Common.{◌≡◌, ℕ, List, [], ◌∷◌, ◌++◌, Option, Some, refl, ap, sym, subst, ◌∙◌, append_assoc, inl, inr}
 use Rattle.cast_io.specs.Told.{Grew}
 use Rattle.cast_config.specs.declared.config.Config.{Config}
-use Rattle.caster_top.specs.declared.command.Start.{Start}
+use Rattle.caster_top.specs.declared.command.RoverStart.{RoverStart}
 use Rattle.caster_top.specs.Command.{Form, replay, form_of}
 use Rattle.caster_top.specs.Told.{FilesTold, IsConfigAt, IsAsked}
 
@@ -21,11 +21,11 @@ asked_so words read files old new h asked =
     subst (λ (form : Option Form). IsAsked form files old new) (sym h) asked
 
 -- the configuration alone, and both
-pub config_asked : (start : Start) (config session : List ℕ) (files : FilesTold) (old new : Option (List (List ℕ)))
+pub config_asked : (start : RoverStart) (config session : List ℕ) (files : FilesTold) (old new : Option (List (List ℕ)))
     → Grew old new (config ∷ []) → IsAsked (Some (replay start config session)) files old new
 config_asked start config session files old new grew = (config ∷ [], inl refl, grew)
 
-pub both_asked : (start : Start) (config session : List ℕ) (files : FilesTold) (old mid new : Option (List (List ℕ)))
+pub both_asked : (start : RoverStart) (config session : List ℕ) (files : FilesTold) (old mid new : Option (List (List ℕ)))
     (c : Config)
     → Grew old mid (config ∷ []) → Grew mid new (session ∷ []) → IsConfigAt files config c
     → IsAsked (Some (replay start config session)) files old new

@@ -11,12 +11,12 @@ use Rattle.session_model.specs.Text.{closed_text}
 use Rattle.cast_io.specs.Causes.{Rose}
 use Rattle.cast_config.specs.declared.config.Config.{Config}
 use Rattle.cast_config.specs.Bare as settings
-use Rattle.run_texts.specs.Texts.{made_text, report}
+use Rattle.run_texts.specs.Texts.{made_text, bare_report_text}
 use Rattle.caster_serve.specs.Caster.{HasServed}
-use Rattle.caster_top.specs.declared.command.Aim.{Aim}
-use Rattle.caster_top.specs.declared.command.Start.{Start}
-use Rattle.caster_top.specs.declared.command.Task.{Task}
-use Rattle.caster_top.specs.declared.command.Task.TheVariants.{Record, Serve}
+use Rattle.caster_top.specs.declared.command.ConfigCommand.{ConfigCommand}
+use Rattle.caster_top.specs.declared.command.RoverStart.{RoverStart}
+use Rattle.caster_top.specs.declared.command.CasterMode.{CasterMode}
+use Rattle.caster_top.specs.declared.command.CasterMode.TheVariants.{Record, Serve}
 use Rattle.caster_top.specs.Command.{bare, over, replay, made, AreBare, AreCasting, AreMake, AreOver, ArePlayed, AreRecord, AreServe, KeepNothing}
 use Rattle.caster_top.specs.Outcome.{IsReportText}
 use Rattle.caster_top.specs.Told.{HaveFault, Holds, IsConfigAt, Tells}
@@ -49,7 +49,7 @@ module _ (call : CallTold) (meets : MeetsUndisturbed call) where
       → call.left ≡ Some bytes → script_of Bare bytes ≡ Ok events → IsCalm call.input_faults
       → IsCalm call.output_faults
       → (call.status ≡ 7)
-      ⊎ ((call.status ≡ 0) × Appends call.old call.new (report (settings.bare capacity) events))
+      ⊎ ((call.status ≡ 0) × Appends call.old call.new (bare_report_text (settings.bare capacity) events))
   complete_bare capacity bytes events are told script read write =
       elim (calm (keeps_nothing call.words (bare capacity) are refl) (bare_fault call.words (HasRisen call.input_faults) (HasRisen call.store_faults) capacity are read)
       write) [
@@ -59,7 +59,7 @@ module _ (call : CallTold) (meets : MeetsUndisturbed call) where
             events follows are (told_only call.left bytes told) script)
       ]
 
-  pub complete_over : (aim : Aim) (path : List ℕ) (c : Config) → AreOver aim call.words path
+  pub complete_over : (aim : ConfigCommand) (path : List ℕ) (c : Config) → AreOver aim call.words path
       → TellConfig call.files path c → IsCalm call.store_faults → IsCalm call.output_faults
       → (call.status ≡ 7) ⊎ (call.status ≡ 0)
   complete_over aim path c are is read write =
@@ -71,7 +71,7 @@ module _ (call : CallTold) (meets : MeetsUndisturbed call) where
             is.bytes c follows are (held_only call.files is.list path is.bytes is.told is.content) is.short is.read)
       ]
 
-  pub complete_played : (start : Start) (config session : List ℕ) (c : Config) (events : List Event)
+  pub complete_played : (start : RoverStart) (config session : List ℕ) (c : Config) (events : List Event)
       → ArePlayed start call.words config session → TellConfig call.files config c
       → TellSession call.files session c events → IsCalm call.store_faults → IsCalm call.output_faults
       → (call.status ≡ 7)
@@ -116,7 +116,7 @@ module _ (call : CallTold) (meets : MeetsCasting call) where
       recorded_run (Holds call.files) config addr limit call.before call.after (HasRisen call.store_faults) call.old
       call.new call.output_faults.before call.output_faults.now call.status zero (meets Record config addr limit are)
 
-  pub complete_cast : (task : Task) (config addr : List ℕ) (limit : ℕ) (c : Config)
+  pub complete_cast : (task : CasterMode) (config addr : List ℕ) (limit : ℕ) (c : Config)
       → AreCasting task call.words config addr limit → TellConfig call.files config c → IsCalm call.store_faults
       → IsCalm call.output_faults → (Rose call.before.faults call.after.faults → ⊥)
       → (call.status ≡ 7) ⊎ (call.status ≡ 0)

@@ -16,8 +16,8 @@ use Rattle.caster_serve.specs.Caster.{Answered, HasServed}
 use Rattle.caster_serve.specs.declared.whole.ServeFault.{ServeFault}
 use Rattle.caster_serve.specs.declared.whole.ServeFault.TheVariants as faults
 use Rattle.caster_top.specs.declared.answers.Answer.{Answer}
-use Rattle.caster_top.specs.declared.command.Task.{Task}
-use Rattle.caster_top.specs.declared.command.Task.TheVariants.{Serve, Record}
+use Rattle.caster_top.specs.declared.command.CasterMode.{CasterMode}
+use Rattle.caster_top.specs.declared.command.CasterMode.TheVariants.{Serve, Record}
 use Rattle.caster_top.specs.Command.{Form, casting, keeping, AreCasting, CastNothing, KeepNothing, form_of}
 use Rattle.caster_top.specs.Outcome.{Exit, exactly, EndsSo, Came, whole_exit, usage_exit, network_exit, ending_of_casting, ending_of_bytes, session_in}
 use Rattle.caster_top.specs.Told.{Files, FilesTold, Input, IsConfigFrom, IsConfigIn, IsAsked, IsOutcome, HaveCome}
@@ -36,14 +36,14 @@ abbrev pub failed_came : List ℕ → Came
 failed_came config = record { script = []; config = config; failed = true }
 
 -- a text that a caster came to is such an end
-cast_ends : (task : Task) (c : Config) (addr : List ℕ) (limit : ℕ) (before after : StreetTold) (text : List ℕ)
+cast_ends : (task : CasterMode) (c : Config) (addr : List ℕ) (limit : ℕ) (before after : StreetTold) (text : List ℕ)
     → HasCast task c addr limit before after (a_text text) → EndsSo (ending_of_casting task false c) (whole_exit text)
 cast_ends Serve c addr limit before after text is = (refl, is.0, is.2)
 cast_ends Record c addr limit before after text is =
     (refl, (is.0, is.2, ap (session_in c) is.2 ∙ is.1.session.recorded.reads))
 
 cast_answer : (words : List (List ℕ)) (input : Input) (files : Files) (of_input of_store : Type 0)
-    (task : Task) (config addr : List ℕ) (limit : ℕ) (before after : StreetTold) (c : Config) (came_to : CameTo)
+    (task : CasterMode) (config addr : List ℕ) (limit : ℕ) (before after : StreetTold) (c : Config) (came_to : CameTo)
     (answer : Answer) → form_of words ≡ Some (casting task config addr limit)
     → AreCasting task words config addr limit → IsConfigFrom files config c
     → HasCast task c addr limit before after came_to → GivesCame task came_to answer
@@ -67,7 +67,7 @@ cast_answer words input files of_input of_store task config addr limit before af
     (casting task config addr limit, are)
 
 pub casting_answer : (words : List (List ℕ)) (input : Input) (files : Files) (of_input of_store : Type 0)
-    (task : Task) (config addr : List ℕ) (limit : ℕ) (before after : StreetTold) (answer : Answer)
+    (task : CasterMode) (config addr : List ℕ) (limit : ℕ) (before after : StreetTold) (answer : Answer)
     → form_of words ≡ Some (casting task config addr limit) → AreCasting task words config addr limit
     → IsCastingAnswer task files config addr limit before after of_store answer
     → IsAnswer words input files of_input of_store answer
@@ -82,12 +82,12 @@ casting_answer words input files of_input of_store task config addr limit before
     has.config_is has.cast has.given
 
 -- the words' task, configuration and address are those of their form, and there is one form of them
-casting_is : (task other_task : Task) (config addr other_config other_addr : List ℕ) (limit other : ℕ)
+casting_is : (task other_task : CasterMode) (config addr other_config other_addr : List ℕ) (limit other : ℕ)
     → Some (casting task config addr limit) ≡ Some (casting other_task other_config other_addr other)
     → (task ≡ other_task) × (config ≡ other_config) × (addr ≡ other_addr) × (limit ≡ other)
 casting_is task other_task config addr other_config other_addr limit other e = (cc, cc, cc, cc)
 
-pub casting_read : (words : List (List ℕ)) (files : Files) (task other_task : Task)
+pub casting_read : (words : List (List ℕ)) (files : Files) (task other_task : CasterMode)
     (config addr other_config other_addr : List ℕ) (limit other : ℕ) (before after : StreetTold) (fault : Type 0)
     (answer : Answer) → form_of words ≡ Some (casting task config addr limit)
     → AreCasting other_task words other_config other_addr other
@@ -100,17 +100,17 @@ casting_read words files task other_task config addr other_config other_addr lim
     subst (λ (n : ℕ). IsCastingAnswer other_task files other_config other_addr n before after fault answer) same.3
     (subst (λ (a : List ℕ). IsCastingAnswer other_task files other_config a limit before after fault answer) same.2
     (subst (λ (p : List ℕ). IsCastingAnswer other_task files p addr limit before after fault answer) same.1
-    (subst (λ (t : Task). IsCastingAnswer t files config addr limit before after fault answer) same.0 is)))
+    (subst (λ (t : CasterMode). IsCastingAnswer t files config addr limit before after fault answer) same.0 is)))
 
 -- words that are read as something else do not ask for it
-pub read_other : {P : Type 0} (words : List (List ℕ)) (form : Option Form) (task : Task) (config addr : List ℕ)
+pub read_other : {P : Type 0} (words : List (List ℕ)) (form : Option Form) (task : CasterMode) (config addr : List ℕ)
     (limit : ℕ) → form_of words ≡ form → AreCasting task words config addr limit
     → (form ≡ Some (casting task config addr limit) → ⊥) → P
 read_other words form task config addr limit h are other =
     absurd (other (sym h ∙ form_of-form words (casting task config addr limit) are))
 
 -- one file is asked for
-pub casting_asked : (words : List (List ℕ)) (task : Task) (config addr : List ℕ) (limit : ℕ) (files : FilesTold)
+pub casting_asked : (words : List (List ℕ)) (task : CasterMode) (config addr : List ℕ) (limit : ℕ) (files : FilesTold)
     (old new : Option (List (List ℕ))) → form_of words ≡ Some (casting task config addr limit)
     → Grew old new (config ∷ []) → IsAsked (form_of words) files old new
 casting_asked words task config addr limit files old new h grew =
@@ -118,7 +118,7 @@ casting_asked words task config addr limit files old new h grew =
 
 -- ---- how it ends
 
-cast_end : (task : Task) (came_to : CameTo) (answer : Answer) → GivesCame task came_to answer
+cast_end : (task : CasterMode) (came_to : CameTo) (answer : Answer) → GivesCame task came_to answer
     → CastEnd task came_to (exit_of answer)
 cast_end task (a_text text) answer given =
     given_end (EndsSo (exactly (whole_exit text))) (CastEnd task (a_text text)) (λ memory. inr (memory, refl))
@@ -133,7 +133,7 @@ refused_end files config fault answer refused =
     given_end (IsRefusedAt config files) (RefusedEnd config files fault) (λ memory. inl refl)
     (λ counted. inr (inl (counted, refl))) (λ end is. inr (inr is)) answer refused
 
-casting_end : (task : Task) (files : Files) (config addr : List ℕ) (limit : ℕ) (before after : StreetTold)
+casting_end : (task : CasterMode) (files : Files) (config addr : List ℕ) (limit : ℕ) (before after : StreetTold)
     (fault : Type 0) (answer : Answer) → IsCastingAnswer task files config addr limit before after fault answer
     → CastingEnd task files config addr limit before after fault (exit_of answer)
 casting_end task files config addr limit before after fault answer (inl (same, refused)) =
@@ -146,7 +146,7 @@ casting_end task files config addr limit before after fault answer (inr has) = i
   ends = cast_end task has.came_to answer has.given;
 })
 
-pub casting_written : (task : Task) (files : Files) (config addr : List ℕ) (limit : ℕ) (before after : StreetTold)
+pub casting_written : (task : CasterMode) (files : Files) (config addr : List ℕ) (limit : ℕ) (before after : StreetTold)
     (fault : Type 0) (old new : Option (List ℕ)) (first now status : ℕ) (answer : Answer)
     → IsCastingAnswer task files config addr limit before after fault answer
     → Writes (exit_of answer) old new first now status
@@ -183,7 +183,7 @@ refused_status config files fault end (inr (inl (counted, is))) =
 refused_status config files fault end (inr (inr is)) = refused_bytes is.0 end is.2
 
 -- with 0 the caster came to a text
-came_at : (task : Task) (came_to : CameTo) (end : Exit) → CastEnd task came_to end → end.status ≡ 0
+came_at : (task : CasterMode) (came_to : CameTo) (end : Exit) → CastEnd task came_to end → end.status ≡ 0
     → (text : List ℕ) × (came_to ≡ a_text text) × (end.text ≡ text)
 came_at task (a_text text) end (inl is) zero = (text, refl, ap (λ (x : Exit). x.text) is)
 came_at task (a_text text) end (inr (may, memory)) zero = absurd (omega (arith, zero, ap (λ (x : Exit). x.status) memory))
@@ -191,7 +191,7 @@ came_at task no_network end is zero = absurd (omega (arith, zero, ap (λ (x : Ex
 came_at task no_memory end is zero = absurd (omega (arith, zero, ap (λ (x : Exit). x.status) is))
 
 -- with 6 its network failed
-lost_at : (task : Task) (came_to : CameTo) (end : Exit) → CastEnd task came_to end → end.status ≡ 6
+lost_at : (task : CasterMode) (came_to : CameTo) (end : Exit) → CastEnd task came_to end → end.status ≡ 6
     → (came_to ≡ no_network) × (end ≡ network_exit)
 lost_at task (a_text text) end (inl is) six = absurd (omega (arith, six, ap (λ (x : Exit). x.status) is))
 lost_at task (a_text text) end (inr (may, memory)) six = absurd (omega (arith, six, ap (λ (x : Exit). x.status) memory))
@@ -199,7 +199,7 @@ lost_at task no_network end is six = (refl, is)
 lost_at task no_memory end is six = absurd (omega (arith, six, ap (λ (x : Exit). x.status) is))
 
 -- the status is 0, 6 or 7, and 6 only where the network failed
-kept_at : (task : Task) (came_to : CameTo) (end : Exit) → CastEnd task came_to end
+kept_at : (task : CasterMode) (came_to : CameTo) (end : Exit) → CastEnd task came_to end
     → (end.status ≡ 0) ⊎ ((end.status ≡ 7) ⊎ ((end.status ≡ 6) × (came_to ≡ no_network)))
 kept_at task (a_text text) end (inl is) = inl (ap (λ (x : Exit). x.status) is)
 kept_at task (a_text text) end (inr (may, memory)) = inr (inl (ap (λ (x : Exit). x.status) memory))
@@ -207,13 +207,13 @@ kept_at task no_network end is = inr (inr (ap (λ (x : Exit). x.status) is, refl
 kept_at task no_memory end is = inr (inl (ap (λ (x : Exit). x.status) is))
 
 -- what a run with status 0 says of a caster of this task
-abbrev HasRun : Task → Files → List ℕ → List ℕ → ℕ → StreetTold → StreetTold → Option (List ℕ) → Option (List ℕ)
+abbrev HasRun : CasterMode → Files → List ℕ → List ℕ → ℕ → StreetTold → StreetTold → Option (List ℕ) → Option (List ℕ)
     → Type 0
 HasRun task files config addr limit before after old new =
     (c : Config) × (text : List ℕ) × IsConfigFrom files config c
     × HasCast task c addr limit before after (a_text text) × Appends old new text
 
-whole_run : (task : Task) (files : Files) (config addr : List ℕ) (limit : ℕ) (before after : StreetTold)
+whole_run : (task : CasterMode) (files : Files) (config addr : List ℕ) (limit : ℕ) (before after : StreetTold)
     (fault : Type 0) (old new : Option (List ℕ)) (first now status : ℕ) → status ≡ 0
     → HasCasting task files config addr limit before after fault old new first now status
     → HasRun task files config addr limit before after old new
@@ -261,7 +261,7 @@ recorded_run files config addr limit before after fault old new first now status
       subst (λ (t : List ℕ). Appends old new t) run.3.2 run.4,
     )
 
-pub lost_run : (task : Task) (files : Files) (config addr : List ℕ) (limit : ℕ) (before after : StreetTold)
+pub lost_run : (task : CasterMode) (files : Files) (config addr : List ℕ) (limit : ℕ) (before after : StreetTold)
     (fault : Type 0) (old new : Option (List ℕ)) (first now status : ℕ) → status ≡ 6
     → HasCasting task files config addr limit before after fault old new first now status
     → (c : Config) × IsConfigFrom files config c × HasCast task c addr limit before after no_network
@@ -289,7 +289,7 @@ answered_rose : (c : Config) (addr : List ℕ) (limit : ℕ) (before after : Str
 answered_rose c addr limit before after (inl went) = went.ended.rose
 answered_rose c addr limit before after (inr refused) = refused.1
 
-pub network_rose : (task : Task) (c : Config) (addr : List ℕ) (limit : ℕ) (before after : StreetTold)
+pub network_rose : (task : CasterMode) (c : Config) (addr : List ℕ) (limit : ℕ) (before after : StreetTold)
     → HasCast task c addr limit before after no_network → Rose before.faults after.faults
 network_rose Serve c addr limit before after served = answered_rose c addr limit before after served.answered
 network_rose Record c addr limit before after not = not.1
@@ -335,7 +335,7 @@ refused_not files config bytes c fault end only short is none (inr (inr refused)
     (short, config_in-ok bytes c is) in
     absurd (refused.2.none c inside)
 
-pub complete_run : (task : Task) (files : Files) (config addr : List ℕ) (limit : ℕ) (before after : StreetTold)
+pub complete_run : (task : CasterMode) (files : Files) (config addr : List ℕ) (limit : ℕ) (before after : StreetTold)
     (fault : Type 0) (old new : Option (List ℕ)) (first now status : ℕ) (bytes : List ℕ) (c : Config)
     → HasCasting task files config addr limit before after fault old new first now status
     → ((came : List ℕ) → files config came → came ≡ bytes) → length bytes ≤ 8388608 → IsRead bytes (Ok c)
@@ -363,7 +363,7 @@ unserved_not status is ends = omega arith
 not_five : (status : ℕ) → IsUnserved status → status ≡ 5 → ⊥
 not_five status is five = omega arith
 
-unserved_end : (task : Task) (files : Files) (config addr : List ℕ) (limit : ℕ) (before after : StreetTold)
+unserved_end : (task : CasterMode) (files : Files) (config addr : List ℕ) (limit : ℕ) (before after : StreetTold)
     (fault : Type 0) (old new : Option (List ℕ)) (first now status : ℕ) (end : Exit) → IsUnserved status
     → CastingEnd task files config addr limit before after fault end → Writes end old new first now status
     → after ≡ before
@@ -380,7 +380,7 @@ unserved_end task files config addr limit before after fault old new first now s
 
 -- words ask for a caster, or they do not
 cast_or_not : (words : List (List ℕ)) (form : Option Form) → form_of words ≡ form
-    → ((task : Task) × (config addr : List ℕ) × (limit : ℕ) × AreCasting task words config addr limit)
+    → ((task : CasterMode) × (config addr : List ℕ) × (limit : ℕ) × AreCasting task words config addr limit)
     ⊎ CastNothing words
 cast_or_not words (Some (casting task config addr limit)) h =
     inl (task, config, addr, limit, form-form_of words (casting task config addr limit) h)
@@ -390,7 +390,7 @@ cast_or_not words form h =
 pub unserved_run : (words : List (List ℕ)) (files : Files) (before after : StreetTold) (fault : Type 0)
     (old new : Option (List ℕ)) (first now status : ℕ) → IsUnserved status
     → (CastNothing words → after ≡ before)
-    → ((task : Task) (config addr : List ℕ) (limit : ℕ) → AreCasting task words config addr limit
+    → ((task : CasterMode) (config addr : List ℕ) (limit : ℕ) → AreCasting task words config addr limit
     → HasCasting task files config addr limit before after fault old new first now status)
     → after ≡ before
 unserved_run words files before after fault old new first now status is alone casts =
@@ -405,7 +405,7 @@ unserved_run words files before after fault old new first now status is alone ca
 -- with 6 the words ask for a caster
 pub of_caster : (words : List (List ℕ)) (input : Input) (files : Files) → KeepNothing words
     → HaveCome IsOfCaster words input files
-    → (task : Task) × (config addr : List ℕ) × (limit : ℕ) × AreCasting task words config addr limit
+    → (task : CasterMode) × (config addr : List ℕ) × (limit : ℕ) × AreCasting task words config addr limit
 of_caster words input files nothing (casting task config addr limit, came, are, told, is) =
     (task, config, addr, limit, are)
 of_caster words input files nothing (keeping config addr quiet, came, are, told, is) =
@@ -415,7 +415,7 @@ of_caster words input files nothing (form, came, are, told, is) = absurd is
 -- ---- from more
 
 -- the answer of a caster, whose configuration may have come from more
-pub casting_more : (task : Task) (files more : Files) (config addr : List ℕ) (limit : ℕ) (before after : StreetTold)
+pub casting_more : (task : CasterMode) (files more : Files) (config addr : List ℕ) (limit : ℕ) (before after : StreetTold)
     (fault : Type 0) (answer : Answer) → ((path bytes : List ℕ) → files path bytes → more path bytes)
     → IsCastingAnswer task files config addr limit before after fault answer
     → IsCastingAnswer task more config addr limit before after fault answer

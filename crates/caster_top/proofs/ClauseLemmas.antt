@@ -10,15 +10,15 @@ use Rattle.cast_io.specs.Stores.{content_of}
 use Rattle.cast_config.specs.declared.config.Config.{Config}
 use Rattle.cast_config.specs.Bare as settings
 use Rattle.cast_config.specs.Document.{IsRead}
-use Rattle.run_texts.specs.Texts.{IsRunText, report, made_text}
+use Rattle.run_texts.specs.Texts.{IsRunText, bare_report_text, made_text}
 use Rattle.run_texts.proofs.BareLemmas.{bare_text}
 use Rattle.caster_top.specs.declared.answers.Answer.{Answer}
 use Rattle.caster_top.specs.declared.answers.Answer.TheVariants.{ReadFault, Memory}
-use Rattle.caster_top.specs.declared.command.Aim.{Aim}
-use Rattle.caster_top.specs.declared.command.Start.{Start}
-use Rattle.caster_top.specs.declared.command.Start.TheVariants.{Cold}
+use Rattle.caster_top.specs.declared.command.ConfigCommand.{ConfigCommand}
+use Rattle.caster_top.specs.declared.command.RoverStart.{RoverStart}
+use Rattle.caster_top.specs.declared.command.RoverStart.TheVariants.{Cold}
 use Rattle.caster_top.specs.Command.{Form, bare, over, replay, made, AreBare, AreOver, ArePlayed, AreMake, AreOf, AreOfNoForm, form_of}
-use Rattle.caster_top.specs.Outcome.{Exit, Ending, IsReportText, report_of, EndsSo, Came, session_in, ending_of_script, ending_of_config, ending_of_bytes, ending_of_form, ending_of}
+use Rattle.caster_top.specs.Outcome.{Exit, ExitRule, IsReportText, report_of, EndsSo, Came, session_in, ending_of_script, ending_of_config, ending_of_bytes, ending_of_form, ending_of}
 use Rattle.caster_top.specs.Told.{Files, FilesTold, Holds, Input, IsConfigFrom, IsConfigIn, IsSessionFrom, HasCome, EndsWith, FollowsOutcome, HaveForm, HaveFault, HaveCome}
 use Rattle.caster_top.specs.Answers.{exit_of, IsAnswer, Writes}
 use Rattle.caster_top.proofs.WordLemmas.{form_of-form, form-form_of, no_form}
@@ -70,7 +70,7 @@ read_run words input files old new status read follows h =
       is.0,
       end,
       subst (λ (f : Option Form). HasCome f input files is.0) h is.1,
-      subst (λ (e : Ending). EndsSo e end) (sym (outcome-form words is.0 read h)) is.2,
+      subst (λ (e : ExitRule). EndsSo e end) (sym (outcome-form words is.0 read h)) is.2,
       follows.2,
     )
 
@@ -134,13 +134,13 @@ no_form_run words input files of_input of_store old new before now status answer
 -- ---- bare scripts
 
 -- what ends as a run of these events ends with status 0
-report_end : (start : Start) (c : Config) (events : List Event) (status : ℕ) (old new : Option (List ℕ)) (end : Exit)
+report_end : (start : RoverStart) (c : Config) (events : List Event) (status : ℕ) (old new : Option (List ℕ)) (end : Exit)
     → EndsSo (report_of start c events) end → EndsWith status old new end
     → (status ≡ 0) × (text : List ℕ) × IsReportText start c events text × Appends old new text
 report_end start c events status old new end ends written =
     (written.0 ∙ ends.0, end.text, ends.1, written.1)
 
-script_end : (start : Start) (c : Config) (read : Result (List Event) ScriptFault) (events : List Event) (end : Exit)
+script_end : (start : RoverStart) (c : Config) (read : Result (List Event) ScriptFault) (events : List Event) (end : Exit)
     → read ≡ Ok events → EndsSo (ending_of_script start c read) end → EndsSo (report_of start c events) end
 script_end start c read events end h ends =
     subst (λ (r : Result (List Event) ScriptFault). EndsSo (ending_of_script start c r) end) h ends
@@ -162,7 +162,7 @@ script_report words input files old new status capacity bytes events follows are
 pub script_run : (words : List (List ℕ)) (input : Input) (files : Files) (old new : Option (List ℕ))
     (status capacity : ℕ) (bytes : List ℕ) (events : List Event) → FollowsOutcome words input files status old new
     → AreBare words capacity → ((came : List ℕ) → input came → bytes ≡ came) → script_of Bare bytes ≡ Ok events
-    → (status ≡ 0) × Appends old new (report (settings.bare capacity) events)
+    → (status ≡ 0) × Appends old new (bare_report_text (settings.bare capacity) events)
 script_run words input files old new status capacity bytes events follows are only script =
     let all = script_report words input files old new status capacity bytes events follows are only script in
     let session = (script_read Bare bytes events script).session in
@@ -179,13 +179,13 @@ bare_fault words of_input of_store capacity are read (bare other, of, fault) = r
 bare_fault words of_input of_store capacity are read (form, of, fault) =
     let e = one_form words (bare capacity) form are of in absurd cc
 
-pub over_fault : (words : List (List ℕ)) (of_input of_store : Type 0) (aim : Aim) (path : List ℕ)
+pub over_fault : (words : List (List ℕ)) (of_input of_store : Type 0) (aim : ConfigCommand) (path : List ℕ)
     → AreOver aim words path → (of_store → ⊥) → HaveFault words of_input of_store → ⊥
 over_fault words of_input of_store aim path are read (over other other_path, of, fault) = read fault
 over_fault words of_input of_store aim path are read (form, of, fault) =
     let e = one_form words (over aim path) form are of in absurd cc
 
-pub replay_fault : (words : List (List ℕ)) (of_input of_store : Type 0) (start : Start) (config session : List ℕ)
+pub replay_fault : (words : List (List ℕ)) (of_input of_store : Type 0) (start : RoverStart) (config session : List ℕ)
     → ArePlayed start words config session → (of_store → ⊥) → HaveFault words of_input of_store → ⊥
 replay_fault words of_input of_store start config session are read (replay again other other_session, of, fault) =
     read fault
@@ -211,7 +211,7 @@ made_run words input files old new status seed frames rovers follows are =
 -- ---- configurations
 
 -- with status 0 the file is a configuration, and what came next ended so
-config_decided : (files : Files) (path : List ℕ) (next : Config → Ending) (bytes : List ℕ) (end : Exit)
+config_decided : (files : Files) (path : List ℕ) (next : Config → ExitRule) (bytes : List ℕ) (end : Exit)
     → files path bytes → EndsSo (ending_of_bytes next bytes) end → end.status ≡ 0
     → (c : Config) × IsConfigIn bytes c × IsConfigFrom files path c × EndsSo (next c) end
 config_decided files path next bytes end holds ends zero =
@@ -221,12 +221,12 @@ config_decided files path next bytes end holds ends zero =
       c,
       is,
       (bytes, holds, is.0, read-config_in bytes c is.1),
-      subst (λ (e : Ending). EndsSo e end) (ending_of_bytes-read next bytes (Ok c) is.0 is.1) ends,
+      subst (λ (e : ExitRule). EndsSo e end) (ending_of_bytes-read next bytes (Ok c) is.0 is.1) ends,
     )
 
 -- with status 0 the file is a configuration, and what was written is what is done with it
 pub over_run : (words : List (List ℕ)) (input : Input) (files : Files) (old new : Option (List ℕ))
-    (status : ℕ) (aim : Aim) (path : List ℕ) → status ≡ 0 → FollowsOutcome words input files status old new
+    (status : ℕ) (aim : ConfigCommand) (path : List ℕ) → status ≡ 0 → FollowsOutcome words input files status old new
     → AreOver aim words path
     → (c : Config) × (end : Exit) × IsConfigFrom files path c × EndsSo (ending_of_config aim c) end
     × Appends old new end.text
@@ -247,7 +247,7 @@ held_only (Some told) list path bytes e c held h =
 
 -- a configuration has status 0
 pub config_run : (words : List (List ℕ)) (input : Input) (files : Files) (old new : Option (List ℕ))
-    (status : ℕ) (aim : Aim) (path bytes : List ℕ) (c : Config)
+    (status : ℕ) (aim : ConfigCommand) (path bytes : List ℕ) (c : Config)
     → FollowsOutcome words input files status old new → AreOver aim words path
     → ((came : List ℕ) → files path came → came ≡ bytes) → length bytes ≤ 8388608 → IsRead bytes (Ok c)
     → status ≡ 0
@@ -262,7 +262,7 @@ config_run words input files old new status aim path bytes c follows are only sh
 
 -- ---- sessions over a configuration
 
-ok_events : (start : Start) (c : Config) (read : Result (List Event) ScriptFault) (end : Exit)
+ok_events : (start : RoverStart) (c : Config) (read : Result (List Event) ScriptFault) (end : Exit)
     → EndsSo (ending_of_script start c read) end → end.status ≡ 0
     → (events : List Event) × (read ≡ Ok events) × EndsSo (report_of start c events) end
 ok_events start c (Ok events) end ends zero = (events, refl, ends)
@@ -288,8 +288,8 @@ bare_run words input files old new status capacity is follows are =
 pub bare_report : (words : List (List ℕ)) (input : Input) (files : Files) (old new : Option (List ℕ))
     (status capacity : ℕ) → status ≡ 0 → FollowsOutcome words input files status old new → AreBare words capacity
     → (bytes : List ℕ) × (events : List Event) × input bytes × (script_of Bare bytes ≡ Ok events)
-    × IsRunText (settings.bare capacity) events (report (settings.bare capacity) events)
-    × Appends old new (report (settings.bare capacity) events)
+    × IsRunText (settings.bare capacity) events (bare_report_text (settings.bare capacity) events)
+    × Appends old new (bare_report_text (settings.bare capacity) events)
 bare_report words input files old new status capacity is follows are =
     let run = bare_run words input files old new status capacity is follows are in
     let session = (script_read Bare run.0 run.1 run.4).session in
@@ -304,7 +304,7 @@ bare_report words input files old new status capacity is follows are =
 
 -- with status 0 the files are a configuration and a session, and the report of its run was written
 pub replay_run : (words : List (List ℕ)) (input : Input) (files : Files) (old new : Option (List ℕ))
-    (status : ℕ) (start : Start) (config session : List ℕ) → status ≡ 0 → FollowsOutcome words input files status old new
+    (status : ℕ) (start : RoverStart) (config session : List ℕ) → status ≡ 0 → FollowsOutcome words input files status old new
     → ArePlayed start words config session
     → (c : Config) × (events : List Event) × (text : List ℕ) × IsConfigFrom files config c
     × IsSessionFrom files session c events × IsReportText start c events text × Appends old new text
@@ -321,7 +321,7 @@ replay_run words input files old new status start config session is follows are 
 
 -- a session over a configuration has a report
 pub session_run : (words : List (List ℕ)) (input : Input) (files : Files) (old new : Option (List ℕ))
-    (status : ℕ) (start : Start) (config session : List ℕ) (bytes script : List ℕ) (c : Config)
+    (status : ℕ) (start : RoverStart) (config session : List ℕ) (bytes script : List ℕ) (c : Config)
     (events : List Event) → FollowsOutcome words input files status old new → ArePlayed start words config session
     → ((came : List ℕ) → files config came → came ≡ bytes) → length bytes ≤ 8388608 → IsRead bytes (Ok c)
     → ((came : List ℕ) → files session came → came ≡ script) → session_in c script ≡ Ok events
@@ -336,7 +336,7 @@ session_run words input files old new status start config session bytes script c
     (short, config_in-ok bytes c is) in
     let same_script = only_script came.script (run.2.1 c inside) in
     let next = ending_of_bytes-read (replayed start came.script) came.config (Ok c) inside.0 inside.1 in
-    let ends = subst (λ (e : Ending). EndsSo e run.1) next run.3 in
+    let ends = subst (λ (e : ExitRule). EndsSo e run.1) next run.3 in
     let all : session_in c came.script ≡ Ok events = ap (session_in c) same_script ∙ read in
     report_end start c events status old new run.1 (script_end start c (session_in c came.script) events run.1 all
     ends) run.4

@@ -10,7 +10,7 @@ use Rattle.cast_io.specs.Logs.{Log}
 use Rattle.cast_io.specs.Told.{StreetTold}
 use Rattle.cast_config.specs.declared.config.Config.{Config}
 use Rattle.cast_config.specs.Bare as settings
-use Rattle.run_texts.specs.Texts.{report}
+use Rattle.run_texts.specs.Texts.{bare_report_text}
 use Rattle.caster_top.specs.Command.{AreBare}
 use Rattle.caster_top.specs.Given.{FileGave, InputGave}
 use Rattle.caster_top.specs.Done.{WasDone}
@@ -116,11 +116,11 @@ pub told_report : (words : List (List ℕ)) (left : Option (List ℕ)) (first la
     (opened closed : Log) (before after : StreetTold) (old new : Option (List ℕ))
     → WasDone words (InputGave left first last) (FileGave files opened closed) before after old new
     → (capacity : ℕ) (bytes : List ℕ) (events : List Event) → AreBare words capacity → left ≡ Some bytes
-    → script_of Bare bytes ≡ Ok events → Appends old new (report (settings.bare capacity) events)
+    → script_of Bare bytes ≡ Ok events → Appends old new (bare_report_text (settings.bare capacity) events)
 told_report words left first last files opened closed before after old new done capacity bytes events are told script =
     let is = done.bare capacity are in
     let same : bytes ≡ is.0 = told_only left bytes told is.0 is.2.0 in
-    subst (λ (e : List Event). Appends old new (report (settings.bare capacity) e))
+    subst (λ (e : List Event). Appends old new (bare_report_text (settings.bare capacity) e))
     (same_events Bare bytes is.0 events is.1 same script is.3) is.5
 
 pub told_config : (files : FilesTold) (first last : Log) (path : List ℕ) (c : Config)

@@ -25,7 +25,7 @@ use Rattle.keep_porter.specs.Porters.{AreAllSaid, IsItsEnd}
 use Rattle.caster_keep.specs.Keeping.{AreKeepers, HasKept, IsKeeper, IsPorter, KeeperTold, PorterTold, first_stop, start_of, stop_of, stop_of_end}
 use Rattle.caster_top.specs.Command.{keeping, AreKeep}
 use Rattle.caster_top.specs.Reading.{config_in}
-use Rattle.caster_top.specs.Outcome.{Ending, EndsSo, Exit, ending_of_bytes, ending_of_keeping, ending_of_read, exactly, long_exit, memory_exit, network_exit, usage_exit, whole_exit}
+use Rattle.caster_top.specs.Outcome.{ExitRule, EndsSo, Exit, ending_of_bytes, ending_of_keeping, ending_of_read, exactly, long_exit, memory_exit, network_exit, usage_exit, whole_exit}
 use Rattle.caster_top.specs.Told.{Files, Input, IsConfigFrom, IsOutcome, WritesPart}
 use Rattle.caster_top.specs.Answers.{IsRefused, Writes}
 use Rattle.caster_top.specs.Casting.{RefusedEnd}
@@ -40,7 +40,7 @@ status_at end = end.status
 
 -- ---- with 7
 
-abbrev unread : Config → Ending
+abbrev unread : Config → ExitRule
 unread c = exactly usage_exit
 
 not_seven : {P : Type 0} (end : Exit) (n : ℕ) → end.status ≡ n → end.status ≡ 7 → (n ≡ 7 → ⊥) → P
@@ -66,11 +66,11 @@ bytes_seven : (bytes : List ℕ) (end : Exit) → IsRefused bytes end → end.st
 bytes_seven bytes end refused seven = elim (cases_lt 8388608 (length bytes)) [
   | inl long ↦
       let is : EndsSo (exactly long_exit) end =
-      subst (λ (e : Ending). EndsSo e end) (ending_of_bytes-long unread bytes long) (refused.ends unread) in
+      subst (λ (e : ExitRule). EndsSo e end) (ending_of_bytes-long unread bytes long) (refused.ends unread) in
       not_seven end 8 (ap status_at is) seven (λ e. omega (arith, e))
   | inr short ↦
       read_seven (config_in bytes) end
-      (subst (λ (e : Ending). EndsSo e end) (ending_of_bytes-short unread bytes short) (refused.ends unread)) seven
+      (subst (λ (e : ExitRule). EndsSo e end) (ending_of_bytes-short unread bytes short) (refused.ends unread)) seven
 ]
 
 refused_seven : (config : List ℕ) (files : Files) (fault : Type 0) (end : Exit) → RefusedEnd config files fault end

@@ -3,7 +3,7 @@ use Rattle.std.proofs.Common.{◌≡◌, ℕ, List, Option, Some}
 use Rattle.caster_top.specs.declared.answers.Answer.{Answer}
 use Rattle.caster_top.specs.declared.command.Offline.{Offline}
 use Rattle.caster_top.specs.declared.command.Offline.TheVariants as offline
-use Rattle.caster_top.specs.declared.command.Task.{Task}
+use Rattle.caster_top.specs.declared.command.CasterMode.{CasterMode}
 use Rattle.caster_top.specs.Command.{Form, bare, over, replay, made, casting, keeping, fetching, AreCasting, AreOf, IsWithin, NameNoFile, NamesNoFile, ReadNoInput, ReadsNoInput, form_of, offline_form}
 use Rattle.caster_top.specs.Told.{Files, Input}
 use Rattle.caster_top.specs.Answers.{IsAnswer, IsOfflineAnswer}
@@ -57,14 +57,14 @@ offline_answer words input files of_input of_store (keeping config addr quiet) a
 offline_answer words input files of_input of_store (fetching frames targets) answer h are is = absurd is
 
 -- such words ask for no caster
-no_cast : {P : Type 0} (command : Offline) (task : Task) (config addr : List ℕ) (limit : ℕ)
+no_cast : {P : Type 0} (command : Offline) (task : CasterMode) (config addr : List ℕ) (limit : ℕ)
     → Some (offline_form command) ≡ Some (casting task config addr limit) → P
 no_cast (offline.Bare capacity) task config addr limit e = absurd cc
 no_cast (offline.Over aim path) task config addr limit e = absurd cc
 no_cast (offline.Replay start first second) task config addr limit e = absurd cc
 no_cast (offline.Make seed frames rovers) task config addr limit e = absurd cc
 
-pub offline_alone : {P : Type 0} (words : List (List ℕ)) (command : Offline) (task : Task) (config addr : List ℕ)
+pub offline_alone : {P : Type 0} (words : List (List ℕ)) (command : Offline) (task : CasterMode) (config addr : List ℕ)
     (limit : ℕ) → form_of words ≡ Some (offline_form command) → AreCasting task words config addr limit → P
 offline_alone words command task config addr limit h are =
     read_other words (Some (offline_form command)) task config addr limit h are

@@ -12,11 +12,11 @@ use Rattle.cast_config.specs.Bare as settings
 use Rattle.cast_config.specs.Document.{IsRead}
 use Rattle.config_table.specs.Table.{table_records}
 use Rattle.config_write.specs.Written.{HasVersion}
-use Rattle.run_texts.specs.Texts.{IsRunText, report, made_text}
-use Rattle.caster_top.specs.declared.command.Aim.TheVariants.{Check, Table, Migrate}
-use Rattle.caster_top.specs.declared.command.Start.{Start}
-use Rattle.caster_top.specs.declared.command.Start.TheVariants.{Cold}
-use Rattle.caster_top.specs.declared.command.Task.{Task}
+use Rattle.run_texts.specs.Texts.{IsRunText, bare_report_text, made_text}
+use Rattle.caster_top.specs.declared.command.ConfigCommand.TheVariants.{Check, Table, Migrate}
+use Rattle.caster_top.specs.declared.command.RoverStart.{RoverStart}
+use Rattle.caster_top.specs.declared.command.RoverStart.TheVariants.{Cold}
+use Rattle.caster_top.specs.declared.command.CasterMode.{CasterMode}
 use Rattle.caster_top.specs.Command.{Form, AreBare, AreCasting, AreMake, AreOfNoForm, AreOver, ArePlayed, form_of, KeepNothing}
 use Rattle.caster_top.specs.Outcome.{Exit, Came, IsReportText, ending_of, ending_of_form, one_line}
 use Rattle.caster_top.specs.Told.{Files, Input, FollowsOutcome, HaveCome, IsConfigFrom, IsFaultyConfig, IsFaultyScript, IsSessionFrom, IsStatus, IsTooLong, IsWhole}
@@ -96,7 +96,7 @@ module _ {words : List (List ℕ)} {input : Input} {files : Files} {old new : Op
 
   -- with 6 the words ask for a caster
   pub Decided-network : KeepNothing words → status ≡ 6
-      → (task : Task) × (config addr : List ℕ) × (limit : ℕ) × AreCasting task words config addr limit
+      → (task : CasterMode) × (config addr : List ℕ) × (limit : ℕ) × AreCasting task words config addr limit
   Decided-network nothing six =
       of_caster words input files nothing
       (said IsOfCaster 6 six (λ e. omega (arith, e)) (λ e. omega (arith, e)) (λ e. omega (arith, e))
@@ -111,14 +111,14 @@ module _ {words : List (List ℕ)} {input : Input} {files : Files} {old new : Op
 
   pub Decided-bare : status ≡ 0 → (capacity : ℕ) → AreBare words capacity
       → (bytes : List ℕ) × (events : List Event) × input bytes × (script_of Bare bytes ≡ Ok events)
-      × IsRunText (settings.bare capacity) events (report (settings.bare capacity) events)
-      × Appends old new (report (settings.bare capacity) events)
+      × IsRunText (settings.bare capacity) events (bare_report_text (settings.bare capacity) events)
+      × Appends old new (bare_report_text (settings.bare capacity) events)
   Decided-bare zero capacity are = bare_report words input files old new status capacity zero (whole zero) are
 
   -- where no other bytes may have come
   pub Decided-report : status ≡ 0 → (capacity : ℕ) (bytes : List ℕ) (events : List Event) → AreBare words capacity
       → ((came : List ℕ) → input came → bytes ≡ came) → script_of Bare bytes ≡ Ok events
-      → Appends old new (report (settings.bare capacity) events)
+      → Appends old new (bare_report_text (settings.bare capacity) events)
   Decided-report zero capacity bytes events are only script =
       (script_run words input files old new status capacity bytes events (whole zero) are only script).1
 
@@ -152,7 +152,7 @@ module _ {words : List (List ℕ)} {input : Input} {files : Files} {old new : Op
 
   -- ---- a session over a configuration, whose rovers start so
 
-  pub Decided-played : (start : Start) → status ≡ 0 → (config session : List ℕ) → ArePlayed start words config session
+  pub Decided-played : (start : RoverStart) → status ≡ 0 → (config session : List ℕ) → ArePlayed start words config session
       → (c : Config) × (events : List Event) × (text : List ℕ) × IsConfigFrom files config c
       × IsSessionFrom files session c events × IsReportText start c events text × Appends old new text
   Decided-played start zero config session are =

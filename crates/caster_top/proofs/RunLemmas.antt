@@ -17,9 +17,9 @@ use Rattle.ntrip_fetch.specs.declared.target.Target.{Target}
 use Rattle.ntrip_fetch.specs.Tries.{HasStopped}
 use Rattle.caster_top.specs.declared.answers.Answer.{Answer}
 use Rattle.caster_top.specs.declared.answers.Answer.TheVariants.{Done, ReadFault, Memory}
-use Rattle.caster_top.specs.declared.command.Start.TheVariants.{Cold, Warm}
-use Rattle.caster_top.specs.declared.command.Task.{Task}
-use Rattle.caster_top.specs.declared.command.Task.TheVariants.{Serve, Record}
+use Rattle.caster_top.specs.declared.command.RoverStart.TheVariants.{Cold, Warm}
+use Rattle.caster_top.specs.declared.command.CasterMode.{CasterMode}
+use Rattle.caster_top.specs.declared.command.CasterMode.TheVariants.{Serve, Record}
 use Rattle.caster_top.specs.Command.{casting, fetching, keeping, AreCasting, AreFetch, AreKeep, AreOfNoForm, AreRecord, AreServe, KeepNothing, WriteAtEnd}
 use Rattle.caster_top.specs.Outcome.{memory_exit, network_exit, read_fault_exit}
 use Rattle.caster_top.specs.Told.{Files, FilesTold, Holds, Input, EndsWith, FollowsOutcome, HaveFault, IsConfigFrom, Tells, WritesPart}
@@ -124,7 +124,7 @@ module _ {kept : Keeps} {words : List (List ℕ)} {input : Input} {files : Files
 
   -- ---- a caster
 
-  pub HasRun-casting : (task : Task) (config addr : List ℕ) (limit : ℕ) → AreCasting task words config addr limit
+  pub HasRun-casting : (task : CasterMode) (config addr : List ℕ) (limit : ℕ) → AreCasting task words config addr limit
       → HasCasting task files config addr limit before after of_store old new first now status
   HasRun-casting task config addr limit are = elim run.ends [
     | inl a ↦
@@ -208,7 +208,7 @@ module _ {kept : Keeps} {words : List (List ℕ)} {input : Input} {files : Files
         );
   }
 
-  pub HasRun-network_fault : status ≡ 6 → KeepNothing words → (task : Task) × (config addr : List ℕ) × (limit : ℕ) × (c : Config)
+  pub HasRun-network_fault : status ≡ 6 → KeepNothing words → (task : CasterMode) × (config addr : List ℕ) × (limit : ℕ) × (c : Config)
       × AreCasting task words config addr limit × IsConfigFrom files config c
       × HasCast task c addr limit before after no_network × Rose before.faults after.faults
       × Appends old new network_exit.text

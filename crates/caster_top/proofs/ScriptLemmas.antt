@@ -12,8 +12,8 @@ use Rattle.session_script.specs.Line.{event_of_line}
 use Rattle.session_script.specs.Numbers.{Numbers, no_numbers}
 use Rattle.session_script.specs.Script.{is_skipped, may_follow, after_event, onto_events, events_of_lines, script_of}
 use Rattle.cast_config.specs.declared.config.Config.{Config}
-use Rattle.caster_top.specs.declared.command.Start.{Start}
-use Rattle.caster_top.specs.Outcome.{Ending, exactly, document_of, report_of, closing_of, script_over, enough_of, fewer_than, ending_of_script}
+use Rattle.caster_top.specs.declared.command.RoverStart.{RoverStart}
+use Rattle.caster_top.specs.Outcome.{ExitRule, exactly, document_of, report_of, closing_of, script_over, enough_of, fewer_than, ending_of_script}
 use Rattle.caster_top.specs.Told.{IsNoSession}
 
 -- ---- only the size of a script makes it too long
@@ -77,7 +77,7 @@ script_long kind bytes h = elim (cases_Bool (nat_lt 8388608 (length bytes))) [
 -- ---- statuses
 
 -- the status that an ending has
-abbrev pub status_of : Ending → ℕ
+abbrev pub status_of : ExitRule → ℕ
 status_of (exactly wanted) = wanted.status
 status_of (document_of c) = 0
 status_of (report_of start c events) = 0
@@ -86,39 +86,39 @@ status_of (script_over c) = 0
 status_of (enough_of frames) = 0
 status_of (fewer_than frames) = 9
 
-pub whole_script : (start : Start) (c : Config) (script : Result (List Event) ScriptFault)
+pub whole_script : (start : RoverStart) (c : Config) (script : Result (List Event) ScriptFault)
     → status_of (ending_of_script start c script) ≡ 0 → IsOk script
 whole_script start c (Ok events) h = refl
 whole_script start c (Err (Line n)) h = absurd (omega arith)
 whole_script start c script h = absurd (omega arith)
 
-pub script_not_usage : (start : Start) (c : Config) (script : Result (List Event) ScriptFault)
+pub script_not_usage : (start : RoverStart) (c : Config) (script : Result (List Event) ScriptFault)
     → status_of (ending_of_script start c script) ≡ 1 → ⊥
 script_not_usage start c (Err (Line n)) h = omega arith
 script_not_usage start c script h = omega arith
 
-pub script_not_config : (start : Start) (c : Config) (script : Result (List Event) ScriptFault)
+pub script_not_config : (start : RoverStart) (c : Config) (script : Result (List Event) ScriptFault)
     → status_of (ending_of_script start c script) ≡ 2 → ⊥
 script_not_config start c (Err (Line n)) h = omega arith
 script_not_config start c script h = omega arith
 
-pub script_not_network : (start : Start) (c : Config) (script : Result (List Event) ScriptFault)
+pub script_not_network : (start : RoverStart) (c : Config) (script : Result (List Event) ScriptFault)
     → status_of (ending_of_script start c script) ≡ 6 → ⊥
 script_not_network start c (Err (Line n)) h = omega arith
 script_not_network start c script h = omega arith
 
-pub faulty_script : (start : Start) (c : Config) (script : Result (List Event) ScriptFault)
+pub faulty_script : (start : RoverStart) (c : Config) (script : Result (List Event) ScriptFault)
     → status_of (ending_of_script start c script) ≡ 3 → IsNoSession script
 faulty_script start c (Err (Line n)) h = tt
 faulty_script start c (Err (State n)) h = tt
 faulty_script start c (Err NoStop) h = tt
 faulty_script start c script h = absurd (omega arith)
 
-is_long : (start : Start) (c : Config) (script : Result (List Event) ScriptFault)
+is_long : (start : RoverStart) (c : Config) (script : Result (List Event) ScriptFault)
     → status_of (ending_of_script start c script) ≡ 8 → script ≡ Err Long
 is_long start c (Err Long) h = refl
 is_long start c script h = absurd (omega arith)
 
-pub long_script : (start : Start) (c : Config) (kind : ScriptKind) (bytes : List ℕ)
+pub long_script : (start : RoverStart) (c : Config) (kind : ScriptKind) (bytes : List ℕ)
     → status_of (ending_of_script start c (script_of kind bytes)) ≡ 8 → 8388608 < length bytes
 long_script start c kind bytes h = script_long kind bytes (is_long start c (script_of kind bytes) h)

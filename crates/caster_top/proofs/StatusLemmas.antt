@@ -12,20 +12,20 @@ use Rattle.cast_config.specs.declared.config.Config.{Config}
 use Rattle.cast_config.specs.declared.fault.ConfigFault.{ConfigFault}
 use Rattle.cast_config.specs.declared.fault.ConfigFault.TheVariants as configs
 use Rattle.cast_config.specs.Bare as settings
-use Rattle.caster_top.specs.declared.command.Aim.{Aim}
-use Rattle.caster_top.specs.declared.command.Aim.TheVariants.{Check, Table, Migrate}
-use Rattle.caster_top.specs.declared.command.Start.{Start}
-use Rattle.caster_top.specs.declared.command.Start.TheVariants.{Cold}
-use Rattle.caster_top.specs.declared.command.Task.{Task}
-use Rattle.caster_top.specs.declared.command.Task.TheVariants.{Serve, Record}
+use Rattle.caster_top.specs.declared.command.ConfigCommand.{ConfigCommand}
+use Rattle.caster_top.specs.declared.command.ConfigCommand.TheVariants.{Check, Table, Migrate}
+use Rattle.caster_top.specs.declared.command.RoverStart.{RoverStart}
+use Rattle.caster_top.specs.declared.command.RoverStart.TheVariants.{Cold}
+use Rattle.caster_top.specs.declared.command.CasterMode.{CasterMode}
+use Rattle.caster_top.specs.declared.command.CasterMode.TheVariants.{Serve, Record}
 use Rattle.caster_top.specs.Command.{Form, bare, over, replay, made, casting, keeping, fetching}
 use Rattle.caster_top.specs.Reading.{config_in}
-use Rattle.caster_top.specs.Outcome.{Exit, Ending, exactly, document_of, report_of, closing_of, script_over, enough_of, fewer_than, EndsSo, Came, session_in, ending_of_script, ending_of_config, ending_of_casting, ending_of_keeping, ending_of_fetching, ending_of_read, ending_of_bytes, ending_of_form, ending_of}
+use Rattle.caster_top.specs.Outcome.{Exit, ExitRule, exactly, document_of, report_of, closing_of, script_over, enough_of, fewer_than, EndsSo, Came, session_in, ending_of_script, ending_of_config, ending_of_casting, ending_of_keeping, ending_of_fetching, ending_of_read, ending_of_bytes, ending_of_form, ending_of}
 use Rattle.caster_top.specs.Told.{IsConfigIn, IsNoConfig, IsStatus, IsWhole, IsFaultyConfig, IsFaultyScript, IsTooLong}
 use Rattle.caster_top.proofs.AnswerLemmas.{ending_of_bytes-long, ending_of_bytes-short}
 use Rattle.caster_top.proofs.ScriptLemmas.{status_of, whole_script, script_not_usage, script_not_config, script_not_network, faulty_script, long_script}
 
-pub status-ends : (ending : Ending) (end : Exit) → EndsSo ending end → end.status ≡ status_of ending
+pub status-ends : (ending : ExitRule) (end : Exit) → EndsSo ending end → end.status ≡ status_of ending
 status-ends (exactly wanted) end ends = ap (λ (e : Exit). e.status) ends
 status-ends (document_of c) end ends = ends.0
 status-ends (report_of start c events) end ends = ends.0
@@ -36,13 +36,13 @@ status-ends (fewer_than frames) end ends = ends.0
 
 -- ---- configurations
 
-pub ok_status : (aim : Aim) (c : Config) → status_of (ending_of_config aim c) ≡ 0
+pub ok_status : (aim : ConfigCommand) (c : Config) → status_of (ending_of_config aim c) ≡ 0
 ok_status Check c = refl
 ok_status Table c = refl
 ok_status Migrate c = refl
 
 -- a caster ends with 0, or where the network failed with 6
-casting_status : (task : Task) (failed : Bool) (c : Config)
+casting_status : (task : CasterMode) (failed : Bool) (c : Config)
     → (status_of (ending_of_casting task failed c) ≡ 0) ⊎ (status_of (ending_of_casting task failed c) ≡ 6)
 casting_status task true c = inr refl
 casting_status Serve false c = inl refl
@@ -54,7 +54,7 @@ keeping_status : (failed : Bool) (c : Config)
 keeping_status true c = inr refl
 keeping_status false c = inl refl
 
-read_cases : (next : Config → Ending) (read : Result Config ConfigFault)
+read_cases : (next : Config → ExitRule) (read : Result Config ConfigFault)
     → ((c : Config) × (read ≡ Ok c) × (ending_of_read next read ≡ next c))
     ⊎ (((status_of (ending_of_read next read) ≡ 2) × IsNoConfig read) ⊎ (status_of (ending_of_read next read) ≡ 7))
 read_cases next (Ok c) = inl (c, refl, refl)
@@ -74,14 +74,14 @@ bytes_size bytes = elim (cases_Bool (nat_lt 8388608 (length bytes))) [
 ]
 
 -- too many bytes, a configuration, the fault of one, or want of memory
-pub data Cases (next : Config → Ending) (bytes : List ℕ) : Type 0 where
+pub data Cases (next : Config → ExitRule) (bytes : List ℕ) : Type 0 where
   too_many : status_of (ending_of_bytes next bytes) ≡ 8 → 8388608 < length bytes → Cases next bytes
   read : (c : Config) → IsConfigIn bytes c → ending_of_bytes next bytes ≡ next c → Cases next bytes
   faulty : status_of (ending_of_bytes next bytes) ≡ 2 → length bytes ≤ 8388608 → IsNoConfig (config_in bytes)
       → Cases next bytes
   wanting : status_of (ending_of_bytes next bytes) ≡ 7 → Cases next bytes
 
-pub bytes_cases : (next : Config → Ending) (bytes : List ℕ) → Cases next bytes
+pub bytes_cases : (next : Config → ExitRule) (bytes : List ℕ) → Cases next bytes
 bytes_cases next bytes = elim (bytes_size bytes) [
   | inl long ↦ too_many (ap status_of (ending_of_bytes-long next bytes long)) long
   | inr short ↦
@@ -94,7 +94,7 @@ bytes_cases next bytes = elim (bytes_size bytes) [
 ]
 
 -- with a status of its own after a configuration, these are the only cases
-pub whole_bytes : (next : Config → Ending) (bytes : List ℕ) → status_of (ending_of_bytes next bytes) ≡ 0
+pub whole_bytes : (next : Config → ExitRule) (bytes : List ℕ) → status_of (ending_of_bytes next bytes) ≡ 0
     → (c : Config) × IsConfigIn bytes c × (status_of (next c) ≡ 0)
 whole_bytes next bytes h = elim (bytes_cases next bytes) [
   | too_many status long ↦ absurd (omega (arith, h, status))
@@ -103,7 +103,7 @@ whole_bytes next bytes h = elim (bytes_cases next bytes) [
   | wanting status ↦ absurd (omega (arith, h, status))
 ]
 
-pub usage_bytes : (next : Config → Ending) (bytes : List ℕ) → status_of (ending_of_bytes next bytes) ≡ 1
+pub usage_bytes : (next : Config → ExitRule) (bytes : List ℕ) → status_of (ending_of_bytes next bytes) ≡ 1
     → (c : Config) × (status_of (next c) ≡ 1)
 usage_bytes next bytes h = elim (bytes_cases next bytes) [
   | too_many status long ↦ absurd (omega (arith, h, status))
@@ -112,7 +112,7 @@ usage_bytes next bytes h = elim (bytes_cases next bytes) [
   | wanting status ↦ absurd (omega (arith, h, status))
 ]
 
-pub faulty_bytes : (next : Config → Ending) (bytes : List ℕ) → ((c : Config) → status_of (next c) ≡ 2 → ⊥)
+pub faulty_bytes : (next : Config → ExitRule) (bytes : List ℕ) → ((c : Config) → status_of (next c) ≡ 2 → ⊥)
     → status_of (ending_of_bytes next bytes) ≡ 2 → (length bytes ≤ 8388608) × IsNoConfig (config_in bytes)
 faulty_bytes next bytes never h = elim (bytes_cases next bytes) [
   | too_many status long ↦ absurd (omega (arith, h, status))
@@ -121,7 +121,7 @@ faulty_bytes next bytes never h = elim (bytes_cases next bytes) [
   | wanting status ↦ absurd (omega (arith, h, status))
 ]
 
-pub session_bytes : (next : Config → Ending) (bytes : List ℕ) → status_of (ending_of_bytes next bytes) ≡ 3
+pub session_bytes : (next : Config → ExitRule) (bytes : List ℕ) → status_of (ending_of_bytes next bytes) ≡ 3
     → (c : Config) × IsConfigIn bytes c × (status_of (next c) ≡ 3)
 session_bytes next bytes h = elim (bytes_cases next bytes) [
   | too_many status long ↦ absurd (omega (arith, h, status))
@@ -130,7 +130,7 @@ session_bytes next bytes h = elim (bytes_cases next bytes) [
   | wanting status ↦ absurd (omega (arith, h, status))
 ]
 
-pub long_bytes : (next : Config → Ending) (bytes : List ℕ) → status_of (ending_of_bytes next bytes) ≡ 8
+pub long_bytes : (next : Config → ExitRule) (bytes : List ℕ) → status_of (ending_of_bytes next bytes) ≡ 8
     → (8388608 < length bytes) ⊎ ((c : Config) × IsConfigIn bytes c × (status_of (next c) ≡ 8))
 long_bytes next bytes h = elim (bytes_cases next bytes) [
   | too_many status long ↦ inl long
@@ -139,7 +139,7 @@ long_bytes next bytes h = elim (bytes_cases next bytes) [
   | wanting status ↦ absurd (omega (arith, h, status))
 ]
 
-network_bytes : (next : Config → Ending) (bytes : List ℕ) → status_of (ending_of_bytes next bytes) ≡ 6
+network_bytes : (next : Config → ExitRule) (bytes : List ℕ) → status_of (ending_of_bytes next bytes) ≡ 6
     → (c : Config) × (status_of (next c) ≡ 6)
 network_bytes next bytes h = elim (bytes_cases next bytes) [
   | too_many status long ↦ absurd (omega (arith, h, status))
@@ -150,7 +150,7 @@ network_bytes next bytes h = elim (bytes_cases next bytes) [
 
 -- ---- forms
 
-abbrev pub replayed : Start → List ℕ → Config → Ending
+abbrev pub replayed : RoverStart → List ℕ → Config → ExitRule
 replayed start script c = ending_of_script start c (session_in c script)
 
 is_whole : (bytes : List ℕ) (c : Config) → IsConfigIn bytes c → IsOk (config_in bytes)
@@ -171,7 +171,7 @@ whole_form (keeping config addr quiet) came h =
 whole_form (fetching frames targets) came h = tt
 
 -- and with no other status
-not_cast : (task : Task) (failed : Bool) (c : Config) (status : ℕ)
+not_cast : (task : CasterMode) (failed : Bool) (c : Config) (status : ℕ)
     → status_of (ending_of_casting task failed c) ≡ status → (status ≡ 0 → ⊥) → (status ≡ 6 → ⊥) → ⊥
 not_cast task failed c status h whole lost = elim (casting_status task failed c) [
   | inl ended ↦ whole (sym h ∙ ended)
@@ -266,7 +266,7 @@ faulty_script_form (keeping config addr quiet) came h =
 faulty_script_form (fetching frames targets) came h =
     absurd (not_fetched came.failed frames 3 h (omega arith) (omega arith))
 
-long_after : (start : Start) (came : Came)
+long_after : (start : RoverStart) (came : Came)
     → (8388608 < length came.config)
     ⊎ ((c : Config) × IsConfigIn came.config c × (status_of (replayed start came.script c) ≡ 8))
     → (8388608 < length came.config)
@@ -275,14 +275,14 @@ long_after start came (inl long) = inl long
 long_after start came (inr (c, is, status)) =
     inr (c, is, long_script start c (Replay (length c.relay)) came.script status)
 
-only_long : (aim : Aim) (came : Came)
+only_long : (aim : ConfigCommand) (came : Came)
     → (8388608 < length came.config)
     ⊎ ((c : Config) × IsConfigIn came.config c × (status_of (ending_of_config aim c) ≡ 8))
     → 8388608 < length came.config
 only_long aim came (inl long) = long
 only_long aim came (inr (c, is, status)) = absurd (omega (arith, status, ok_status aim c))
 
-only_long_casting : (task : Task) (failed : Bool) (came : Came)
+only_long_casting : (task : CasterMode) (failed : Bool) (came : Came)
     → (8388608 < length came.config)
     ⊎ ((c : Config) × IsConfigIn came.config c × (status_of (ending_of_casting task failed c) ≡ 8))
     → 8388608 < length came.config
@@ -313,23 +313,23 @@ too_long_form (fetching frames targets) came h =
 
 -- ---- every status is one of those that there are
 
-script_status : (start : Start) (c : Config) (script : Result (List Event) ScriptFault)
+script_status : (start : RoverStart) (c : Config) (script : Result (List Event) ScriptFault)
     → IsStatus (status_of (ending_of_script start c script))
 script_status start c (Ok events) = inl refl
 script_status start c (Err scripts.Long) = inr (inr (inr (inr (inr (inr (inr (inr (inl refl))))))))
 script_status start c (Err scripts.Memory) = inr (inr (inr (inr (inr (inr (inr (inl refl)))))))
 script_status start c script = inr (inr (inr (inl refl)))
 
-bytes_status : (next : Config → Ending) (bytes : List ℕ) → ((c : Config) → IsStatus (status_of (next c)))
+bytes_status : (next : Config → ExitRule) (bytes : List ℕ) → ((c : Config) → IsStatus (status_of (next c)))
     → IsStatus (status_of (ending_of_bytes next bytes))
 bytes_status next bytes each = elim (bytes_cases next bytes) [
   | too_many status long ↦ inr (inr (inr (inr (inr (inr (inr (inr (inl status))))))))
-  | read c is ends ↦ subst (λ (e : Ending). IsStatus (status_of e)) (sym ends) (each c)
+  | read c is ends ↦ subst (λ (e : ExitRule). IsStatus (status_of e)) (sym ends) (each c)
   | faulty status short none ↦ inr (inr (inl status))
   | wanting status ↦ inr (inr (inr (inr (inr (inr (inr (inl status)))))))
 ]
 
-cast_status : (task : Task) (failed : Bool) (c : Config) → IsStatus (status_of (ending_of_casting task failed c))
+cast_status : (task : CasterMode) (failed : Bool) (c : Config) → IsStatus (status_of (ending_of_casting task failed c))
 cast_status task failed c = elim (casting_status task failed c) [
   | inl ended ↦ inl ended
   | inr ended ↦ inr (inr (inr (inr (inr (inr (inl ended))))))

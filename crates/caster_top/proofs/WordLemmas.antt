@@ -9,12 +9,12 @@ use Rattle.std.specs.Fmt.{decimal}
 use Rattle.std.specs.Str.{bytes_eq}
 use Rattle.std.specs.Str.Parse.{ParsesUnsigned}
 use Rattle.session_script.specs.Digits.{is_digit, is_number, number_from, number_of, at_most}
-use Rattle.caster_top.specs.declared.command.Aim.{Aim}
-use Rattle.caster_top.specs.declared.command.Aim.TheVariants.{Check, Table, Migrate}
-use Rattle.caster_top.specs.declared.command.Start.{Start}
-use Rattle.caster_top.specs.declared.command.Start.TheVariants.{Cold, Warm}
-use Rattle.caster_top.specs.declared.command.Task.{Task}
-use Rattle.caster_top.specs.declared.command.Task.TheVariants.{Serve, Record}
+use Rattle.caster_top.specs.declared.command.ConfigCommand.{ConfigCommand}
+use Rattle.caster_top.specs.declared.command.ConfigCommand.TheVariants.{Check, Table, Migrate}
+use Rattle.caster_top.specs.declared.command.RoverStart.{RoverStart}
+use Rattle.caster_top.specs.declared.command.RoverStart.TheVariants.{Cold, Warm}
+use Rattle.caster_top.specs.declared.command.CasterMode.{CasterMode}
+use Rattle.caster_top.specs.declared.command.CasterMode.TheVariants.{Serve, Record}
 use Rattle.caster_top.specs.declared.command.Command.{Command}
 use Rattle.caster_top.specs.declared.fetch_words.Fetch.{Fetch}
 use Rattle.std.specs.Global.{Global}
@@ -210,7 +210,7 @@ is_path-parts word h =
     let few = parts.1 in
     (grind (arith, nat_tests, some), grind (arith, nat_tests, few))
 
-form_of_two-over : (aim : Aim) (config : List ℕ) → is_path config ≡ true
+form_of_two-over : (aim : ConfigCommand) (config : List ℕ) → is_path config ≡ true
     → form_of_two (aim_name aim) config ≡ Some (over aim config)
 form_of_two-over Check config h = rw h refl
 form_of_two-over Table config h = rw h refl
@@ -218,12 +218,12 @@ form_of_two-over Migrate config h = rw h refl
 
 -- ---- two paths, and three numbers
 
-form_of_three-replay : (start : Start) (config session : List ℕ) → is_path config ≡ true → is_path session ≡ true
+form_of_three-replay : (start : RoverStart) (config session : List ℕ) → is_path config ≡ true → is_path session ≡ true
     → form_of_three (start_name start) config session ≡ Some (replay start config session)
 form_of_three-replay Cold config session first second = rw (first, second) refl
 form_of_three-replay Warm config session first second = rw (first, second) refl
 
-form_of-replay : (words : List (List ℕ)) (start : Start) (config session : List ℕ)
+form_of-replay : (words : List (List ℕ)) (start : RoverStart) (config session : List ℕ)
     → ArePlayed start words config session → form_of words ≡ Some (replay start config session)
 form_of-replay words start config session are =
     let first : is_path config ≡ true = is_path-true config are.config_is.0 are.config_is.1 in
@@ -273,16 +273,16 @@ form_of-make words seed frames rovers are =
     (decimal_read 10000 frames are.frames_are.0 are.frames_are.1 (omega arith))
     (decimal_read 64 rovers are.rovers_are.0 are.rovers_are.1 (omega arith))
 
-form_of_four-cast : (task : Task) (config addr limit : List ℕ) → is_path config ≡ true → is_path addr ≡ true
+form_of_four-cast : (task : CasterMode) (config addr limit : List ℕ) → is_path config ≡ true → is_path addr ≡ true
     → form_of_four (task_name task) config addr limit ≡ casting_form (Some task) config addr limit
 form_of_four-cast Serve config addr limit first second = rw (first, second) refl
 form_of_four-cast Record config addr limit first second = rw (first, second) refl
 
-most_small : (task : Task) → most_of task < 2 ^ 64
+most_small : (task : CasterMode) → most_of task < 2 ^ 64
 most_small Serve = omega arith
 most_small Record = omega arith
 
-form_of-cast : (words : List (List ℕ)) (task : Task) (config addr : List ℕ) (limit : ℕ)
+form_of-cast : (words : List (List ℕ)) (task : CasterMode) (config addr : List ℕ) (limit : ℕ)
     → AreCasting task words config addr limit → form_of words ≡ Some (casting task config addr limit)
 form_of-cast words task config addr limit are =
     ap form_of are.parts
@@ -351,7 +351,7 @@ form_of-form words (fetching frames targets) are = form_of-fetch words frames ta
 
 -- ---- back
 
-aim_is : (a b : Aim) → Some a ≡ Some b → a ≡ b
+aim_is : (a b : ConfigCommand) → Some a ≡ Some b → a ≡ b
 aim_is a b h = cc
 
 form_is : (a b : Form) → Some a ≡ Some b → a ≡ b
@@ -360,7 +360,7 @@ form_is a b h = cc
 some_number : (a b : ℕ) → Some a ≡ Some b → a ≡ b
 some_number a b h = cc
 
-aim_of-name : (name : List ℕ) (aim : Aim) → aim_of name ≡ Some aim → name ≡ aim_name aim
+aim_of-name : (name : List ℕ) (aim : ConfigCommand) → aim_of name ≡ Some aim → name ≡ aim_name aim
 aim_of-name name aim h = elim (cases_Bool (bytes_eq name (codes "check"))) [
   | inl check ↦
       name_is name (codes "check") check ∙ ap aim_name (aim_is Check aim (sym (rw check refl) ∙ h))
@@ -378,10 +378,10 @@ aim_of-name name aim h = elim (cases_Bool (bytes_eq name (codes "check"))) [
   ]
 ]
 
-start_is : (a b : Start) → Some a ≡ Some b → a ≡ b
+start_is : (a b : RoverStart) → Some a ≡ Some b → a ≡ b
 start_is a b h = cc
 
-start_of-name : (name : List ℕ) (start : Start) → start_of name ≡ Some start → name ≡ start_name start
+start_of-name : (name : List ℕ) (start : RoverStart) → start_of name ≡ Some start → name ≡ start_name start
 start_of-name name start h = elim (cases_Bool (bytes_eq name (codes "replay"))) [
   | inl replays ↦
       name_is name (codes "replay") replays ∙ ap start_name (start_is Cold start (sym (rw replays refl) ∙ h))
@@ -395,10 +395,10 @@ start_of-name name start h = elim (cases_Bool (bytes_eq name (codes "replay"))) 
   ]
 ]
 
-task_is : (a b : Task) → Some a ≡ Some b → a ≡ b
+task_is : (a b : CasterMode) → Some a ≡ Some b → a ≡ b
 task_is a b h = cc
 
-task_of-name : (name : List ℕ) (task : Task) → task_of name ≡ Some task → name ≡ task_name task
+task_of-name : (name : List ℕ) (task : CasterMode) → task_of name ≡ Some task → name ≡ task_name task
 task_of-name name task h = elim (cases_Bool (bytes_eq name (codes "serve"))) [
   | inl serves ↦
       name_is name (codes "serve") serves ∙ ap task_name (task_is Serve task (sym (rw serves refl) ∙ h))
@@ -428,7 +428,7 @@ are_bare name word capacity same h =
       parts = ap (λ w. w ∷ word ∷ []) first ∙ ap (λ w. codes "bare" ∷ w ∷ []) read.text;
     }
 
-are_over : (name word : List ℕ) (aim : Aim) → is_path word ≡ true → aim_of name ≡ Some aim
+are_over : (name word : List ℕ) (aim : ConfigCommand) → is_path word ≡ true → aim_of name ≡ Some aim
     → AreOver aim (name ∷ word ∷ []) word
 are_over name word aim path h = record {
   least = (is_path-parts word path).0;
@@ -452,7 +452,7 @@ form_of_two-form name word form h = elim (cases_Bool (bytes_eq name (codes "bare
   ]
 ]
 
-are_played : (name first second : List ℕ) (start : Start) → start_of name ≡ Some start → is_path first ≡ true
+are_played : (name first second : List ℕ) (start : RoverStart) → start_of name ≡ Some start → is_path first ≡ true
     → is_path second ≡ true → ArePlayed start (name ∷ first ∷ second ∷ []) first second
 are_played name first second start same one two = record {
   config_is = is_path-parts first one;
@@ -534,7 +534,7 @@ are_make name seed frames rovers s f r same first second third =
           ∙ ap (λ w. codes "make" ∷ decimal s ∷ decimal f ∷ w ∷ []) three.text;
     }
 
-are_cast : (task : Task) (name config addr limit : List ℕ) (n : ℕ) → name ≡ task_name task
+are_cast : (task : CasterMode) (name config addr limit : List ℕ) (n : ℕ) → name ≡ task_name task
     → (is_path config && is_path addr) ≡ true → at_most (most_of task) (number_of limit) ≡ Some n
     → AreCasting task (name ∷ config ∷ addr ∷ limit ∷ []) config addr n
 are_cast task name config addr limit n named paths h =
@@ -549,7 +549,7 @@ are_cast task name config addr limit n named paths h =
     }
 
 -- a caster's words, by the task that their first word names
-cast_form : (name first second third : List ℕ) (task : Option Task) (form : Form) → task_of name ≡ task
+cast_form : (name first second third : List ℕ) (task : Option CasterMode) (form : Form) → task_of name ≡ task
     → (is_path first && is_path second) ≡ true → casting_form task first second third ≡ Some form
     → AreOf (name ∷ first ∷ second ∷ third ∷ []) form
 cast_form name first second third None form named paths h = absurd cc

@@ -11,11 +11,11 @@ use Rattle.cast_io.specs.Pieces.{AppendsPrefix}
 use Rattle.run_texts.specs.Texts.{made_text}
 use Rattle.caster_top.specs.declared.answers.Answer.{Answer}
 use Rattle.caster_top.specs.declared.answers.Answer.TheVariants.{Done, Valid, NoConfig, NoSession, Usage, Long, ReadFault, NetworkFault, Memory}
-use Rattle.caster_top.specs.declared.command.Aim.{Aim}
-use Rattle.caster_top.specs.declared.command.Start.{Start}
-use Rattle.caster_top.specs.declared.command.Start.TheVariants.{Cold}
+use Rattle.caster_top.specs.declared.command.ConfigCommand.{ConfigCommand}
+use Rattle.caster_top.specs.declared.command.RoverStart.{RoverStart}
+use Rattle.caster_top.specs.declared.command.RoverStart.TheVariants.{Cold}
 use Rattle.caster_top.specs.Command.{Form, bare, over, replay, made, casting, keeping, fetching}
-use Rattle.caster_top.specs.Outcome.{Exit, Ending, exactly, EndsSo, Came, ending_of_bytes, ending_of_config, ending_of_form, ending_of_script, session_in, one_line, whole_exit, usage_exit, long_exit, read_fault_exit, network_exit, memory_exit}
+use Rattle.caster_top.specs.Outcome.{Exit, ExitRule, exactly, EndsSo, Came, ending_of_bytes, ending_of_config, ending_of_form, ending_of_script, session_in, one_line, whole_exit, usage_exit, long_exit, read_fault_exit, network_exit, memory_exit}
 use Rattle.caster_top.specs.Told.{Files, Input, IsConfigIn, IsOutcome, EndsWith, HaveForm, HaveFault}
 
 -- what the program ends with after this answer, where no write fails
@@ -43,7 +43,7 @@ IsGiven memory fault IsSuch ReadFault = fault
 IsGiven memory fault IsSuch answer = IsSuch (exit_of answer)
 
 -- the answer is such an end of the program, or want of memory
-abbrev pub GivesEnd : Ending → Answer → Type 0
+abbrev pub GivesEnd : ExitRule → Answer → Type 0
 GivesEnd ending answer = IsGiven ⊤ ⊥ (EndsSo ending) answer
 
 -- how a bare session over a ring of this capacity ends, with what came from the input
@@ -55,17 +55,17 @@ abbrev pub IsInputAnswer : ℕ → Input → Type 0 → Answer → Type 0
 IsInputAnswer capacity input fault answer = IsGiven ⊤ fault (IsInputEnd capacity input) answer
 
 -- how a command ends that does this with the configuration in the file of this path
-abbrev pub IsFileEnd : Aim → List ℕ → Files → Exit → Type 0
+abbrev pub IsFileEnd : ConfigCommand → List ℕ → Files → Exit → Type 0
 IsFileEnd aim path files end = (config : List ℕ) × files path config
     × EndsSo (ending_of_bytes (ending_of_config aim) config) end
 
-abbrev pub IsFileAnswer : Aim → List ℕ → Files → Type 0 → Answer → Type 0
+abbrev pub IsFileAnswer : ConfigCommand → List ℕ → Files → Type 0 → Answer → Type 0
 IsFileAnswer aim path files fault answer = IsGiven ⊤ fault (IsFileEnd aim path files) answer
 
 -- the bytes are no configuration, and so the program ends, whatever comes next with one
 pub record IsRefused (bytes : List ℕ) (end : Exit) : Type 0 where
   pub none : (c : Config) → IsConfigIn bytes c → ⊥
-  pub ends : (next : Config → Ending) → EndsSo (ending_of_bytes next bytes) end
+  pub ends : (next : Config → ExitRule) → EndsSo (ending_of_bytes next bytes) end
 
 -- how a command ends for whose configuration the file of this path holds no configuration
 abbrev pub IsRefusedAt : List ℕ → Files → Exit → Type 0
@@ -75,22 +75,22 @@ abbrev pub IsRefusal : List ℕ → Files → Type 0 → Answer → Type 0
 IsRefusal path files fault answer = IsGiven ⊤ fault (IsRefusedAt path files) answer
 
 -- how the session in the file of this path ends over a configuration, whose rovers start so
-abbrev pub IsSessionEnd : Start → Config → List ℕ → Files → Exit → Type 0
+abbrev pub IsSessionEnd : RoverStart → Config → List ℕ → Files → Exit → Type 0
 IsSessionEnd start c path files end = (script : List ℕ) × files path script
     × EndsSo (ending_of_script start c (session_in c script)) end
 
-abbrev pub IsSessionAnswer : Start → Config → List ℕ → Files → Type 0 → Answer → Type 0
+abbrev pub IsSessionAnswer : RoverStart → Config → List ℕ → Files → Type 0 → Answer → Type 0
 IsSessionAnswer start c path files fault answer =
     IsGiven ⊤ fault (IsSessionEnd start c path files) answer
 
 -- how a session ends over the configuration in another file: the paths of both
-abbrev pub IsReplayEnd : Start → List ℕ → List ℕ → Files → Exit → Type 0
+abbrev pub IsReplayEnd : RoverStart → List ℕ → List ℕ → Files → Exit → Type 0
 IsReplayEnd start config session files end = (came : Came)
     × files config came.config
     × ((c : Config) → IsConfigIn came.config c → files session came.script)
     × EndsSo (ending_of_form (replay start config session) came) end
 
-abbrev pub IsReplayAnswer : Start → List ℕ → List ℕ → Files → Type 0 → Answer → Type 0
+abbrev pub IsReplayAnswer : RoverStart → List ℕ → List ℕ → Files → Type 0 → Answer → Type 0
 IsReplayAnswer start config session files fault answer =
     IsGiven ⊤ fault (IsReplayEnd start config session files) answer
 
@@ -112,7 +112,8 @@ IsOfflineAnswer (fetching frames targets) input files of_input of_store answer =
 -- was counted, or the outcome
 abbrev pub IsAnswer : List (List ℕ) → Input → Files → Type 0 → Type 0 → Answer → Type 0
 IsAnswer words input files of_input of_store answer =
-    IsGiven (HaveForm words) (HaveFault words of_input of_store) (IsOutcome words input files) answer
+    IsGiven (HaveForm words) (HaveFault words of_input of_store) (IsOutcome words input files)
+    answer
 
 -- the text of this end was written and its status given, or status 5 with a write that failed
 -- inside the text

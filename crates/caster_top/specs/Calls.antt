@@ -7,7 +7,7 @@ use Rattle.cast_io.specs.Told.{StreetTold}
 use Rattle.session_script.specs.declared.Event.{Event}
 use Rattle.cast_config.specs.declared.config.Config.{Config}
 use Rattle.cast_config.specs.Document.{IsRead}
-use Rattle.caster_top.specs.declared.command.Task.{Task}
+use Rattle.caster_top.specs.declared.command.CasterMode.{CasterMode}
 use Rattle.caster_top.specs.Command.{AreCasting, KeepNothing}
 use Rattle.caster_top.specs.Outcome.{session_in}
 use Rattle.caster_top.specs.Told.{FilesTold, FollowsOutcome, HaveFault, Holds, Tells}
@@ -60,7 +60,7 @@ MeetsUndisturbed call = KeepNothing call.words
 
 -- the clause `casting`
 abbrev pub MeetsCasting : CallTold → Type 0
-MeetsCasting call = (task : Task) (config addr : List ℕ) (limit : ℕ)
+MeetsCasting call = (task : CasterMode) (config addr : List ℕ) (limit : ℕ)
     → AreCasting task call.words config addr limit
     → HasCasting task (Holds call.files) config addr limit call.before call.after
     (HasRisen call.store_faults) call.old call.new

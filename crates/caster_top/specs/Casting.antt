@@ -13,8 +13,8 @@ use Rattle.caster_serve.specs.declared.whole.ServeFault.{ServeFault}
 use Rattle.caster_serve.specs.declared.whole.ServeFault.TheVariants as faults
 use Rattle.caster_top.specs.declared.answers.Answer.{Answer}
 use Rattle.caster_top.specs.declared.answers.Answer.TheVariants.{NetworkFault, Memory}
-use Rattle.caster_top.specs.declared.command.Task.{Task}
-use Rattle.caster_top.specs.declared.command.Task.TheVariants.{Serve, Record}
+use Rattle.caster_top.specs.declared.command.CasterMode.{CasterMode}
+use Rattle.caster_top.specs.declared.command.CasterMode.TheVariants.{Serve, Record}
 use Rattle.caster_top.specs.Outcome.{Exit, EndsSo, exactly, whole_exit, read_fault_exit, network_exit, memory_exit}
 use Rattle.caster_top.specs.Told.{Files, IsConfigFrom}
 use Rattle.caster_top.specs.Answers.{IsGiven, IsRefusedAt, IsRefusal, Writes}
@@ -30,7 +30,7 @@ pub data CameTo : Type 0 where
 
 -- A caster of this task over this configuration came to this: one that serves to the text of what
 -- it counted, one that records to the script of its session.
-abbrev pub HasCast : Task → Config → List ℕ → ℕ → StreetTold → StreetTold → CameTo → Type 0
+abbrev pub HasCast : CasterMode → Config → List ℕ → ℕ → StreetTold → StreetTold → CameTo → Type 0
 HasCast Serve c addr limit before after (a_text text) = (closed : Closed)
     × HasServed c addr limit before after (Ok closed) × (text ≡ closed_text c closed)
 HasCast Serve c addr limit before after no_network =
@@ -47,12 +47,12 @@ HasCast Record c addr limit before after no_memory = HasNotRecorded addr before 
 
 -- whether memory may be lacking for the text of what it came to: one that serves takes the room for
 -- its totals before it starts
-abbrev pub MayLackRoom : Task → Type 0
+abbrev pub MayLackRoom : CasterMode → Type 0
 MayLackRoom Serve = ⊥
 MayLackRoom Record = ⊤
 
 -- the answer where a caster of this task came to this
-abbrev pub GivesCame : Task → CameTo → Answer → Type 0
+abbrev pub GivesCame : CasterMode → CameTo → Answer → Type 0
 GivesCame task (a_text text) answer =
     IsGiven (MayLackRoom task) ⊥ (EndsSo (exactly (whole_exit text))) answer
 GivesCame task no_network answer = answer ≡ NetworkFault
@@ -66,7 +66,7 @@ GivesServed c (Err faults.Network) answer = answer ≡ NetworkFault
 GivesServed c (Err faults.Memory) answer = answer ≡ Memory
 
 -- there was a caster over the configuration in the file of this path, and this is the answer
-pub record HasAnswered (task : Task) (files : Files) (config addr : List ℕ) (limit : ℕ)
+pub record HasAnswered (task : CasterMode) (files : Files) (config addr : List ℕ) (limit : ℕ)
     (before after : StreetTold) (answer : Answer) : Type 0 where
   pub c : Config
   pub came_to : CameTo
@@ -75,8 +75,8 @@ pub record HasAnswered (task : Task) (files : Files) (config addr : List ℕ) (l
   pub given : GivesCame task came_to answer
 
 -- so it was, or the street was left alone, since there is no configuration to be had
-abbrev pub IsCastingAnswer : Task → Files → List ℕ → List ℕ → ℕ → StreetTold → StreetTold → Type 0
-    → Answer → Type 0
+abbrev pub IsCastingAnswer : CasterMode → Files → List ℕ → List ℕ → ℕ → StreetTold → StreetTold
+    → Type 0 → Answer → Type 0
 IsCastingAnswer task files config addr limit before after fault answer =
     ((after ≡ before) × IsRefusal config files fault answer)
     ⊎ HasAnswered task files config addr limit before after answer
@@ -85,7 +85,7 @@ IsCastingAnswer task files config addr limit before after fault answer =
 
 -- What the program ends with where a caster of this task came to this, unless a write fails. Of one
 -- that records, want of memory can come where the script is made, too.
-abbrev pub CastEnd : Task → CameTo → Exit → Type 0
+abbrev pub CastEnd : CasterMode → CameTo → Exit → Type 0
 CastEnd task (a_text text) end =
     (end ≡ whole_exit text) ⊎ (MayLackRoom task × (end ≡ memory_exit))
 CastEnd task no_network end = end ≡ network_exit
@@ -97,7 +97,7 @@ RefusedEnd config files fault end =
     (end ≡ memory_exit) ⊎ ((fault × (end ≡ read_fault_exit)) ⊎ IsRefusedAt config files end)
 
 -- there was a caster over the configuration in the file of this path, and the program ends so
-pub record HasEnded (task : Task) (files : Files) (config addr : List ℕ) (limit : ℕ)
+pub record HasEnded (task : CasterMode) (files : Files) (config addr : List ℕ) (limit : ℕ)
     (before after : StreetTold) (end : Exit) : Type 0 where
   pub c : Config
   pub came_to : CameTo
@@ -106,14 +106,14 @@ pub record HasEnded (task : Task) (files : Files) (config addr : List ℕ) (limi
   pub ends : CastEnd task came_to end
 
 -- so it ends, or with the street left alone
-abbrev pub CastingEnd : Task → Files → List ℕ → List ℕ → ℕ → StreetTold → StreetTold → Type 0
+abbrev pub CastingEnd : CasterMode → Files → List ℕ → List ℕ → ℕ → StreetTold → StreetTold → Type 0
     → Exit → Type 0
 CastingEnd task files config addr limit before after fault end =
     ((after ≡ before) × RefusedEnd config files fault end)
     ⊎ HasEnded task files config addr limit before after end
 
 -- the whole outcome: how it ends, and what was written of that
-pub record HasCasting (task : Task) (files : Files) (config addr : List ℕ) (limit : ℕ)
+pub record HasCasting (task : CasterMode) (files : Files) (config addr : List ℕ) (limit : ℕ)
     (before after : StreetTold) (fault : Type 0) (old new : Option (List ℕ))
     (faults now status : ℕ) : Type 0 where
   pub end : Exit

@@ -7,12 +7,12 @@ use Rattle.std.specs.Fmt.{decimal}
 use Rattle.session_script.specs.Digits.{number_of, at_most}
 use Rattle.cast_text.specs.Name.{is_name}
 use Rattle.ntrip_fetch.specs.declared.target.Target.{Target}
-use Rattle.caster_top.specs.declared.command.Aim.{Aim}
-use Rattle.caster_top.specs.declared.command.Aim.TheVariants.{Check, Table, Migrate}
-use Rattle.caster_top.specs.declared.command.Start.{Start}
-use Rattle.caster_top.specs.declared.command.Start.TheVariants.{Cold, Warm}
-use Rattle.caster_top.specs.declared.command.Task.{Task}
-use Rattle.caster_top.specs.declared.command.Task.TheVariants.{Serve, Record}
+use Rattle.caster_top.specs.declared.command.ConfigCommand.{ConfigCommand}
+use Rattle.caster_top.specs.declared.command.ConfigCommand.TheVariants.{Check, Table, Migrate}
+use Rattle.caster_top.specs.declared.command.RoverStart.{RoverStart}
+use Rattle.caster_top.specs.declared.command.RoverStart.TheVariants.{Cold, Warm}
+use Rattle.caster_top.specs.declared.command.CasterMode.{CasterMode}
+use Rattle.caster_top.specs.declared.command.CasterMode.TheVariants.{Serve, Record}
 use Rattle.caster_top.specs.declared.command.Command.{Command}
 use Rattle.caster_top.specs.declared.fetch_words.Fetch.{Fetch}
 use Rattle.caster_top.specs.declared.keep_words.Keep.{Keep}
@@ -30,15 +30,15 @@ pub data Form : Type 0 where
   -- a bare session over a ring of so many frames
   bare : ℕ → Form
   -- something that is done with the configuration in the file of this path
-  over : Aim → List ℕ → Form
+  over : ConfigCommand → List ℕ → Form
   -- a session over a configuration: how its rovers start, and the files of both, the
   -- configuration's first
-  replay : Start → List ℕ → List ℕ → Form
+  replay : RoverStart → List ℕ → List ℕ → Form
   -- the session that is made of this seed, with so many frames and rovers
   made : ℕ → ℕ → ℕ → Form
   -- a caster over the configuration in the file of this path, at this address: its task, and how
   -- many connections each worker serves, or how many are recorded
-  casting : Task → List ℕ → List ℕ → ℕ → Form
+  casting : CasterMode → List ℕ → List ℕ → ℕ → Form
   -- a caster over the configuration in the file of this path, at this address, that serves until
   -- its gates are over; links that are silent for so many seconds are cut, with 0 none
   keeping : List ℕ → List ℕ → ℕ → Form
@@ -46,22 +46,22 @@ pub data Form : Type 0 where
   fetching : ℕ → List Target → Form
 
 -- the word for it
-abbrev pub aim_name : Aim → List ℕ
+abbrev pub aim_name : ConfigCommand → List ℕ
 aim_name Check = codes "check"
 aim_name Table = codes "table"
 aim_name Migrate = codes "migrate"
 
 -- and the word for how rovers start: with the frames that come then, or greeted before them
-abbrev pub start_name : Start → List ℕ
+abbrev pub start_name : RoverStart → List ℕ
 start_name Cold = codes "replay"
 start_name Warm = codes "warm"
 
 -- and the word for the task of a caster, with the most connections that it may have
-abbrev pub task_name : Task → List ℕ
+abbrev pub task_name : CasterMode → List ℕ
 task_name Serve = codes "serve"
 task_name Record = codes "record"
 
-abbrev pub most_of : Task → ℕ
+abbrev pub most_of : CasterMode → ℕ
 most_of Serve = 1000000
 most_of Record = 256
 
@@ -74,13 +74,13 @@ pub record AreBare (words : List (List ℕ)) (capacity : ℕ) : Type 0 where
   pub parts : words ≡ codes "bare" ∷ decimal capacity ∷ []
 
 -- the words `check CONFIG`, `table CONFIG` or `migrate CONFIG`: CONFIG has 1 to 255 bytes
-pub record AreOver (aim : Aim) (words : List (List ℕ)) (config : List ℕ) : Type 0 where
+pub record AreOver (aim : ConfigCommand) (words : List (List ℕ)) (config : List ℕ) : Type 0 where
   pub least : 1 ≤ length config
   pub most : length config ≤ 255
   pub parts : words ≡ aim_name aim ∷ config ∷ []
 
 -- the words `replay CONFIG SESSION` or `warm CONFIG SESSION`: each of both has 1 to 255 bytes
-pub record ArePlayed (start : Start) (words : List (List ℕ)) (config session : List ℕ)
+pub record ArePlayed (start : RoverStart) (words : List (List ℕ)) (config session : List ℕ)
     : Type 0 where
   pub config_is : (1 ≤ length config) × (length config ≤ 255)
   pub session_is : (1 ≤ length session) × (length session ≤ 255)
@@ -103,7 +103,7 @@ pub record AreMake (words : List (List ℕ)) (seed frames rovers : ℕ) : Type 0
 -- the words `serve CONFIG ADDR LIMIT` or `record CONFIG ADDR LIMIT`: CONFIG and ADDR have 1 to 255
 -- bytes each, LIMIT is a decimal number from 1 to 1,000,000, or for a record to 256, without a sign
 -- or leading zeros
-pub record AreCasting (task : Task) (words : List (List ℕ)) (config addr : List ℕ) (limit : ℕ)
+pub record AreCasting (task : CasterMode) (words : List (List ℕ)) (config addr : List ℕ) (limit : ℕ)
     : Type 0 where
   pub config_is : (1 ≤ length config) × (length config ≤ 255)
   pub addr_is : (1 ≤ length addr) × (length addr ≤ 255)
@@ -192,9 +192,9 @@ ReadNoInput words = (capacity : ℕ) → AreBare words capacity → ⊥
 
 abbrev pub NameNoFile : List (List ℕ) → Type 0
 NameNoFile words =
-    ((aim : Aim) (config : List ℕ) → AreOver aim words config → ⊥)
-    × ((start : Start) (config session : List ℕ) → ArePlayed start words config session → ⊥)
-    × ((task : Task) (config addr : List ℕ) (limit : ℕ)
+    ((aim : ConfigCommand) (config : List ℕ) → AreOver aim words config → ⊥)
+    × ((start : RoverStart) (config session : List ℕ) → ArePlayed start words config session → ⊥)
+    × ((task : CasterMode) (config addr : List ℕ) (limit : ℕ)
     → AreCasting task words config addr limit → ⊥)
     × ((config addr : List ℕ) (quiet : ℕ) → AreKeep words config addr quiet → ⊥)
 
@@ -220,7 +220,8 @@ IsWithin form = ⊤
 -- the words ask for no caster
 abbrev pub CastNothing : List (List ℕ) → Type 0
 CastNothing words =
-    (task : Task) (config addr : List ℕ) (limit : ℕ) → AreCasting task words config addr limit → ⊥
+    (task : CasterMode) (config addr : List ℕ) (limit : ℕ) → AreCasting task words config addr limit
+    → ⊥
 
 -- the words ask for no fetch
 abbrev pub FetchNothing : List (List ℕ) → Type 0
@@ -242,7 +243,7 @@ WriteAtEnd words = FetchNothing words
 -- ---- the same, read from the words
 
 -- what a command of this name does with a configuration
-abbrev pub aim_of : List ℕ → Option Aim
+abbrev pub aim_of : List ℕ → Option ConfigCommand
 aim_of name =
     if bytes_eq name (codes "check") then Some Check
     else if bytes_eq name (codes "table") then Some Table
@@ -250,7 +251,7 @@ aim_of name =
     else None
 
 -- how rovers start in a session for a command of this name
-abbrev pub start_of : List ℕ → Option Start
+abbrev pub start_of : List ℕ → Option RoverStart
 start_of name =
     if bytes_eq name (codes "replay") then Some Cold
     else if bytes_eq name (codes "warm") then Some Warm
@@ -288,13 +289,13 @@ made_form (Some seed) (Some frames) None = None
 made_form (Some seed) (Some frames) (Some rovers) = Some (made seed frames rovers)
 
 -- the task of a caster for a command of this name
-abbrev pub task_of : List ℕ → Option Task
+abbrev pub task_of : List ℕ → Option CasterMode
 task_of name =
     if bytes_eq name (codes "serve") then Some Serve
     else if bytes_eq name (codes "record") then Some Record
     else None
 
-abbrev pub casting_form : Option Task → List ℕ → List ℕ → List ℕ → Option Form
+abbrev pub casting_form : Option CasterMode → List ℕ → List ℕ → List ℕ → Option Form
 casting_form None config addr limit = None
 casting_form (Some task) config addr limit =
     option_map (λ n. casting task config addr n) (at_most (most_of task) (number_of limit))

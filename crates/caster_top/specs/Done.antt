@@ -12,10 +12,10 @@ use Rattle.cast_config.specs.Bare as settings
 use Rattle.config_table.specs.Table.{table_records}
 use Rattle.session_model.specs.declared.report.Closed.{Closed}
 use Rattle.session_model.specs.Text.{closed_text}
-use Rattle.run_texts.specs.Texts.{IsRunText, report}
+use Rattle.run_texts.specs.Texts.{IsRunText, bare_report_text}
 use Rattle.caster_serve.specs.Caster.{HasServed}
-use Rattle.caster_top.specs.declared.command.Aim.TheVariants.{Check, Table, Migrate}
-use Rattle.caster_top.specs.declared.command.Start.{Start}
+use Rattle.caster_top.specs.declared.command.ConfigCommand.TheVariants.{Check, Table, Migrate}
+use Rattle.caster_top.specs.declared.command.RoverStart.{RoverStart}
 use Rattle.caster_top.specs.Command.{AreBare, AreOver, ArePlayed, AreRecord, AreServe}
 use Rattle.caster_top.specs.Outcome.{IsDocumentOf, IsReportText, one_line}
 use Rattle.caster_top.specs.Recording.{HasRecorded}
@@ -27,8 +27,8 @@ pub record WasDone (words : List (List ℕ)) (input : Input) (files : Files)
     (before after : StreetTold) (old new : Option (List ℕ)) : Type 0 where
   pub bare : (capacity : ℕ) → AreBare words capacity
       → (bytes : List ℕ) × (events : List Event) × input bytes × (script_of Bare bytes ≡ Ok events)
-      × IsRunText (settings.bare capacity) events (report (settings.bare capacity) events)
-      × Appends old new (report (settings.bare capacity) events)
+      × IsRunText (settings.bare capacity) events (bare_report_text (settings.bare capacity) events)
+      × Appends old new (bare_report_text (settings.bare capacity) events)
   pub checked : (path : List ℕ) → AreOver Check words path
       → (c : Config) × IsConfigFrom files path c × Appends old new (one_line (codes "ok"))
   pub tabled : (path : List ℕ) → AreOver Table words path
@@ -36,7 +36,7 @@ pub record WasDone (words : List (List ℕ)) (input : Input) (files : Files)
   pub migrated : (path : List ℕ) → AreOver Migrate words path
       → (c : Config) × (text : List ℕ) × IsConfigFrom files path c × IsDocumentOf c text
       × Appends old new text
-  pub played : (start : Start) (config session : List ℕ) → ArePlayed start words config session
+  pub played : (start : RoverStart) (config session : List ℕ) → ArePlayed start words config session
       → (c : Config) × (events : List Event) × (text : List ℕ) × IsConfigFrom files config c
       × IsSessionFrom files session c events × IsReportText start c events text
       × Appends old new text

@@ -21,12 +21,12 @@ use Rattle.config_write.specs.Written.{HasVersion}
 use Rattle.session_model.specs.declared.report.Closed.{Closed}
 use Rattle.session_model.specs.Text.{closed_text}
 use Rattle.run_texts.specs.Texts.{IsRunText, IsWarmText, made_text}
-use Rattle.caster_top.specs.declared.command.Aim.{Aim}
-use Rattle.caster_top.specs.declared.command.Aim.TheVariants.{Check, Table, Migrate}
-use Rattle.caster_top.specs.declared.command.Start.{Start}
-use Rattle.caster_top.specs.declared.command.Start.TheVariants.{Cold, Warm}
-use Rattle.caster_top.specs.declared.command.Task.{Task}
-use Rattle.caster_top.specs.declared.command.Task.TheVariants.{Serve, Record}
+use Rattle.caster_top.specs.declared.command.ConfigCommand.{ConfigCommand}
+use Rattle.caster_top.specs.declared.command.ConfigCommand.TheVariants.{Check, Table, Migrate}
+use Rattle.caster_top.specs.declared.command.RoverStart.{RoverStart}
+use Rattle.caster_top.specs.declared.command.RoverStart.TheVariants.{Cold, Warm}
+use Rattle.caster_top.specs.declared.command.CasterMode.{CasterMode}
+use Rattle.caster_top.specs.declared.command.CasterMode.TheVariants.{Serve, Record}
 use Rattle.caster_top.specs.Command.{Form, bare, over, replay, made, casting, keeping, fetching, form_of}
 use Rattle.caster_top.specs.Reading.{config_in}
 
@@ -36,29 +36,29 @@ pub record Exit : Type 0 where
   pub text : List ℕ
 
 -- how it is to end
-pub data Ending : Type 0 where
+pub data ExitRule : Type 0 where
   -- exactly so
-  exactly : Exit → Ending
+  exactly : Exit → ExitRule
   -- with status 0 and any document of version 2 that says this configuration
-  document_of : Config → Ending
+  document_of : Config → ExitRule
   -- with status 0 and the report of a run of these events over this configuration, whose rovers
   -- start so
-  report_of : Start → Config → List Event → Ending
+  report_of : RoverStart → Config → List Event → ExitRule
   -- with status 0 and what a caster over this configuration came to
-  closing_of : Config → Ending
+  closing_of : Config → ExitRule
   -- with status 0 and the script of a session over this configuration
-  script_over : Config → Ending
+  script_over : Config → ExitRule
   -- with status 0 and so many frames
-  enough_of : ℕ → Ending
+  enough_of : ℕ → ExitRule
   -- with status 9 and fewer
-  fewer_than : ℕ → Ending
+  fewer_than : ℕ → ExitRule
 
 -- the text is a document of version 2 that is read as this configuration
 abbrev pub IsDocumentOf : Config → List ℕ → Type 0
 IsDocumentOf c text = IsRead text (Ok c) × HasVersion 2 text
 
 -- the text is that of the report of a run of these events whose rovers start so
-abbrev pub IsReportText : Start → Config → List Event → List ℕ → Type 0
+abbrev pub IsReportText : RoverStart → Config → List Event → List ℕ → Type 0
 IsReportText Cold c events text = IsRunText c events text
 IsReportText Warm c events text = IsWarmText c events text
 
@@ -72,7 +72,7 @@ IsScriptOver c text =
     (events : List Event) × (text ≡ script_text events) × (session_in c text ≡ Ok events)
 
 -- the program ended as it was to
-abbrev pub EndsSo : Ending → Exit → Type 0
+abbrev pub EndsSo : ExitRule → Exit → Type 0
 EndsSo (exactly wanted) end = end ≡ wanted
 EndsSo (document_of c) end = (end.status ≡ 0) × IsDocumentOf c end.text
 EndsSo (report_of start c events) end = (end.status ≡ 0) × IsReportText start c events end.text
@@ -120,7 +120,7 @@ exit_of_fault scripts.Long = long_exit
 exit_of_fault scripts.Memory = memory_exit
 
 -- the run of a script over a configuration, whose rovers start so
-abbrev pub ending_of_script : Start → Config → Result (List Event) ScriptFault → Ending
+abbrev pub ending_of_script : RoverStart → Config → Result (List Event) ScriptFault → ExitRule
 ending_of_script start c (Ok events) = report_of start c events
 ending_of_script start c (Err fault) = exactly (exit_of_fault fault)
 
@@ -132,35 +132,35 @@ exit_of_config_fault configs.Memory = memory_exit
 exit_of_config_fault fault = record { status = 2; text = fault_line fault }
 
 -- what is done with a configuration
-abbrev pub ending_of_config : Aim → Config → Ending
+abbrev pub ending_of_config : ConfigCommand → Config → ExitRule
 ending_of_config Check c = exactly (whole_exit (one_line (codes "ok")))
 ending_of_config Table c = exactly (whole_exit (table_text (table_records c)))
 ending_of_config Migrate c = document_of c
 
 -- a caster over a configuration, where the network failed or not
-abbrev pub ending_of_casting : Task → Bool → Config → Ending
+abbrev pub ending_of_casting : CasterMode → (failed : Bool) → Config → ExitRule
 ending_of_casting task true c = exactly network_exit
 ending_of_casting Serve false c = closing_of c
 ending_of_casting Record false c = script_over c
 
 -- a caster that keeps serving, where the network failed or not: its lines and its totals are
 -- written already
-abbrev pub ending_of_keeping : Bool → Config → Ending
+abbrev pub ending_of_keeping : (failed : Bool) → Config → ExitRule
 ending_of_keeping true c = exactly network_exit
 ending_of_keeping false c = exactly (whole_exit [])
 
 -- a fetch of so many frames, where too few came or not
-abbrev pub ending_of_fetching : Bool → ℕ → Ending
+abbrev pub ending_of_fetching : (too_few : Bool) → ℕ → ExitRule
 ending_of_fetching true frames = fewer_than frames
 ending_of_fetching false frames = enough_of frames
 
 -- with a configuration this comes next
-abbrev pub ending_of_read : (Config → Ending) → Result Config ConfigFault → Ending
+abbrev pub ending_of_read : (Config → ExitRule) → Result Config ConfigFault → ExitRule
 ending_of_read next (Ok c) = next c
 ending_of_read next (Err fault) = exactly (exit_of_config_fault fault)
 
 -- a configuration has at most 8 MiB
-abbrev pub ending_of_bytes : (Config → Ending) → List ℕ → Ending
+abbrev pub ending_of_bytes : (Config → ExitRule) → List ℕ → ExitRule
 ending_of_bytes next bytes =
     if nat_lt 8388608 (length bytes) then exactly long_exit
     else ending_of_read next (config_in bytes)
@@ -175,7 +175,7 @@ pub record Came : Type 0 where
   pub config : List ℕ
   pub failed : Bool
 
-abbrev pub ending_of_form : Form → Came → Ending
+abbrev pub ending_of_form : Form → Came → ExitRule
 ending_of_form (bare capacity) came =
     ending_of_script Cold (settings.bare capacity) (script_of Bare came.script)
 ending_of_form (over aim config) came = ending_of_bytes (ending_of_config aim) came.config
@@ -189,11 +189,11 @@ ending_of_form (keeping config addr quiet) came =
     ending_of_bytes (ending_of_keeping came.failed) came.config
 ending_of_form (fetching frames targets) came = ending_of_fetching came.failed frames
 
-abbrev pub ending_of : Option Form → Came → Ending
+abbrev pub ending_of : Option Form → Came → ExitRule
 ending_of None came = exactly usage_exit
 ending_of (Some form) came = ending_of_form form came
 
 -- what the program is to end with for these words and these bytes, where no read or write fails and
 -- there is memory
-unfoldable pub outcome : List (List ℕ) → Came → Ending
+unfoldable pub outcome : List (List ℕ) → Came → ExitRule
 outcome words came = ending_of (form_of words) came

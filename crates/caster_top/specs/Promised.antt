@@ -57,7 +57,7 @@ pub record KeepPromise (words : List (List ℕ)) (left : Option (List ℕ)) (fil
       × (recorded : HasRecorded c addr limit before after events) × IsConfigAt files config c
       × IsPromised c events recorded.session.report × Appends old new (script_text events)
 
--- The same of what came from the input and the files.
+-- What these words came to keeps the promise, by what came from the input and the files.
 pub record WasPromised (words : List (List ℕ)) (input : Input) (files : Files)
     (before after : StreetTold) (old new : Option (List ℕ)) : Type 0 where
   pub bare : (capacity : ℕ) → AreBare words capacity

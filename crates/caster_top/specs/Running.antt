@@ -5,7 +5,7 @@ use Rattle.cast_io.specs.Told.{StreetTold}
 use Rattle.cast_io.specs.Yards.{YardTold}
 use Rattle.ntrip_fetch.specs.declared.target.Target.{Target}
 use Rattle.caster_top.specs.declared.answers.Answer.{Answer}
-use Rattle.caster_top.specs.declared.command.Task.{Task}
+use Rattle.caster_top.specs.declared.command.CasterMode.{CasterMode}
 use Rattle.caster_top.specs.Command.{AreCasting, AreFetch, AreKeep, CastNothing, FetchNothing, KeepNothing}
 use Rattle.caster_top.specs.Told.{Files, Input}
 use Rattle.caster_top.specs.Answers.{exit_of, IsAnswer, Writes}
@@ -23,7 +23,7 @@ pub record EndsByAnswer (words : List (List ℕ)) (input : Input) (files : Files
   pub no_keep : KeepNothing words
   pub is : IsAnswer words input files of_input of_store answer
   pub written : Writes (exit_of answer) old new first now status
-  pub casting : (task : Task) (config addr : List ℕ) (limit : ℕ)
+  pub casting : (task : CasterMode) (config addr : List ℕ) (limit : ℕ)
       → AreCasting task words config addr limit
       → IsCastingAnswer task files config addr limit before after of_store answer
   pub alone : CastNothing words → after ≡ before

@@ -98,7 +98,8 @@ AreAsked (Some (keeping config addr quiet)) files paths = paths ≡ config ∷ [
 AreAsked (Some (fetching frames targets)) files paths = paths ≡ []
 
 -- by what it was asked before and now, the store was asked for these, and for no other
-abbrev pub IsAsked : Option Form → FilesTold → Option (List (List ℕ)) → Option (List (List ℕ)) → Type 0
+abbrev pub IsAsked : Option Form → FilesTold → Option (List (List ℕ)) → Option (List (List ℕ))
+    → Type 0
 IsAsked form files old new =
     (paths : List (List ℕ)) × AreAsked form files paths × Grew old new paths
 

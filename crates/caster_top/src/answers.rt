@@ -2,7 +2,7 @@
 ghost use Rattle.std.specs.Prelude.{◌≡◌, ◌≤◌, ◌+◌, ◌*◌, ℕ, List, length};
 ghost use Rattle.cast_io.specs.Causes.{Rose};
 ghost use Rattle.cast_io.specs.Pieces.{Loses};
-ghost use Rattle.caster_top.specs.declared.command.Task.{Task};
+ghost use Rattle.caster_top.specs.declared.command.CasterMode.{CasterMode};
 ghost use Rattle.caster_top.specs.Command.{AreCasting, CastNothing, FetchNothing, IsWithin, KeepNothing, NamesNoFile, ReadsNoInput, files_of, form_of, offline_form, texts};
 ghost use Rattle.caster_top.specs.Outcome.{exactly, whole_exit};
 ghost use Rattle.caster_top.specs.Given.{FileCame, InputCame};
@@ -117,7 +117,7 @@ where
     ensures kept_input { LeavesInput I.left I.faults I.reads (texts words.now) input.old input.new }
     ensures kept_store { LeavesStore S.store S.faults S.reads (texts words.now)
         store.old store.new }
-    ensures casting { (task : Task) (config addr : List ℕ) (limit : ℕ)
+    ensures casting { (task : CasterMode) (config addr : List ℕ) (limit : ℕ)
         → AreCasting task (texts words.now) config addr limit
         → IsCastingAnswer task
         (FileCame (S.store store.old).files (S.log store.old) (S.log store.new))

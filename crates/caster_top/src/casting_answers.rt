@@ -7,7 +7,7 @@ ghost use Rattle.cast_config.specs.Kept.{KeepsRules};
 ghost use Rattle.session_text.specs.Room.{closed_room};
 ghost use Rattle.session_model.specs.Text.{closed_text};
 ghost use Rattle.session_script.specs.Writing.{script_text};
-ghost use Rattle.caster_top.specs.declared.command.Task.TheVariants.{Record, Serve};
+ghost use Rattle.caster_top.specs.declared.command.CasterMode.TheVariants.{Record, Serve};
 ghost use Rattle.caster_top.specs.Command.{most_of};
 ghost use Rattle.caster_top.specs.Outcome.{EndsSo, exactly, whole_exit};
 ghost use Rattle.caster_top.specs.Answers.{GivesEnd, IsGiven};
@@ -16,7 +16,7 @@ ghost use Rattle.caster_top.specs.Kept.{KeepsFiles};
 ghost use Rattle.caster_top.specs.Casting.{CameTo, GivesCame, GivesServed, HasCast, IsCastingAnswer};
 
 use crate::answers::Answer;
-use crate::command::{Casting, Task};
+use crate::command::{CasterMode, Casting};
 use crate::config_answers::config_at;
 use crate::recording::record_at;
 use cast_config::Config;
@@ -69,7 +69,7 @@ where
 fn answer_to_task<R: Threads + Wait + Sync, N: Street>(
     rt: &R,
     alloc: Global,
-    task: Task,
+    task: CasterMode,
     config: &Config,
     addr: &str,
     limit: u32,
@@ -86,8 +86,8 @@ where
     ensures later { (N.told street.old).faults ≤ (N.told street.new).faults }
 {
     match task {
-        Task::Serve => answer_to_server(rt, alloc, config, addr, limit, street),
-        Task::Record => answer_to_recorder(rt, alloc, config, addr, limit, street),
+        CasterMode::Serve => answer_to_server(rt, alloc, config, addr, limit, street),
+        CasterMode::Record => answer_to_recorder(rt, alloc, config, addr, limit, street),
     }
 }
 

@@ -5,26 +5,26 @@ ghost use Rattle.session_script.specs.Digits.{is_digit, is_number, number_of, at
 ghost use Rattle.caster_top.specs.Command.{AreOf, AreOfNoForm, FetchNothing, Form, KeepNothing, aim_of, form, form_of, form_of_four, form_of_three, form_of_two, is_path, casting_form, made_form, most_of, seed_of, start_of, task_of, texts};
 
 // The most frames that a ring keeps.
-const LARGEST_RING: u32 = 4096;
+const MAX_RING_FRAMES: u32 = 4096;
 
 // The most frames of a session that is made.
-const MOST_FRAMES: u32 = 10_000;
+const MAX_FRAMES: u32 = 10_000;
 
 // The most rovers of one.
-const MOST_ROVERS: u32 = 64;
+const MAX_ROVERS: u32 = 64;
 
 // The most connections that a worker serves.
-const MOST_SERVED: u32 = 1_000_000;
+const MAX_SERVED: u32 = 1_000_000;
 
 // The most connections of a session that is recorded.
-const MOST_RECORDED: u32 = 256;
+const MAX_RECORDED: u32 = 256;
 
 // The most bytes of a path, and of an address.
-const LONGEST_PATH: usize = 255;
+const MAX_PATH_BYTES: usize = 255;
 
 /// What is done with a configuration.
 #[derive(Clone, Copy)]
-pub enum Aim {
+pub enum ConfigCommand {
     /// Its rules are tested.
     Check,
     /// Its sourcetable is written.
@@ -35,7 +35,7 @@ pub enum Aim {
 
 /// How rovers start in a session.
 #[derive(Clone, Copy)]
-pub enum Start {
+pub enum RoverStart {
     /// With the frames that come from then on.
     Cold,
     /// With a greeting before them: the last frames of the messages that a rover needs for the
@@ -45,21 +45,21 @@ pub enum Start {
 
 /// What a caster does with its connections.
 #[derive(Clone, Copy)]
-pub enum Task {
+pub enum CasterMode {
     /// Its workers serve them side by side.
     Serve,
     /// One thread serves them, and what happens is recorded.
     Record,
 }
 
-impl Task {
+impl CasterMode {
     // The most connections that there may be: of each worker, or of the record.
     fn most(self) -> u32
         ensures { result ≡ most_of self }
     {
         match self {
-            Task::Serve => MOST_SERVED,
-            Task::Record => MOST_RECORDED,
+            CasterMode::Serve => MAX_SERVED,
+            CasterMode::Record => MAX_RECORDED,
         }
     }
 }
@@ -70,11 +70,11 @@ pub enum Offline<'a> {
     /// A script from the input is run over a ring of so many frames.
     Bare(u32),
     /// This is done with the configuration in the file of this path.
-    Over(Aim, &'a str),
+    Over(ConfigCommand, &'a str),
     /// A session from a file is run over the configuration in another: the paths of both.
     Replay {
         /// How rovers start in it.
-        start: Start,
+        start: RoverStart,
         /// The configuration's.
         config: &'a str,
         /// The session's.
@@ -95,7 +95,7 @@ pub enum Offline<'a> {
 #[derive(Clone, Copy)]
 pub struct Casting<'a> {
     /// What it does with its connections.
-    pub task: Task,
+    pub task: CasterMode,
     /// The configuration's path.
     pub config: &'a str,
     /// The address that it listens at.
@@ -133,7 +133,7 @@ pub fn words_are_read_by_their_form()
         → form_of words ≡ Some form → AreOf words form }
 {}
 
-// The same, by the reading of its words.
+// Parses the words by how many they are: one to three behind the command's name.
 fn command_in(words: &[String]) -> Option<Command<'_>>
     requires fetch { FetchNothing (texts words.now) }
     requires keep { KeepNothing (texts words.now) }
@@ -158,7 +158,7 @@ fn command_of_two<'a>(name: &str, word: &'a str) -> Option<Command<'a>>
     ensures { option_map form result ≡ form_of_two name.now word.now }
 {
     if name == "bare" {
-        return match number_within(LARGEST_RING, word) {
+        return match number_within(MAX_RING_FRAMES, word) {
             Some(capacity) => Some(Command::Offline(Offline::Bare(capacity))),
             None => None,
         };
@@ -222,10 +222,10 @@ fn make_of<'a>(seed: &str, frames: &str, rovers: &str) -> Option<Command<'a>>
     let Some(seed) = seed_of(seed) else {
         return None;
     };
-    let Some(frames) = number_within(MOST_FRAMES, frames) else {
+    let Some(frames) = number_within(MAX_FRAMES, frames) else {
         return None;
     };
-    let Some(rovers) = number_within(MOST_ROVERS, rovers) else {
+    let Some(rovers) = number_within(MAX_ROVERS, rovers) else {
         return None;
     };
     Some(Command::Offline(Offline::Make {
@@ -236,7 +236,12 @@ fn make_of<'a>(seed: &str, frames: &str, rovers: &str) -> Option<Command<'a>>
 }
 
 // The caster of this task over this configuration at this address, with this limit.
-fn caster_of<'a>(task: Task, config: &'a str, addr: &'a str, limit: &str) -> Option<Command<'a>>
+fn caster_of<'a>(
+    task: CasterMode,
+    config: &'a str,
+    addr: &'a str,
+    limit: &str,
+) -> Option<Command<'a>>
     ensures { option_map form result ≡ casting_form (Some task) config.now addr.now limit.now }
 {
     match number_within(task.most(), limit) {
@@ -251,35 +256,35 @@ fn caster_of<'a>(task: Task, config: &'a str, addr: &'a str, limit: &str) -> Opt
 }
 
 // What a command of this name does with a configuration.
-fn aim_of(name: &str) -> Option<Aim>
+fn aim_of(name: &str) -> Option<ConfigCommand>
     ensures { result ≡ aim_of name.now }
 {
     match name {
-        "check" => Some(Aim::Check),
-        "table" => Some(Aim::Table),
-        "migrate" => Some(Aim::Migrate),
+        "check" => Some(ConfigCommand::Check),
+        "table" => Some(ConfigCommand::Table),
+        "migrate" => Some(ConfigCommand::Migrate),
         _ => None,
     }
 }
 
 // How rovers start in a session for a command of this name.
-fn start_of(name: &str) -> Option<Start>
+fn start_of(name: &str) -> Option<RoverStart>
     ensures { result ≡ start_of name.now }
 {
     match name {
-        "replay" => Some(Start::Cold),
-        "warm" => Some(Start::Warm),
+        "replay" => Some(RoverStart::Cold),
+        "warm" => Some(RoverStart::Warm),
         _ => None,
     }
 }
 
 // The task of a caster for a command of this name.
-fn task_of(name: &str) -> Option<Task>
+fn task_of(name: &str) -> Option<CasterMode>
     ensures { result ≡ task_of name.now }
 {
     match name {
-        "serve" => Some(Task::Serve),
-        "record" => Some(Task::Record),
+        "serve" => Some(CasterMode::Serve),
+        "record" => Some(CasterMode::Record),
         _ => None,
     }
 }
@@ -288,7 +293,7 @@ fn task_of(name: &str) -> Option<Task>
 fn is_path(word: &str) -> bool
     ensures { result ≡ is_path word.now }
 {
-    1 <= word.len() && word.len() <= LONGEST_PATH
+    1 <= word.len() && word.len() <= MAX_PATH_BYTES
 }
 
 /// Both words can be paths.

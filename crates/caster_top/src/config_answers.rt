@@ -1,12 +1,10 @@
 //! What is decided by the configuration in a file.
-ghost use Rattle.std.specs.Prelude.{◌≡◌, ◌≤◌, ◌<◌, ◌∷◌, [], ℕ, List, Ok, length, vec_len, IfErr, IfOk, IsErrOf, ⊤};
+ghost use Rattle.std.specs.Prelude.{◌≤◌, ◌<◌, ◌∷◌, [], ℕ, List, Ok, length, vec_len, IfErr, IfOk, IsErrOf, ⊤};
 ghost use Rattle.cast_io.specs.Causes.{Rose};
 ghost use Rattle.cast_io.specs.Logs.{GoesOn};
 ghost use Rattle.cast_io.specs.Told.{Grew};
-ghost use Rattle.sourcetable.specs.Table.{table_text};
 ghost use Rattle.cast_config.specs.Document.{IsRead};
 ghost use Rattle.cast_config.specs.Kept.{KeepsRules};
-ghost use Rattle.config_table.specs.Table.{table_records};
 ghost use Rattle.config_write.specs.Written.{WasRead};
 ghost use Rattle.caster_top.specs.Outcome.{IsDocumentOf, ending_of_config, exactly, exit_of_config_fault};
 ghost use Rattle.caster_top.specs.Given.{FileCame};
@@ -15,20 +13,19 @@ ghost use Rattle.caster_top.specs.Told.{IsConfigFrom};
 ghost use Rattle.caster_top.specs.Answers.{GivesEnd, IsFileAnswer, IsGiven, IsRefusal, IsRefused};
 
 use crate::answers::Answer;
-use crate::command::Aim;
+use crate::command::ConfigCommand;
 use cast_config::{Config, ConfigFault, read_config};
 use cast_io::{ReadAllFault, Store, read_all};
-use config_table::table_of;
+use config_table::table_text;
 use config_write::write_config;
-use sourcetable::write_table;
 use std::alloc::{AllocError, Global};
 
 /// The most bytes that a configuration or a session has: 8 MiB.
-const LONGEST: usize = 8_388_608;
+const MAX_FILE_BYTES: usize = 8_388_608;
 
 /// The answer to a command that does this with the configuration in the file of this path. The
 /// store is asked for that file once.
-pub fn answer_over<S: Store>(alloc: Global, aim: Aim, path: &str, store: &mut S) -> Answer
+pub fn answer_over<S: Store>(alloc: Global, aim: ConfigCommand, path: &str, store: &mut S) -> Answer
     ensures answer { IsFileAnswer aim path.now
         (FileCame (S.store store.old).files (S.log store.old) (S.log store.new))
         (Rose (S.faults store.old) (S.faults store.new)) result }
@@ -87,7 +84,7 @@ pub fn read_file<S: Store>(
     let Ok(()) = store.open(path) else {
         return Err(ReadAllFault::Failed);
     };
-    read_all(alloc, store, LONGEST)
+    read_all(alloc, store, MAX_FILE_BYTES)
 }
 
 // The configuration that these bytes say, which are no more than one may have.
@@ -118,33 +115,22 @@ fn answer_to_fault(alloc: Global, fault: &ConfigFault) -> Answer
 }
 
 // The answer to this configuration.
-fn answer_to_config(alloc: Global, aim: Aim, config: &Config) -> Answer
+fn answer_to_config(alloc: Global, aim: ConfigCommand, config: &Config) -> Answer
     requires keeps { KeepsRules 1000000 config.now }
     requires was_read { WasRead config.now }
     ensures { GivesEnd (ending_of_config aim config.now) result }
 {
     match aim {
-        Aim::Check => Answer::Valid,
-        Aim::Table => match table_text(alloc, config) {
+        ConfigCommand::Check => Answer::Valid,
+        ConfigCommand::Table => match table_text(alloc, config) {
             Ok(text) => Answer::Done(text),
             Err(AllocError) => Answer::Memory,
         },
-        Aim::Migrate => match document(alloc, config) {
+        ConfigCommand::Migrate => match document(alloc, config) {
             Ok(text) => Answer::Done(text),
             Err(AllocError) => Answer::Memory,
         },
     }
-}
-
-// The sourcetable of the configuration.
-fn table_text(alloc: Global, config: &Config) -> Result<Vec<u8>, AllocError>
-    requires { KeepsRules 1000000 config.now }
-    ensures { IfOk result (λ text. text.items ≡ table_text (table_records config.now)) }
-{
-    let table = table_of(alloc, config)?;
-    let mut text = Vec::new(alloc);
-    write_table(&table, &mut text)?;
-    Ok(text)
 }
 
 // A document of version 2 that says the configuration.

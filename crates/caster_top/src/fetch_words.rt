@@ -7,16 +7,16 @@ use crate::command::number_within;
 use cast_text::is_name;
 
 // The most frames that are fetched.
-const MOST_FRAMES: u32 = 1_000_000;
+const MAX_FRAMES: u32 = 1_000_000;
 
 // The most words of targets, of which each has five.
-const MOST_TARGET_WORDS: usize = 40;
+const MAX_TARGET_WORDS: usize = 40;
 
 // The most bytes of a caster's address that is dialled.
-const LONGEST_ADDRESS: usize = 100;
+const MAX_ADDRESS_BYTES: usize = 100;
 
 // The most bytes of a password.
-const LONGEST_PASSWORD: usize = 100;
+const MAX_PASSWORD_BYTES: usize = 100;
 
 /// A fetch of frames from other casters. It is not shown: its words have passwords among them.
 #[derive(Clone, Copy)]
@@ -61,7 +61,7 @@ fn fetch_of<'a>(frames: &str, targets: &'a [String]) -> Option<Fetch<'a>>
     if !are_few_targets(targets) {
         return None;
     }
-    match number_within(MOST_FRAMES, frames) {
+    match number_within(MAX_FRAMES, frames) {
         Some(frames) => Some(Fetch { frames, targets }),
         None => None,
     }
@@ -71,7 +71,7 @@ fn fetch_of<'a>(frames: &str, targets: &'a [String]) -> Option<Fetch<'a>>
 fn are_few_targets(words: &[String]) -> bool
     ensures { result ≡ are_few_targets (texts words.now) }
 {
-    1 <= words.len() && words.len() <= MOST_TARGET_WORDS && are_targets(words)
+    1 <= words.len() && words.len() <= MAX_TARGET_WORDS && are_targets(words)
 }
 
 // Each five of the words are a target, and none is left over.
@@ -116,7 +116,7 @@ fn is_line_byte(byte: u8) -> bool
 fn is_address(word: &[u8]) -> bool
     ensures { result ≡ is_address word.now }
 {
-    1 <= word.len() && word.len() <= LONGEST_ADDRESS && are_line_bytes(word)
+    1 <= word.len() && word.len() <= MAX_ADDRESS_BYTES && are_line_bytes(word)
 }
 
 // No byte of the word ends a line.
@@ -137,7 +137,7 @@ fn is_password_byte(byte: u8) -> bool
 fn is_password(word: &[u8]) -> bool
     ensures { result ≡ is_password word.now }
 {
-    word.len() <= LONGEST_PASSWORD && are_password_bytes(word)
+    word.len() <= MAX_PASSWORD_BYTES && are_password_bytes(word)
 }
 
 // Each byte of the word may stand in a password.

@@ -1,5 +1,5 @@
 //! What is done by a fetch: frames of other casters are written as they come.
-ghost use Rattle.std.specs.Prelude.{◌≡◌, ◌≢◌, ◌≤◌, ◌++◌, IfOk, IsErr, IsTrue, OnErr, OnOk, length};
+ghost use Rattle.std.specs.Prelude.{◌≡◌, ◌≢◌, ◌≤◌, ◌++◌, IfOk, IsErr, IsTrue, OnErr, OnOk};
 ghost use Rattle.std.specs.List.{All};
 ghost use Rattle.cast_text.specs.Name.{is_name};
 ghost use Rattle.ntrip_fetch.specs.Tries.{CanBeTried};
@@ -8,7 +8,7 @@ ghost use Rattle.caster_top.specs.Fetching.{HasFetching, frames_in};
 ghost use Rattle.caster_top.specs.Kept.{LeavesOutput};
 
 use cast_io::{Sink, Street};
-use cast_text::{MountName, NameFault, Text, TextFault, UserName};
+use cast_text::{MountName, Text, UserName};
 use ntrip_fetch::{FetchFault, Target, Try, fetch};
 use std::alloc::{AllocError, Global};
 use std::sync::Wait;
@@ -120,10 +120,10 @@ fn target_of(
 {
     Ok(Target {
         protocol: protocol_of(protocol),
-        address: text_of(alloc, address.as_bytes())?,
-        mount: mount_of(alloc, mount.as_bytes())?,
+        address: Text::of(alloc, address.as_bytes())?,
+        mount: MountName::of(alloc, mount.as_bytes())?,
         user: user_of(alloc, user)?,
-        password: text_of(alloc, password.as_bytes())?,
+        password: Text::of(alloc, password.as_bytes())?,
     })
 }
 
@@ -135,32 +135,6 @@ fn protocol_of(word: &str) -> u32
     if word == "2" { 2 } else { 1 }
 }
 
-// The text of these bytes, at most 100.
-fn text_of(alloc: Global, bytes: &[u8]) -> Result<Text, AllocError>
-    requires { length bytes.now ≤ 100 }
-    ensures { IfOk result (λ text. text ≡ bytes.now) }
-{
-    match Text::new(alloc, bytes) {
-        Ok(text) => Ok(text),
-        Err(TextFault::Long(_)) => unreachable!(),
-        Err(TextFault::Memory) => Err(AllocError),
-    }
-}
-
-// The mountpoint of this name.
-fn mount_of(alloc: Global, name: &[u8]) -> Result<MountName, AllocError>
-    requires { IsTrue (is_name name.now) }
-    ensures { IfOk result (λ mount. mount ≡ name.now) }
-{
-    match MountName::new(alloc, name) {
-        Ok(mount) => Ok(mount),
-        Err(NameFault::Memory) => Err(AllocError),
-        Err(NameFault::Empty) => unreachable!(),
-        Err(NameFault::Long(_)) => unreachable!(),
-        Err(NameFault::Byte(_)) => unreachable!(),
-    }
-}
-
 // The user that the word names: none where it is `-`.
 fn user_of(alloc: Global, word: &str) -> Result<Option<UserName>, AllocError>
     requires { IsTrue (is_name word.now) }
@@ -169,11 +143,6 @@ fn user_of(alloc: Global, word: &str) -> Result<Option<UserName>, AllocError>
     if word == "-" {
         return Ok(None);
     }
-    match UserName::new(alloc, word.as_bytes()) {
-        Ok(user) => Ok(Some(user)),
-        Err(NameFault::Memory) => Err(AllocError),
-        Err(NameFault::Empty) => unreachable!(),
-        Err(NameFault::Long(_)) => unreachable!(),
-        Err(NameFault::Byte(_)) => unreachable!(),
-    }
+    let user = UserName::of(alloc, word.as_bytes())?;
+    Ok(Some(user))
 }

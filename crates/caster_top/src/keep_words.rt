@@ -5,7 +5,7 @@ ghost use Rattle.caster_top.specs.Command.{AreKeep, KeepNothing, keep_form, keep
 use crate::command::{are_paths, number_within};
 
 // The most seconds of silence, a day.
-const MOST_QUIET: u32 = 86_400;
+const MAX_QUIET: u32 = 86_400;
 
 /// A caster that keeps serving, over the configuration in a file.
 #[derive(Clone, Copy)]
@@ -27,7 +27,7 @@ pub fn keep_in(words: &[String]) -> Option<Keep<'_>>
     keep_of(words)
 }
 
-// The same, by the reading of the words.
+// Parses the words of a caster that keeps serving.
 fn keep_of(words: &[String]) -> Option<Keep<'_>>
     ensures { option_map keep_form result ≡ keep_of (texts words.now) }
 {
@@ -67,6 +67,6 @@ fn quiet_of(word: &str) -> Option<u32>
     if word == "0" {
         Some(0)
     } else {
-        number_within(MOST_QUIET, word)
+        number_within(MAX_QUIET, word)
     }
 }

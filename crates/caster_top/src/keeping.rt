@@ -86,8 +86,8 @@ where
     requires { KeepsRules 1000000 config.now }
     ensures kept { (came_to : Result Came Fault)
         × HasKept N.Gate.told N.Gate.over N.Gate.peer N.Gate.origin N.Notes.taken N.Notes.faults
-        (Z.back lodge.old) (Z.back lodge.new) config.now words.entry.addr.now words.entry.quiet (N.kept street.old) (N.kept street.new)
-        came_to
+        (Z.back lodge.old) (Z.back lodge.new) config.now words.entry.addr.now words.entry.quiet
+        (N.kept street.old) (N.kept street.new) came_to
         × EndOfKeeping came_to (O.taken out.old) (O.taken out.new)
         (O.faults out.old) (O.faults out.new) result }
     ensures kept_output { LeavesOutput (O.faults out.old) (O.faults out.new) result }
@@ -111,7 +111,8 @@ fn end_of_keeping<O: Sink>(came_to: Result<Outcome, KeepFault>, out: &mut O) -> 
     }
 }
 
-// The same where it served.
+// Writes the line of a caster that kept serving until this stop, if it has one, and answers the
+// status.
 fn end_of_outcome<O: Sink>(is_torn: bool, stop: Stop, out: &mut O) -> u8
     ensures ends { KeptEnd is_torn stop (O.taken out.old) (O.taken out.new)
         (O.faults out.old) (O.faults out.new) result }

@@ -19,11 +19,11 @@ ghost use Rattle.cast_config.specs.Bare.{bare};
 ghost use Rattle.cast_config.specs.Document.{IsRead};
 ghost use Rattle.config_table.specs.Table.{table_records};
 ghost use Rattle.config_write.specs.Written.{HasVersion};
-ghost use Rattle.run_texts.specs.Texts.{IsRunText, IsWarmText, made_text, report};
+ghost use Rattle.run_texts.specs.Texts.{IsRunText, IsWarmText, made_text, bare_report_text};
 ghost use Rattle.caster_serve.specs.Caster.{HasServed};
-ghost use Rattle.caster_top.specs.declared.command.Aim.{Aim};
-ghost use Rattle.caster_top.specs.declared.command.Aim.TheVariants.{Check, Migrate, Table};
-ghost use Rattle.caster_top.specs.declared.command.Task.{Task};
+ghost use Rattle.caster_top.specs.declared.command.ConfigCommand.{ConfigCommand};
+ghost use Rattle.caster_top.specs.declared.command.ConfigCommand.TheVariants.{Check, Migrate, Table};
+ghost use Rattle.caster_top.specs.declared.command.CasterMode.{CasterMode};
 ghost use Rattle.caster_top.specs.Command.{AreBare, AreCasting, AreMake, AreOver, AreRecord, AreReplay, AreServe, AreWarm};
 ghost use Rattle.caster_top.specs.Calls.{CallTold, IsCalm, MeetsCasting, MeetsOutcome, MeetsUndisturbed, TellConfig, TellSession};
 ghost use Rattle.caster_top.specs.Done.{WasDone};
@@ -43,7 +43,7 @@ pub fn what_was_done_is_what_is_told()
         old new
         → (capacity : ℕ) (bytes : List ℕ) (events : List Event) → AreBare words capacity
         → left ≡ Some bytes → script_of Bare bytes ≡ Ok events
-        → Appends old new (report (bare capacity) events) }
+        → Appends old new (bare_report_text (bare capacity) events) }
     ensures config { (files : FilesTold) (first last : Log) (path : List ℕ) (c : Config)
         → IsConfigFrom (FileGave files first last) path c → IsConfigAt files path c }
     ensures session { (files : FilesTold) (first last : Log) (path : List ℕ) (c : Config)
@@ -82,9 +82,9 @@ pub fn undisturbed_says()
         → call.left ≡ Some bytes → script_of Bare bytes ≡ Ok events
         → IsCalm call.input_faults → IsCalm call.output_faults
         → (call.status ≡ 7) ⊎ ((call.status ≡ 0)
-        × Appends call.old call.new (report (bare capacity) events)) }
+        × Appends call.old call.new (bare_report_text (bare capacity) events)) }
     ensures complete_over { (call : CallTold) → MeetsUndisturbed call
-        → (aim : Aim) (path : List ℕ) (c : Config)
+        → (aim : ConfigCommand) (path : List ℕ) (c : Config)
         → AreOver aim call.words path → TellConfig call.files path c
         → IsCalm call.store_faults → IsCalm call.output_faults
         → (call.status ≡ 7) ⊎ (call.status ≡ 0) }
@@ -125,7 +125,7 @@ pub fn casting_says()
         × HasRecorded c addr limit call.before call.after events
         × Appends call.old call.new (script_text events) }
     ensures complete_cast { (call : CallTold) → MeetsCasting call
-        → (task : Task) (config addr : List ℕ) (limit : ℕ) (c : Config)
+        → (task : CasterMode) (config addr : List ℕ) (limit : ℕ) (c : Config)
         → AreCasting task call.words config addr limit → TellConfig call.files config c
         → IsCalm call.store_faults → IsCalm call.output_faults
         → ¬ Rose call.before.faults call.after.faults → (call.status ≡ 7) ⊎ (call.status ≡ 0) }

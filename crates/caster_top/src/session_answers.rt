@@ -9,7 +9,7 @@ ghost use Rattle.cast_io.specs.Told.{Grew};
 ghost use Rattle.cast_config.specs.Bare as settings;
 ghost use Rattle.cast_config.specs.Kept.{KeepsRules};
 ghost use Rattle.caster_replay.specs.Scripts.{IsKindFor, IsScriptFor};
-ghost use Rattle.caster_top.specs.declared.command.Start.TheVariants.{Cold};
+ghost use Rattle.caster_top.specs.declared.command.RoverStart.TheVariants.{Cold};
 ghost use Rattle.caster_top.specs.Command.{replay};
 ghost use Rattle.caster_top.specs.Outcome.{IsReportText, exactly, ending_of_script, exit_of_fault};
 ghost use Rattle.caster_top.specs.Given.{FileCame, InputCame};
@@ -18,7 +18,7 @@ ghost use Rattle.caster_top.specs.Told.{IsAsked};
 ghost use Rattle.caster_top.specs.Answers.{GivesEnd, IsInputAnswer, IsReplayAnswer, IsSessionAnswer};
 
 use crate::answers::Answer;
-use crate::command::Start;
+use crate::command::RoverStart;
 use crate::config_answers::{config_at, read_file};
 use cast_config::Config;
 use cast_io::{Source, Store, read_all};
@@ -27,7 +27,7 @@ use session_script::{Event, ScriptFault, ScriptKind, parse};
 use std::alloc::{AllocError, Global};
 
 /// The most bytes that a script has: 8 MiB.
-const LONGEST_SCRIPT: usize = 8_388_608;
+const MAX_SCRIPT_BYTES: usize = 8_388_608;
 
 /// The answer to the bare script that the input is, over a ring of this capacity.
 pub fn answer_to_input<I: Source>(alloc: Global, capacity: u32, input: &mut I) -> Answer
@@ -39,7 +39,7 @@ pub fn answer_to_input<I: Source>(alloc: Global, capacity: u32, input: &mut I) -
     ensures reads { Loses (λ came. I.reads input.new ≤ I.reads input.old + length came + 1)
         (I.left input.old) (I.left input.new) }
 {
-    match read_all(alloc, input, LONGEST_SCRIPT) {
+    match read_all(alloc, input, MAX_SCRIPT_BYTES) {
         Ok(bytes) => answer_to_bare(alloc, capacity, &bytes),
         Err(fault) => Answer::unread(fault),
     }
@@ -50,7 +50,7 @@ pub fn answer_to_input<I: Source>(alloc: Global, capacity: u32, input: &mut I) -
 /// configuration is one.
 pub fn answer_to_replay<S: Store>(
     alloc: Global,
-    start: Start,
+    start: RoverStart,
     config: &str,
     session: &str,
     store: &mut S,
@@ -71,7 +71,7 @@ pub fn answer_to_replay<S: Store>(
 // The answer to the session in the file of this path over this configuration.
 fn answer_to_session<S: Store>(
     alloc: Global,
-    start: Start,
+    start: RoverStart,
     config: &Config,
     path: &str,
     store: &mut S,
@@ -98,7 +98,7 @@ fn answer_to_bare(alloc: Global, capacity: u32, bytes: &[u8]) -> Answer
         result }
 {
     match Config::bare(alloc, capacity) {
-        Ok(config) => answer_to_script(alloc, Start::Cold, &config, ScriptKind::Bare, bytes),
+        Ok(config) => answer_to_script(alloc, RoverStart::Cold, &config, ScriptKind::Bare, bytes),
         Err(AllocError) => Answer::Memory,
     }
 }
@@ -116,7 +116,7 @@ fn kind_for(config: &Config) -> ScriptKind
 // The answer to a script of these bytes, which are no more than one may have, over a configuration.
 fn answer_to_script(
     alloc: Global,
-    start: Start,
+    start: RoverStart,
     config: &Config,
     kind: ScriptKind,
     bytes: &[u8],
@@ -139,7 +139,7 @@ fn answer_to_script(
 // The report of these events over this configuration, as text.
 fn report_of(
     alloc: Global,
-    start: Start,
+    start: RoverStart,
     config: &Config,
     events: &[Event],
 ) -> Result<Vec<u8>, AllocError>
@@ -148,8 +148,8 @@ fn report_of(
     ensures { IfOk result (λ text. IsReportText start config.now events.now text.items) }
 {
     match start {
-        Start::Cold => run_text(alloc, config, events),
-        Start::Warm => warm_text(alloc, config, events),
+        RoverStart::Cold => run_text(alloc, config, events),
+        RoverStart::Warm => warm_text(alloc, config, events),
     }
 }
 

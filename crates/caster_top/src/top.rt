@@ -4,12 +4,12 @@ ghost use Rattle.std.specs.Io.KnownBytes.{Appends};
 ghost use Rattle.session_script.specs.declared.Event.{Event};
 ghost use Rattle.session_script.specs.declared.ScriptKind.TheVariants.{Bare};
 ghost use Rattle.session_script.specs.Script.{script_of};
-ghost use Rattle.run_texts.specs.Texts.{IsRunText, IsWarmText, made_text, report};
+ghost use Rattle.run_texts.specs.Texts.{IsRunText, IsWarmText, made_text, bare_report_text};
 ghost use Rattle.cast_io.specs.Causes.{Rose, HasCause};
 ghost use Rattle.cast_io.specs.Pieces.{AppendsPrefix};
 ghost use Rattle.cast_config.specs.declared.config.Config.{Config};
 ghost use Rattle.cast_config.specs.Bare.{bare};
-ghost use Rattle.caster_top.specs.declared.command.Task.{Task};
+ghost use Rattle.caster_top.specs.declared.command.CasterMode.{CasterMode};
 ghost use Rattle.caster_top.specs.Command.{AreBare, AreCasting, AreFetch, AreKeep, AreMake, AreOfNoForm, AreReplay, AreWarm, CastNothing, FetchNothing, KeepNothing, WriteAtEnd, form_of, texts};
 ghost use Rattle.caster_top.specs.Outcome.{memory_exit, network_exit, read_fault_exit};
 ghost use Rattle.caster_top.specs.Told.{FollowsOutcome, HaveCome, HaveFault, Holds, IsAsked, IsConfigAt, IsFaultyConfig, IsFaultyScript, IsSessionAt, IsTooLong, Tells, WritesPart};
@@ -42,24 +42,27 @@ use std::thread::Threads;
 const WRITE_FAULT: u8 = 5;
 
 /// How many bytes are written at once.
-const PIECE: usize = 65_536;
+const MAX_WRITE_BYTES: usize = 65_536;
 
 /// Runs the command that the words are, which have no program name, over the files, the input, the
 /// output and the street, and answers the status that the program ends with.
 ///
 /// | Words | What is done | Written with status 0 |
 /// |---|---|---|
-/// | `bare C` | plays the script from the input over one mountpoint `A` with a ring of C frames | the report |
+/// | `bare C` | plays the input's script over a mountpoint `A` with a ring of C | the report |
 /// | `check CONFIG` | tests the configuration in the file CONFIG | `ok` |
 /// | `table CONFIG` | | its sourcetable |
 /// | `migrate CONFIG` | | a document of version 2 that says it |
-/// | `replay CONFIG SESSION` | plays the session in the file SESSION over the configuration | the report |
+/// | `replay CONFIG SESSION` | plays the file SESSION over the configuration | the report |
 /// | `warm CONFIG SESSION` | the same, with rovers that are greeted | the report with greetings |
-/// | `make SEED FRAMES ROVERS` | makes a session of the number SEED and plays it | its laps and sums |
+/// | `make SEED FRAMES ROVERS` | makes the session of SEED and plays it | its laps and sums |
 /// | `serve CONFIG ADDR LIMIT` | serves at ADDR, each worker LIMIT connections | what it came to |
-/// | `record CONFIG ADDR LIMIT` | serves LIMIT connections at ADDR by one thread | the script of what happened |
-/// | `keep CONFIG ADDR QUIET` | serves at ADDR until its gates are over, by links that may be silent for QUIET seconds | nothing more: lines of its links and what it came to stand in its place for lines |
-/// | `fetch FRAMES TARGET..` | asks the targets in order for frames, until there are FRAMES | the frames |
+/// | `record CONFIG ADDR LIMIT` | serves LIMIT connections by one thread | what happened |
+/// | `keep CONFIG ADDR QUIET` | serves at ADDR until its gates are over | nothing more |
+/// | `fetch FRAMES TARGET..` | asks the targets in order for FRAMES frames | the frames |
+///
+/// A `keep` writes to its place for lines: those of its links, and what it came to. It cuts links
+/// that are silent for QUIET seconds.
 ///
 /// C is from 1 to 4,096, CONFIG, SESSION and ADDR have 1 to 255 bytes. SEED is below 2^64, FRAMES
 /// from 1 to 10,000, ROVERS from 1 to 64, LIMIT from 1 to 1,000,000, or for a record to 256, and
@@ -73,7 +76,7 @@ const PIECE: usize = 65_536;
 /// | Status | Line | Comes |
 /// |---|---|---|
 /// | 1 | `usage` | exactly where the words are of no form |
-/// | 2 | `configuration: toml`, or `configuration:` with the test and the key | where the file is no configuration |
+/// | 2 | `configuration: toml`, or `configuration: TEST KEY` | where the file is none |
 /// | 3 | `session: line N`, `session: state N`, `session: no stop` | where the script is none |
 /// | 4 | `read fault` | only where a read of the input, or a call of the store, failed |
 /// | 5 | | only where a write failed |
@@ -111,7 +114,7 @@ where
     ensures report { result ≡ 0 → (capacity : ℕ) (bytes : List ℕ) (events : List Event)
         → AreBare (texts words.now) capacity
         → I.left input.old ≡ Some bytes → script_of Bare bytes ≡ Ok events
-        → Appends (O.taken out.old) (O.taken out.new) (report (bare capacity) events) }
+        → Appends (O.taken out.old) (O.taken out.new) (bare_report_text (bare capacity) events) }
 
     // What is done with a session over a configuration.
     ensures replayed { result ≡ 0 → (config session : List ℕ)
@@ -135,7 +138,7 @@ where
         → Appends (O.taken out.old) (O.taken out.new) (made_text seed frames rovers) }
 
     // What a caster does that serves, or that records: the whole of it.
-    ensures casting { (task : Task) (config addr : List ℕ) (limit : ℕ)
+    ensures casting { (task : CasterMode) (config addr : List ℕ) (limit : ℕ)
         → AreCasting task (texts words.now) config addr limit
         → HasCasting task (Holds (S.store store.old).files) config addr limit
         (N.told street.old) (N.told street.new) (Rose (S.faults store.old) (S.faults store.new))
@@ -146,8 +149,8 @@ where
         (S.store store.old).files (N.told street.old) (N.told street.new)
         (O.taken out.old) (O.taken out.new) }
 
-    // The same, said of what was read: of the bytes that reads of the input gave in this call up to
-    // its end, and of those that the file of a path gave from its opening to its end.
+    // What was done, promised and written, by what was read: by the bytes that reads of the input
+    // gave in this call up to its end, and those that a file gave from its opening to its end.
     ensures done { result ≡ 0 → WasDone (texts words.now)
         (InputGave (I.left input.old) (I.log input.old) (I.log input.new))
         (FileGave (S.store store.old).files (S.log store.old) (S.log store.new))
@@ -163,7 +166,7 @@ where
 
     // Where the network failed a caster.
     ensures network_fault { result ≡ 6 → KeepNothing (texts words.now)
-        → (task : Task) × (config addr : List ℕ) × (limit : ℕ)
+        → (task : CasterMode) × (config addr : List ℕ) × (limit : ℕ)
         × (c : Config) × AreCasting task (texts words.now) config addr limit
         × IsConfigAt (S.store store.old).files config c
         × HasCast task c addr limit (N.told street.old) (N.told street.new) no_network
@@ -268,7 +271,7 @@ where
     run_words(rt, alloc, words, store, input, out, street, lodge)
 }
 
-// The same, and how the run of the words ended.
+// Runs the command that the words are, and says how the run ended.
 fn run_words<R: Threads + Wait + Sync, S: Store, I: Source, O: Sink, N: Yard, Z: Lodge>(
     rt: &R,
     alloc: Global,
@@ -318,7 +321,7 @@ where
     }
 }
 
-// The same for words that ask for no fetch.
+// Runs the command of words that ask for no fetch.
 fn keep_or_answer<R: Threads + Wait + Sync, S: Store, I: Source, O: Sink, N: Yard, Z: Lodge>(
     rt: &R,
     alloc: Global,
@@ -361,7 +364,7 @@ where
     }
 }
 
-// The same for words that ask for no fetch, and for no caster that keeps serving.
+// Runs the command of words that ask for no fetch, and for no caster that keeps serving.
 fn answer_words<R: Threads + Wait + Sync, S: Store, I: Source, O: Sink, N: Street>(
     rt: &R,
     alloc: Global,
@@ -434,7 +437,7 @@ fn write_text<O: Sink>(text: &[u8], out: &mut O) -> Result<(), Failed>
 {
     let mut at = 0;
     while at < text.len() {
-        let end = at + PIECE.min(text.len() - at);
+        let end = at + MAX_WRITE_BYTES.min(text.len() - at);
         let Ok(()) = out.write(&text[at..end]) else {
             return Err(Failed);
         };

@@ -13,8 +13,8 @@ use Rattle.session_model.specs.declared.report.Report.{Report}
 use Rattle.session_model.specs.Headings.{Heading}
 use Rattle.session_model.specs.Reports.{AreHeadings, IsReport, told_of}
 use Rattle.session_model.specs.Run.{Histories, Connected, World, after_event, after_events}
-use Rattle.caster_replay.specs.declared.entry.State.{State}
-use Rattle.caster_replay.specs.declared.entry.State.TheVariants.{Open, Closed}
+use Rattle.caster_replay.specs.declared.run_connection.State.{State}
+use Rattle.caster_replay.specs.declared.run_connection.State.TheVariants.{Open, Closed}
 use Rattle.caster_replay.specs.declared.run.Run.{Run}
 use Rattle.caster_replay.specs.Going.{rover_among}
 use Rattle.caster_replay.specs.Kept.{StandsFor, homes_of, seen_of, lives_of, sent_by_run}

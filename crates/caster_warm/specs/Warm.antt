@@ -13,7 +13,7 @@ use Rattle.session_model.specs.declared.report.Connection.{Connection}
 use Rattle.session_model.specs.declared.report.Report.{Report}
 use Rattle.session_core.specs.declared.rover_state.RoverState.{RoverState}
 use Rattle.session_model.specs.Headings.{Heading}
-use Rattle.session_model.specs.Reports.{AreHeadings, report_of, report}
+use Rattle.session_model.specs.Reports.{AreHeadings, world_report, report}
 use Rattle.session_model.specs.Run.{Histories, World, after_event, after_events}
 use Rattle.session_model.specs.Setting.{shapes}
 use Rattle.caster_replay.specs.Going.{rover_among}
@@ -49,7 +49,7 @@ greeting_by c headings w event next n =
 
 -- what the connection of this number was sent so far by the run without greetings
 abbrev pub sent_so_far : Config → (ℕ → Heading) → World → ℕ → List ℕ
-sent_so_far c headings w n = told_sent n (report_of c headings w).connections
+sent_so_far c headings w n = told_sent n (world_report c headings w).connections
 
 -- what it is sent by one event: what it is sent with it and was not before, and then the greeting
 abbrev pub sent_by_event : Config → (ℕ → Heading) → World → Event → ℕ → List ℕ

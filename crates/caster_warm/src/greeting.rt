@@ -2,7 +2,6 @@
 
 ghost use Rattle.std.specs.Prelude.{◌≡◌, ◌++◌, ℕ, List, OnOk};
 ghost use Rattle.cast_config.specs.declared.config.Config.{Config as ConfigValue};
-ghost use Rattle.rover_session.specs.Body.{body_of, frame_sent};
 ghost use Rattle.session_model.specs.Headings.{Heading};
 ghost use Rattle.session_model.specs.Reports.{AreHeadings};
 ghost use Rattle.session_model.specs.Run.{Histories, after_events};
@@ -13,31 +12,9 @@ ghost use Rattle.caster_warm.specs.Places.{WasClearedAt, greeting_since};
 ghost use Rattle.caster_warm.specs.Warm.{greeting_for, greeting_text};
 
 use crate::clearing::{WarmRun, kept_greeting};
-use chunk_body::chunk;
-use ntrip_head::Version;
-use rtcm_frame::Frame;
+use rover_session::push_frames;
 use session_core::RoverState;
 use std::alloc::AllocError;
-
-/// Appends a frame as it is (RTCM 10410.0), or as one chunk (RFC 9112, section 7.1).
-fn append_frame(version: Version, frame: &Frame, out: &mut Vec<u8>) -> Result<(), AllocError>
-    ensures { OnOk result (out.new.items ≡ out.old.items ++ frame_sent version frame.now) }
-{
-    match version {
-        Version::One => out.extend_from_slice(frame.bytes()),
-        Version::Two => chunk(frame, out),
-    }
-}
-
-/// Appends the frames as they are, or one chunk each.
-fn append_frames(version: Version, frames: &[Frame], out: &mut Vec<u8>) -> Result<(), AllocError>
-    ensures { OnOk result (out.new.items ≡ out.old.items ++ body_of version frames.now) }
-{
-    for frame in frames {
-        append_frame(version, frame, out)?;
-    }
-    Ok(())
-}
 
 /// Appends the greeting that the run keeps at the mountpoint of a rover that stands so, if it keeps
 /// one.
@@ -47,7 +24,7 @@ fn append_kept(run: &WarmRun, rover: RoverState, out: &mut Vec<u8>) -> Result<()
         ++ greeting_text rover.version (greeting_since old run.now rover.mount)) }
 {
     match kept_greeting(run, rover.mount) {
-        Some(frames) => append_frames(rover.version, frames, out),
+        Some(frames) => push_frames(rover.version, frames, out),
         None => Ok(()),
     }
 }

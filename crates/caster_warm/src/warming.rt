@@ -47,7 +47,7 @@ fn play_all(
 }
 
 /// Plays the events of a script, and notes what they send each connection, with its greetings.
-fn played(
+fn play_script(
     alloc: Global,
     config: &Config,
     events: &[Event],
@@ -70,7 +70,11 @@ fn played(
 }
 
 /// What is told of a connection, with the bytes that it was sent.
-fn told(alloc: Global, connection: Connection, sent: &AllSent) -> Result<Connection, AllocError>
+fn outcome_with(
+    alloc: Global,
+    connection: Connection,
+    sent: &AllSent,
+) -> Result<Connection, AllocError>
     ensures { IfOk result (λ told. told ≡ told_with (λ n. sent_to n sent.now) connection) }
 {
     let Connection {
@@ -98,7 +102,7 @@ fn told_all(
 {
     let mut list = Vec::new(alloc);
     for connection in connections {
-        let next = told(alloc, connection, sent)?;
+        let next = outcome_with(alloc, connection, sent)?;
         list.push(next)?;
     }
     Ok(list)
@@ -145,6 +149,6 @@ pub fn warm(alloc: Global, config: &Config, events: &[Event]) -> Result<Report, 
     requires script { IsScriptFor config.now events.now }
     ensures { IfOk result (λ report. IsWarmReport config.now events.now report) }
 {
-    let (run, sent) = played(alloc, config, events)?;
+    let (run, sent) = play_script(alloc, config, events)?;
     report_of(alloc, config, run, &sent)
 }

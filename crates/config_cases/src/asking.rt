@@ -8,14 +8,13 @@ use crate::admissions::{push_bare_rover, push_rover, push_source};
 use crate::values::{push_part, push_types};
 use cast_config::{Config, read_config};
 use cast_text::push_decimal;
-use config_table::table_of;
+use config_table::table_text;
 use config_write::write_config;
-use sourcetable::write_table;
 use std::alloc::{AllocError, Global};
 use type_filter::Filters;
 
 /// The document that is written of the configuration of this one, behind the line `# before`.
-fn written(alloc: Global, document: &[u8]) -> Result<Vec<u8>, AllocError> {
+fn write_document(alloc: Global, document: &[u8]) -> Result<Vec<u8>, AllocError> {
     let mut text = Vec::from_slice(alloc, b"# before\n")?;
     match read_config(alloc, document) {
         Ok(config) => write_config(&config, &mut text)?,
@@ -41,9 +40,7 @@ fn push_some_lines(out: &mut Vec<u8>, text: &[u8]) -> Result<(), AllocError> {
 fn push_table(alloc: Global, out: &mut Vec<u8>, config: &Config) -> Result<(), AllocError>
     requires { length config.now.mount + length config.now.near ≤ 64 }
 {
-    let table = table_of(alloc, config)?;
-    let mut text = Vec::new(alloc);
-    write_table(&table, &mut text)?;
+    let text = table_text(alloc, config)?;
     push_decimal(out, text.len() as u128)?;
     out.extend_from_slice(b" bytes\n")?;
     out.extend_from_slice(&text)
@@ -111,7 +108,7 @@ pub(crate) fn push_asked(
 }
 
 fn write_again(alloc: Global, document: &mut Vec<u8>) -> Result<(), AllocError> {
-    *document = written(alloc, document)?;
+    *document = write_document(alloc, document)?;
     Ok(())
 }
 

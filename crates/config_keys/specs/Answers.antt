@@ -18,7 +18,7 @@ given fault None = Err fault
 given fault (Some x) = Ok x
 
 -- this fault where the test fails
-abbrev pub holds : KeyFault → Bool → Read (Unit {0})
+abbrev pub holds : KeyFault → (held : Bool) → Read (Unit {0})
 holds fault true = Ok tt
 holds fault false = Err fault
 

@@ -119,7 +119,7 @@ fn rank(fault: KeyFault) -> u32
     }
 }
 
-fn named(alloc: Global, value: Option<&Value>, key: Key) -> Result<MountName, KeyFault>
+fn mount_of(alloc: Global, value: Option<&Value>, key: Key) -> Result<MountName, KeyFault>
     ensures { Gives result (required name key (seen value.entry)) }
 {
     let bytes = name_bytes(value, key)?;
@@ -127,7 +127,7 @@ fn named(alloc: Global, value: Option<&Value>, key: Key) -> Result<MountName, Ke
 }
 
 /// The element of this name and filter, which are tested together.
-fn joined(
+fn filter_entry_of(
     mount: Result<MountName, KeyFault>,
     types: Result<Filter, KeyFault>,
 ) -> Result<FilterEntry, KeyFault>
@@ -152,9 +152,9 @@ fn filter_in(alloc: Global, value: &Value, key: Key) -> Result<FilterEntry, KeyF
     let Some(table) = value.as_table() else {
         return Err(KeyFault::Wrong(key));
     };
-    let mount = named(alloc, value_at(table, "mount"), key);
+    let mount = mount_of(alloc, value_at(table, "mount"), key);
     let types = types(alloc, value_at(table, "types"), key);
-    joined(mount, types)
+    filter_entry_of(mount, types)
 }
 
 /// The fault of what came before, and that of the next element if it has one.
@@ -168,7 +168,7 @@ fn with_fault(fault: KeyFault, next: Result<FilterEntry, KeyFault>) -> KeyFault
 }
 
 /// One more element, tested together with those before it.
-fn pushed(
+fn push_filter_entry(
     before: Result<Vec<FilterEntry>, KeyFault>,
     next: Result<FilterEntry, KeyFault>,
 ) -> Result<Vec<FilterEntry>, KeyFault>
@@ -193,7 +193,7 @@ fn each_filter(alloc: Global, values: &[Value], key: Key) -> Result<Vec<FilterEn
 {
     let mut all = nothing_yet(alloc, values, key);
     for value in values {
-        all = pushed(all, filter_in(alloc, value, key));
+        all = push_filter_entry(all, filter_in(alloc, value, key));
     }
     all
 }

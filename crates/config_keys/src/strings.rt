@@ -3,7 +3,7 @@
 ghost use Rattle.std.specs.Prelude.{◌≡◌, ◌≤◌, length, true, not, IsTrue, IfOk, Ok};
 ghost use Rattle.std.specs.List.{list_all};
 ghost use Rattle.std.specs.Str.{is_utf8};
-ghost use Rattle.cast_text.specs.Name.{Fails, is_name, name_of};
+ghost use Rattle.cast_text.specs.Name.{is_name};
 ghost use Rattle.config_keys.specs.Answers.{Gives, GivesBy};
 ghost use Rattle.config_keys.specs.Rules.{required, optional, seen};
 ghost use Rattle.config_keys.specs.Texts.{is_fit, is_inline, is_plain, name, text};
@@ -11,7 +11,7 @@ ghost use Rattle.toml.specs.View.{view};
 
 use crate::fault::KeyFault;
 use crate::key::Key;
-use cast_text::{GroupName, MountName, NameFault, Text, TextFault, UserName, is_name};
+use cast_text::{GroupName, MountName, Text, UserName, is_name};
 use std::alloc::Global;
 use toml::Value;
 
@@ -79,11 +79,7 @@ pub fn text_in(alloc: Global, bytes: &[u8]) -> Result<Text, KeyFault>
     requires { length bytes.now ≤ 100 }
     ensures { Gives result (Ok bytes.now) }
 {
-    match Text::new(alloc, bytes) {
-        Ok(text) => Ok(text),
-        Err(TextFault::Long(_)) => unreachable!(),
-        Err(TextFault::Memory) => Err(KeyFault::Memory),
-    }
+    Ok(Text::of(alloc, bytes)?)
 }
 
 /// The text of this kind that has to stand at a key.
@@ -141,29 +137,12 @@ pub fn name_bytes(value: Option<&Value>, key: Key) -> Result<&[u8], KeyFault>
     }
 }
 
-/// Why there is no name of bytes that are one: there is no memory.
-fn refused(bytes: &[u8], fault: NameFault) -> KeyFault
-    requires name { IsTrue (is_name bytes.now) }
-    requires refused { Fails fault (name_of bytes.now) }
-    ensures { result ≡ KeyFault.Memory }
-{
-    match fault {
-        NameFault::Memory => KeyFault::Memory,
-        NameFault::Empty => unreachable!(),
-        NameFault::Long(_) => unreachable!(),
-        NameFault::Byte(_) => unreachable!(),
-    }
-}
-
 /// The mountpoint's name that these bytes are.
 pub fn mount_name(alloc: Global, bytes: &[u8]) -> Result<MountName, KeyFault>
     requires { IsTrue (is_name bytes.now) }
     ensures { Gives result (Ok bytes.now) }
 {
-    match MountName::new(alloc, bytes) {
-        Ok(name) => Ok(name),
-        Err(fault) => Err(refused(bytes, fault)),
-    }
+    Ok(MountName::of(alloc, bytes)?)
 }
 
 /// The user's name that these bytes are.
@@ -171,10 +150,7 @@ pub fn user_name(alloc: Global, bytes: &[u8]) -> Result<UserName, KeyFault>
     requires { IsTrue (is_name bytes.now) }
     ensures { Gives result (Ok bytes.now) }
 {
-    match UserName::new(alloc, bytes) {
-        Ok(name) => Ok(name),
-        Err(fault) => Err(refused(bytes, fault)),
-    }
+    Ok(UserName::of(alloc, bytes)?)
 }
 
 /// The group's name that these bytes are.
@@ -182,8 +158,5 @@ pub fn group_name(alloc: Global, bytes: &[u8]) -> Result<GroupName, KeyFault>
     requires { IsTrue (is_name bytes.now) }
     ensures { Gives result (Ok bytes.now) }
 {
-    match GroupName::new(alloc, bytes) {
-        Ok(name) => Ok(name),
-        Err(fault) => Err(refused(bytes, fault)),
-    }
+    Ok(GroupName::of(alloc, bytes)?)
 }

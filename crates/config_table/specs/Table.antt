@@ -17,12 +17,12 @@ is_open groups None n = false
 is_open groups (Some a) n = lists (slice_get groups a.group) n
 
 -- none needed (`N`), or those of the scheme Basic (`B`)
-abbrev pub authentication : Bool → List ℕ
+abbrev pub authentication : (is_open : Bool) → List ℕ
 authentication true = codes "N"
 authentication false = codes "B"
 
 -- whether a rover has to send its position, and the frames are of several bases
-abbrev pub flag : Bool → List ℕ
+abbrev pub flag : (near : Bool) → List ℕ
 flag true = codes "1"
 flag false = codes "0"
 
@@ -39,7 +39,7 @@ front_fields name identifier m =
     name ∷ identifier ∷ codes "RTCM 3.3" ∷ m.details ∷ m.carrier ∷ m.navigation ∷ m.network
     ∷ m.country ∷ []
 
-abbrev pub back_fields : Bool → Bool → Mount → List (List ℕ)
+abbrev pub back_fields : (near : Bool) → (is_open : Bool) → Mount → List (List ℕ)
 back_fields near is_open m =
     degrees m.at.lat ∷ degrees m.at.lon ∷ flag near ∷ flag near ∷ m.generator ∷ codes "none"
     ∷ authentication is_open ∷ codes "N" ∷ decimal m.bitrate ∷ m.misc ∷ []

@@ -4,4 +4,4 @@
 mod degrees;
 mod table;
 
-pub use table::table_of;
+pub use table::{table_of, table_text};

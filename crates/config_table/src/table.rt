@@ -2,13 +2,14 @@
 
 ghost use Rattle.std.specs.Prelude.{◌≡◌, ◌≤◌, ◌+◌, ◌++◌, ◌∷◌, [], codes, length, slice_get, option_map, IfOk, OnOk};
 ghost use Rattle.std.specs.Fmt.{decimal};
+ghost use Rattle.sourcetable.specs.Table.{table_text};
 ghost use Rattle.config_table.specs.Degrees.{degrees};
 ghost use Rattle.config_table.specs.Table.{authentication, back_fields, flag, front_fields, is_open, mount_at, mount_record, mount_records, near_record, near_records, str_record, table_records};
 
 use crate::degrees::degrees;
 use cast_config::{Config, Mount, Near};
 use cast_text::push_decimal;
-use sourcetable::{Field, Fields, Kind, Record, Records, Table};
+use sourcetable::{Field, Fields, Kind, Record, Records, Table, push_field, write_table};
 use std::alloc::{AllocError, Global};
 
 /// Whether the mountpoint or near mountpoint of this number needs no credentials.
@@ -42,15 +43,6 @@ fn decimal(alloc: Global, number: u32) -> Result<Vec<u8>, AllocError>
     let mut text = Vec::new(alloc);
     push_decimal(&mut text, u128::from(number))?;
     Ok(text)
-}
-
-/// Appends a field.
-fn push_field(alloc: Global, fields: &mut Vec<Field>, text: &[u8]) -> Result<(), AllocError>
-    ensures { OnOk result (fields.new.items ≡ fields.old.items ++ text.now ∷ []) }
-{
-    let field = Field::new(Vec::from_slice(alloc, text)?);
-    fields.push(field)?;
-    Ok(())
 }
 
 /// Appends what a line says of the frames and of who sends them.
@@ -259,4 +251,15 @@ pub fn table_of(alloc: Global, config: &Config) -> Result<Table, AllocError>
     Ok(Table {
         records: Records::new(records),
     })
+}
+
+/// The text of the sourcetable that is offered.
+pub fn table_text(alloc: Global, config: &Config) -> Result<Vec<u8>, AllocError>
+    requires { length config.now.mount + length config.now.near ≤ 64 }
+    ensures { IfOk result (λ text. text.items ≡ table_text (table_records config.now)) }
+{
+    let table = table_of(alloc, config)?;
+    let mut text = Vec::new(alloc);
+    write_table(&table, &mut text)?;
+    Ok(text)
 }

@@ -1,16 +1,14 @@
 -- A configuration that was read is read again from what is written of it.
-use Rattle.std.proofs.Common.{◌≡◌, ℕ, ◌+◌, ◌-◌, ◌≤◌, pos, Bool, true, leb, List, [], ◌∷◌, length, map, Option, Some, None, Result, Ok, Err, refl, sym, ap, subst, ◌∙◌, arith}
+use Rattle.std.proofs.Common.{◌≡◌, ℕ, ◌+◌, ◌-◌, ◌≤◌, true, List, [], length, Option, Some, None, Ok, refl, sym, ap, subst, ◌∙◌, arith}
 use Rattle.std.specs.Prelude.{codes, IfSome}
 use Rattle.std.proofs.lemmas.Bool.{and_from, le-leb}
-use Rattle.sourcetable.specs.declared.record.Record.{Record}
 use Rattle.sourcetable.specs.Record.{line_of}
 use Rattle.type_filter.specs.Permitted.{FilterValue}
-use Rattle.toml.specs.Data.{Data, string, integer, table, Members, no_members, get_member}
-use Rattle.config_keys.specs.declared.key.Key.{Key}
+use Rattle.toml.specs.Data.{string, Members, no_members, get_member}
 use Rattle.config_keys.specs.Answers.{Read}
 use Rattle.config_keys.specs.Records.{records}
 use Rattle.config_keys.specs.Rules.{required, optional, count, is_within}
-use Rattle.config_keys.proofs.KeepLemmas.{done, value_is, taken, again_or, count_keeps}
+use Rattle.config_keys.proofs.KeepLemmas.{value_is, taken, again_or, count_keeps}
 use Rattle.cast_config.specs.declared.config.Config.{Config}
 use Rattle.cast_config.specs.declared.config.Mount.{Mount}
 use Rattle.cast_config.specs.declared.config.Near.{Near}
@@ -18,8 +16,7 @@ use Rattle.cast_config.specs.declared.config.Group.{Group}
 use Rattle.cast_config.specs.declared.config.Account.{Account}
 use Rattle.cast_config.specs.declared.config.Relay.{Relay}
 use Rattle.cast_config.specs.declared.config.Anonymous.{Anonymous}
-use Rattle.cast_config.specs.Entries.{top, mount_of, near_of, group_of, account_of, relay_of, anonymous_of}
-use Rattle.cast_config.specs.Names.{some_of}
+use Rattle.cast_config.specs.Entries.{top, mount_of, near_of, group_of, account_of, relay_of}
 use Rattle.cast_config.specs.Served.{all_filters}
 use Rattle.cast_config.specs.Document.{listed, listed_or_none, most_groups, places_of, heard_of, parties_of, settings_of, config_from, config_of, IsDocument, IsRead}
 use Rattle.cast_config.specs.Kept.{KeepsRules}

@@ -1,11 +1,11 @@
 -- What is written is not deep, and has no date.
-use Rattle.std.proofs.Common.{◌≡◌, ℕ, ◌≤◌, suc, max, true, ◌&&◌, List, [], ◌∷◌, map, Option, Some, None, Ordering, Less, Equal, Greater, nat_cmp, refl, arith}
+use Rattle.std.proofs.Common.{◌≡◌, ℕ, ◌≤◌, suc, max, true, List, [], ◌∷◌, map, Option, Some, None, Less, Equal, Greater, nat_cmp, refl, arith}
 use Rattle.std.specs.Prelude.{codes}
 use Rattle.std.specs.Cmp.Lexicographic.{slice_cmp}
 use Rattle.std.specs.Ordering.{match_ordering}
 use Rattle.std.proofs.Math.Nat.{max-le}
 use Rattle.std.proofs.lemmas.Bool.{and_from, and_parts}
-use Rattle.toml.specs.Data.{Data, string, integer, table, array, Items, no_items, item, Members, no_members, member, depth, items_depth, members_depth, has_valid_dates, items_have_valid_dates, members_have_valid_dates}
+use Rattle.toml.specs.Data.{Data, string, table, Members, no_members, member, depth, items_depth, members_depth, has_valid_dates, items_have_valid_dates, members_have_valid_dates}
 use Rattle.toml.specs.View.{items_of}
 use Rattle.sourcetable.specs.Record.{line_of}
 use Rattle.type_filter.specs.Permitted.{FilterValue, All, Listed}

@@ -1,7 +1,7 @@
 -- Each entry that was read is read again from what is written of it.
-use Rattle.std.proofs.Common.{◌≡◌, ℕ, ◌≤◌, pos, Bool, true, false, cond, List, [], ◌∷◌, length, map, Option, Some, None, Ok, refl, sym, ap, subst, ◌∙◌}
+use Rattle.std.proofs.Common.{◌≡◌, ℕ, ◌≤◌, Bool, true, false, cond, List, [], ◌∷◌, length, map, Option, Some, None, Ok, refl, ap, subst}
 use Rattle.std.specs.Prelude.{codes, ◌==◌}
-use Rattle.toml.specs.Data.{Data, string, integer, array, table, Items, no_items, item, Members, no_members, get_member}
+use Rattle.toml.specs.Data.{Data, string, array, table, Items, item, Members, no_members, get_member}
 use Rattle.toml.specs.View.{items_of}
 use Rattle.config_keys.specs.declared.key.Key.{Key}
 use Rattle.config_keys.specs.Answers.{Read}
@@ -15,13 +15,13 @@ use Rattle.cast_config.specs.declared.config.GroupFilter.{GroupFilter}
 use Rattle.cast_config.specs.declared.config.Account.{Account}
 use Rattle.cast_config.specs.declared.config.Relay.{Relay}
 use Rattle.cast_config.specs.declared.config.Anonymous.{Anonymous}
-use Rattle.cast_config.specs.Names.{mount_names, group_names, heard_names, new_name, all_named, filters_at}
+use Rattle.cast_config.specs.Names.{mount_names, new_name, all_named, filters_at}
 use Rattle.cast_config.specs.Entries.{place, position_of, station_of, signals_of, origin_of, mount_of, near_of, hearing_of, given_of, group_of, credentials_of, membership_of, account_of, pull_of, relay_of, anonymous_in}
 use Rattle.cast_config.proofs.NameKeeps.{IsNew}
 use Rattle.cast_config.proofs.ReferenceKeeps.{text_items, IsAllNamed}
 use Rattle.cast_config.proofs.EntryKeeps.{IsMount, mount_is, IsNear, near_is, IsGroup, group_is, IsAccount, account_is, IsRelay, relay_is, IsAnonymous}
 use Rattle.config_write.specs.Members.{list_data}
-use Rattle.config_write.specs.Entries.{name_at, name_data, types_data, filter_tree, mount_tree, near_tree, group_tree, account_tree, relay_tree, anonymous_tree}
+use Rattle.config_write.specs.Entries.{name_at, name_data, filter_tree, mount_tree, near_tree, group_tree, account_tree, relay_tree, anonymous_tree}
 use Rattle.config_write.proofs.TypesAgain.{types_again}
 use Rattle.config_write.proofs.FiltersAgain.{filters_again, none_again}
 

@@ -1,5 +1,5 @@
 -- Filters for single mountpoints that were read are read again from what is written of them.
-use Rattle.std.proofs.Common.{◌≡◌, ℕ, ◌≤◌, Bool, true, List, [], ◌∷◌, ◌++◌, length, map, Option, Some, None, Ok, Err, refl, sym, ap, subst, ◌∙◌, append_assoc, inl, inr, leb}
+use Rattle.std.proofs.Common.{◌≡◌, ℕ, ◌≤◌, true, List, [], ◌∷◌, ◌++◌, length, map, Option, Some, None, Ok, refl, sym, ap, subst, ◌∙◌, append_assoc, inl, inr, leb}
 use Rattle.std.specs.Prelude.{codes}
 use Rattle.std.specs.List.{All}
 use Rattle.std.proofs.lemmas.Bool.{cases_Bool, le-leb}
@@ -10,13 +10,13 @@ use Rattle.toml.specs.View.{items_of}
 use Rattle.type_filter.specs.Permitted.{FilterValue}
 use Rattle.config_keys.specs.declared.key.Key.{Key}
 use Rattle.config_keys.specs.declared.filters.FilterEntry.{FilterEntry}
-use Rattle.config_keys.specs.declared.fault.KeyFault.TheVariants.{Range, Twice}
+use Rattle.config_keys.specs.declared.fault.KeyFault.TheVariants.{Twice}
 use Rattle.config_keys.specs.Answers.{Read}
 use Rattle.config_keys.specs.Lists.{each_of, each_once, item_count}
 use Rattle.config_keys.specs.Rules.{required}
 use Rattle.config_keys.specs.Texts.{name}
 use Rattle.config_keys.specs.Types.{types, both, push, filter_entry, filter_in, each_filter, at_most, filters}
-use Rattle.config_keys.proofs.KeepLemmas.{done, value_is, taken, held, again, name_keeps}
+use Rattle.config_keys.proofs.KeepLemmas.{value_is, taken, held, again, name_keeps}
 use Rattle.cast_config.specs.declared.config.GroupFilter.{GroupFilter}
 use Rattle.cast_config.specs.Names.{entry_names, entries_once, filter_at, filters_at, place_at}
 use Rattle.cast_config.proofs.NameKeeps.{place_read}

@@ -1,11 +1,11 @@
 -- A filter that was read is read again from what is written of it.
-use Rattle.std.proofs.Common.{◌≡◌, ℕ, ◌≤◌, ◌<◌, suc, ℤ, pos, Bool, true, false, leb, List, [], ◌∷◌, ◌++◌, length, get_or, map, None, Ok, Ordering, Less, Equal, Greater, nat_cmp, refl, sym, ap, subst, ◌∙◌, append_assoc, inl, inr, arith, position}
-use Rattle.std.specs.Prelude.{Contains, codes, ◌&&◌}
+use Rattle.std.proofs.Common.{◌≡◌, ℕ, ◌≤◌, suc, pos, false, List, [], ◌∷◌, ◌++◌, length, get_or, map, None, Ok, Less, Equal, Greater, nat_cmp, refl, sym, ap, subst, ◌∙◌, append_assoc, inl, inr, arith, position}
+use Rattle.std.specs.Prelude.{codes}
 use Rattle.std.specs.BTreeSet.{insert_key}
 use Rattle.std.specs.List.{All}
 use Rattle.std.specs.Ordering.{match_ordering}
 use Rattle.std.specs.Str.{bytes_eq}
-use Rattle.std.proofs.lemmas.Bool.{cases_Bool, and_from, and_parts, le-leb, leb-true, ltb-false}
+use Rattle.std.proofs.lemmas.Bool.{cases_Bool, le-leb, ltb-false}
 use Rattle.std.proofs.lemmas.List.{append-nil}
 use Rattle.std.proofs.lemmas.List.Elements.{All-head, All-tail, All-contains, Contains-get_or}
 use Rattle.toml.specs.Data.{Data, string, integer, float, boolean, datetime, array, table}
@@ -14,7 +14,6 @@ use Rattle.type_filter.specs.Numbers.{IsNumberList, in_order, is_too_high}
 use Rattle.type_filter.proofs.NumberLaws.{position_none, in_order_rises, in_order_stays, in_order_same}
 use Rattle.config_keys.specs.declared.key.Key.{Key}
 use Rattle.config_keys.specs.declared.fault.KeyFault.TheVariants.{Range}
-use Rattle.config_keys.specs.Answers.{Read}
 use Rattle.config_keys.specs.Lists.{each_of, integers}
 use Rattle.config_keys.specs.Rules.{is_within}
 use Rattle.config_keys.specs.Types.{message_number, types}

@@ -1,7 +1,7 @@
 -- What is written of a configuration: a document of version 2 that says it.
 use Rattle.std.specs.Prelude.{◌≡◌, ℕ, pos, codes, List, [], ◌∷◌, ◌++◌, Option, Some, None, Ok}
 use Rattle.sourcetable.specs.Record.{line_of}
-use Rattle.toml.specs.Data.{Data, string, integer, table, Members, no_members, get_member}
+use Rattle.toml.specs.Data.{string, integer, table, Members, no_members, get_member}
 use Rattle.cast_config.specs.declared.config.Config.{Config}
 use Rattle.cast_config.specs.declared.config.Mount.{Mount}
 use Rattle.cast_config.specs.declared.config.Near.{Near}

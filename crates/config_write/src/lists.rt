@@ -1,13 +1,14 @@
 //! The lists of a document: of numbers, of names, of filters and of entries.
 
-ghost use Rattle.std.specs.Prelude.{◌≡◌, ◌<◌, ◌+◌, All, IfOk, IsTrue, OnOk, length};
+ghost use Rattle.std.specs.Prelude.{◌≡◌, ◌<◌, ◌+◌, All, IfOk, IsTrue, Ok, OnOk, length};
+ghost use Rattle.std.specs.Fn.{TakesAt};
 ghost use Rattle.std.specs.Str.{is_utf8};
-ghost use Rattle.sourcetable.specs.Record.{letters, line_of};
+ghost use Rattle.sourcetable.specs.Record.{line_of};
 ghost use Rattle.cast_config.specs.Kept.{KeepsAccount, KeepsGroup, KeepsMount, KeepsNear, KeepsRelay, filtered};
 ghost use Rattle.cast_config.specs.Names.{heard_names, mount_names};
 ghost use Rattle.config_write.specs.Entries.{accounts_data, filter_keys, filter_tree, groups_data, mounts_data, name_data, nears_data, relays_data, types_data};
 ghost use Rattle.config_write.specs.Members.{list_data, number, put_keys};
-ghost use Rattle.toml.specs.Data.{array, string, table};
+ghost use Rattle.toml.specs.Data.{Data, array, string, table};
 ghost use Rattle.toml.specs.View.{items_view, table_view, view};
 
 use crate::entries::{
@@ -15,19 +16,35 @@ use crate::entries::{
 };
 use crate::members::{name_value, put, put_name, text_value};
 use cast_config::{Account, Group, GroupFilter, Mount, Near, Relay};
-use sourcetable::{Kind, Record};
+use sourcetable::{Record, push_record};
 use std::alloc::{AllocError, Global};
 use toml::{Table, Value};
 use type_filter::Filter;
 
+/// The values that the function makes of these, in their order.
+fn values_of<T, F: Fn(&T) -> Result<Value, AllocError>>(
+    alloc: Global,
+    items: &[T],
+    one: F,
+) -> Result<Vec<Value>, AllocError>
+    requires { All (TakesAt F.FnMut one) items.now }
+    ensures { (data_of : T → Data)
+        → All (λ item. (shown value : _) → shown.now ≡ item → F.post one shown (Ok value)
+        → view value ≡ data_of item) items.now
+        → IfOk result (λ v. array (items_view v.items) ≡ list_data data_of items.now) }
+{
+    let mut values = Vec::new(alloc);
+    for item in items {
+        let value = one(item)?;
+        values.push(value)?;
+    }
+    Ok(values)
+}
+
 fn number_values(alloc: Global, numbers: &[u16]) -> Result<Vec<Value>, AllocError>
     ensures { IfOk result (λ v. array (items_view v.items) ≡ list_data number numbers.now) }
 {
-    let mut values = Vec::new(alloc);
-    for number in numbers {
-        values.push(Value::from(u32::from(*number)))?;
-    }
-    Ok(values)
+    values_of(alloc, numbers, |n| Ok(Value::from(u32::from(*n))))
 }
 
 /// The text `all`, or the list of a filter's message numbers.
@@ -53,12 +70,11 @@ pub(crate) fn base_values(
     ensures { IfOk result (λ v. array (items_view v.items)
         ≡ list_data (name_data (mount_names mounts.now)) numbers.now) }
 {
-    let mut values = Vec::new(alloc);
-    for n in numbers {
-        let value = name_value(alloc, mount_name(mounts, *n))?;
-        values.push(value)?;
-    }
-    Ok(values)
+    values_of(
+        alloc,
+        numbers,
+        |n| name_value(alloc, mount_name(mounts, *n)),
+    )
 }
 
 /// The names of the mountpoints and near mountpoints of these numbers.
@@ -72,12 +88,11 @@ pub(crate) fn heard_values(
     ensures { IfOk result (λ v. array (items_view v.items)
         ≡ list_data (name_data (heard_names mounts.now nears.now)) numbers.now) }
 {
-    let mut values = Vec::new(alloc);
-    for n in numbers {
-        let value = name_value(alloc, heard_name(mounts, nears, *n))?;
-        values.push(value)?;
-    }
-    Ok(values)
+    values_of(
+        alloc,
+        numbers,
+        |n| name_value(alloc, heard_name(mounts, nears, *n)),
+    )
 }
 
 /// Sets the mountpoint of a filter and its message numbers.
@@ -115,12 +130,11 @@ pub(crate) fn filter_values(
     ensures { IfOk result (λ v. array (items_view v.items)
         ≡ list_data (λ f. table (filter_tree (mount_names mounts.now) f)) filters.now) }
 {
-    let mut values = Vec::new(alloc);
-    for filter in filters {
-        let table = filter_table(alloc, mounts, filter)?;
-        values.push(Value::from(table))?;
-    }
-    Ok(values)
+    values_of(
+        alloc,
+        filters,
+        |filter| Ok(Value::from(filter_table(alloc, mounts, filter)?)),
+    )
 }
 
 #[tactic(auto, unfolding(crate::specs::Entries::mounts_data))]
@@ -129,12 +143,11 @@ pub(crate) fn mount_values(alloc: Global, mounts: &[Mount]) -> Result<Vec<Value>
     ensures { IfOk result (λ v. array (items_view v.items)
         ≡ mounts_data mounts.now) }
 {
-    let mut values = Vec::new(alloc);
-    for mount in mounts {
-        let table = mount_table(alloc, mount)?;
-        values.push(Value::from(table))?;
-    }
-    Ok(values)
+    values_of(
+        alloc,
+        mounts,
+        |mount| Ok(Value::from(mount_table(alloc, mount)?)),
+    )
 }
 
 #[tactic(auto, unfolding(crate::specs::Entries::nears_data))]
@@ -147,12 +160,11 @@ pub(crate) fn near_values(
     ensures { IfOk result (λ v. array (items_view v.items)
         ≡ nears_data mounts.now nears.now) }
 {
-    let mut values = Vec::new(alloc);
-    for near in nears {
-        let table = near_table(alloc, mounts, near)?;
-        values.push(Value::from(table))?;
-    }
-    Ok(values)
+    values_of(
+        alloc,
+        nears,
+        |near| Ok(Value::from(near_table(alloc, mounts, near)?)),
+    )
 }
 
 #[tactic(auto, unfolding(crate::specs::Entries::groups_data))]
@@ -166,12 +178,11 @@ pub(crate) fn group_values(
     ensures { IfOk result (λ v. array (items_view v.items)
         ≡ groups_data mounts.now nears.now groups.now) }
 {
-    let mut values = Vec::new(alloc);
-    for group in groups {
-        let table = group_table(alloc, mounts, nears, group)?;
-        values.push(Value::from(table))?;
-    }
-    Ok(values)
+    values_of(
+        alloc,
+        groups,
+        |group| Ok(Value::from(group_table(alloc, mounts, nears, group)?)),
+    )
 }
 
 #[tactic(auto, unfolding(crate::specs::Entries::accounts_data))]
@@ -184,12 +195,11 @@ pub(crate) fn account_values(
     ensures { IfOk result (λ v. array (items_view v.items)
         ≡ accounts_data groups.now accounts.now) }
 {
-    let mut values = Vec::new(alloc);
-    for account in accounts {
-        let table = account_table(alloc, groups, account)?;
-        values.push(Value::from(table))?;
-    }
-    Ok(values)
+    values_of(
+        alloc,
+        accounts,
+        |account| Ok(Value::from(account_table(alloc, groups, account)?)),
+    )
 }
 
 #[tactic(auto, unfolding(crate::specs::Entries::relays_data))]
@@ -202,35 +212,21 @@ pub(crate) fn relay_values(
     ensures { IfOk result (λ v. array (items_view v.items)
         ≡ relays_data mounts.now relays.now) }
 {
-    let mut values = Vec::new(alloc);
-    for relay in relays {
-        let table = relay_table(alloc, mounts, relay)?;
-        values.push(Value::from(table))?;
-    }
-    Ok(values)
+    values_of(
+        alloc,
+        relays,
+        |relay| Ok(Value::from(relay_table(alloc, mounts, relay)?)),
+    )
 }
 
-/// The letters with which the lines of a kind begin.
-fn letters_of(kind: Kind) -> &'static [u8]
-    ensures { result.now ≡ letters kind }
+/// The line of a record, as a string.
+fn line_value(alloc: Global, entry: &Record) -> Result<Value, AllocError>
+    requires { IsTrue (is_utf8 (line_of entry.now)) }
+    ensures { IfOk result (λ v. view v ≡ string (line_of entry.now)) }
 {
-    match kind {
-        Kind::Str => b"STR",
-        Kind::Cas => b"CAS",
-        Kind::Net => b"NET",
-    }
-}
-
-/// The line of a record.
-fn line_of(alloc: Global, entry: &Record) -> Result<Vec<u8>, AllocError>
-    ensures { IfOk result (λ line. line.items ≡ line_of entry.now) }
-{
-    let mut line = Vec::from_slice(alloc, letters_of(entry.kind))?;
-    for field in entry.fields.as_slice() {
-        line.push(b';')?;
-        line.extend_from_slice(field.bytes())?;
-    }
-    Ok(line)
+    let mut line = Vec::new(alloc);
+    push_record(entry, &mut line)?;
+    text_value(alloc, &line)
 }
 
 pub(crate) fn record_values(alloc: Global, records: &[Record]) -> Result<Vec<Value>, AllocError>
@@ -238,11 +234,5 @@ pub(crate) fn record_values(alloc: Global, records: &[Record]) -> Result<Vec<Val
     ensures { IfOk result (λ v. array (items_view v.items)
         ≡ list_data (λ r. string (line_of r)) records.now) }
 {
-    let mut values = Vec::new(alloc);
-    for entry in records {
-        let line = line_of(alloc, entry)?;
-        let value = text_value(alloc, &line)?;
-        values.push(value)?;
-    }
-    Ok(values)
+    values_of(alloc, records, |entry| line_value(alloc, entry))
 }

@@ -24,12 +24,12 @@ position_in text =
 
 -- the position that the line reports: it is a GGA sentence with a fix in field 6, and with both
 -- angles in range
-unfoldable pub report_of : List ℕ → Option Position
-report_of line =
+unfoldable pub fix_of : List ℕ → Option Position
+fix_of line =
     if is_framed line && is_gga (inner line) && is_fix (field 6 (inner line))
     then position_in (inner line)
     else None
 
 -- the positions of all whole lines of these bytes that are reports
 abbrev pub reports : List ℕ → List Position
-reports bytes = filter_map report_of (whole_lines 128 bytes)
+reports bytes = filter_map fix_of (whole_lines 128 bytes)

@@ -9,7 +9,7 @@ use std::alloc::{AllocError, Global};
 use std::marker::Model;
 
 /// The most bytes of a line, without its end.
-const LINE_LIMIT: u32 = 128;
+const MAX_LINE_BYTES: u32 = 128;
 
 /// The positions that a rover reports, byte by byte. Lines end with LF, a CR before it is dropped,
 /// and a line of more than 128 bytes is dropped whole.
@@ -40,7 +40,7 @@ impl Reports {
         ensures { IfOk result (λ r. StandsFor r []) }
     {
         Ok(Reports {
-            lines: Lines::new(alloc, LINE_LIMIT)?,
+            lines: Lines::new(alloc, MAX_LINE_BYTES)?,
         })
     }
 

@@ -4,7 +4,7 @@ ghost use Rattle.std.specs.Prelude.{unsigned_abs, ◌≤◌, ◌≡◌, ◌<◌,
 ghost use Rattle.std.specs.List.{slice_split, position_or_len};
 ghost use Rattle.std.specs.Option.{option_map};
 ghost use Rattle.gga_read.specs.Sentence.{exclusive_or, is_hex_digit_of, inner, has_checksum, is_framed, fields, field, is_capital, is_gga_name, is_gga};
-ghost use Rattle.gga_read.specs.Report.{is_fix, report_of, position_in};
+ghost use Rattle.gga_read.specs.Report.{is_fix, fix_of, position_in};
 
 use crate::Position;
 use crate::angle::{latitude, longitude};
@@ -143,9 +143,9 @@ fn position_in(text: &[u8]) -> Option<Position>
 /// with a fix, minutes below 60, a latitude of at most 90 degrees and a longitude of at most 180
 /// degrees. Minutes are cut after five decimals, and the position is rounded towards 0. `None`
 /// exactly where the line is no such sentence.
-#[tactic(auto, unfolding(crate::specs::Report::report_of))]
+#[tactic(auto, unfolding(crate::specs::Report::fix_of))]
 pub fn parse_gga(line: &[u8]) -> Option<Position>
-    ensures value { result ≡ report_of line.now }
+    ensures value { result ≡ fix_of line.now }
     ensures lat { IfSome result (λ at. unsigned_abs at.lat ≤ 900000000) }
     ensures lon { IfSome result (λ at. unsigned_abs at.lon ≤ 1800000000) }
 {

@@ -132,7 +132,7 @@ who_word c (whose.Relay mount) = codes "relay:" ++ mount_word c mount
 who_word c whose.Nobody = dash
 
 -- what a link held could not be given back
-abbrev pub settled_words : Bool → List (List ℕ)
+abbrev pub settled_words : (settled : Bool) → List (List ℕ)
 settled_words true = []
 settled_words false = codes "unsettled" ∷ []
 
@@ -175,6 +175,6 @@ abbrev pub now_workers_line : Config → ℕ → List ℕ
 now_workers_line c busy =
     now_line (codes "workers" ∷ decimal busy ∷ decimal c.workers ∷ [])
 
--- that is all
+-- the line that ends those of how things stand
 abbrev pub now_end_line : List ℕ
 now_end_line = now_line (codes "end" ∷ [])

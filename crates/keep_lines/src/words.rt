@@ -15,7 +15,7 @@ use session_model::Ending;
 use session_text::{EndingWords, words_of};
 
 /// The most bytes of an address that are shown.
-const MOST_SHOWN: usize = 100;
+const MAX_SHOWN: usize = 100;
 
 /// A word of a line.
 #[derive(Clone, Copy)]
@@ -88,7 +88,7 @@ fn put_shown(draft: &mut Draft, address: &[u8])
     ensures text { draft.new ≡ draft.old ++ shown address.now }
     ensures short { length draft.new ≤ length draft.old + 100 }
 {
-    if address.is_empty() || address.len() > MOST_SHOWN {
+    if address.is_empty() || address.len() > MAX_SHOWN {
         put_text(draft, DASH);
     } else {
         put_bytes_shown(draft, address);

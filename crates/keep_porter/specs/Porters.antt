@@ -40,11 +40,11 @@ steps_from n [] = []
 steps_from n (found ∷ more) = steps_at n found ++ steps_from (n + 1) more
 
 -- a turn may be refused: one of the places was asked for 2^62 turns or more, or may lack memory
-abbrev pub MayShut : Bool → List ℕ → Type 0
+abbrev pub MayShut : (lacks : Bool) → List ℕ → Type 0
 MayShut lacks worn = ((place : ℕ) × (2 ^ 62 ≤ get_or worn place 0)) ⊎ IsTrue lacks
 
 -- one of these may lack memory
-abbrev pub any_lacks : List Bool → Bool
+abbrev pub any_lacks : (lacks : List Bool) → Bool
 any_lacks lacks = list_any (λ (one : Bool). one) lacks
 
 -- a call was refused only where turns may be
@@ -99,11 +99,11 @@ abbrev pub IsOfAll : Config → Answer → Type 0
 IsOfAll c answer = length answer.found ≡ length c.mount
 
 -- each call of it was answered, but where turns may be refused
-abbrev pub AreFound : Bool → List ℕ → Answer → Type 0
+abbrev pub AreFound : (lacks : Bool) → List ℕ → Answer → Type 0
 AreFound lacks worn answer = All (IsFound lacks worn) answer.found
 
 -- the caller put all of these lines; or some first ones of them, and not all
-abbrev pub ArePut : Bool → ℕ → List (List ℕ) → History Line → History Line → Type 0
+abbrev pub ArePut : (whole : Bool) → ℕ → List (List ℕ) → History Line → History Line → Type 0
 ArePut true by texts old new = HasTold by texts old new
 ArePut false by texts old new = HasBegun by texts old new
 

@@ -15,13 +15,14 @@ use turn_log::{TurnFault, Turns};
 
 /// The claim under which the mountpoint of this number is held, if it is: one turn of the caller
 /// `me` there. None where the turn was refused.
-fn looked<T: Turns<Ring>>(places: &mut [T], me: u32, mount: u32) -> Option<Option<u64>>
+fn look_at<T: Turns<Ring>>(places: &mut [T], me: u32, mount: u32) -> Option<Option<u64>>
     requires within { mount < length places.old }
     requires speaks { AllSpeak T.speaks places.old me }
     ensures stay { StayAtRings T.Turns places.old places.new }
     ensures went { Went (map T.shape places.old) (all_alone T.alone places.old)
         (map T.seen places.old) (map T.seen places.new) me (looks_at mount result) }
-    ensures refused { result ≡ None → MayShut (any_lacks (map T.may_lack places.new)) (map T.worn places.new) }
+    ensures refused { result ≡ None →
+        MayShut (any_lacks (map T.may_lack places.new)) (map T.worn places.new) }
 {
     match look(places, me, mount) {
         Ok(claim) => Some(claim),
@@ -57,7 +58,7 @@ fn join<T: Turns<Ring>>(places: &mut [T], me: u32, mount: u32) -> Result<Cursor,
 
 /// Where one stands who joins the mountpoint of this number now: one turn of the caller `me` there.
 /// None where the turn was refused.
-fn joined<T: Turns<Ring>>(places: &mut [T], me: u32, mount: u32) -> Option<Cursor>
+fn join_now<T: Turns<Ring>>(places: &mut [T], me: u32, mount: u32) -> Option<Cursor>
     requires within { mount < length places.old }
     requires speaks { AllSpeak T.speaks places.old me }
     requires filter { KnowsFilter (map T.shape places.old) 0 }
@@ -83,8 +84,8 @@ pub(crate) fn find<T: Turns<Ring>>(places: &mut [T], me: u32, mount: u32) -> Fou
         (map T.seen places.old) (map T.seen places.new) me (steps_at mount result) }
     ensures found { IsFound (any_lacks (map T.may_lack places.new)) (map T.worn places.new) result }
 {
-    let claim = looked(places, me, mount);
-    let cursor = joined(places, me, mount);
+    let claim = look_at(places, me, mount);
+    let cursor = join_now(places, me, mount);
     Found {
         looked: claim,
         joined: cursor,

@@ -13,7 +13,7 @@ use std::marker::Model;
 use type_filter::Filter;
 
 /// The most frames of a greeting: one of each message number that a station keeps.
-pub(crate) const MOST_GREETING: usize = 6;
+pub(crate) const MAX_GREETING: usize = 6;
 
 /// The frames that a rover is greeted by, at most six, held in the greeting itself: it takes no
 /// memory.
@@ -21,7 +21,7 @@ pub(crate) const MOST_GREETING: usize = 6;
 /// Contracts see it as the list of its frames.
 #[derive(Drop)]
 pub(crate) struct Greeting {
-    frames: [Frame; MOST_GREETING],
+    frames: [Frame; MAX_GREETING],
     len: usize,
 }
 
@@ -41,7 +41,7 @@ impl Greeting {
         ensures { result ≡ [] }
     {
         Greeting {
-            frames: [Frame::default(); MOST_GREETING],
+            frames: [Frame::default(); MAX_GREETING],
             len: 0,
         }
     }
@@ -78,7 +78,7 @@ impl Greeting {
     {
         self.clear();
         for latest in kept {
-            self.add(latest.permitted(filter));
+            self.add(latest.permitted_frame(filter));
         }
     }
 }

@@ -47,7 +47,7 @@ impl Latest {
     }
 
     /// The frame, if there is one and the filter permits it.
-    pub(crate) fn permitted(&self, filter: &Filter) -> Option<Frame>
+    pub(crate) fn permitted_frame(&self, filter: &Filter) -> Option<Frame>
         ensures { option_to_list result ≡ if_permitted (permits filter.now) self.now.frame }
     {
         match self.frame {

@@ -11,7 +11,7 @@ use Rattle.std.proofs.lemmas.List.Sums.{length-filter, sum_by-append}
 use Rattle.mount_ring.specs.declared.cursor.Cursor.{Cursor}
 use Rattle.mount_ring.specs.declared.cursor.Lap.{Lap}
 use Rattle.mount_ring.specs.Reads.{looked, read_frames, read_lap, read_start, read_end, oldest, most_taken}
-use Rattle.mount_ring.specs.Places.{between, behind_lap, lap_overrun, Reading, report_of, taken_by, begin_of, end_of}
+use Rattle.mount_ring.specs.Places.{between, behind_lap, lap_overrun, Reading, reading_report, taken_by, begin_of, end_of}
 
 -- ---- parts of the published frames
 
@@ -158,12 +158,12 @@ behind_begins permits capacity frames place None from begins = sym begins
 behind_begins permits capacity frames place (Some lap) from begins = sym begins.5
 
 pub reading_begins : (r : Reading) →
-    Begins r.permits r.capacity r.published r.cursor.next (report_of r).lapped
+    Begins r.permits r.capacity r.published r.cursor.next (reading_report r).lapped
     (read_start r.capacity r.published r.cursor)
 reading_begins r = read_begins r.permits r.capacity r.published r.cursor r.within
 
 pub begin_is : (r : Reading) → begin_of r ≡ read_start r.capacity r.published r.cursor
-begin_is r = behind_begins r.permits r.capacity r.published r.cursor.next (report_of r).lapped _ (reading_begins r)
+begin_is r = behind_begins r.permits r.capacity r.published r.cursor.next (reading_report r).lapped _ (reading_begins r)
 
 pub reading_ordered : (r : Reading) → (r.cursor.next ≤ begin_of r) × (begin_of r ≤ end_of r)
     × (end_of r ≤ length r.published)
@@ -172,7 +172,7 @@ reading_ordered r =
     read_ends r.permits r.capacity r.published r.cursor r.budget r.within in
     (omega (arith, begin_is r), omega (arith, begin_is r, ends.0), ends.1)
 
-pub reading_all : (r : Reading) → (report_of r).taken < min r.budget 16 → end_of r ≡ length r.published
+pub reading_all : (r : Reading) → (reading_report r).taken < min r.budget 16 → end_of r ≡ length r.published
 reading_all r few =
     let start : ℕ = read_start r.capacity r.published r.cursor in
     let low : start ≤ length r.published = omega (arith, r.within) in
@@ -222,12 +222,12 @@ overrun_begins permits capacity frames place None from begins =
 overrun_begins permits capacity frames place (Some lap) from begins =
     begins.4 ∙ ap (λ (n : ℕ). count_by permits (between n lap.to frames)) begins.0
 
-pub reading_counted : (r : Reading) → (report_of r).taken + lap_overrun (report_of r).lapped
+pub reading_counted : (r : Reading) → (reading_report r).taken + lap_overrun (reading_report r).lapped
     ≡ count_by r.permits (between r.cursor.next (end_of r) r.published)
 reading_counted r =
-    let over : lap_overrun (report_of r).lapped ≡ count_by r.permits (between r.cursor.next (begin_of r) r.published) =
-    overrun_begins r.permits r.capacity r.published r.cursor.next (report_of r).lapped _ (reading_begins r) in
-    let took : (report_of r).taken ≡ count_by r.permits (between (begin_of r) (end_of r) r.published) =
+    let over : lap_overrun (reading_report r).lapped ≡ count_by r.permits (between r.cursor.next (begin_of r) r.published) =
+    overrun_begins r.permits r.capacity r.published r.cursor.next (reading_report r).lapped _ (reading_begins r) in
+    let took : (reading_report r).taken ≡ count_by r.permits (between (begin_of r) (end_of r) r.published) =
     ap length (reading_takes r) ∙ length-filter r.permits (between (begin_of r) (end_of r) r.published) in
     let places : (r.cursor.next ≤ begin_of r) × (begin_of r ≤ end_of r)
     × (end_of r ≤ length r.published) = reading_ordered r in

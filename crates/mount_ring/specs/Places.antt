@@ -26,8 +26,8 @@ pub record Reading : Type 0 where
   pub within : cursor.next ≤ length published
 
 -- what it answers
-abbrev pub report_of : Reading → ReadReport
-report_of reading =
+abbrev pub reading_report : Reading → ReadReport
+reading_report reading =
     read_report reading.permits reading.capacity reading.published reading.cursor reading.budget
 
 -- the frames that it takes
@@ -47,11 +47,11 @@ lap_overrun (Some lap) = lap.overrun
 
 -- where a read begins: behind its lap, or at its cursor where it was not lapped
 abbrev pub begin_of : Reading → ℕ
-begin_of reading = behind_lap reading.cursor.next (report_of reading).lapped
+begin_of reading = behind_lap reading.cursor.next (reading_report reading).lapped
 
 -- where a read ends
 abbrev pub end_of : Reading → ℕ
-end_of reading = (report_of reading).cursor.next
+end_of reading = (reading_report reading).cursor.next
 
 -- the frames that one call publishes
 abbrev pub frames_of : RingCall → List (List ℕ)

@@ -4,7 +4,7 @@ ghost use Rattle.std.specs.Prelude.{◌≡◌, ℕ, ◌+◌, ◌-◌, ◌<◌, �
 ghost use Rattle.std.specs.List.{filter, count_by};
 ghost use Rattle.mount_ring.specs.Reads.{most_taken, read_report};
 ghost use Rattle.mount_ring.specs.History.{Shape, State, start, after, after_call, state_of, permits_at, is_holder, fits, is_readable, joined, answer, own_answers, answers_since, has_none_of};
-ghost use Rattle.mount_ring.specs.Places.{between, Reading, report_of, taken_by, begin_of, end_of, lap_overrun, published_by, claims_given, are_fit};
+ghost use Rattle.mount_ring.specs.Places.{between, Reading, reading_report, taken_by, begin_of, end_of, lap_overrun, published_by, claims_given, are_fit};
 
 use crate::call::{Holder, RingAnswer, RingCall};
 use crate::cursor::Cursor;
@@ -15,8 +15,8 @@ use crate::cursor::Cursor;
 pub fn read_goes_on()
     ensures forward { (r : Reading) → (r.cursor.next ≤ begin_of r) × (begin_of r ≤ end_of r) }
     ensures within { (r : Reading) → end_of r ≤ length r.published }
-    ensures few { (r : Reading) → (report_of r).taken ≤ min r.budget most_taken }
-    ensures to_the_end { (r : Reading) → (report_of r).taken < min r.budget most_taken
+    ensures few { (r : Reading) → (reading_report r).taken ≤ min r.budget most_taken }
+    ensures to_the_end { (r : Reading) → (reading_report r).taken < min r.budget most_taken
         → end_of r ≡ length r.published }
     ensures no_further { (r : Reading) (place : ℕ) → begin_of r ≤ place → place < end_of r
         → count_by r.permits (between (begin_of r) place r.published) < min r.budget most_taken }
@@ -28,21 +28,24 @@ pub fn read_goes_on()
 pub fn read_takes_permitted()
     ensures frames { (r : Reading)
         → taken_by r ≡ filter r.permits (between (begin_of r) (end_of r) r.published) }
-    ensures taken { (r : Reading) → (report_of r).taken ≡ length (taken_by r) }
+    ensures taken { (r : Reading) → (reading_report r).taken ≡ length (taken_by r) }
 {}
 
 /// What a lap names: frames that the ring had overwritten, from the cursor's place to the oldest
 /// frame that was kept; and there is one exactly where the cursor stood before that frame.
 pub fn lap_is_overwritten()
     ensures none { (r : Reading)
-        → ((report_of r).lapped ≡ None) ↔ (length r.published ≤ r.cursor.next + r.capacity) }
-    ensures from { (r : Reading) → IfSome (report_of r).lapped (λ lap. lap.from ≡ r.cursor.next) }
-    ensures not_empty { (r : Reading) → IfSome (report_of r).lapped (λ lap. lap.from < lap.to) }
+        → ((reading_report r).lapped ≡ None)
+        ↔ (length r.published ≤ r.cursor.next + r.capacity) }
+    ensures from { (r : Reading)
+        → IfSome (reading_report r).lapped (λ lap. lap.from ≡ r.cursor.next) }
+    ensures not_empty { (r : Reading)
+        → IfSome (reading_report r).lapped (λ lap. lap.from < lap.to) }
     ensures overwritten { (r : Reading)
-        → IfSome (report_of r).lapped (λ lap. lap.to + r.capacity ≡ length r.published) }
+        → IfSome (reading_report r).lapped (λ lap. lap.to + r.capacity ≡ length r.published) }
     ensures published { (r : Reading)
-        → IfSome (report_of r).lapped (λ lap. lap.published ≡ length r.published) }
-    ensures overrun { (r : Reading) → IfSome (report_of r).lapped
+        → IfSome (reading_report r).lapped (λ lap. lap.published ≡ length r.published) }
+    ensures overrun { (r : Reading) → IfSome (reading_report r).lapped
         (λ lap. lap.overrun ≡ count_by r.permits (between lap.from lap.to r.published)) }
 {}
 
@@ -53,7 +56,8 @@ pub fn read_loses_none()
     ensures in_order { (r : Reading)
         → filter r.permits (between r.cursor.next (end_of r) r.published)
         ≡ filter r.permits (between r.cursor.next (begin_of r) r.published) ++ taken_by r }
-    ensures counted { (r : Reading) → (report_of r).taken + lap_overrun (report_of r).lapped
+    ensures counted { (r : Reading)
+        → (reading_report r).taken + lap_overrun (reading_report r).lapped
         ≡ count_by r.permits (between r.cursor.next (end_of r) r.published) }
 {}
 
@@ -69,9 +73,9 @@ pub fn cursor_may_be_read()
     ensures later { (shape : Shape) (history more : List (ℕ × RingCall)) (cursor : Cursor)
         → IsTrue (is_readable shape (state_of history) cursor)
         → IsTrue (is_readable shape (state_of (history ++ more)) cursor) }
-    ensures filter { (r : Reading) → (report_of r).cursor.filter ≡ r.cursor.filter }
+    ensures filter { (r : Reading) → (reading_report r).cursor.filter ≡ r.cursor.filter }
     ensures passed { (r : Reading)
-        → (report_of r).cursor.passed ≡ count_by r.permits (take (end_of r) r.published) }
+        → (reading_report r).cursor.passed ≡ count_by r.permits (take (end_of r) r.published) }
 {}
 
 /// A history is entered call by call: its state is that before the last entry, changed by that

@@ -6,14 +6,14 @@ use std::fmt;
 use std::marker::Model;
 
 /// The most frames that one read takes.
-pub const MOST_TAKEN: usize = 16;
+pub const MAX_TAKEN: usize = 16;
 
 /// The frames that a read took, at most 16, held in the outbox itself: it takes no memory.
 ///
 /// Contracts see it as the list of its frames.
 #[derive(Drop)]
 pub struct Outbox {
-    frames: [Frame; MOST_TAKEN],
+    frames: [Frame; MAX_TAKEN],
     len: usize,
 }
 
@@ -35,7 +35,7 @@ impl Outbox {
         ensures { result ≡ [] }
     {
         Outbox {
-            frames: [Frame::default(); MOST_TAKEN],
+            frames: [Frame::default(); MAX_TAKEN],
             len: 0,
         }
     }

@@ -30,17 +30,17 @@ impl Watch {
     fn count_frame(&mut self, frame: &Frame, fallen: &Option<Frame>)
         ensures { self.new ≡ counted frame.now fallen.now self.old }
     {
-        self.permitted = raised(self.permitted, &self.filter, frame);
+        self.permitted = count_after(self.permitted, &self.filter, frame);
         let dropped = self.dropped;
         if let Some(fallen) = fallen {
-            self.dropped = raised(dropped, &self.filter, fallen);
+            self.dropped = count_after(dropped, &self.filter, fallen);
         }
     }
 }
 
 /// A count of permitted frames after one more frame. Ring histories are too short for a count to
 /// stay at the last value.
-fn raised(before: u64, filter: &Filter, frame: &Frame) -> u64
+fn count_after(before: u64, filter: &Filter, frame: &Frame) -> u64
     ensures { result ≡ capped (before + count filter.now (frame.now ∷ [])) }
 {
     if filter.permits(frame) {

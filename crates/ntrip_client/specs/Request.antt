@@ -1,7 +1,7 @@
 -- What a client asks of a caster for the frames of a mountpoint there: a `GET` of NTRIP 1.0
 -- (RTCM 10410.0), or one of NTRIP 2.0 (RTCM 10410.1), which is a request of HTTP/1.1 (RFC 9112,
 -- section 3). The credentials are of the scheme `Basic` (RFC 7617, section 2).
-use Rattle.std.specs.Prelude.{ℕ, codes, List, [], ◌∷◌, ◌++◌, Option, None, Some}
+use Rattle.std.specs.Prelude.{ℕ, ◌==◌, if◌then◌else◌, codes, List, [], ◌∷◌, ◌++◌, Option, None, Some}
 use Rattle.std.specs.Borrow.{Bor}
 use Rattle.std.specs.List.{flat_map}
 use Rattle.base64.specs.Engines.{standard}
@@ -37,6 +37,10 @@ request_of_two mount address user password =
     lines (start_line mount (codes " HTTP/1.1") ∷ (codes "Host: " ++ address)
     ∷ codes "Ntrip-Version: Ntrip/2.0" ∷ agent ∷ authorization user password
     ++ codes "Connection: close" ∷ [] ∷ [])
+
+-- the version of NTRIP that a protocol is: 1 (RTCM 10410.0) or 2 (RTCM 10410.1)
+abbrev pub version_of : ℕ → Version
+version_of protocol = if protocol == 2 then Two else One
 
 -- the request for a mountpoint, in this version of NTRIP, of the caster at this address, as this
 -- user with this password

@@ -14,7 +14,7 @@ use std::alloc::{AllocError, Global};
 use std::marker::Model;
 
 /// The most bytes of a head.
-const LIMIT: usize = 8192;
+const MAX_HEAD_BYTES: usize = 8192;
 
 /// What the whole head of an HTTP response says.
 fn by_response(head: &[u8]) -> Answer
@@ -61,7 +61,7 @@ fn by_size(head: &[u8]) -> Answer
     ensures says { IsAnswer head.now result }
     ensures begins { BeginsAt (length head.now) result }
 {
-    if head.len() < LIMIT {
+    if head.len() < MAX_HEAD_BYTES {
         Answer::Open
     } else {
         Answer::Refused(Refusal::LongHead)

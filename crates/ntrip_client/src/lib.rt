@@ -10,4 +10,4 @@ mod request;
 
 pub use answer::{Answer, Refusal};
 pub use head::{AnswerHead, Taken};
-pub use request::push_request;
+pub use request::{push_request, version_of};

@@ -5,7 +5,7 @@ ghost use Rattle.std.specs.Option.{option_map};
 ghost use Rattle.std.specs.Vec.{vec_capacity};
 ghost use Rattle.base64.specs.Engines.{standard};
 ghost use Rattle.base64.specs.GeneralPurpose.{encode_of};
-ghost use Rattle.ntrip_client.specs.Request.{lines, authorization, joined, request_of_one, request_of_two, request_text};
+ghost use Rattle.ntrip_client.specs.Request.{lines, authorization, joined, request_of_one, request_of_two, request_text, version_of};
 
 use base64::engine::general_purpose::STANDARD;
 use cast_text::{MountName, Text, UserName};
@@ -15,8 +15,19 @@ use std::alloc::{AllocError, Global};
 /// The header line that names this client.
 const AGENT: &[u8] = b"User-Agent: NTRIP lapcast/1.0\r\n";
 
+/// The version of NTRIP that this protocol is.
+pub fn version_of(protocol: u32) -> Version
+    ensures { result ≡ version_of protocol }
+{
+    if protocol == 2 {
+        Version::Two
+    } else {
+        Version::One
+    }
+}
+
 /// The parts, one after another.
-fn joined(alloc: Global, parts: &[&[u8]]) -> Result<Vec<u8>, AllocError>
+fn join_parts(alloc: Global, parts: &[&[u8]]) -> Result<Vec<u8>, AllocError>
     ensures { IfOk result (λ text. text.items ≡ joined parts.now) }
 {
     let mut text = Vec::new(alloc);
@@ -50,7 +61,7 @@ fn authorization(
         None => Ok(Vec::new(alloc)),
         Some(user) => {
             let text = credentials(alloc, user, password)?;
-            joined(alloc, &[b"Authorization: Basic ", text.as_bytes(), b"\r\n"])
+            join_parts(alloc, &[b"Authorization: Basic ", text.as_bytes(), b"\r\n"])
         }
     }
 }
@@ -66,7 +77,7 @@ fn request_of_one(
         ≡ request_of_one mount.now (option_map (λ u. u.now) user.entry) password.now) }
 {
     let credentials = authorization(alloc, user, password)?;
-    let text = joined(
+    let text = join_parts(
         alloc,
         &[
             b"GET /",
@@ -92,7 +103,7 @@ fn request_of_two(
         ≡ request_of_two mount.now address.now (option_map (λ u. u.now) user.entry) password.now) }
 {
     let credentials = authorization(alloc, user, password)?;
-    let text = joined(
+    let text = join_parts(
         alloc,
         &[
             b"GET /",

@@ -18,8 +18,8 @@ use Rattle.ntrip_client.specs.Answer.{IsAnswer}
 use Rattle.ntrip_fetch.specs.declared.left.Left.{Left}
 use Rattle.ntrip_fetch.specs.declared.left.Left.TheVariants.{Enough, Dial, End, LinkFault, BadHead, LongHead, Coding, Table, Status, Done, BadChunk}
 use Rattle.ntrip_fetch.specs.declared.left.Try.{Try}
-use Rattle.ntrip_fetch.specs.declared.stage.Stage.{Stage}
-use Rattle.ntrip_fetch.specs.declared.stage.Stage.TheVariants as stages
+use Rattle.ntrip_fetch.specs.declared.fetch_stage.FetchStage.{FetchStage}
+use Rattle.ntrip_fetch.specs.declared.fetch_stage.FetchStage.TheVariants as stages
 use Rattle.ntrip_fetch.specs.Answered.{IsWanting}
 use Rattle.ntrip_fetch.specs.Steps.{goes_on, IsLastIf, AreNeeded}
 use Rattle.ntrip_fetch.specs.Stages.{IsAtStage, IsDecided, StageIs, StageLeft, StageTorn}
@@ -107,7 +107,7 @@ begins most told now head empty open_ none = record {
 }
 
 -- the link gave bytes, or nothing yet, and the fetch goes on
-pub goes_more : (most : ℕ) (before told later : LinkTold) (start now then_ : Option (List ℕ)) (stage next : Stage)
+pub goes_more : (most : ℕ) (before told later : LinkTold) (start now then_ : Option (List ℕ)) (stage next : FetchStage)
     (count counted given more : ℕ) (result : Got) (buf : List ℕ) → 0 < most → given < 2 ^ 62
     → (x : Receiving most before told start now stage count given) → HasRead told later result buf
     → IsTrue (goes_on (step_of result buf)) → more ≡ given + length (bytes_of (step_of result buf))
@@ -134,7 +134,7 @@ goes_more most before told later start now then_ stage next count counted given 
     }
 
 -- the link told the same
-pub same_told : (most : ℕ) (before told later : LinkTold) (start now : Option (List ℕ)) (stage : Stage)
+pub same_told : (most : ℕ) (before told later : LinkTold) (start now : Option (List ℕ)) (stage : FetchStage)
     (count given : ℕ) → told ≡ later → Receiving most before told start now stage count given
     → Receiving most before later start now stage count given
 same_told most before told later start now stage count given same x =
@@ -157,7 +157,7 @@ left_by most before after taken answer count Done x = x
 left_by most before after taken answer count (BadChunk place) x = x
 
 -- by what its bytes say
-pub is_left : (most : ℕ) (before told later : LinkTold) (start now then_ : Option (List ℕ)) (stage : Stage)
+pub is_left : (most : ℕ) (before told later : LinkTold) (start now then_ : Option (List ℕ)) (stage : FetchStage)
     (count given : ℕ) (tried : Try) (n : ℕ) (buf : List ℕ) → 0 < most → given < 2 ^ 62
     → (x : Receiving most before told start now stage count given) → HasRead told later (got.Bytes n) buf
     → StageLeft start then_ most (bytes_in x.taken ++ take n buf) tried.frames tried.left
@@ -178,7 +178,7 @@ is_left most before told later start now then_ stage count given tried n buf som
     }
 
 -- the sink failed
-pub is_broken : (most : ℕ) (before told later : LinkTold) (start now then_ : Option (List ℕ)) (stage : Stage)
+pub is_broken : (most : ℕ) (before told later : LinkTold) (start now then_ : Option (List ℕ)) (stage : FetchStage)
     (count given : ℕ) (n : ℕ) (buf : List ℕ) → 0 < most → given < 2 ^ 62
     → (x : Receiving most before told start now stage count given) → HasRead told later (got.Bytes n) buf
     → StageTorn start then_ most (bytes_in x.taken ++ take n buf) → ReceivingBroken most before later start then_
@@ -193,7 +193,7 @@ is_broken most before told later start now then_ stage count given n buf some fe
     }
 
 -- it gave as many bytes as are taken
-pub runs_out : (most : ℕ) (before told : LinkTold) (start now : Option (List ℕ)) (stage : Stage) (count given : ℕ)
+pub runs_out : (most : ℕ) (before told : LinkTold) (start now : Option (List ℕ)) (stage : FetchStage) (count given : ℕ)
     → 0 < most → Receiving most before told start now stage count given → 2 ^ 62 ≤ given
     → HasReceived most before told start now (record { frames = count; left = End })
 runs_out most before told start now stage count given some x full =
@@ -216,7 +216,7 @@ open_still start now most taken step count none x =
     subst (λ l. StillOpen start now most l count) (sym (none_more taken step none)) x
 
 -- it ended
-pub has_ended : (most : ℕ) (before told later : LinkTold) (start now : Option (List ℕ)) (stage : Stage)
+pub has_ended : (most : ℕ) (before told later : LinkTold) (start now : Option (List ℕ)) (stage : FetchStage)
     (count given : ℕ)
     (buf : List ℕ) → 0 < most → given < 2 ^ 62 → Receiving most before told start now stage count given
     → HasRead told later got.End buf
@@ -234,7 +234,7 @@ has_ended most before told later start now stage count given buf some few x read
     }
 
 -- a read of it failed
-pub has_failed : (most : ℕ) (before told later : LinkTold) (start now : Option (List ℕ)) (stage : Stage)
+pub has_failed : (most : ℕ) (before told later : LinkTold) (start now : Option (List ℕ)) (stage : FetchStage)
     (count given : ℕ)
     (buf : List ℕ) → 0 < most → given < 2 ^ 62 → Receiving most before told start now stage count given
     → HasRead told later got.Failed buf
@@ -259,7 +259,7 @@ has_failed most before told later start now stage count given buf some few x rea
 -- ---- one read
 
 -- bytes came, and what they say is known
-pub heard_bytes : (most : ℕ) (before told later : LinkTold) (start now then_ : Option (List ℕ)) (stage next : Stage)
+pub heard_bytes : (most : ℕ) (before told later : LinkTold) (start now then_ : Option (List ℕ)) (stage next : FetchStage)
     (count counted given more n : ℕ) (buf : List ℕ) (left : Option Left) → 0 < most → given < 2 ^ 62
     → (x : Receiving most before told start now stage count given) → HasRead told later (got.Bytes n) buf
     → more ≡ given + length (take n buf)
@@ -275,7 +275,7 @@ heard_bytes most before told later start now then_ stage next count counted give
     some few x read is
 
 -- nothing came yet
-pub heard_nothing : (most : ℕ) (before told later : LinkTold) (start now : Option (List ℕ)) (stage : Stage)
+pub heard_nothing : (most : ℕ) (before told later : LinkTold) (start now : Option (List ℕ)) (stage : FetchStage)
     (count given : ℕ) (buf : List ℕ) → 0 < most → given < 2 ^ 62 → Receiving most before told start now stage count given
     → HasRead told later got.Idle buf → Receiving most before later start now stage count given
 heard_nothing most before told later start now stage count given buf some few x read =

@@ -19,8 +19,8 @@ use Rattle.ntrip_client.proofs.OnceLemmas.{answer_stays}
 use Rattle.ntrip_fetch.specs.declared.left.Left.{Left}
 use Rattle.ntrip_fetch.specs.declared.left.Left.TheVariants.{Enough, Dial, End, LinkFault, BadHead, LongHead, Coding, Table, Status, Done, BadChunk}
 use Rattle.ntrip_fetch.specs.declared.body.Body.{Body}
-use Rattle.ntrip_fetch.specs.declared.stage.Stage.{Stage}
-use Rattle.ntrip_fetch.specs.declared.stage.Stage.TheVariants as stages
+use Rattle.ntrip_fetch.specs.declared.fetch_stage.FetchStage.{FetchStage}
+use Rattle.ntrip_fetch.specs.declared.fetch_stage.FetchStage.TheVariants as stages
 use Rattle.ntrip_fetch.specs.Answered.{answered, MayFollow, IsWanting}
 use Rattle.ntrip_fetch.specs.Writing.{HasWritten, IsTorn, wanted}
 use Rattle.ntrip_fetch.proofs.WritingLemmas.{written_all}
@@ -183,7 +183,7 @@ pub record StillOpen (start now : Option (List ℕ)) (most : ℕ) (bytes : List 
   pub fewer : count < most
   pub wrote : HasWritten start now (take most (answered answer bytes)) count
 
-pub open_at : (start now : Option (List ℕ)) (most : ℕ) (stage : Stage) (bytes : List ℕ) (count : ℕ) → 0 < most
+pub open_at : (start now : Option (List ℕ)) (most : ℕ) (stage : FetchStage) (bytes : List ℕ) (count : ℕ) → 0 < most
     → IsAtStage start now most stage bytes count → StillOpen start now most bytes count
 open_at start now most (stages.Head head) bytes count some x = record {
   answer = Open;

@@ -14,7 +14,7 @@ use Rattle.ntrip_fetch.specs.declared.target.Target.{Target}
 use Rattle.ntrip_fetch.specs.declared.left.Left.{Left}
 use Rattle.ntrip_fetch.specs.declared.left.Left.TheVariants.{Enough, Dial, End, LinkFault, BadHead, LongHead, Coding, Table, Status, Done, BadChunk}
 use Rattle.ntrip_fetch.specs.declared.left.Try.{Try}
-use Rattle.ntrip_fetch.specs.declared.stage.Stage.{Stage}
+use Rattle.ntrip_fetch.specs.declared.fetch_stage.FetchStage.{FetchStage}
 use Rattle.ntrip_fetch.specs.Request.{target_request}
 use Rattle.ntrip_fetch.specs.Answered.{answered, IsDone, IsFaulty, MayFollow}
 use Rattle.ntrip_fetch.specs.Steps.{AreNeeded, HasRunOut, FailsLast, IsSent, goes_on}
@@ -100,7 +100,7 @@ pub record HasTaken (most : ℕ) (before after : LinkTold) (taken : List Step) :
 
 -- all that the link gave so far was taken, and the fetch goes on
 pub record Receiving (most : ℕ) (before told : LinkTold) (start now : Option (List ℕ))
-    (stage : Stage) (count given : ℕ) : Type 0 where
+    (stage : FetchStage) (count given : ℕ) : Type 0 where
   pub taken : List Step
   pub link : HasTaken most before told taken
   pub quiet : IsTrue (list_all goes_on taken)
@@ -125,8 +125,8 @@ pub record ReceivingBroken (most : ℕ) (before after : LinkTold) (start now : O
   pub torn : StageTorn start now most (bytes_in taken)
 
 -- after one read more the fetch goes on, or the link is left
-abbrev pub HeardIs : ℕ → LinkTold → LinkTold → Option (List ℕ) → Option (List ℕ) → Stage → ℕ → ℕ
-    → Option Left → Type 0
+abbrev pub HeardIs : ℕ → LinkTold → LinkTold → Option (List ℕ) → Option (List ℕ) → FetchStage → ℕ
+    → ℕ → Option Left → Type 0
 HeardIs most before told start now stage count given None =
     Receiving most before told start now stage count given
 HeardIs most before told start now stage count given (Some left) =

@@ -1,16 +1,11 @@
 -- What a rover asks of a caster.
-use Rattle.std.specs.Prelude.{ℕ, ◌≤◌, ◌==◌, if◌then◌else◌, List}
-use Rattle.ntrip_head.specs.declared.request.Version.{Version}
-use Rattle.ntrip_head.specs.declared.request.Version.TheVariants.{One, Two}
-use Rattle.ntrip_client.specs.Request.{request_text}
+use Rattle.std.specs.Prelude.{ℕ, ◌≤◌, List}
+use Rattle.ntrip_client.specs.Request.{request_text, version_of}
 use Rattle.ntrip_fetch.specs.declared.target.Target.{Target}
 
 -- the protocol is a version of NTRIP: 1 (RTCM 10410.0) or 2 (RTCM 10410.1)
 abbrev pub IsSpoken : Target → Type 0
 IsSpoken target = (1 ≤ target.protocol) × (target.protocol ≤ 2)
-
-abbrev pub version_of : ℕ → Version
-version_of protocol = if protocol == 2 then Two else One
 
 -- the request for the mountpoint of this target
 abbrev pub target_request : Target → List ℕ

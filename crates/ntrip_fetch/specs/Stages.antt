@@ -14,10 +14,10 @@ use Rattle.ntrip_client.specs.Answer.{IsAnswer}
 use Rattle.ntrip_fetch.specs.declared.left.Left.{Left}
 use Rattle.ntrip_fetch.specs.declared.left.Left.TheVariants.{Enough, Dial, End, LinkFault, BadHead, LongHead, Coding, Table, Status, Done, BadChunk}
 use Rattle.ntrip_fetch.specs.declared.body.Body.{Body}
-use Rattle.ntrip_fetch.specs.declared.stage.Stage.{Stage}
-use Rattle.ntrip_fetch.specs.declared.stage.Stage.TheVariants as stages
-use Rattle.ntrip_fetch.specs.declared.stage.Decided.{Decided}
-use Rattle.ntrip_fetch.specs.declared.stage.Decided.TheVariants as decisions
+use Rattle.ntrip_fetch.specs.declared.fetch_stage.FetchStage.{FetchStage}
+use Rattle.ntrip_fetch.specs.declared.fetch_stage.FetchStage.TheVariants as stages
+use Rattle.ntrip_fetch.specs.declared.fetch_stage.Decided.{Decided}
+use Rattle.ntrip_fetch.specs.declared.fetch_stage.Decided.TheVariants as decisions
 use Rattle.ntrip_fetch.specs.Answered.{answered, IsDone, IsFaulty}
 use Rattle.ntrip_fetch.specs.Writing.{IsWriting, HasWritten, IsTorn}
 
@@ -40,7 +40,7 @@ pub record IsAtBody (start now : Option (List ℕ)) (most : ℕ) (chunks : Optio
   pub fewer : count < most
 
 -- why a body is left
-abbrev pub IsBodyLeft : ℕ → Bool → List ℕ → ℕ → Left → Type 0
+abbrev pub IsBodyLeft : ℕ → (chunked : Bool) → List ℕ → ℕ → Left → Type 0
 IsBodyLeft most chunked text count Enough = count ≡ most
 IsBodyLeft most true text count Done = (count < most) × HasEnded text
 IsBodyLeft most true text count (BadChunk at) = (count < most) × IsBadAt text at
@@ -70,7 +70,7 @@ pub record IsAccepted (start now : Option (List ℕ)) (most : ℕ) (body : Body)
   pub stands : IsAtBody start now most body.chunks body.cutter (drop at bytes) count
 
 -- the fetch goes on behind these bytes
-abbrev pub IsAtStage : Option (List ℕ) → Option (List ℕ) → ℕ → Stage → List ℕ → ℕ → Type 0
+abbrev pub IsAtStage : Option (List ℕ) → Option (List ℕ) → ℕ → FetchStage → List ℕ → ℕ → Type 0
 IsAtStage start now most (stages.Head head) bytes count =
     (head ≡ bytes) × IsAnswer bytes Open × HasWritten start now [] count
 IsAtStage start now most (stages.Body body) bytes count =
@@ -99,7 +99,7 @@ pub record StageLeft (start now : Option (List ℕ)) (most : ℕ) (bytes : List 
   pub why : IsDecided most answer bytes count left
 
 -- the fetch goes on, or the link is left
-abbrev pub StageIs : Option (List ℕ) → Option (List ℕ) → ℕ → Stage → List ℕ → ℕ → Option Left
+abbrev pub StageIs : Option (List ℕ) → Option (List ℕ) → ℕ → FetchStage → List ℕ → ℕ → Option Left
     → Type 0
 StageIs start now most stage bytes count None = IsAtStage start now most stage bytes count
 StageIs start now most stage bytes count (Some left) =

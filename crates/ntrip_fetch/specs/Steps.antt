@@ -14,7 +14,7 @@ goes_on took.ReadFailed = false
 goes_on took.WriteFailed = false
 
 -- nothing follows a step at which the link ended or failed
-abbrev pub IsLastIf : Bool → List Step → Type 0
+abbrev pub IsLastIf : (goes_on : Bool) → List Step → Type 0
 IsLastIf true more = ⊤
 IsLastIf false more = more ≡ []
 

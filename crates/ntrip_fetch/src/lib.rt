@@ -3,12 +3,12 @@
 #![tactic(auto)]
 
 mod body;
+mod fetch_stage;
 mod fetching;
 mod frames;
 pub mod laws;
 mod left;
 mod receiving;
-mod stage;
 mod target;
 mod trying;
 

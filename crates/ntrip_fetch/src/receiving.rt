@@ -7,8 +7,8 @@ ghost use Rattle.ntrip_fetch.specs.Sinks.{Counts, CountsFor};
 ghost use Rattle.ntrip_fetch.specs.Request.{IsSpoken, target_request};
 ghost use Rattle.ntrip_fetch.specs.Fetched.{LinkBroken, LinkFetched, HasReceived, HeardIs, Receiving, ReceivingBroken};
 
+use crate::fetch_stage::{FetchStage, take};
 use crate::left::{FetchFault, Left, Try};
-use crate::stage::{Stage, take};
 use crate::target::{Target, request_of};
 use cast_io::{Failed, Got, Link, Sink};
 use ntrip_client::{Answer, AnswerHead};
@@ -16,16 +16,16 @@ use std::alloc::Global;
 use std::sync::Wait;
 
 /// How many bytes of one link are taken; then it is left as if it had ended.
-const MOST: u64 = 1 << 62;
+const MAX_LINK_BYTES: u64 = 1 << 62;
 
 /// How many bytes one read takes at most.
-const PIECE: usize = 4096;
+const MAX_READ_BYTES: usize = 4096;
 
 /// Reads the link once, and writes the frames that the bytes complete which it gave, until `most`
 /// were written in all. Answers why the link is to be left, if it is. It rests where it gave
 /// nothing.
 fn hear<L: Link, O: Sink>(
-    stage: &mut Stage,
+    stage: &mut FetchStage,
     frames: &mut u64,
     most: u64,
     given: &mut u64,
@@ -85,12 +85,12 @@ fn receive<L: Link, O: Sink, R: Wait>(
     ensures only { IsErrOf result FetchFault.Memory → ⊥ }
     ensures sink { CountsFor (O.faults out.old) (O.faults out.new) result }
 {
-    let mut stage = Stage::Head(head);
+    let mut stage = FetchStage::Head(head);
     let mut frames: u64 = 0;
     let mut given: u64 = 0;
-    let mut piece = [0u8; PIECE];
+    let mut piece = [0u8; MAX_READ_BYTES];
     for _ in rt.forever() {
-        if given >= MOST {
+        if given >= MAX_LINK_BYTES {
             return Ok(Try {
                 frames,
                 left: Left::End,

@@ -2,11 +2,10 @@
 
 ghost use Rattle.std.specs.Prelude.{◌≡◌, ◌≤◌, ◌++◌, OnOk, OnErr};
 ghost use Rattle.std.specs.Vec.{vec_capacity};
-ghost use Rattle.ntrip_fetch.specs.Request.{IsSpoken, target_request, version_of};
+ghost use Rattle.ntrip_fetch.specs.Request.{IsSpoken, target_request};
 
 use cast_text::{MountName, Text, UserName};
-use ntrip_client::push_request;
-use ntrip_head::Version;
+use ntrip_client::{push_request, version_of};
 use std::alloc::AllocError;
 
 /// A mountpoint of a caster, and as whom it is asked for. It is shown nowhere, for its password.
@@ -22,17 +21,6 @@ pub struct Target {
     pub user: Option<UserName>,
     /// The password there; it is sent only where there is a user.
     pub password: Text,
-}
-
-/// The version of NTRIP that this protocol is.
-fn version_of(protocol: u32) -> Version
-    ensures { result ≡ version_of protocol }
-{
-    if protocol == 2 {
-        Version::Two
-    } else {
-        Version::One
-    }
 }
 
 /// Appends the request for the frames of the target's mountpoint, in bytes as they are sent: a

@@ -1,75 +1,19 @@
 //! Targets, links and streets in memory, and the frames that casters send over them.
 
-ghost use Rattle.std.specs.Prelude.{◌≡◌, ◌≤◌, length, IfOk, IsTrue};
-ghost use Rattle.std.specs.List.{All, list_all};
-ghost use Rattle.cast_io.specs.FakeLinks.{has_bytes, is_new_link};
+ghost use Rattle.std.specs.Prelude.{◌≡◌, ◌≤◌, length, IfOk};
+ghost use Rattle.std.specs.List.{All};
 ghost use Rattle.ntrip_fetch.specs.Request.{IsSpoken};
 ghost use Rattle.ntrip_fetch.specs.Tries.{CanBeTried};
 
-use cast_io::{ByteString, LinkStep, MemLink, MemStreet};
+use cast_io::MemStreet;
 use cast_text::{MountName, Text, UserName};
 use ntrip_fetch::{Left, Target, Try};
 use std::alloc::{AllocError, Global};
 use std::test::Fail;
-
-/// A frame of message 1005.
-pub(crate) const FRAME_A: &[u8] = b"\xD3\x00\x02\x3E\xD0\xA4\xE0\x00";
-
-/// A frame of message 1077.
-pub(crate) const FRAME_B: &[u8] = b"\xD3\x00\x02\x43\x50\x06\xA2\x7E";
-
-/// The head of an answer of NTRIP 1.0 behind which frames follow.
-pub(crate) const ICY: &[u8] = b"ICY 200 OK\r\n\r\n";
+use test_support::links_of;
 
 /// The head of an answer of NTRIP 2.0 behind which a chunked body follows.
 pub(crate) const CHUNKED: &[u8] = b"HTTP/1.1 200 OK\r\nTransfer-Encoding: chunked\r\n\r\n";
-
-/// The step that sends these bytes, or nothing yet where there are none.
-fn step_of(alloc: Global, bytes: &[u8]) -> Result<LinkStep, AllocError>
-    ensures { IfOk result (λ step. IsTrue (has_bytes step)) }
-{
-    if bytes.is_empty() {
-        return Ok(LinkStep::Idle);
-    }
-    Ok(LinkStep::Bytes(ByteString::copy_of(alloc, bytes)?))
-}
-
-/// A caster that sends these pieces and ends. Where a piece is empty, nothing is there yet.
-fn steps_of(alloc: Global, pieces: &[&[u8]]) -> Result<Vec<LinkStep>, AllocError>
-    ensures { IfOk result (λ steps. IsTrue (list_all has_bytes steps.items)) }
-{
-    let mut steps = Vec::new(alloc);
-    for piece in pieces {
-        steps.push(step_of(alloc, piece)?)?;
-    }
-    Ok(steps)
-}
-
-/// A link to such a caster, whose calls of these numbers fail.
-pub(crate) fn link_of(alloc: Global, pieces: &[&[u8]], fails: &[u64]) -> Result<MemLink, AllocError>
-    ensures { IfOk result (λ link. IsTrue (is_new_link link)) }
-{
-    Ok(MemLink::new(alloc, steps_of(alloc, pieces)?, fails.to_vec(alloc)?))
-}
-
-/// A link to such a caster, whose first write takes so many bytes and fails.
-pub(crate) fn torn_link(alloc: Global, pieces: &[&[u8]], most: u64) -> Result<MemLink, AllocError>
-    ensures { IfOk result (λ link. IsTrue (is_new_link link)) }
-{
-    let fails = [(1, most)].to_vec(alloc)?;
-    Ok(MemLink::torn(alloc, steps_of(alloc, pieces)?, fails))
-}
-
-/// Links to such casters.
-fn links_of(alloc: Global, casters: &[&[&[u8]]]) -> Result<Vec<MemLink>, AllocError>
-    ensures { IfOk result (λ links. IsTrue (list_all is_new_link links.items)) }
-{
-    let mut links = Vec::new(alloc);
-    for pieces in casters {
-        links.push(link_of(alloc, pieces, &[])?)?;
-    }
-    Ok(links)
-}
 
 /// A street of links to such casters.
 pub(crate) fn street_of(alloc: Global, casters: &[&[&[u8]]]) -> Result<MemStreet, AllocError> {
@@ -128,12 +72,12 @@ pub(crate) fn two_targets(alloc: Global) -> Result<Vec<Target>, Fail>
 }
 
 /// So many frames, and why the link was left.
-pub(crate) fn tried(frames: u64, left: Left) -> Try {
+pub(crate) fn try_of(frames: u64, left: Left) -> Try {
     Try { frames, left }
 }
 
 /// These pieces joined.
-pub(crate) fn joined(alloc: Global, pieces: &[&[u8]]) -> Result<Vec<u8>, Fail> {
+pub(crate) fn join_pieces(alloc: Global, pieces: &[&[u8]]) -> Result<Vec<u8>, Fail> {
     let mut bytes = Vec::new(alloc);
     for piece in pieces {
         bytes.extend_from_slice(piece)?;

@@ -2,15 +2,14 @@
 
 ghost use Rattle.std.specs.Prelude.{◌≤◌};
 
-use crate::fakes::{
-    CHUNKED, FRAME_A, FRAME_B, ICY, joined, link_of, target_with_user, torn_link, tried,
-};
-use crate::runs::{LinkRun, fetched};
+use crate::fakes::{CHUNKED, join_pieces, target_with_user, try_of};
+use crate::runs::{LinkRun, fetch_over};
 use cast_io::{MemLink, MemSink};
 use ntrip_fetch::{Left, Try, request_of};
 use std::alloc::Global;
 use std::sync::Wait;
 use std::test::Fail;
+use test_support::{FRAME_A, FRAME_B, FRAMES_AB, ICY, ICY_A, link_of, torn_link};
 
 /// What was asked of a caster of NTRIP 1.0.
 const REQUEST: &[u8] = b"GET /UP HTTP/1.0\r\nUser-Agent: NTRIP lapcast/1.0\r\n\r\n";
@@ -43,15 +42,9 @@ fn requests_are_these_bytes(rt: HostRuntime) -> Result<(), Fail> {
     Ok(())
 }
 
-/// Two frames.
-const FRAMES: &[u8] = b"\xD3\x00\x02\x3E\xD0\xA4\xE0\x00\xD3\x00\x02\x43\x50\x06\xA2\x7E";
-
 /// The same: a chunk with the first three bytes, one with those behind them, and one with a frame.
 const CHUNKS: &[u8] = b"3\r\n\xD3\x00\x02\r\n5\r\n\x3E\xD0\xA4\xE0\x00\r\n\
 8\r\n\xD3\x00\x02\x43\x50\x06\xA2\x7E\r\n";
-
-/// The head of an answer of NTRIP 1.0, and a frame.
-const ICY_A: &[u8] = b"ICY 200 OK\r\n\r\n\xD3\x00\x02\x3E\xD0\xA4\xE0\x00";
 
 /// The head of an answer of NTRIP 2.0, and a frame in a chunk.
 const CHUNKED_B: &[u8] = b"HTTP/1.1 200 OK\r\nTransfer-Encoding: chunked\r\n\r\n\
@@ -72,7 +65,7 @@ fn fetched_from<R: Wait>(
     pieces: &[&[u8]],
 ) -> Result<LinkRun, Fail> {
     let out = MemSink::new(alloc, Vec::new(alloc));
-    fetched(rt, alloc, most, link_of(alloc, pieces, &[])?, out)
+    fetch_over(rt, alloc, most, link_of(alloc, pieces, &[])?, out)
 }
 
 /// A link to a caster that sends these pieces, of which so many frames are wanted, is left so after
@@ -87,20 +80,22 @@ fn is_left<R: Wait>(
     steps: usize,
 ) -> Result<bool, Fail> {
     let run = fetched_from(rt, alloc, most, pieces)?;
-    Ok(run.left(Ok(want), steps) && run.wrote(written, REQUEST))
+    Ok(run.left_so(Ok(want), steps) && run.wrote(written, REQUEST))
 }
 
+// How many frames are wanted, the pieces that come, why the link is left, what is written, and how
+// many steps of the link are taken.
+type Row = (u64, &'static [&'static [u8]], Try, &'static [u8], usize);
+
 #[test]
-fn a_link_is_left_for_these_reasons(rt: HostRuntime) -> Result<(), Fail> {
-    // how many frames are wanted, the pieces that come, why the link is left, what is written, and
-    // how many steps of the link are taken
-    let rows: [(u64, &[&[u8]], Try, &[u8], usize); 9] = [
+fn a_body_is_left_for_these_reasons(rt: HostRuntime) -> Result<(), Fail> {
+    let rows: [Row; 4] = [
         // a plain body
-        (2, &[ICY_A], tried(1, Left::End), FRAME_A, 2),
+        (2, &[ICY_A], try_of(1, Left::End), FRAME_A, 2),
         (
             1,
             &[ICY, b"", FRAME_A, FRAME_B],
-            tried(1, Left::Enough),
+            try_of(1, Left::Enough),
             FRAME_A,
             3,
         ),
@@ -108,36 +103,46 @@ fn a_link_is_left_for_these_reasons(rt: HostRuntime) -> Result<(), Fail> {
         (
             2,
             &[CHUNKED_B, b"0\r\n\r\n", FRAME_A],
-            tried(1, Left::Done),
+            try_of(1, Left::Done),
             FRAME_B,
             2,
         ),
         (
             2,
             &[CHUNKED_B, b"x"],
-            tried(1, Left::BadChunk { at: 13 }),
+            try_of(1, Left::BadChunk { at: 13 }),
             FRAME_B,
             2,
         ),
-        // an answer without a body
-        (2, &[b"HELLO\n", FRAME_A], tried(0, Left::BadHead), b"", 1),
+    ];
+    for (most, pieces, want, written, steps) in rows {
+        let is_so = is_left(&rt, rt.alloc(), most, pieces, want, written, steps)?;
+        assert!(rt; is_so, "{want:?}");
+    }
+    Ok(())
+}
+
+#[test]
+fn an_answer_without_a_body_is_left_for_these_reasons(rt: HostRuntime) -> Result<(), Fail> {
+    let rows: [Row; 5] = [
+        (2, &[b"HELLO\n", FRAME_A], try_of(0, Left::BadHead), b"", 1),
         (
             2,
             &[b"SOURCETABLE 200 OK\r\n", FRAME_A],
-            tried(0, Left::Table),
+            try_of(0, Left::Table),
             b"",
             1,
         ),
-        (2, &[GZIP, FRAME_A], tried(0, Left::Coding), b"", 1),
+        (2, &[GZIP, FRAME_A], try_of(0, Left::Coding), b"", 1),
         (
             2,
             &[UNAUTHORIZED, FRAME_A],
-            tried(0, Left::Status(401)),
+            try_of(0, Left::Status(401)),
             b"",
             1,
         ),
         // a head that does not end is too long
-        (2, &[&[b'a'; 8192]], tried(0, Left::LongHead), b"", 2),
+        (2, &[&[b'a'; 8192]], try_of(0, Left::LongHead), b"", 2),
     ];
     for (most, pieces, want, written, steps) in rows {
         let is_so = is_left(&rt, rt.alloc(), most, pieces, want, written, steps)?;
@@ -148,11 +153,11 @@ fn a_link_is_left_for_these_reasons(rt: HostRuntime) -> Result<(), Fail> {
 
 #[test]
 fn enough_frames_come_before_the_end_of_a_body(rt: HostRuntime) -> Result<(), Fail> {
-    let all = joined(rt.alloc(), &[CHUNKED, CHUNKS, b"0\r\n\r\n"])?;
+    let all = join_pieces(rt.alloc(), &[CHUNKED, CHUNKS, b"0\r\n\r\n"])?;
     for (most, want, written) in [
-        (1, tried(1, Left::Enough), FRAME_A),
-        (2, tried(2, Left::Enough), FRAMES),
-        (3, tried(2, Left::Done), FRAMES),
+        (1, try_of(1, Left::Enough), FRAME_A),
+        (2, try_of(2, Left::Enough), FRAMES_AB),
+        (3, try_of(2, Left::Done), FRAMES_AB),
     ] {
         let is_so = is_left(&rt, rt.alloc(), most, &[&all], want, written, 1)?;
         assert!(rt; is_so, "{most} frames");
@@ -162,23 +167,23 @@ fn enough_frames_come_before_the_end_of_a_body(rt: HostRuntime) -> Result<(), Fa
 
 /// A fetch of two frames over this link.
 fn fetched_over<R: Wait>(rt: &R, alloc: Global, link: MemLink) -> Result<LinkRun, Fail> {
-    fetched(rt, alloc, 2, link, MemSink::new(alloc, Vec::new(alloc)))
+    fetch_over(rt, alloc, 2, link, MemSink::new(alloc, Vec::new(alloc)))
 }
 
 #[test]
 fn a_link_whose_read_fails_is_left(rt: HostRuntime) -> Result<(), Fail> {
     let link = link_of(rt.alloc(), &[ICY_A, FRAME_B], &[3])?;
     let run = fetched_over(&rt, rt.alloc(), link)?;
-    assert!(rt; run.answer == Ok(tried(1, Left::LinkFault)));
+    assert!(rt; run.answer == Ok(try_of(1, Left::LinkFault)));
     assert!(rt; run.written.as_slice() == FRAME_A);
     Ok(())
 }
 
 #[test]
 fn a_link_whose_write_is_torn_is_left(rt: HostRuntime) -> Result<(), Fail> {
-    let link = torn_link(rt.alloc(), &[ICY, FRAME_A], 7)?;
+    let link = torn_link(rt.alloc(), &[ICY, FRAME_A], 1, 7)?;
     let run = fetched_over(&rt, rt.alloc(), link)?;
-    assert!(rt; run.left(Ok(tried(0, Left::LinkFault)), 1));
+    assert!(rt; run.left_so(Ok(try_of(0, Left::LinkFault)), 1));
     assert!(rt; run.wrote(b"", b"GET /UP"));
     Ok(())
 }
@@ -188,12 +193,12 @@ fn a_link_whose_write_is_torn_is_left(rt: HostRuntime) -> Result<(), Fail> {
 fn gives_two<R: Wait>(rt: &R, alloc: Global, whole: &[u8], place: usize) -> Result<bool, Fail> {
     let (front, behind) = whole.split_at(place.min(whole.len()));
     let pieces = [front, b"".as_slice(), behind];
-    is_left(rt, alloc, 3, &pieces, tried(2, Left::End), FRAMES, 4)
+    is_left(rt, alloc, 3, &pieces, try_of(2, Left::End), FRAMES_AB, 4)
 }
 
 #[test]
 fn a_body_parts_at_any_place(rt: HostRuntime) -> Result<(), Fail> {
-    let whole = joined(rt.alloc(), &[ICY, FRAME_A, b"junk", FRAME_B])?;
+    let whole = join_pieces(rt.alloc(), &[ICY, FRAME_A, b"junk", FRAME_B])?;
     for place in 1..whole.len() {
         assert!(rt; gives_two(&rt, rt.alloc(), &whole, place)?, "at {place}");
     }
@@ -202,7 +207,7 @@ fn a_body_parts_at_any_place(rt: HostRuntime) -> Result<(), Fail> {
 
 #[test]
 fn a_chunked_body_parts_at_any_place(rt: HostRuntime) -> Result<(), Fail> {
-    let whole = joined(rt.alloc(), &[CHUNKED, CHUNKS])?;
+    let whole = join_pieces(rt.alloc(), &[CHUNKED, CHUNKS])?;
     for place in 1..whole.len() {
         assert!(rt; gives_two(&rt, rt.alloc(), &whole, place)?, "at {place}");
     }

@@ -3,12 +3,12 @@
 ghost use Rattle.std.specs.Prelude.{◌≡◌};
 ghost use Rattle.cast_io.specs.FakeLinks.{link_told};
 
-use crate::fakes::{FRAME_B, link_of};
 use crate::runs::answer_of;
 use cast_io::{Failed, Got, Link, MemLink, MemSink};
 use std::alloc::Global;
 use std::sync::Wait;
 use std::test::Fail;
+use test_support::{FRAME_B, ICY_A, link_of};
 
 /// A link that answers as one in memory, and notes its reads and rests, each as a letter: `b` where
 /// a read gave bytes, `i` where it gave nothing yet, `e` at the end, `f` where it failed, and `r`
@@ -68,9 +68,6 @@ fn calls<R: Wait>(rt: &R, alloc: Global, pieces: &[&[u8]]) -> Result<Vec<u8>, Fa
     let _ = answer_of(rt, alloc, 2, &mut link, &mut out)??;
     Ok(link.calls)
 }
-
-/// The head of an answer of NTRIP 1.0, and a frame.
-const ICY_A: &[u8] = b"ICY 200 OK\r\n\r\n\xD3\x00\x02\x3E\xD0\xA4\xE0\x00";
 
 // Only behind a read that gave nothing.
 #[test]

@@ -21,7 +21,7 @@ pub(crate) struct LinkRun {
 
 impl LinkRun {
     /// The link was left so, after so many steps.
-    pub(crate) fn left(&self, answer: Result<Try, FetchFault>, steps: usize) -> bool {
+    pub(crate) fn left_so(&self, answer: Result<Try, FetchFault>, steps: usize) -> bool {
         self.answer == answer && self.steps == Some(steps)
     }
 
@@ -61,7 +61,7 @@ fn link_run(
 }
 
 /// A fetch of so many frames, 1 to 4, over this link into this sink.
-pub(crate) fn fetched<R: Wait>(
+pub(crate) fn fetch_over<R: Wait>(
     rt: &R,
     alloc: Global,
     most: u64,
@@ -86,7 +86,7 @@ pub(crate) struct StreetRun {
 
 impl StreetRun {
     /// The casters were tried so.
-    pub(crate) fn tried(&self, tries: &[Try]) -> bool {
+    pub(crate) fn tried_so(&self, tries: &[Try]) -> bool {
         match &self.answer {
             Ok(answer) => answer.as_slice() == tries,
             Err(_) => false,
@@ -94,7 +94,7 @@ impl StreetRun {
     }
 
     /// The fault was this, and so many links came back.
-    pub(crate) fn faulted(&self, fault: FetchFault, links: usize) -> bool {
+    pub(crate) fn failed_by(&self, fault: FetchFault, links: usize) -> bool {
         matches!(&self.answer, Err(found) if *found == fault) && self.links == links
     }
 
@@ -105,7 +105,7 @@ impl StreetRun {
 }
 
 /// The addresses that a street was asked to dial. Where it was asked for doors, they are a mark.
-fn dialled(alloc: Global, calls: &[Asked]) -> Result<Vec<u8>, AllocError> {
+fn dials_of(alloc: Global, calls: &[Asked]) -> Result<Vec<u8>, AllocError> {
     let mut addresses = Vec::new(alloc);
     for asked in calls {
         match asked {
@@ -127,7 +127,7 @@ fn last_steps(links: &[MemLink]) -> (usize, Option<usize>) {
 }
 
 /// All that came of a fetch over this street.
-fn told(
+fn outcome_of(
     alloc: Global,
     answer: Result<Vec<Try>, FetchFault>,
     street: &MemStreet,
@@ -139,7 +139,7 @@ fn told(
     Ok(StreetRun {
         answer,
         written: out.bytes().to_vec(alloc)?,
-        dialled: dialled(alloc, calls)?,
+        dialled: dials_of(alloc, calls)?,
         links,
         steps,
     })
@@ -156,7 +156,7 @@ pub(crate) fn tried_two<R: Wait>(
     let targets = two_targets(alloc)?;
     let frames = frames.max(1).min(4);
     let answer = fetch(rt, alloc, &targets, frames, &mut street, &mut out);
-    told(alloc, answer, &street, &out)
+    outcome_of(alloc, answer, &street, &out)
 }
 
 /// A fetch of three frames from three casters over this street into this sink.
@@ -168,5 +168,5 @@ pub(crate) fn tried_three<R: Wait>(
 ) -> Result<StreetRun, Fail> {
     let targets = three_targets(alloc)?;
     let answer = fetch(rt, alloc, &targets, 3, &mut street, &mut out);
-    told(alloc, answer, &street, &out)
+    outcome_of(alloc, answer, &street, &out)
 }

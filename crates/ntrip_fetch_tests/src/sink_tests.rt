@@ -1,12 +1,13 @@
 //! Sinks that fail.
 
-use crate::fakes::{CHUNKED, FRAME_A, FRAME_B, ICY, joined, link_of, street_of};
-use crate::runs::{LinkRun, StreetRun, fetched, tried_three};
+use crate::fakes::{CHUNKED, join_pieces, street_of};
+use crate::runs::{LinkRun, StreetRun, fetch_over, tried_three};
 use cast_io::{MemSink, MemStreet};
 use ntrip_fetch::FetchFault;
 use std::alloc::Global;
 use std::sync::Wait;
 use std::test::Fail;
+use test_support::{FRAME_A, FRAME_B, ICY, link_of};
 
 /// The head of an answer of NTRIP 1.0, and a frame.
 const PLAIN: &[u8] = b"ICY 200 OK\r\n\r\n\xD3\x00\x02\x3E\xD0\xA4\xE0\x00";
@@ -19,7 +20,7 @@ const CHUNKS: &[u8] = b"HTTP/1.1 200 OK\r\nTransfer-Encoding: chunked\r\n\r\n\
 /// of this number takes three bytes and fails.
 fn torn<R: Wait>(rt: &R, alloc: Global, pieces: &[&[u8]], write: u64) -> Result<LinkRun, Fail> {
     let out = MemSink::torn(alloc, [(write, 3)].to_vec(alloc)?);
-    fetched(rt, alloc, 4, link_of(alloc, pieces, &[])?, out)
+    fetch_over(rt, alloc, 4, link_of(alloc, pieces, &[])?, out)
 }
 
 /// The fault of that write comes after so many steps of the link, and this was written.
@@ -32,7 +33,7 @@ fn is_torn<R: Wait>(
     written: &[u8],
 ) -> Result<bool, Fail> {
     let run = torn(rt, alloc, pieces, write)?;
-    Ok(run.left(Err(FetchFault::Sink), steps) && run.written.as_slice() == written)
+    Ok(run.left_so(Err(FetchFault::Sink), steps) && run.written.as_slice() == written)
 }
 
 // The fault comes at once, with so many steps of the link taken, and the frames before it are
@@ -72,8 +73,8 @@ fn a_sink_fails_at_each_of_its_writes(rt: HostRuntime) -> Result<(), Fail> {
 
 /// Three casters that send a frame each, the second one in a chunk.
 fn three_casters(alloc: Global) -> Result<MemStreet, Fail> {
-    let one = joined(alloc, &[ICY, FRAME_A])?;
-    let chunk = joined(alloc, &[CHUNKED, b"8\r\n", FRAME_A])?;
+    let one = join_pieces(alloc, &[ICY, FRAME_A])?;
+    let chunk = join_pieces(alloc, &[CHUNKED, b"8\r\n", FRAME_A])?;
     Ok(street_of(alloc, &[&[&one], &[&chunk], &[&one]])?)
 }
 
@@ -87,7 +88,7 @@ fn hung_up<R: Wait>(rt: &R, alloc: Global) -> Result<StreetRun, Fail> {
 #[test]
 fn a_link_is_hung_up_before_a_fault_is_answered(rt: HostRuntime) -> Result<(), Fail> {
     let run = hung_up(&rt, rt.alloc())?;
-    assert!(rt; run.faulted(FetchFault::Sink, 2));
+    assert!(rt; run.failed_by(FetchFault::Sink, 2));
     assert!(rt; run.wrote(FRAME_A, b"a:1 b:2 "));
     Ok(())
 }

@@ -7,7 +7,7 @@ use Rattle.std.specs.Str.{bytes_eq}
 use Rattle.cast_text.specs.declared.fault.NameFault.{NameFault}
 use Rattle.cast_text.specs.Name.{name_of}
 use Rattle.gga_read.specs.declared.Position.{Position}
-use Rattle.gga_read.specs.Report.{report_of}
+use Rattle.gga_read.specs.Report.{fix_of}
 use Rattle.ntrip_head.specs.declared.fault.HeadFault.{HeadFault}
 use Rattle.ntrip_head.specs.declared.fault.HeadFault.TheVariants.{Bad, Method, Coding}
 use Rattle.ntrip_head.specs.declared.request.Version.{Version}
@@ -31,7 +31,7 @@ auth_in fields = auth_of (value_in (codes "Authorization") fields)
 
 -- the position that the head reports (NMEA 0183, GGA)
 abbrev pub gga_in : HeadFields → Option Position
-gga_in fields = option_and_then report_of (value_in (codes "Ntrip-GGA") fields)
+gga_in fields = option_and_then fix_of (value_in (codes "Ntrip-GGA") fields)
 
 -- ---- what the target says
 

@@ -11,7 +11,7 @@ use std::alloc::{AllocError, Global};
 use std::marker::Model;
 
 /// The most bytes of a head.
-const LIMIT: usize = 8192;
+const MAX_HEAD_BYTES: usize = 8192;
 
 /// What one more byte makes of a head.
 #[derive(Clone, Copy, Debug, PartialEq, Eq)]
@@ -68,7 +68,7 @@ impl HeadBuf {
         ensures open { IfOk result (λ head. IsOpen head) }
     {
         Ok(HeadBuf {
-            bytes: Vec::with_capacity(alloc, LIMIT)?,
+            bytes: Vec::with_capacity(alloc, MAX_HEAD_BYTES)?,
         })
     }
 
@@ -84,7 +84,7 @@ impl HeadBuf {
         self.bytes.push_reserved(byte);
         if ends_with_empty_line(&self.bytes) {
             HeadStep::Done
-        } else if self.bytes.len() == LIMIT {
+        } else if self.bytes.len() == MAX_HEAD_BYTES {
             HeadStep::Long
         } else {
             HeadStep::More

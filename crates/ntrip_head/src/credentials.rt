@@ -12,7 +12,7 @@ use crate::fields::is_same;
 use crate::request::Auth;
 use base64::DecodeAllocError;
 use base64::engine::general_purpose::STANDARD;
-use cast_text::{Text, TextFault, place_of};
+use cast_text::{Text, place_of};
 use std::alloc::Global;
 
 /// The text of these bytes.
@@ -20,11 +20,7 @@ pub fn text(alloc: Global, bytes: &[u8]) -> Result<Text, HeadError>
     requires { length bytes.now ≤ 8192 }
     ensures { Gives result (Ok bytes.now) }
 {
-    match Text::new(alloc, bytes) {
-        Ok(text) => Ok(text),
-        Err(TextFault::Long(_)) => unreachable!(),
-        Err(TextFault::Memory) => Err(HeadError::Memory),
-    }
+    Ok(Text::of(alloc, bytes)?)
 }
 
 /// Whether the value begins with the scheme `Basic`, without case, and a space.

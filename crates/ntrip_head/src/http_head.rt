@@ -15,7 +15,7 @@ use httparse::spans::{EMPTY_HEADER_SPAN, HeaderSpan, RequestSpans, parse_request
 use std::alloc::Global;
 
 /// The most header lines of a head.
-pub const HEADERS: usize = 32;
+pub const MAX_HEADER_LINES: usize = 32;
 
 /// Whether there is a first byte, and it is not that of a line end.
 pub fn begins_in_line(bytes: &[u8]) -> bool
@@ -52,7 +52,7 @@ pub fn read_http(alloc: Global, bytes: &[u8]) -> Result<Request, HeadError>
     requires { length bytes.now ≤ 8192 }
     ensures { UnlessMemory result (HttpAnswer bytes.now) }
 {
-    let mut headers = [EMPTY_HEADER_SPAN; HEADERS];
+    let mut headers = [EMPTY_HEADER_SPAN; MAX_HEADER_LINES];
     let Some(spans) = whole_request(bytes, &mut headers) else {
         return Err(HeadError::Refused(HeadFault::Bad));
     };

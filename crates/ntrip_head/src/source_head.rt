@@ -8,7 +8,7 @@ ghost use Rattle.ntrip_head.specs.SourceHead.{is_source, IsHeaderBlock, without_
 use crate::credentials::text;
 use crate::cut::cut_by;
 use crate::fault::{HeadError, HeadFault};
-use crate::http_head::HEADERS;
+use crate::http_head::MAX_HEADER_LINES;
 use crate::judge::mount_name;
 use crate::request::{Request, Version};
 use httparse::Status;
@@ -48,7 +48,7 @@ fn is_header_block(bytes: &[u8]) -> bool
     ensures block { IsTrue result → IsHeaderBlock bytes.now }
     ensures none { result ≡ false → ¬ (IsHeaderBlock bytes.now) }
 {
-    let mut headers = [EMPTY_HEADER_SPAN; HEADERS];
+    let mut headers = [EMPTY_HEADER_SPAN; MAX_HEADER_LINES];
     match parse_headers(bytes, &mut headers) {
         Ok(Status::Complete((len, _))) => len == bytes.len(),
         _ => false,

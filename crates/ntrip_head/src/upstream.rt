@@ -8,7 +8,7 @@ ghost use Rattle.ntrip_head.specs.Upstream.{IsWholeResponse, IsNoResponse, upstr
 
 use crate::fault::HeadFault;
 use crate::fields::{is_other_coding, is_word, value_in};
-use crate::http_head::{HEADERS, begins_in_line};
+use crate::http_head::{MAX_HEADER_LINES, begins_in_line};
 use httparse::Status;
 use httparse::spans::{EMPTY_HEADER_SPAN, HeaderSpan, ResponseSpans, parse_response};
 
@@ -65,7 +65,7 @@ fn upstream_of(status: u16, bytes: &[u8], headers: &[HeaderSpan]) -> Result<Upst
 pub fn read_upstream(bytes: &[u8]) -> Result<Upstream, HeadFault>
     ensures { UpstreamAnswer bytes.now result }
 {
-    let mut headers = [EMPTY_HEADER_SPAN; HEADERS];
+    let mut headers = [EMPTY_HEADER_SPAN; MAX_HEADER_LINES];
     let Some(spans) = whole_response(bytes, &mut headers) else {
         return Err(HeadFault::Bad);
     };

@@ -26,7 +26,7 @@ pub fn claims(out: &mut Vec<u8>) -> Result<(), AllocError> {
 }
 
 /// What is answered to a look and to a claim once a claim was given back, and how many were given.
-pub fn released(out: &mut Vec<u8>) -> Result<(), AllocError> {
+pub fn release_claim(out: &mut Vec<u8>) -> Result<(), AllocError> {
     let round = Round::new(*out.allocator(), 4, Filter::all());
     let Some(mut desk) = round.and_then(|round| round.release()) else {
         return put(out, "no ring");

@@ -25,7 +25,7 @@ fn ring_call(call: &str, rest: &str, out: &mut Vec<u8>) -> Result<(), AllocError
         "all-filters" => filters::all_filters(out),
         "ring" => rings::ring(rest, out),
         "claims" => claims::claims(out),
-        "released" => claims::released(out),
+        "released" => claims::release_claim(out),
         "largest" => claims::largest(out),
         _ => put(out, "no such call"),
     }

@@ -12,6 +12,6 @@ handed_on turns.Memory = Memory
 
 -- What a refusal shows, by whether memory may lack and by how many turns the place is worn after
 -- it: Worn tells exactly that number, which is at least 2 ^ 62.
-abbrev pub IsRefusal : Bool → ℕ → SegFault → Type 0
+abbrev pub IsRefusal : (may_lack : Bool) → ℕ → SegFault → Type 0
 IsRefusal may_lack worn (Worn given) = (given ≡ worn) × (2 ^ 62 ≤ given)
 IsRefusal may_lack worn Memory = IsTrue may_lack

@@ -8,7 +8,7 @@ use Rattle.std.specs.Str.Lines.{strip_carriage_return}
 use Rattle.cast_text.specs.Lines.{LineState, unfinished, whole_lines, no_line}
 use Rattle.cast_text.proofs.LineLemmas.{lines_kept, lines_ended}
 use Rattle.gga_read.specs.declared.Position.{Position}
-use Rattle.gga_read.specs.Report.{report_of, reports}
+use Rattle.gga_read.specs.Report.{fix_of, reports}
 use Rattle.base_select.specs.declared.Base.{Base}
 use Rattle.mount_ring.specs.declared.call.RingCall.TheVariants.{Join}
 use Rattle.session_calls.specs.Steps.{Step, to_ring, answer_of}
@@ -57,8 +57,8 @@ lines_more limit bytes (byte ∷ more) =
 pub reports_more : (bytes more : List ℕ) → (new : List Position) × (reports (bytes ++ more) ≡ reports bytes ++ new)
 reports_more bytes more =
     let lines : HasMore 128 bytes more = lines_more 128 bytes more in (
-      filter_map report_of lines.0,
-      ap (filter_map report_of) lines.1 ∙ filter_map-append report_of (whole_lines 128 bytes) lines.0,
+      filter_map fix_of lines.0,
+      ap (filter_map fix_of) lines.1 ∙ filter_map-append fix_of (whole_lines 128 bytes) lines.0,
     )
 
 -- ---- the calls so far are a beginning of all

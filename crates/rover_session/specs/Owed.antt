@@ -78,7 +78,7 @@ joins_each filter [] = done
 joins_each filter (base ∷ bases) =
     asks (to_ring base.mount (Join filter)) (λ answer. joins_each filter bases)
 
-abbrev pub plan_by : Bool → Terms → List Position → Plan
+abbrev pub plan_by : (near : Bool) → Terms → List Position → Plan
 plan_by false terms told = joins_each terms.filter terms.bases
 plan_by true terms told = follows terms None told
 
@@ -88,7 +88,7 @@ rover_plan terms first bytes =
     plan_by terms.near terms (option_to_list first ++ reports bytes)
 
 -- what further reports ask of a rover that joined this base last: nothing, where it is not near
-abbrev pub heeds : Bool → Terms → Option ℕ → List Position → Plan
+abbrev pub heeds : (near : Bool) → Terms → Option ℕ → List Position → Plan
 heeds false terms present new = done
 heeds true terms present new = follows terms present new
 

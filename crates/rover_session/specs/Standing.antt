@@ -81,7 +81,8 @@ pub record AskedEach (shapes : List RingShape) (alone : Bool) (old now : List (H
   pub went : Went shapes alone old now me (looked lives)
 
 -- the same of the first of these bases, before a look was refused
-abbrev pub AskedFirst : List RingShape → Bool → List (History RingCall) → List (History RingCall)
+abbrev pub AskedFirst : List RingShape → (alone : Bool) → List (History RingCall)
+    → List (History RingCall)
     → ℕ → List Base → Type 0
 AskedFirst shapes alone old now me bases =
     (first : List Base) × (rest : List Base) × (held : List Base) × (bases ≡ first ++ rest)

@@ -9,4 +9,5 @@ pub mod laws;
 mod places;
 mod session;
 
+pub use body::push_frames;
 pub use session::RoverSession;

@@ -10,7 +10,7 @@ ghost use Rattle.rover_session.specs.Places.{StayAtRings};
 ghost use Rattle.rover_session.specs.Standing.{KnowsFilter, AreWithin, IsResumable, WasResumable, SentSoFar, frames_sent, frames_read, Stands, Told, TurnSent, SameAdmission, SameButSegments, IsNew};
 
 use crate::admitted::Admitted;
-use crate::body::{MOST_OF_TURN, append_frames};
+use crate::body::{MAX_TURN_BYTES, append_frames};
 use crate::follow::{begin_segment, heed, heed_all};
 use crate::places::read_at;
 use base_select::Base;
@@ -227,7 +227,7 @@ impl RoverSession {
         let Some(newest) = self.segments.len().checked_sub(1) else {
             return Ok(0);
         };
-        if out.reserve(MOST_OF_TURN).is_err() {
+        if out.reserve(MAX_TURN_BYTES).is_err() {
             return Err(SegFault::Memory);
         }
         let mut outbox = Outbox::new();

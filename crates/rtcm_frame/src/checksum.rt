@@ -81,7 +81,7 @@ pub(crate) fn moved_by(zeros: usize, crc: u32) -> u32
     moved_far(zeros / 32, moved_near(zeros % 32, crc))
 }
 
-// The same of fewer than 32 bytes of zero.
+// The checksum with fewer than 32 bytes of zero behind what it was of.
 #[inline]
 fn moved_near(zeros: usize, crc: u32) -> u32
     requires zeros { zeros < 32 }
@@ -94,7 +94,7 @@ fn moved_near(zeros: usize, crc: u32) -> u32
     near_digit(zeros, 5, crc) ^ (near_digit(zeros, 4, crc) ^ middle)
 }
 
-// The same of up to 32 times 32 bytes of zero.
+// The checksum with up to 32 times 32 bytes of zero behind what it was of.
 #[inline]
 fn moved_far(steps: usize, crc: u32) -> u32
     requires steps { steps < 33 }

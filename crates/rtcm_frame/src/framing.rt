@@ -10,16 +10,16 @@ use std::marker::Model;
 pub(crate) const PREAMBLE: u8 = 0xD3;
 
 /// The greatest length of a frame in bytes.
-pub(crate) const LONGEST: usize = 1029;
+pub(crate) const MAX_FRAME_BYTES: usize = 1029;
 
 /// The bytes of a header and of a checksum, the least length of a frame.
-const SHORTEST: usize = 6;
+const MIN_FRAME_BYTES: usize = 6;
 
 /// One whole valid frame, 6 to 1,029 bytes (RTCM 10403.3, transport layer). Contracts see its
 /// bytes.
 #[derive(Clone, Copy, Debug, PartialEq, Eq)]
 pub struct Frame {
-    bytes: [u8; LONGEST],
+    bytes: [u8; MAX_FRAME_BYTES],
     len: usize,
 }
 
@@ -44,11 +44,11 @@ impl Default for Frame {
 
     /// The shortest frame, with an empty payload.
     fn default() -> Frame {
-        let mut bytes = [0; LONGEST];
+        let mut bytes = [0; MAX_FRAME_BYTES];
         put_front(&mut bytes, &[PREAMBLE, 0x00, 0x00, 0x47, 0xEA, 0x4B]);
         Frame {
             bytes,
-            len: SHORTEST,
+            len: MIN_FRAME_BYTES,
         }
     }
 }
@@ -70,7 +70,7 @@ impl Frame {
         requires { IsTrue (is_frame bytes.now) }
         ensures { result ≡ bytes.now }
     {
-        let mut held = [0; LONGEST];
+        let mut held = [0; MAX_FRAME_BYTES];
         put_front(&mut held, bytes);
         Frame {
             bytes: held,
@@ -137,7 +137,7 @@ pub(crate) fn claimed_length(bytes: &[u8]) -> usize
     } else {
         0
     };
-    (high * 256 + low) % 1024 + SHORTEST
+    (high * 256 + low) % 1024 + MIN_FRAME_BYTES
 }
 
 // These bytes are one whole valid frame.
@@ -146,13 +146,13 @@ pub(crate) fn is_whole(bytes: &[u8]) -> bool
     ensures { result ≡ is_frame bytes.now }
 {
     let n = bytes.len();
-    if n < SHORTEST {
+    if n < MIN_FRAME_BYTES {
         return false;
     }
     is_whole_by(bytes, crc24q(&bytes[..n - 3]))
 }
 
-// The same, where the checksum of all but their last three is known.
+// These bytes are one whole valid frame, by the checksum of all but their last three.
 #[tactic(auto, unfolding(crate::specs::Transport::is_frame))]
 pub(crate) fn is_whole_by(bytes: &[u8], crc: u32) -> bool
     requires least { 6 ≤ length bytes.now }

@@ -8,14 +8,14 @@ ghost use Rattle.rtcm_frame.specs.Pending.{Pending, Gave, GaveAll, Took, IsBehin
 
 use crate::buffer::{put_from, with_room};
 use crate::cutting::{Front, bytes_before_preamble};
-use crate::framing::{Frame, LONGEST, PREAMBLE, claimed_length, is_whole, is_whole_by};
+use crate::framing::{Frame, MAX_FRAME_BYTES, PREAMBLE, claimed_length, is_whole, is_whole_by};
 use crate::sums::{part_crc, reach};
 use std::fmt;
 use std::marker::Model;
 
 // The buffer holds twice the longest frame. So each time that what waits is moved to its front, at
 // least a longest frame's length of bytes was passed over before.
-const ROOM: usize = 2 * LONGEST;
+const ROOM: usize = 2 * MAX_FRAME_BYTES;
 
 // A sum stands before each byte of the buffer, and one behind the last.
 const SUMS: usize = ROOM + 1;
@@ -64,7 +64,7 @@ impl Default for Cutter {
 impl fmt::Debug for Cutter {
     fn fmt<W: fmt::Write>(&self, f: &mut fmt::Formatter<W>) -> fmt::Result {
         f.debug_struct("Cutter")
-            .field("waiting", &self.waiting())
+            .field("waiting", &self.uncut_bytes())
             .field("junk", &self.junk)
             .finish()
     }
@@ -152,7 +152,7 @@ impl Cutter {
 
     // The bytes that are not yet cut.
     #[inline]
-    fn waiting(&self) -> &[u8]
+    fn uncut_bytes(&self) -> &[u8]
         ensures { result.now ≡ self.now.bytes }
     {
         &self.buffer[self.start..self.start + self.len]
@@ -181,7 +181,7 @@ impl Cutter {
         ensures front { IsFrontOf self.old.bytes result }
         ensures same { self.new ≡ self.old }
     {
-        let waiting = self.waiting();
+        let waiting = self.uncut_bytes();
         if waiting.is_empty() {
             return Front::Waits;
         }
@@ -208,13 +208,13 @@ impl Cutter {
         ensures value { result ≡ is_frame (take count self.old.bytes) }
         ensures same { self.new ≡ self.old }
     {
-        if self.summed <= self.start && is_whole(&self.waiting()[..count]) {
+        if self.summed <= self.start && is_whole(&self.uncut_bytes()[..count]) {
             return true;
         }
         self.is_frame_by_sums(count)
     }
 
-    // The same by the sums alone, which then reach over these bytes.
+    // Whether so many bytes in front are a whole frame, by the sums, which then reach over them.
     fn is_frame_by_sums(&mut self, count: usize) -> bool
         requires within { count ≤ length self.old.bytes }
         requires least { 6 ≤ count }
@@ -226,7 +226,7 @@ impl Cutter {
         let summed = self.summed.max(self.start);
         self.summed = reach(&mut self.sums, &self.buffer, summed, end);
         let crc = part_crc(&self.sums, self.start, end);
-        is_whole_by(&self.waiting()[..count], crc)
+        is_whole_by(&self.uncut_bytes()[..count], crc)
     }
 
     // Takes the frame of so many bytes in front.
@@ -237,7 +237,7 @@ impl Cutter {
         ensures behind { self.new
             ≡ record { bytes = drop count self.old.bytes; junk = self.old.junk } }
     {
-        let frame = Frame::held(&self.waiting()[..count]);
+        let frame = Frame::held(&self.uncut_bytes()[..count]);
         self.skip(count);
         frame
     }
@@ -262,7 +262,7 @@ impl Cutter {
         ensures passed { IsBehindJunk self.old self.new [] }
         ensures less { length self.new.bytes < length self.old.bytes }
     {
-        let run = 1 + bytes_before_preamble(&self.waiting()[1..]);
+        let run = 1 + bytes_before_preamble(&self.uncut_bytes()[1..]);
         self.count_junk(run);
     }
 

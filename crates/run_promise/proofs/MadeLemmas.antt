@@ -21,6 +21,7 @@ use Rattle.session_model.specs.Setting.{shapes, caps}
 use Rattle.session_model.specs.Run.{Histories, with_call, with_calls, step_at, made}
 use Rattle.session_model.proofs.GoodLemmas.{IsGoodAsk, IsGood}
 use Rattle.run_promise.specs.Calls.{IsReadOn}
+use Rattle.session_model.proofs.KeepLemmas.{asked_same}
 
 -- what two equal calls ask, and where
 pub asks_mount : (m n : ℕ) (x y : RingCall) → to_ring m x ≡ to_ring n y → m ≡ n
@@ -28,11 +29,6 @@ asks_mount m n x y e = cc
 
 pub asks_call : (m n : ℕ) (x y : RingCall) → to_ring m x ≡ to_ring n y → x ≡ y
 asks_call m n x y e = cc
-
--- a step asks what was asked
-pub asked_same : (c : Config) (me : ℕ) (h : Histories) (ask : Ask) → ask_of (step_at c me h ask) ≡ ask
-asked_same c me h (to_ring mount call) = refl
-asked_same c me h (to_book call) = refl
 
 -- the whole plan was made
 pub made_is : (c : Config) (me : ℕ) (h : Histories) (plan : Plan) → IsMade plan (made c me h plan)

@@ -23,11 +23,10 @@ use Rattle.caster_replay.specs.Runs.{IsKnown, AreKnown}
 use Rattle.caster_replay.proofs.WorldHeadingLemmas.{bytes-append, bytes_stay, unless_cut}
 use Rattle.caster_replay.proofs.WorldClosedLemmas.{received_closed}
 use Rattle.caster_replay.proofs.WorldListLemmas.{moved_by, apart_moved}
-use Rattle.caster_replay.proofs.WorldKnownLemmas.{IsClean, Tells, Starts, bytes_same, opened_same, known_happens, known_opened, tells_in, tells_turn, tells_break, tells_end, starts_open, starts_relay, starts_source, starts_rover}
+use Rattle.caster_replay.proofs.WorldKnownLemmas.{IsClean, Tells, Starts, bytes_same, opened_same, known_happens, known_opened, tells_in, tells_turn, tells_break, tells_end, starts_open, starts_relay, starts_source, starts_rover, known_placed}
 use Rattle.caster_replay.proofs.WorldRunnerLemmas.{after_one}
 use Rattle.caster_replay.proofs.WorldSessionLemmas.{session_clean}
 use Rattle.run_promise.proofs.MadeLemmas.{made_is}
-use Rattle.run_promise.proofs.RunLemmas.{all_placed}
 
 -- ---- all its bytes
 
@@ -142,7 +141,7 @@ module _ (c : Config) (headings : ℕ → Heading) where
   whole_opened true list event number o w starts none whole =
       all_same list event w.connections (λ n. (starts.silent n).0) whole
   whole_opened false list event number o w starts none whole =
-      all_placed (IsWhole (list ++ event ∷ []))
+      known_placed (IsWhole (list ++ event ∷ []))
       (moved c (headings number) w.histories (fresh number o) (arrives [])).connection w.connections
       (whole_if (list ++ event ∷ []) _ (judged_of c (headings number) (with_text (fresh number o) []))
       (makes c w.histories (with_text (fresh number o) []) (owed c o (headings number) [] [] (arrives [])))

@@ -24,9 +24,9 @@ use Rattle.session_model.specs.Owed.{Happening, arrives, takes_turn, ends}
 use Rattle.session_model.specs.Endings.{goes_on}
 use Rattle.session_model.specs.Run.{Histories, Connected, World, Moved, nothing_called, judged_of, moved, moved_if, is_concerned, happens_in, happens, placed_if, placed, is_opened, opened_if, fresh, opens, after_event, after_events, closes, world}
 use Rattle.caster_replay.specs.Runs.{AreAbove, IsIncreasing}
-use Rattle.caster_replay.proofs.WorldListLemmas.{none_above, moved_by, apart_moved, happens_nowhere}
+use Rattle.caster_replay.proofs.WorldListLemmas.{none_above, moved_by, apart_moved, happens_nowhere, onto}
 use Rattle.caster_replay.proofs.WorldRunLemmas.{increasing_placed}
-use Rattle.caster_replay.proofs.WorldKnownLemmas.{opened_same}
+use Rattle.caster_replay.proofs.WorldKnownLemmas.{opened_same, known_placed}
 use Rattle.run_promise.proofs.StoodLemmas.{extends_same, Walked, Stood, AllBy, stood_on, fresh_moves, moved_if_moves}
 
 -- what stands of a connection with these headings
@@ -67,10 +67,6 @@ record Happened (c : Config) (headings : ℕ → Heading) (number : ℕ) (h : Hi
   callers : (is_such : ℕ → Bool) → (is_opened number ds ≡ true → IsTrue (is_such number)) → (mount : ℕ)
       → AllBy is_such (history_at h.rings mount) → AllBy is_such (history_at w.histories.rings mount)
 
--- the first of several connections, with what becomes of the others
-abbrev with_first : Connected → World → World
-with_first d w = record { connections = d ∷ w.connections; histories = w.histories }
-
 went_on_none : (rings : List (History RingCall)) (me : ℕ) → WentOn rings rings me
 went_on_none rings me =
     record { size = refl; rings = λ mount. ([], sym (append-nil (history_at rings mount)), refl) }
@@ -93,7 +89,7 @@ happens_here c cap headings number what h d ds kept same order all =
     (λ is. (and_parts (d.number == number) (goes_on (judged_of c (headings d.number) d) d.steps d.closed) is).1) in
     let none : is_opened number ds ≡ false =
     subst (λ (n : ℕ). is_opened n ds ≡ false) (sym same) (none_above d.number ds order.0) in
-    let is = ap (with_first m.connection) (happens_nowhere c headings number what m.histories ds none) in
+    let is = ap (onto m.connection) (happens_nowhere c headings number what m.histories ds none) in
     subst (Happened c headings number h (d ∷ ds)) (sym is) (record {
       size = moves.size;
       others = λ me apart. moves.others me (λ e. apart (e ∙ sym same));
@@ -128,7 +124,7 @@ happens_all c cap headings number what h (d ∷ ds) kept order all = elim (cases
       let rest = happens_all c cap headings number what h ds kept order.1 (All-tail (IsStood c headings h) d ds all) in
       let w = happens_in c headings number what h ds in
       subst (λ (m : Moved). Happened c headings number h (d ∷ ds)
-      (with_first m.connection (happens_in c headings number what m.histories ds)))
+      (onto m.connection (happens_in c headings number what m.histories ds)))
       (sym (apart_moved c headings number what h d (λ e. apart (sym e)))) (record {
         size = rest.size;
         others = rest.others;
@@ -179,15 +175,6 @@ pub happens_others : (c : Config) (cap : ℕ) (headings : ℕ → Heading) (w : 
     → WentOn w.histories.rings (happens c headings w number what).histories.rings me
 happens_others c cap headings w number what kept run =
     (happens_all c cap headings number what w.histories w.connections kept run.order run.each).others
-
--- one is placed among the others
-pub all_placed : (P : Connected → Type 0) (d : Connected) (ds : List Connected) → P d → All P ds → All P (placed d ds)
-all_placed P d [] one all = All-cons P d [] one all
-all_placed P d (e ∷ ds) one all =
-    elim (nat_lt e.number d.number) as (λ b. All P (placed_if b d e ds (placed d ds))) [
-      | true ↦ All-cons P e (placed d ds) (All-head P e ds all) (all_placed P d ds one (All-tail P e ds all))
-      | false ↦ All-cons P d (e ∷ ds) one all
-    ]
 
 swapped : (a b x : Bool) → (a || (b || x)) ≡ (b || (a || x))
 swapped true true x = refl
@@ -274,7 +261,7 @@ opened_runs false c cap headings w number o kept is run =
     record {
       size = moves.size ∙ run.size;
       order = increasing_placed d ds (ap (λ (n : ℕ). is_opened n ds) moves.number ∙ is) run.order;
-      each = all_placed (IsStood c headings m.histories) d ds
+      each = known_placed (IsStood c headings m.histories) d ds
           (subst (λ (n : ℕ). Stood c (headings n) m.histories d) (sym moves.number) moves.stood)
           (stay_stood c headings w.histories m.histories ds
           (λ e there. moves.others e.number

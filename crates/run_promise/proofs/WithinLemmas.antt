@@ -1,10 +1,10 @@
 -- Under a configuration that keeps its rules, what a connection owes is at mountpoints that there
 -- are.
-use Rattle.std.proofs.Common.{◌≡◌, ◌<◌, ◌+◌, ◌++◌, ℕ, suc, Bool, true, false, cond, List, [], ◌∷◌, length, All, Option, None, Some, Result, Ok, Err, refl, subst, arith, option_to_list}
+use Rattle.std.proofs.Common.{◌≡◌, ◌<◌, ◌+◌, ◌++◌, ℕ, suc, Bool, true, false, cond, List, [], ◌∷◌, length, Option, None, Some, Result, Ok, Err, refl, subst, arith, option_to_list}
 use Rattle.std.specs.Prelude.{⊤, IfSome, nat_le, drop, slice_get, slice_index}
 use Rattle.std.specs.List.{position_from}
 use Rattle.std.specs.Str.{bytes_eq}
-use Rattle.std.proofs.lemmas.Option.{slice_get_within, get_or_from_slice_get}
+use Rattle.std.proofs.lemmas.Option.{slice_get_within}
 use Rattle.std.proofs.lemmas.List.{length-map}
 use Rattle.std.proofs.lemmas.List.Elements.{All-head, All-tail, All-cons, All-nil, All-append}
 use Rattle.gga_read.specs.declared.Position.{Position}
@@ -44,7 +44,7 @@ use Rattle.session_model.specs.Headings.{Heading, incomplete, too_long, whole, a
 use Rattle.session_model.specs.Judged.{Opening, sends_head, relays, bare_source, bare_rover, Judged, waiting, finished, source, rover, source_judged, rover_judged, request_judged, once, heading_judged, said_judged, relay_judged, mount_fed, named, bare_admission, judged}
 use Rattle.session_model.specs.Owed.{came_by, is_let_in, if_entered, terms_of, plan_of, closing_by}
 use Rattle.session_model.proofs.CameLemmas.{came_parts}
-use Rattle.session_core.proofs.AdmittedLemmas.{source_is}
+use Rattle.session_core.proofs.AdmittedLemmas.{source_is, at_place}
 use Rattle.run_promise.proofs.MadeLemmas.{IsWithin}
 
 -- ---- a source
@@ -230,10 +230,6 @@ heading_fed c (whole at answer) text =
 heading_fed c (answered at said) text = tt
 
 -- a relay feeds a mountpoint
-at_place : {X : Type 0} (P : X → Type 0) (xs : List X) (k : ℕ) (x : X) → All P xs → slice_get xs k ≡ Some x → P x
-at_place P xs k x all here =
-    subst P (get_or_from_slice_get xs k x x here) (all k x (slice_get_within xs k x here))
-
 fed_by : (c : Config) (cap n : ℕ) (relay : Option Relay) → KeepsRules cap c → slice_get c.relay n ≡ relay
     → mount_fed relay < length c.mount
 fed_by c cap n None kept here = omega (arith, kept.some_mounts)

@@ -33,7 +33,7 @@ use Rattle.run_promise.specs.Selected.{Selects}
 -- ---- bodies
 
 -- the bytes that a source's body carries: all of it, or what its chunks hold so far
-abbrev pub Carries : Bool → List ℕ → List ℕ → Type 0
+abbrev pub Carries : (chunked : Bool) → List ℕ → List ℕ → Type 0
 Carries false body carried = carried ≡ body
 Carries true body carried = IsPlain body carried
 

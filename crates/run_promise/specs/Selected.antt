@@ -62,7 +62,7 @@ JoinsEach filter (base ∷ bases) calls =
 
 -- the calls that a rover's reports select, where it is near, and so takes the nearest of its bases
 -- (the first argument), and where it is not: each Join is at one of them, with its filter
-abbrev pub Selects : Bool → ℕ → ℕ → List Base → List Position → List Call → Type 0
+abbrev pub Selects : (near : Bool) → ℕ → ℕ → List Base → List Position → List Call → Type 0
 Selects true hysteresis filter bases reports calls =
     Follows hysteresis filter bases None reports calls
 Selects false hysteresis filter bases reports calls = JoinsEach filter bases calls

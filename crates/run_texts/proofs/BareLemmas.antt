@@ -19,7 +19,7 @@ use Rattle.session_model.specs.Reports.{no_heads, opened_as, opened_if, bytes_to
 use Rattle.session_model.specs.Text.{report_text}
 use Rattle.session_model.proofs.LawLemmas.{one_of, one_report}
 use Rattle.caster_warm.specs.Warm.{IsWarmReport, warm_report}
-use Rattle.run_texts.specs.Texts.{IsRunText, IsWarmText, bare_report, report}
+use Rattle.run_texts.specs.Texts.{IsRunText, IsWarmText, bare_report, bare_report_text}
 
 -- it did not open, or as a bare source or rover
 abbrev IsBare : Option Opening → Type 0
@@ -85,8 +85,8 @@ bare_is_report c script r session is =
     is.2 ∙ ap (λ (headings : ℕ → Heading). reports.report c headings script) (headings_bare script is.0 session is.1)
 
 pub bare_text : (c : Config) (script : List Event) (text : List ℕ) → IsSession Bare script → IsRunText c script text
-    → text ≡ report c script
-unfolding report
+    → text ≡ bare_report_text c script
+unfolding bare_report_text
 bare_text c script text session is =
     is.text_is ∙ ap (report_text c) (bare_is_report c script is.report session is.is)
 

@@ -34,8 +34,8 @@ abbrev pub bare_report : Config → List Event → Report
 bare_report c events = reports.report c no_heads events
 
 -- its text
-unfoldable pub report : Config → List Event → List ℕ
-report c events = report_text c (bare_report c events)
+unfoldable pub bare_report_text : Config → List Event → List ℕ
+bare_report_text c events = report_text c (bare_report c events)
 
 -- ---- of a session that is made of a number
 

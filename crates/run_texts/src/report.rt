@@ -28,8 +28,9 @@ pub fn run_text(alloc: Global, config: &Config, events: &[Event]) -> Result<Vec<
     Ok(text)
 }
 
-/// The same with rovers that are greeted: one that joins is also sent the last permitted frames of
-/// the messages 1005, 1006, 1007, 1008, 1033 and 1230 (RTCM 10403.3) that were published before.
+/// The report of a script whose rovers are greeted, as text. A rover that joins is also sent the
+/// last permitted frames of the messages 1005, 1006, 1007, 1008, 1033 and 1230 (RTCM 10403.3) that
+/// were published before.
 ///
 /// # Errors
 /// For want of memory.

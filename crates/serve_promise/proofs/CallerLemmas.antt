@@ -32,7 +32,7 @@ use Rattle.session_model.specs.Run.{Histories, nothing_called}
 use Rattle.session_core.specs.Standing.{IsMadeBy, is_halted}
 use Rattle.session_core.specs.Closed.{IsSettled}
 use Rattle.session_model.proofs.GoodLemmas.{IsGoodAsk, IsGood, good_plan, good_closing}
-use Rattle.caster_serve.specs.Ends.{EndTold, at_door, over_link, IsUnused}
+use Rattle.caster_serve.specs.Endpoints.{EndpointTold, at_door, over_link, IsUnused}
 use Rattle.caster_places.specs.Rows.{AreWhole}
 use Rattle.caster_places.specs.Rows as rows
 use Rattle.session_model.specs.Courses.{steps_of}
@@ -222,7 +222,7 @@ followed_kept c me (entry ∷ entries) start now histories is on_to frames =
       followed_kept c me entries is.0 now histories is.2 on_to frames,
     )
 
-over_fits : (c : Config) (limit me : ℕ) (wear : Wear) (before after : EndTold) (old new : Caller)
+over_fits : (c : Config) (limit me : ℕ) (wear : Wear) (before after : EndpointTold) (old new : Caller)
     → ServedOver c limit me wear before after old new → FitsOn me old.seen.rings new.seen.rings
 over_fits c limit me wear (at_door before) (at_door after) old new is =
     followed_fits c me wear is.works.entries old.seen new.seen is.works.followed
@@ -232,13 +232,13 @@ over_fits c limit me wear (over_link number before) (over_link now after) old ne
     record_fits c (relays number) me wear (record { link = after; receipt = is.1.receipt }) old.seen new.seen is.1.goes
 
 -- what was served over this end
-record ServedLinks (c : Config) (histories : Histories) (me : ℕ) (after : EndTold) (old new : Caller) : Type 0 where
+record ServedLinks (c : Config) (histories : Histories) (me : ℕ) (after : EndpointTold) (old new : Caller) : Type 0 where
   entries : List Record
   links : AreLinksAt after new.served entries
   in_turn : AreKeptInTurn c (opening_at after) me histories entries old.seen.rings new.seen.rings
   tally : new.tally ≡ fold tallied old.tally (receipts_of entries)
 
-over_kept : (c : Config) (limit me : ℕ) (before after : EndTold) (old new : Caller) (histories : Histories)
+over_kept : (c : Config) (limit me : ℕ) (before after : EndpointTold) (old new : Caller) (histories : Histories)
     → ServedOver c limit me (only_worn (call_counts histories)) before after old new → IsUnused before
     → GoOnTo new.seen.rings histories.rings → AllFrames histories.rings → ServedLinks c histories me after old new
 over_kept c limit me (at_door before) (at_door after) old new histories is unused on_to frames =

@@ -53,7 +53,8 @@ use Rattle.serve_promise.specs.Links.{AllFrames, GoOnTo, AreCallsBetween, IsJudg
 use Rattle.serve_promise.proofs.StepLemmas.{given_is, called_answered, good_owed, ran_on}
 use Rattle.serve_promise.proofs.ClosesLemmas.{Closes, closes_so, closing_closers, closers_front, closers_still, unasked_none}
 use Rattle.serve_promise.proofs.SameLemmas.{Same, was_same}
-use Rattle.serve_promise.proofs.FrameLemmas.{keeps_so, all_count, later_so, frames_later}
+use Rattle.serve_promise.proofs.FrameLemmas.{keeps_so, later_so, frames_later}
+use Rattle.session_model.proofs.PromiseLemmas.{all_count}
 use Rattle.serve_promise.proofs.FirstLemmas.{first_so}
 
 -- ---- whether it was halted

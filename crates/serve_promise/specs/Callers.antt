@@ -14,7 +14,7 @@ use Rattle.session_model.specs.declared.report.Closed.{Closed}
 use Rattle.session_model.specs.Judged.{Opening, sends_head, relays}
 use Rattle.session_model.specs.Reports.{added, mount_total, sums_from}
 use Rattle.session_model.specs.Run.{Histories, nothing_called}
-use Rattle.caster_serve.specs.Ends.{EndTold, at_door, over_link, kind_of, kinds}
+use Rattle.caster_serve.specs.Endpoints.{EndpointTold, at_door, over_link, kind_of, kinds}
 use Rattle.caster_link.specs.Links.{IsCausedBy}
 use Rattle.caster_link.specs.Wear.{only_worn, IsRefusedBy}
 use Rattle.caster_serve.specs.Works.{Record, IsTold, links_of, receipts_of, tallied}
@@ -39,7 +39,7 @@ pub record IsEntryKept (c : Config) (opening : Opening) (me : ℕ)
   pub kept : IsLinkKept c opening me start now histories.rings (bytes_in taken) written last
       entry.receipt
 
--- so did each of these, one after the other, from the histories that the one before it left
+-- the connections of these links kept it, each from the histories that the one before it left
 abbrev pub AreKeptInTurn : Config → Opening → ℕ → Histories → List Record
     → List (History RingCall) → List (History RingCall) → Type 0
 AreKeptInTurn c opening me histories [] start now = now ≡ start
@@ -49,13 +49,13 @@ AreKeptInTurn c opening me histories (entry ∷ entries) start now =
     × AreKeptInTurn c opening me histories entries between now
 
 -- how the links of a worker open, and that of a relay
-abbrev pub opening_at : EndTold → Opening
+abbrev pub opening_at : EndpointTold → Opening
 opening_at (at_door door) = sends_head
 opening_at (over_link number link) = relays number
 
 -- so many links of a worker, which came back to its door in this order, where it tells them; and
 -- the one link of a relay
-abbrev pub AreLinksAt : EndTold → ℕ → List Record → Type 0
+abbrev pub AreLinksAt : EndpointTold → ℕ → List Record → Type 0
 AreLinksAt (at_door door) count entries =
     IsTold door.back (links_of entries) × (length entries ≡ count)
 AreLinksAt (over_link number link) count entries = links_of entries ≡ link ∷ []
@@ -72,7 +72,7 @@ pub record IsCallerKept (c : Config) (histories : Histories) (me : ℕ) (caller 
         → GoesOn me (history_at caller.seen.rings mount) (history_at histories.rings mount)
     pub tally : caller.tally ≡ fold tallied nothing (receipts_of entries)
 
--- so did each of these, numbered from this number on
+-- these callers served their links so, numbered from this number on
 abbrev pub AreCallersKept : Config → Histories → ℕ → List Caller → Type 0
 AreCallersKept c histories n [] = ⊤
 AreCallersKept c histories n (caller ∷ callers) =

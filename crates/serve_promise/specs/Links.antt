@@ -75,7 +75,7 @@ pub record HasEnteredFirst (c : Config) (histories : List (History RingCall)) (t
       (kept_frames c histories told.receipt.segments)
 
 -- the claim is given back, unless that turn was refused
-abbrev pub given_back : Bool → ℕ → ℕ → List (ℕ × RingCall)
+abbrev pub given_back : (settled : Bool) → ℕ → ℕ → List (ℕ × RingCall)
 given_back true mount claim = (mount, Release claim) ∷ []
 given_back false mount claim = []
 
@@ -122,7 +122,8 @@ IsJudgedBy c opening given receipt calls j =
 abbrev pub told_as : ℕ → Receipt → List ℕ → Connection
 told_as me receipt due = record { number = me; receipt = receipt; bytes = due }
 
--- A link that opened so gave these bytes, was given those, was closed so, and came to this receipt.
+-- A link with this opening gave these bytes, was given those, and came to this receipt when its
+-- connection was closed for this reason.
 -- Its caller called for it from the first of these histories to the next; the last are the whole.
 pub record IsLinkKept (c : Config) (opening : Opening) (me : ℕ)
     (start now histories : List (History RingCall)) (given written : List ℕ) (last : Last)

@@ -32,7 +32,7 @@ use Rattle.session_model.specs.Setting.{shapes, shapes_from, caps, base_at, base
 -- ---- numbers of mountpoints
 
 -- what holds of each element holds of the one at a place
-at_place : {X : Type 0} (P : X → Type 0) (xs : List X) (k : ℕ) (x : X) → All P xs → slice_get xs k ≡ Some x → P x
+pub at_place : {X : Type 0} (P : X → Type 0) (xs : List X) (k : ℕ) (x : X) → All P xs → slice_get xs k ≡ Some x → P x
 at_place P xs k x all here =
     subst P (get_or_from_slice_get xs k x x here) (all k x (slice_get_within xs k x here))
 

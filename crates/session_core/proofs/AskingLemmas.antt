@@ -17,8 +17,8 @@ use Rattle.session_model.proofs.LawLemmas.{whole_says}
 use Rattle.session_core.specs.declared.asked.Asked.{Asked}
 use Rattle.session_core.specs.declared.held.Held.TheVariants as holds
 use Rattle.session_core.specs.declared.session.Session.{Session}
-use Rattle.session_core.specs.declared.stage.Stage.{Stage}
-use Rattle.session_core.specs.declared.stage.Stage.TheVariants.{Head, Over, Source, Relay, Rover}
+use Rattle.session_core.specs.declared.session_stage.SessionStage.{SessionStage}
+use Rattle.session_core.specs.declared.session_stage.SessionStage.TheVariants.{Head, Over, Source, Relay, Rover}
 use Rattle.session_core.specs.Asking.{AsksOn, IsAsking, TellsAsked, TellsAt, TellsBehind, asked_by, asked_in}
 use Rattle.session_core.specs.Feeding.{HasBegunFor, IsBehindHead}
 use Rattle.session_core.specs.Holding.{HoldsOn}
@@ -54,7 +54,7 @@ asks_so session opening heading text is tells = by session.stage tells where
   behind told =
       told [] heading (subst (λ (l : List ℕ). IsHeadingOf (Some opening) l heading) (sym (append-nil text)) is)
 
-  by : (stage : Stage) → TellsAt opening text session.asked session.ended stage
+  by : (stage : SessionStage) → TellsAt opening text session.asked session.ended stage
       → IsAsking session.asked session.ended (asked_in heading)
   by (Head head) at =
       inl (at.3 ∙ ap asked_in (one_heading text incomplete heading (subst IsOpen at.1 at.2)
@@ -75,7 +75,7 @@ asks_both (Some asked) second third told on = subst (λ (x : Option Asked). Asks
 
 -- ---- behind the head
 
-tells_behind : (opening : Opening) (text : List ℕ) (told : Option Asked) (ended : Option Ending) (stage : Stage)
+tells_behind : (opening : Opening) (text : List ℕ) (told : Option Asked) (ended : Option Ending) (stage : SessionStage)
     → IsBehindHead stage → TellsAt opening text told ended stage → TellsBehind opening text told ended
 tells_behind opening text told ended (Head head) behind tells = absurd behind
 tells_behind opening text told ended Over behind tells = absurd behind
@@ -100,7 +100,7 @@ however_ended opening text told later tells = λ more heading is.
     inl (asking_going told (asked_in heading) (tells more heading is))
 
 rover_still : (opening : Opening) (text : List ℕ) (told : Option Asked) (later : Option Ending) (account : ℕ)
-    (stage : Stage) → holding_at stage ≡ holds.Rover account → TellsBehind opening text told None
+    (stage : SessionStage) → holding_at stage ≡ holds.Rover account → TellsBehind opening text told None
     → TellsAt opening text told later stage
 rover_still opening text told later account (Head head) is tells =
     let clash : holds.Nothing ≡ holds.Rover account = is in absurd cc
@@ -109,13 +109,13 @@ rover_still opening text told later account (Source mount inner) is tells = howe
 rover_still opening text told later account (Relay mount inner) is tells = however_ended opening text told later tells
 rover_still opening text told later account (Rover other inner) is tells = however_ended opening text told later tells
 
-still_at : (opening : Opening) (text : List ℕ) (told : Option Asked) (ended : Option Ending) (was later : Stage)
+still_at : (opening : Opening) (text : List ℕ) (told : Option Asked) (ended : Option Ending) (was later : SessionStage)
     → (ended ≡ None) × (later ≡ was) → TellsAt opening text told None was → TellsAt opening text told ended later
 still_at opening text told ended was later still tells =
-    subst (λ (stage : Stage). TellsAt opening text told ended stage) (sym still.1)
+    subst (λ (stage : SessionStage). TellsAt opening text told ended stage) (sym still.1)
     (subst (λ (e : Option Ending). TellsAt opening text told e was) (sym still.0) tells)
 
-turned_at : (opening : Opening) (text : List ℕ) (told : Option Asked) (ended : Option Ending) (was later : Stage)
+turned_at : (opening : Opening) (text : List ℕ) (told : Option Asked) (ended : Option Ending) (was later : SessionStage)
     → HoldsOn (holding_at was) (holding_at later) → (is_rover was ≡ false → (ended ≡ None) × (later ≡ was))
     → TellsAt opening text told None was → TellsAt opening text told ended later
 turned_at opening text told ended (Rover account inner) later on still tells =
@@ -129,7 +129,7 @@ turned_at opening text told ended (Source mount inner) later on still tells =
 turned_at opening text told ended (Relay mount inner) later on still tells =
     still_at opening text told ended (Relay mount inner) later (still refl) tells
 
-pub tells_turned : (was : Session) (opening : Opening) (text : List ℕ) (ended : Option Ending) (later : Stage)
+pub tells_turned : (was : Session) (opening : Opening) (text : List ℕ) (ended : Option Ending) (later : SessionStage)
     → was.ended ≡ None → HoldsOn (holding_at was.stage) (holding_at later)
     → (is_rover was.stage ≡ false → (ended ≡ None) × (later ≡ was.stage)) → TellsAsked opening text was
     → TellsAt opening text was.asked ended later
@@ -139,7 +139,7 @@ tells_turned was opening text ended later unended on still tells =
 
 -- ---- as it opens
 
-pub relay_asks : (me mount number : ℕ) (stage : Stage) → IsNewRelay me mount stage
+pub relay_asks : (me mount number : ℕ) (stage : SessionStage) → IsNewRelay me mount stage
     → TellsAt (relays number) [] None None stage
 relay_asks me mount number (Head head) new = absurd new
 relay_asks me mount number Over new = absurd new
@@ -158,7 +158,7 @@ not_awaited c bare.Source name me h j steps head at = let clash : bare_source na
 not_awaited c bare.Rover name me h j steps head at = let clash : bare_rover name ≡ sends_head = at.0 in cc
 
 bare_at : (c : Config) (role : Bare) (name : List ℕ) (me : ℕ) (h : Histories) (j : Judged) (steps : List Step)
-    (ended : Option Ending) (stage : Stage)
+    (ended : Option Ending) (stage : SessionStage)
     → IsAtStage c me h (bare_opening role name) j [] steps stage ⊎ (stage ≡ Over)
     → TellsAt (bare_opening role name) [] None ended stage
 bare_at c role name me h j steps ended (Head head) (inl at) = absurd (not_awaited c role name me h j steps head at)
@@ -187,7 +187,7 @@ Awaits opening text head was = (opening ≡ sends_head) × (head ≡ text) × Is
 awaits : (was : Session) (opening : Opening) (text head : List ℕ) → was.stage ≡ Head head
     → TellsAsked opening text was → Awaits opening text head was
 awaits was opening text head is tells =
-    subst (λ (stage : Stage). TellsAt opening text was.asked was.ended stage) is tells
+    subst (λ (stage : SessionStage). TellsAt opening text was.asked was.ended stage) is tells
 
 -- ---- a head that ended
 
@@ -212,7 +212,7 @@ tells_whole front answer told ended is says told_is =
 
 -- what began awaits no head
 begun_at : (c : Config) (alone : Bool) (old now : Histories) (me : ℕ) (front : List ℕ) (ended : Option Ending)
-    (before after : List ℕ) (opening : Opening) (text : List ℕ) (told : Option Asked) (stage : Stage)
+    (before after : List ℕ) (opening : Opening) (text : List ℕ) (told : Option Asked) (stage : SessionStage)
     → HasBegunFor c alone old now me front stage ended before after → TellsBehind opening text told ended
     → TellsAt opening text told ended stage
 begun_at c alone old now me front ended before after opening text told (Head head) (inl b) tells =
@@ -225,7 +225,7 @@ begun_at c alone old now me front ended before after opening text told (Relay mo
 begun_at c alone old now me front ended before after opening text told (Rover account inner) begun tells = tells
 
 pub tells_begun : (c : Config) (alone : Bool) (old now : Histories) (me : ℕ) (front : List ℕ)
-    (stage : Stage) (ended : Option Ending) (before after : List ℕ) (asked told : Option Asked) → asked ≡ told
+    (stage : SessionStage) (ended : Option Ending) (before after : List ℕ) (asked told : Option Asked) → asked ≡ told
     → HasBegunFor c alone old now me front stage ended before after → TellsBehind sends_head front told ended
     → TellsAt sends_head front asked ended stage
 tells_begun c alone old now me front stage ended before after asked told is begun tells =
@@ -233,7 +233,7 @@ tells_begun c alone old now me front stage ended before after asked told is begu
     (begun_at c alone old now me front ended before after sends_head front told stage begun tells)
 
 -- and bytes behind it that are not looked at
-pub tells_ended : (c : Config) (alone : Bool) (old now : Histories) (me : ℕ) (stage : Stage)
+pub tells_ended : (c : Config) (alone : Bool) (old now : Histories) (me : ℕ) (stage : SessionStage)
     (ended : Option Ending) (before after : List ℕ) (asked told : Option Asked) (was : Session) (opening : Opening)
     (text bytes head : List ℕ) (count : ℕ) → asked ≡ told
     → HasBegunFor c alone old now me (head ++ take count bytes) stage ended before after

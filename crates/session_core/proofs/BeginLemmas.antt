@@ -15,8 +15,8 @@ use Rattle.session_calls.proofs.PlanLemmas.{made_begun}
 use Rattle.cast_config.specs.declared.config.Config.{Config}
 use Rattle.session_model.specs.declared.ending.Ending.{Ending}
 use Rattle.session_model.specs.declared.ending.Ending.TheVariants as endings
-use Rattle.session_core.specs.declared.stage.Stage.{Stage}
-use Rattle.session_core.specs.declared.stage.Stage.TheVariants.{Over}
+use Rattle.session_core.specs.declared.session_stage.SessionStage.{SessionStage}
+use Rattle.session_core.specs.declared.session_stage.SessionStage.TheVariants.{Over}
 use Rattle.session_model.specs.Setting as setting
 use Rattle.session_model.specs.Judged.{finished, replied}
 use Rattle.session_model.specs.Replies.{replied_text, text_if}
@@ -93,7 +93,7 @@ sent_all false sent due all = all
 sent_all true sent due all = ([], sym all ∙ sym (append-nil sent))
 
 -- nothing is to be closed of one that ended
-pub over_ends : (stage : Stage) (ended : Option Ending) (end : Ending) → stage ≡ Over → ended ≡ Some end
+pub over_ends : (stage : SessionStage) (ended : Option Ending) (end : Ending) → stage ≡ Over → ended ≡ Some end
     → EndsAt stage ended
 over_ends stage ended end over is = record {
   goes = λ none. absurd (not_both (sym is ∙ none));
@@ -106,7 +106,7 @@ over_ends stage ended end over is = record {
   not_true e = cc
 
 -- and its beginning says nothing of how it ended
-pub over_starts : (stage : Stage) (ended : Option Ending) → stage ≡ Over → StartsAs stage ended
+pub over_starts : (stage : SessionStage) (ended : Option Ending) → stage ≡ Over → StartsAs stage ended
 over_starts stage ended over = rw over tt
 
 -- ---- what is finished by what its head says
@@ -118,7 +118,7 @@ IsRepliedLast end text ended before after =
     ⊎ ((ended ≡ Some endings.Memory) × (after ≡ before))
 
 pub begins_finished : (c : Config) (alone : Bool) (h : Histories) (me : ℕ) (reply : Option (Version × Reply))
-    (end : Ending) (stage : Stage) (ended : Option Ending) (before after : List ℕ) → stage ≡ Over
+    (end : Ending) (stage : SessionStage) (ended : Option Ending) (before after : List ℕ) → stage ≡ Over
     → IsRepliedLast end (replied_text reply (setting.table c)) ended before after
     → BeginsFor c alone h h me (finished reply end) stage ended before after
 begins_finished c alone h me reply end stage ended before after over (inl told) = inl (record {
@@ -139,7 +139,7 @@ begins_finished c alone h me reply end stage ended before after over (inr lost) 
 
 -- by whether it is replied to
 pub refused_untold : (c : Config) (alone : Bool) (h : Histories) (me : ℕ) (version : Option Version) (reply : Reply)
-    (end : Ending) (stage : Stage) (ended : Option Ending) (before : List ℕ) → version ≡ None → stage ≡ Over
+    (end : Ending) (stage : SessionStage) (ended : Option Ending) (before : List ℕ) → version ≡ None → stage ≡ Over
     → ended ≡ Some end → BeginsFor c alone h h me (finished (replied version reply) end) stage ended before before
 refused_untold c alone h me version reply end stage ended before none over is =
     subst (λ (v : Option Version). BeginsFor c alone h h me (finished (replied v reply) end) stage ended before before)
@@ -147,7 +147,7 @@ refused_untold c alone h me version reply end stage ended before none over is =
     (begins_finished c alone h me None end stage ended before before over (inl (is, sym (append-nil before))))
 
 pub refused_told : (c : Config) (alone : Bool) (h : Histories) (me : ℕ) (version : Option Version) (v : Version)
-    (reply : Reply) (end : Ending) (sent : List ℕ) (stage : Stage) (ended : Option Ending) (before after : List ℕ)
+    (reply : Reply) (end : Ending) (sent : List ℕ) (stage : SessionStage) (ended : Option Ending) (before after : List ℕ)
     → version ≡ Some v → stage ≡ Over → IsRepliedLast end (reply_text v reply sent) ended before after
     → sent ≡ setting.table c
     → BeginsFor c alone h h me (finished (replied version reply) end) stage ended before after

@@ -33,8 +33,8 @@ use Rattle.cast_config.specs.declared.config.Config.{Config}
 use Rattle.session_core.proofs.BeginLemmas.{over_ends, over_starts, taken_untabled}
 use Rattle.session_model.specs.declared.ending.Ending.{Ending}
 use Rattle.session_model.specs.declared.ending.Ending.TheVariants as endings
-use Rattle.session_core.specs.declared.stage.Stage.{Stage}
-use Rattle.session_core.specs.declared.stage.Stage.TheVariants.{Over, Source}
+use Rattle.session_core.specs.declared.session_stage.SessionStage.{SessionStage}
+use Rattle.session_core.specs.declared.session_stage.SessionStage.TheVariants.{Over, Source}
 use Rattle.session_model.specs.Setting.{shapes}
 use Rattle.session_model.specs.Setting as setting
 use Rattle.rtcm_frame.specs.Cut as frames
@@ -122,7 +122,7 @@ begins_claimed c alone old now book me mount version chunked session before afte
 
 pub begins_unclaimed : (c : Config) (alone : Bool) (old now : List (History RingCall)) (book : History BookCall)
     (me mount : ℕ)
-    (version : Option Version) (chunked : Bool) (fault : ClaimFault) (stage : Stage) (ended : Option Ending)
+    (version : Option Version) (chunked : Bool) (fault : ClaimFault) (stage : SessionStage) (ended : Option Ending)
     (before after : List ℕ)
     → Went (shapes c) alone old now me (steps_unclaimed mount fault)
     → stage ≡ Over → ended ≡ Some (end_unclaimed fault) → after ≡ before ++ text_unclaimed version fault

@@ -13,7 +13,7 @@ use Rattle.session_model.specs.declared.ending.Ending.{Ending}
 use Rattle.session_model.specs.declared.ending.Last.{Last}
 use Rattle.session_model.specs.declared.report.Receipt.{Receipt}
 use Rattle.session_core.specs.declared.session.Session.{Session}
-use Rattle.session_core.specs.declared.stage.Stage.{Stage}
+use Rattle.session_core.specs.declared.session_stage.SessionStage.{SessionStage}
 use Rattle.session_model.specs.Setting.{caps, shapes}
 use Rattle.session_model.specs.Headings.{Heading}
 use Rattle.session_model.specs.Judged.{Opening, Judged, judged}
@@ -121,7 +121,7 @@ lost_told c session o j steps sent last receipt lost ending segments sent_is ove
     let free : IsFree (came_to j steps) = uncalled_free steps lost.uncalled j in
     let told : IsTold session.ended receipt.junk (junk_of (came_to j steps)) =
     no_junk session.ended receipt.junk (junk_of (came_to j steps))
-    (subst (λ (stage : Stage). IsJunkAt stage receipt.junk) lost.stage junk) (free_junk (came_to j steps) free) in
+    (subst (λ (stage : SessionStage). IsJunkAt stage receipt.junk) lost.stage junk) (free_junk (came_to j steps) free) in
     record {
       ending = ending_is session.ended last (came_to j steps) (end_at session.stage) receipt.ending
           (λ unended. absurd (not_both (sym lost.ended ∙ unended))) ending;
@@ -171,7 +171,7 @@ closed_by c alone now after session o heading text steps h sent last receipt set
     inside)
 
 -- by a stage that its turn left as it was
-pub closed_at : (c : Config) (alone : Bool) (now after : Histories) (session : Session) (stage : Stage) (o : Opening)
+pub closed_at : (c : Config) (alone : Bool) (now after : Histories) (session : Session) (stage : SessionStage) (o : Opening)
     (heading : Heading)
     (text : List ℕ) (steps : List Step) (h : Histories) (sent : List ℕ) (last : Last) (receipt : Receipt)
     (settled : Result (Unit {0}) TurnFault)
@@ -187,9 +187,9 @@ closed_at c alone now after session stage o heading text steps h sent last recei
     settled_is
     ending segments sent_is overrun junk inside =
     closed_by c alone now after session o heading text steps h sent last receipt settled is stands makes same settled_is
-    (subst (λ (s : Stage). receipt.ending ≡ unwrap_or session.ended (ended_last last (end_at s))) still ending)
-    (subst (λ (s : Stage). receipt.segments ≡ reverse (segments_at s)) still segments)
-    (subst (λ (s : Stage). receipt.sent ≡ sent_in (segments_at s)) still sent_is)
-    (subst (λ (s : Stage). receipt.overrun ≡ overrun_in (segments_at s)) still overrun)
-    (subst (λ (s : Stage). IsJunkAt s receipt.junk) still junk)
-    (subst (λ (s : Stage). receipt.entered ≡ is_rover s) still inside)
+    (subst (λ (s : SessionStage). receipt.ending ≡ unwrap_or session.ended (ended_last last (end_at s))) still ending)
+    (subst (λ (s : SessionStage). receipt.segments ≡ reverse (segments_at s)) still segments)
+    (subst (λ (s : SessionStage). receipt.sent ≡ sent_in (segments_at s)) still sent_is)
+    (subst (λ (s : SessionStage). receipt.overrun ≡ overrun_in (segments_at s)) still overrun)
+    (subst (λ (s : SessionStage). IsJunkAt s receipt.junk) still junk)
+    (subst (λ (s : SessionStage). receipt.entered ≡ is_rover s) still inside)

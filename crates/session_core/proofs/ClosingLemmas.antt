@@ -10,8 +10,8 @@ use Rattle.source_session.specs.Standing.{is_chunked}
 use Rattle.ntrip_client.specs.declared.answer.Answer.{Answer as HeadAnswer}
 use Rattle.ntrip_client.specs.declared.answer.Answer.TheVariants as heads
 use Rattle.ntrip_client.specs.Answer.{HasHead, IsAnswer}
-use Rattle.upstream_relay.specs.declared.body.Stage.{Stage as RelayStage}
-use Rattle.upstream_relay.specs.declared.body.Stage.TheVariants as relays
+use Rattle.upstream_relay.specs.declared.body.RelayStage.{RelayStage}
+use Rattle.upstream_relay.specs.declared.body.RelayStage.TheVariants as relays
 use Rattle.upstream_relay.specs.declared.fault.RelayHalt.{RelayHalt}
 use Rattle.upstream_relay.specs.declared.fault.RelayHalt.TheVariants as halts
 use Rattle.upstream_relay.specs.Owed.{owed, IsDone}

@@ -4,7 +4,7 @@ use Rattle.std.specs.Prelude.{if◌then◌else◌, ◌&&◌, nat_le, ℤ, pos, n
 use Rattle.std.specs.Option.{option_and_then}
 use Rattle.std.proofs.lemmas.Bool.{and_parts, leb-true}
 use Rattle.gga_read.specs.Angle.{is_digit, has_minutes, magnitude, angle_within, latitude_size, longitude_size, is_letter, signed}
-use Rattle.gga_read.specs.Report.{position_of, position_in, report_of, is_fix}
+use Rattle.gga_read.specs.Report.{position_of, position_in, fix_of, is_fix}
 use Rattle.gga_read.specs.Sentence.{inner, is_framed, is_gga, field}
 use Rattle.base_select.specs.Measure.{IsOnEarth}
 use Rattle.std.specs.Str.{bytes_eq}
@@ -64,8 +64,8 @@ angles_on_earth None lon low long = tt
 angles_on_earth (Some lat) None low long = tt
 angles_on_earth (Some lat) (Some lon) low long = record { lat = low; lon = long }
 
-report_on_earth : (line : List ℕ) → IfSome (report_of line) IsOnEarth
-unfolding report_of
+report_on_earth : (line : List ℕ) → IfSome (fix_of line) IsOnEarth
+unfolding fix_of
 report_on_earth line =
     if_some IsOnEarth (is_framed line && is_gga (inner line) && is_fix (field 6 (inner line)))
     (position_in (inner line))
@@ -73,7 +73,7 @@ report_on_earth line =
     (signed_within 900000000 78 83 (field 3 (inner line)) _ (latitude_within (field 2 (inner line))))
     (signed_within 1800000000 69 87 (field 5 (inner line)) _ (longitude_within (field 4 (inner line)))))
 
-pub field_on_earth : (value : Option (List ℕ)) → IfSome (option_and_then report_of value) IsOnEarth
+pub field_on_earth : (value : Option (List ℕ)) → IfSome (option_and_then fix_of value) IsOnEarth
 field_on_earth None = tt
 field_on_earth (Some line) = report_on_earth line
 

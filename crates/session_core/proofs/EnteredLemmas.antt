@@ -39,8 +39,8 @@ use Rattle.rover_session.specs.Standing.{Rover, Told, IsResumable, frames_of, fr
 use Rattle.cast_config.specs.declared.config.Config.{Config}
 use Rattle.session_model.specs.declared.ending.Ending.{Ending}
 use Rattle.session_model.specs.declared.ending.Ending.TheVariants as endings
-use Rattle.session_core.specs.declared.stage.Stage.{Stage}
-use Rattle.session_core.specs.declared.stage.Stage.TheVariants as stages
+use Rattle.session_core.specs.declared.session_stage.SessionStage.{SessionStage}
+use Rattle.session_core.specs.declared.session_stage.SessionStage.TheVariants as stages
 use Rattle.session_model.specs.Setting.{shapes, caps}
 use Rattle.session_model.specs.Setting as setting
 use Rattle.session_model.specs.Judged.{RoverTerms, rover}
@@ -214,7 +214,7 @@ begins_entered c alone old now me terms session before after heard inside told i
 -- ---- one whose account is full
 
 pub begins_full : (c : Config) (alone : Bool) (old now : Histories) (me : ℕ) (terms : RoverTerms) (busy cap : ℕ)
-    (stage : Stage) (ended : Option Ending) (before after : List ℕ)
+    (stage : SessionStage) (ended : Option Ending) (before after : List ℕ)
     → Heard alone (book_answer c) old.book now.book me ((Enter terms.admission.account, books.Full busy cap) ∷ [])
     → now.rings ≡ old.rings → stage ≡ stages.Over → ended ≡ Some (endings.Full busy cap)
     → after ≡ before ++ text_if terms.version replies.Full []
@@ -247,7 +247,7 @@ begins_full c alone old now me terms busy cap stage ended before after heard sam
 
 pub begins_unentered : (c : Config) (alone : Bool) (old now : Histories) (me : ℕ) (terms : RoverTerms)
     (fault : TurnFault)
-    (stage : Stage) (ended : Option Ending) (before after : List ℕ)
+    (stage : SessionStage) (ended : Option Ending) (before after : List ℕ)
     → Called c alone old now me [] → stage ≡ stages.Over → ended ≡ Some (end_unentered fault) → after ≡ before
     → BeginsFor c alone old now me (rover terms []) stage ended before after
 begins_unentered c alone old now me terms (turn_faults.Worn given) stage ended before after called over end out =

@@ -30,8 +30,8 @@ use Rattle.session_model.specs.declared.ending.Ending.{Ending}
 use Rattle.session_model.specs.declared.ending.Ending.TheVariants.{LongHead}
 use Rattle.session_core.specs.declared.begun.Begun.{Begun}
 use Rattle.session_core.specs.declared.session.Session.{Session}
-use Rattle.session_core.specs.declared.stage.Stage.{Stage}
-use Rattle.session_core.specs.declared.stage.Stage.TheVariants.{Head, Over, Source, Relay, Rover}
+use Rattle.session_core.specs.declared.session_stage.SessionStage.{SessionStage}
+use Rattle.session_core.specs.declared.session_stage.SessionStage.TheVariants.{Head, Over, Source, Relay, Rover}
 use Rattle.session_model.specs.Setting.{shapes}
 use Rattle.session_model.specs.Headings.{Heading, incomplete, too_long, whole, IsHeading}
 use Rattle.session_model.specs.Judged.{Opening, sends_head, relays, Judged, finished, once, request_judged, heading_judged, judged}
@@ -70,7 +70,7 @@ whole_judged c front answer =
     ∙ ap (λ (body : List ℕ). request_judged c body answer) (drop_all (length front) front (omega arith))
 
 pub whole_begun : (c : Config) (alone : Bool) (old now : Histories) (me : ℕ) (front : List ℕ)
-    (answer : Result Request HeadFault) (stage : Stage) (ended : Option Ending) (before after : List ℕ)
+    (answer : Result Request HeadFault) (stage : SessionStage) (ended : Option Ending) (before after : List ℕ)
     → IsHead front → HeadAnswer front answer
     → BeginsFor c alone old now me (request_judged c [] answer) stage ended before after
     → HasBegunFor c alone old now me front stage ended before after
@@ -88,7 +88,7 @@ whole_begun c alone old now me front answer stage ended before after head says (
           (sym (whole_judged c front answer)) begins;
     })
 
-pub long_begun : (c : Config) (alone : Bool) (h : Histories) (me : ℕ) (front : List ℕ) (stage : Stage)
+pub long_begun : (c : Config) (alone : Bool) (h : Histories) (me : ℕ) (front : List ℕ) (stage : SessionStage)
     (ended : Option Ending) (before after : List ℕ) → IsLong front
     → BeginsFor c alone h h me (finished (Some (One, BadHead)) LongHead) stage ended before after
     → HasBegunFor c alone h h me front stage ended before after
@@ -168,7 +168,7 @@ open_stands c session text h unended at goes = record {
   ends = inr unended;
   stage = subst (IsAtStage c session.me h sends_head (judged c sends_head incomplete text) text []) (sym at)
       (refl, refl, refl, goes);
-  halts = subst (λ (stage : Stage). EndsAt stage session.ended) (sym at) (record {
+  halts = subst (λ (stage : SessionStage). EndsAt stage session.ended) (sym at) (record {
     goes = λ none. refl;
     refused = λ short. absurd (over_goes short);
   });
@@ -330,11 +330,11 @@ ended_front end new head bytes count made = subst (λ (l : List ℕ). IsEndOf l 
 
 -- it began so, and this is its stage
 pub begun_as : (c : Config) (alone : Bool) (old now : Histories) (me : ℕ) (front : List ℕ) (begun : Begun)
-    (stage : Stage) (before after : List ℕ) → stage ≡ begun.stage
+    (stage : SessionStage) (before after : List ℕ) → stage ≡ begun.stage
     → HasBegunFor c alone old now me front begun.stage begun.ended before after
     → HasBegunFor c alone old now me front stage begun.ended before after
 begun_as c alone old now me front begun stage before after is has =
-    subst (λ (s : Stage). HasBegunFor c alone old now me front s begun.ended before after) (sym is) has
+    subst (λ (s : SessionStage). HasBegunFor c alone old now me front s begun.ended before after) (sym is) has
 
 -- ---- a connection that is behind its head
 
@@ -361,13 +361,13 @@ fed_on c alone old now session new opening text bytes steps histories sent out u
 -- ---- by stage
 
 -- and so is one that began and goes on
-pub begun_behind : (c : Config) (alone : Bool) (old now : Histories) (me : ℕ) (front : List ℕ) (stage : Stage)
+pub begun_behind : (c : Config) (alone : Bool) (old now : Histories) (me : ℕ) (front : List ℕ) (stage : SessionStage)
     (ended : Option Ending) (before after : List ℕ) → ended ≡ None
     → HasBegunFor c alone old now me front stage ended before after → IsBehindHead stage
 begun_behind c alone old now me front stage ended before after unended (inr lost) =
     let clash : Some _ ≡ None = sym lost.ended_is ∙ unended in absurd cc
 begun_behind c alone old now me front stage ended before after unended (inl b) = by stage refl where
-  by : (s : Stage) → stage ≡ s → IsBehindHead s
+  by : (s : SessionStage) → stage ≡ s → IsBehindHead s
   by (Head head) is =
       let at = subst (IsAtStage c me now (relays 0) (heading_judged c b.heading front) [] b.begins.more) is
       (b.begins.stage_is (relays 0) []) in

@@ -32,8 +32,8 @@ use Rattle.ntrip_client.specs.declared.answer.Answer.TheVariants as heads
 use Rattle.ntrip_client.specs.declared.answer.Refusal.{Refusal}
 use Rattle.ntrip_client.specs.declared.answer.Refusal.TheVariants as refusals
 use Rattle.ntrip_client.specs.Answer.{Said, HasHead, IsAnswer}
-use Rattle.upstream_relay.specs.declared.body.Stage.{Stage as RelayStage}
-use Rattle.upstream_relay.specs.declared.body.Stage.TheVariants as stages
+use Rattle.upstream_relay.specs.declared.body.RelayStage.{RelayStage}
+use Rattle.upstream_relay.specs.declared.body.RelayStage.TheVariants as stages
 use Rattle.upstream_relay.specs.declared.fault.RelayHalt.{RelayHalt}
 use Rattle.upstream_relay.specs.declared.fault.RelayHalt.TheVariants as halts
 use Rattle.upstream_relay.specs.declared.session.RelaySession.{RelaySession}
@@ -48,8 +48,8 @@ use Rattle.cast_config.specs.declared.config.Config.{Config}
 use Rattle.session_model.specs.declared.ending.Ending.{Ending}
 use Rattle.session_model.specs.declared.ending.Ending.TheVariants as endings
 use Rattle.session_core.specs.declared.session.Session.{Session}
-use Rattle.session_core.specs.declared.stage.Stage.{Stage}
-use Rattle.session_core.specs.declared.stage.Stage.TheVariants.{Relay}
+use Rattle.session_core.specs.declared.session_stage.SessionStage.{SessionStage}
+use Rattle.session_core.specs.declared.session_stage.SessionStage.TheVariants.{Relay}
 use Rattle.session_model.specs.Setting.{shapes}
 use Rattle.session_model.specs.Headings.{Heading, incomplete, too_long, whole, answered, IsAnswering}
 use Rattle.session_model.specs.Judged.{Opening, relays, Judged, waiting, finished, source, once, ending_by_answer, said_judged, relay_judged, mount_fed, judged}
@@ -404,7 +404,7 @@ stands_fed c now new opening text steps sent n mount fed opens feeds within call
           (subst (λ (j : Judged). EndsAs (option_map (end_of_relay (claim_at fed.stage)) (halt_at fed.stage))
           (ended_by (came_to j steps))) (sym judged_is)
           (relay_ends mount fed.me fed.stage stands.answer text steps stands.at_stage));
-      stage = subst (λ (s : Stage). IsAtStage c new.me now opening (judged c opening said.heading text) text steps s)
+      stage = subst (λ (s : SessionStage). IsAtStage c new.me now opening (judged c opening said.heading text) text steps s)
           (sym is_stage) (record {
             number = n;
             opens = opens;
@@ -415,7 +415,7 @@ stands_fed c now new opening text steps sent n mount fed opens feeds within call
             segments = none;
             holds = holds;
           });
-      halts = subst (λ (s : Stage). EndsAt s new.ended) (sym is_stage) (record {
+      halts = subst (λ (s : SessionStage). EndsAt s new.ended) (sym is_stage) (record {
         goes = λ unended. goes_unended (claim_at fed.stage) (halt_at fed.stage) (sym is_ended ∙ unended);
         refused = λ refused. subst IsTrue (sym short) refused;
       });
@@ -439,7 +439,7 @@ pub relay_fed_on : (c : Config) (alone : Bool) (old now histories : Histories) (
 relay_fed_on c alone old now histories session new opening text bytes steps sent mount inner fed is_stage unended is_me
     new_stage new_ended stands same_me feeds holds same_book =
     let at : IsRelay c session.me histories opening text steps mount inner =
-    subst (λ (s : Stage). IsAtStage c session.me histories opening (judged c opening stands.heading text) text steps s)
+    subst (λ (s : SessionStage). IsAtStage c session.me histories opening (judged c opening stands.heading text) text steps s)
     is_stage stands.stage in
     let given : RelayFed (shapes c) alone old.rings now.rings inner.me mount fed (text ++ bytes) steps =
     feeds text steps at.stands in

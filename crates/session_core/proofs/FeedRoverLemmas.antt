@@ -28,8 +28,8 @@ use Rattle.rover_session.proofs.SegmentLemmas.{Extends, all_sound, sent_later}
 use Rattle.cast_config.specs.declared.config.Config.{Config}
 use Rattle.session_model.specs.declared.ending.Ending.{Ending}
 use Rattle.session_core.specs.declared.session.Session.{Session}
-use Rattle.session_core.specs.declared.stage.Stage.{Stage}
-use Rattle.session_core.specs.declared.stage.Stage.TheVariants as stages
+use Rattle.session_core.specs.declared.session_stage.SessionStage.{SessionStage}
+use Rattle.session_core.specs.declared.session_stage.SessionStage.TheVariants as stages
 use Rattle.session_model.specs.Setting.{shapes, caps}
 use Rattle.session_model.specs.Headings.{Heading}
 use Rattle.session_model.specs.Judged.{Opening, RoverTerms, Judged, waiting, rover, judged}
@@ -170,10 +170,10 @@ text_of c h opening j terms tail account steps behind is are =
     ap (λ (x : Judged). sent_by c h opening (came_to x steps) (reverse (segments_after [] steps))) is
     ∙ ap (λ (l : List Step). sent_by c h opening (came_to (rover terms tail) l) (reverse (segments_after [] l))) are
 
-halts_still : (stage : Stage) (account : ℕ) (fed : RoverSession) (ended : Option Ending)
+halts_still : (stage : SessionStage) (account : ℕ) (fed : RoverSession) (ended : Option Ending)
     → stage ≡ stages.Rover account fed → ended ≡ ended_joining fed.halt → EndsAt stage ended
 halts_still stage account fed ended is by =
-    subst (λ (s : Stage). EndsAt s ended) (sym is)
+    subst (λ (s : SessionStage). EndsAt s ended) (sym is)
     (record { goes = λ none. joined_goes fed.halt (sym by ∙ none); refused = λ short. absurd cc })
 
 -- ---- more bytes
@@ -199,7 +199,7 @@ rover_fed_on c alone old now histories session new opening text bytes steps sent
     let j : Judged = judged c opening heading text in
     let later : Judged = judged c opening heading (text ++ bytes) in
     let at : IsRover c session.me histories j steps account inner =
-    subst (λ (s : Stage). IsAtStage c session.me histories opening j text steps s) was stood.stage in
+    subst (λ (s : SessionStage). IsAtStage c session.me histories opening j text steps s) was stood.stage in
     let halt : Option SegFault = fed.halt in
     let known : j ≢ waiting = is_judged j at.terms at.tail at.judged_is in
     let is : later ≡ rover at.terms (at.tail ++ bytes) =
@@ -246,7 +246,7 @@ rover_fed_on c alone old now histories session new opening text bytes steps sent
             new.ended is are ended_is;
         stage = subst (λ (m : ℕ). IsAtStage c m now opening later (text ++ bytes) (steps ++ more) new.stage)
             (sym me_is)
-            (subst (λ (s : Stage). IsAtStage c session.me now opening later (text ++ bytes) (steps ++ more) s)
+            (subst (λ (s : SessionStage). IsAtStage c session.me now opening later (text ++ bytes) (steps ++ more) s)
             (sym stage_is) still);
         halts = halts_still new.stage account fed new.ended stage_is ended_is;
         sent_is = sent_all (is_halted_uncalled new.ended (steps ++ more)) sent _

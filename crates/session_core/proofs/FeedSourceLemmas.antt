@@ -29,8 +29,8 @@ use Rattle.rover_session.proofs.MadeLemmas.{owed_both, segments-append}
 use Rattle.cast_config.specs.declared.config.Config.{Config}
 use Rattle.session_model.specs.declared.ending.Ending.{Ending}
 use Rattle.session_core.specs.declared.session.Session.{Session}
-use Rattle.session_core.specs.declared.stage.Stage.{Stage}
-use Rattle.session_core.specs.declared.stage.Stage.TheVariants.{Source}
+use Rattle.session_core.specs.declared.session_stage.SessionStage.{SessionStage}
+use Rattle.session_core.specs.declared.session_stage.SessionStage.TheVariants.{Source}
 use Rattle.session_model.specs.Setting.{shapes}
 use Rattle.session_model.specs.Headings.{Heading}
 use Rattle.session_model.specs.Judged.{Opening, SourceTerms, Judged, waiting, source, judged}
@@ -219,7 +219,7 @@ source_fed_on c alone old now histories session new opening text bytes steps sen
               no_read = no_read;
               segments = quiet;
             });
-        halts = subst (λ (s : Stage). EndsAt s new.ended) (sym new_stage) (record {
+        halts = subst (λ (s : SessionStage). EndsAt s new.ended) (sym new_stage) (record {
           goes = λ none. goes_halted fed.claim fed.halt (sym ended ∙ none);
           refused = λ short. halted ∙ short;
         });

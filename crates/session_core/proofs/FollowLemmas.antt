@@ -12,8 +12,8 @@ use Rattle.source_session.specs.declared.fault.SourceHalt.{SourceHalt}
 use Rattle.source_session.specs.Calls.{HeldSince}
 use Rattle.source_session.specs.Standing as source_standing
 use Rattle.upstream_relay.specs.declared.session.RelaySession.{RelaySession}
-use Rattle.upstream_relay.specs.declared.body.Stage.{Stage as RelayStage}
-use Rattle.upstream_relay.specs.declared.body.Stage.TheVariants as stages
+use Rattle.upstream_relay.specs.declared.body.RelayStage.{RelayStage}
+use Rattle.upstream_relay.specs.declared.body.RelayStage.TheVariants as stages
 use Rattle.upstream_relay.specs.Called.{IsHeldAt, IsHoldingBy}
 use Rattle.upstream_relay.specs.Standing as relay_standing
 use Rattle.rover_session.specs.declared.session.RoverSession.{RoverSession}
@@ -36,7 +36,7 @@ use Rattle.access_groups.specs.declared.admission.SourceDenial.{SourceDenial}
 use Rattle.access_groups.specs.declared.admission.SourceDenial.TheVariants as sources
 use Rattle.access_groups.specs.Admission.{admission, source_admission}
 use Rattle.session_core.specs.declared.session.Session.{Session}
-use Rattle.session_core.specs.declared.stage.Stage.TheVariants.{Source, Relay, Rover}
+use Rattle.session_core.specs.declared.session_stage.SessionStage.TheVariants.{Source, Relay, Rover}
 use Rattle.session_model.specs.Setting.{shapes, bases_at}
 use Rattle.session_model.specs.Headings.{Heading, incomplete, too_long, whole, answered}
 use Rattle.session_model.specs.Judged.{Opening, sends_head, relays, bare_source, bare_rover, Judged, waiting, finished, source, rover, once, source_judged, rover_judged, request_judged, heading_judged, said_judged, relay_judged, mount_fed, judged, bare_admission}

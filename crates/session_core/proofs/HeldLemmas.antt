@@ -17,8 +17,8 @@ use Rattle.upstream_relay.specs.Standing as relay_standing
 use Rattle.cast_config.specs.declared.config.Config.{Config}
 use Rattle.cast_config.specs.declared.config.Group.{Group}
 use Rattle.cast_config.specs.declared.config.Mount.{Mount}
-use Rattle.session_core.specs.declared.stage.Stage.{Stage}
-use Rattle.session_core.specs.declared.stage.Stage.TheVariants.{Head, Over, Source, Relay, Rover}
+use Rattle.session_core.specs.declared.session_stage.SessionStage.{SessionStage}
+use Rattle.session_core.specs.declared.session_stage.SessionStage.TheVariants.{Head, Over, Source, Relay, Rover}
 use Rattle.session_model.specs.Setting.{caps, shapes, shapes_from}
 use Rattle.session_model.specs.Judged.{Opening, Judged}
 use Rattle.session_model.specs.Run.{Histories}
@@ -94,7 +94,7 @@ holding_by me None h now holds goes = tt
 holding_by me (Some claim) h now holds goes = (h, holds, goes)
 
 pub held_at : (c : Config) (me : ℕ) (h now : Histories) (opening : Opening) (j : Judged) (text : List ℕ)
-    (steps : List Step) (stage : Stage) → IsAtStage c me h opening j text steps stage
+    (steps : List Step) (stage : SessionStage) → IsAtStage c me h opening j text steps stage
     → length now.rings ≡ length c.mount → OthersCalled h now me → IsHeldBy (caps c) me now stage
 held_at c me h now opening j text steps (Head head) at long others = tt
 held_at c me h now opening j text steps Over at long others = tt

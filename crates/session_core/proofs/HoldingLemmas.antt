@@ -6,8 +6,8 @@ use Rattle.cast_config.specs.declared.config.Config.{Config}
 use Rattle.session_calls.specs.Steps.{Answer, Step, of_ring}
 use Rattle.source_session.specs.declared.session.SourceSession.{SourceSession}
 use Rattle.ntrip_client.specs.declared.answer.Answer.TheVariants as heads
-use Rattle.upstream_relay.specs.declared.body.Stage.{Stage as RelayStage}
-use Rattle.upstream_relay.specs.declared.body.Stage.TheVariants as relays
+use Rattle.upstream_relay.specs.declared.body.RelayStage.{RelayStage}
+use Rattle.upstream_relay.specs.declared.body.RelayStage.TheVariants as relays
 use Rattle.upstream_relay.specs.declared.session.RelaySession.{RelaySession}
 use Rattle.upstream_relay.specs.Standing.{StandsAt, claim_at, is_short_at}
 use Rattle.rover_session.specs.declared.session.RoverSession.{RoverSession}
@@ -20,8 +20,8 @@ use Rattle.session_model.proofs.LawLemmas.{one_of}
 use Rattle.session_core.specs.declared.held.Held.{Held}
 use Rattle.session_core.specs.declared.held.Held.TheVariants as holds
 use Rattle.session_core.specs.declared.session.Session.{Session}
-use Rattle.session_core.specs.declared.stage.Stage.{Stage}
-use Rattle.session_core.specs.declared.stage.Stage.TheVariants.{Head, Over, Source, Relay, Rover}
+use Rattle.session_core.specs.declared.session_stage.SessionStage.{SessionStage}
+use Rattle.session_core.specs.declared.session_stage.SessionStage.TheVariants.{Head, Over, Source, Relay, Rover}
 use Rattle.session_core.specs.Standing.{IsAtStage, IsFree, StandsFor}
 use Rattle.session_core.specs.Feeding.{IsBehindHead}
 use Rattle.session_core.specs.Holding.{HoldsAs, HoldsClaimIf, HoldsOn, IsHolding}
@@ -36,7 +36,7 @@ claimed_if mount text None came is = is
 claimed_if mount text (Some claim) came is = (_, _, is.3, refl)
 
 holds_at : (c : Config) (me : ℕ) (h : Histories) (o : Opening) (heading : Heading) (text : List ℕ)
-    (steps : List Step) (stage : Stage) → IsHeadingOf (Some o) text heading
+    (steps : List Step) (stage : SessionStage) → IsHeadingOf (Some o) text heading
     → IsAtStage c me h o (judged c o heading text) text steps stage
     → HoldsAs c o (came_to (judged c o heading text) steps) (holding_at stage)
 holds_at c me h o heading text steps (Head head) is at = uncalled_free steps at.2 (judged c o heading text)
@@ -61,7 +61,7 @@ holds_so c session o heading text steps h sent is (inl stands) =
     (one_of (Some o) text stands.heading heading stands.is_heading is)
     (holds_at c session.me h o stands.heading text steps session.stage stands.is_heading stands.stage)
 holds_so c session o heading text steps h sent is (inr lost) =
-    subst (λ (stage : Stage). HoldsAs c o (came_to (judged c o heading text) steps) (holding_at stage))
+    subst (λ (stage : SessionStage). HoldsAs c o (came_to (judged c o heading text) steps) (holding_at stage))
     (sym lost.stage) (uncalled_free steps lost.uncalled (judged c o heading text))
 
 -- ---- what is held stays
@@ -84,13 +84,13 @@ holds_both (holds.Relay mount claim) second third had has =
 pub source_on : (session : Session) (mount : ℕ) (inner fed : SourceSession) → session.stage ≡ Source mount inner
     → fed.claim ≡ inner.claim → HoldsOn (session_holding session) (holding_at (Source mount fed))
 source_on session mount inner fed is same =
-    subst (λ (stage : Stage). HoldsOn (holding_at stage) (holding_at (Source mount fed))) (sym is)
+    subst (λ (stage : SessionStage). HoldsOn (holding_at stage) (holding_at (Source mount fed))) (sym is)
     (ap (holds.Source mount) same)
 
-pub rover_on : (stage : Stage) (account : ℕ) (inner fed : RoverSession) → stage ≡ Rover account inner
+pub rover_on : (stage : SessionStage) (account : ℕ) (inner fed : RoverSession) → stage ≡ Rover account inner
     → HoldsOn (holding_at stage) (holding_at (Rover account fed))
 rover_on stage account inner fed is =
-    subst (λ (was : Stage). HoldsOn (holding_at was) (holding_at (Rover account fed))) (sym is) refl
+    subst (λ (was : SessionStage). HoldsOn (holding_at was) (holding_at (Rover account fed))) (sym is) refl
 
 -- what was given a claim holds something
 never_free : (steps : List Step) (claim : ℕ) → first_answer steps ≡ Some (of_ring (rings.Given claim))
@@ -118,7 +118,7 @@ pub relay_on : (session : Session) (mount me later : ℕ) (inner fed : RelaySess
     → StandsAt mount later fed.stage bytes (steps ++ more)
     → HoldsOn (session_holding session) (holding_at (Relay mount fed))
 relay_on session mount me later inner fed text bytes steps more is stands on =
-    subst (λ (stage : Stage). HoldsOn (holding_at stage) (holding_at (Relay mount fed))) (sym is)
+    subst (λ (stage : SessionStage). HoldsOn (holding_at stage) (holding_at (Relay mount fed))) (sym is)
     (claim_at fed.stage, refl, kept inner.stage stands) where
       kept : (stage : RelayStage) → StandsAt mount me stage text steps
           → IfSome (claim_at stage) (λ number. claim_at fed.stage ≡ Some number)
@@ -131,7 +131,7 @@ relay_on session mount me later inner fed text bytes steps more is stands on =
 -- ---- and its head
 
 -- the head of a session that holds something is behind it
-pub holding_behind : (stage : Stage) → IsHolding (holding_at stage) → IsBehindHead stage
+pub holding_behind : (stage : SessionStage) → IsHolding (holding_at stage) → IsBehindHead stage
 holding_behind (Head head) is = absurd is
 holding_behind Over is = absurd is
 holding_behind (Source mount session) is = tt

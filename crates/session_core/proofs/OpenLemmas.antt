@@ -10,15 +10,15 @@ use Rattle.source_session.specs.Standing.{is_cut_short}
 use Rattle.upstream_relay.specs.Called.{IsHoldingBy}
 use Rattle.upstream_relay.specs.Halts.{halt_of_source}
 use Rattle.upstream_relay.specs.Standing as relay_standing
-use Rattle.upstream_relay.specs.declared.body.Stage.{Stage as RelayStage}
-use Rattle.upstream_relay.specs.declared.body.Stage.TheVariants as relay_stages
+use Rattle.upstream_relay.specs.declared.body.RelayStage.{RelayStage}
+use Rattle.upstream_relay.specs.declared.body.RelayStage.TheVariants as relay_stages
 use Rattle.upstream_relay.specs.declared.session.RelaySession.{RelaySession}
 use Rattle.cast_config.specs.declared.config.Config.{Config}
 use Rattle.cast_config.specs.declared.config.Relay.{Relay as RelayValue}
 use Rattle.cast_config.specs.Kept.{KeepsRelay}
 use Rattle.session_core.specs.declared.session.Session.{Session}
-use Rattle.session_core.specs.declared.stage.Stage.{Stage}
-use Rattle.session_core.specs.declared.stage.Stage.TheVariants.{Head, Over, Source, Relay, Rover}
+use Rattle.session_core.specs.declared.session_stage.SessionStage.{SessionStage}
+use Rattle.session_core.specs.declared.session_stage.SessionStage.TheVariants.{Head, Over, Source, Relay, Rover}
 use Rattle.session_model.specs.Headings.{incomplete}
 use Rattle.session_model.specs.Judged.{relays, mount_fed, judged}
 use Rattle.session_model.specs.Replies.{opening_text, sent_by}
@@ -44,7 +44,7 @@ pub relay_opens : (c : Config) (session : Session) (n : ℕ) (relay : RelayValue
     → IsNewRelay session.me relay.mount session.stage → StandsFor c session (relays n) [] [] h (opening_text c
     (relays n))
 relay_opens c session n relay h here kept unended new = by_stage session.stage refl new where
-  by_stage : (stage : Stage) → session.stage ≡ stage → IsNewRelay session.me relay.mount stage
+  by_stage : (stage : SessionStage) → session.stage ≡ stage → IsNewRelay session.me relay.mount stage
       → StandsFor c session (relays n) [] [] h (opening_text c (relays n))
   by_stage (Head head) is new = absurd new
   by_stage Over is new = absurd new

@@ -19,8 +19,8 @@ use Rattle.rover_session.proofs.FollowLemmas.{rover_begins}
 use Rattle.cast_config.specs.declared.config.Config.{Config}
 use Rattle.session_model.specs.declared.ending.Ending.{Ending}
 use Rattle.session_core.specs.declared.session.Session.{Session}
-use Rattle.session_core.specs.declared.stage.Stage.{Stage}
-use Rattle.session_core.specs.declared.stage.Stage.TheVariants.{Head, Over, Source, Relay, Rover}
+use Rattle.session_core.specs.declared.session_stage.SessionStage.{SessionStage}
+use Rattle.session_core.specs.declared.session_stage.SessionStage.TheVariants.{Head, Over, Source, Relay, Rover}
 use Rattle.session_model.specs.Judged.{Opening, SourceTerms, RoverTerms, Judged, waiting, finished, source, rover, judged}
 use Rattle.session_model.specs.Owed.{Came, source_came, rover_came, came_by, first_answer, came_to, is_let_in, if_entered, terms_of, plan_of}
 use Rattle.session_model.specs.Endings.{ended_by}
@@ -228,7 +228,7 @@ pub ended_more : (c : Config) (session : Session) (opening : Opening) (text rest
     → StartsAs session.stage session.ended → Stands c session opening text steps h sent
     → Stands c session opening (text ++ rest) steps h sent
 ended_more c session opening text rest steps h sent end ended starts s = by session.stage refl starts where
-  by : (stage : Stage) → session.stage ≡ stage → StartsAs stage session.ended
+  by : (stage : SessionStage) → session.stage ≡ stage → StartsAs stage session.ended
       → Stands c session opening (text ++ rest) steps h sent
   by (Head head) is starts = absurd (ended_not session.ended end starts ended)
   by Over is starts = over_more c session opening text rest steps h sent is s

@@ -19,8 +19,8 @@ use Rattle.cast_config.specs.declared.config.Config.{Config}
 use Rattle.session_model.specs.declared.ending.Ending.{Ending}
 use Rattle.session_model.specs.declared.ending.Last.{Last}
 use Rattle.session_model.specs.declared.report.Receipt.{Receipt}
-use Rattle.session_core.specs.declared.stage.Stage.{Stage}
-use Rattle.session_core.specs.declared.stage.Stage.TheVariants.{Head, Over, Source, Relay, Rover}
+use Rattle.session_core.specs.declared.session_stage.SessionStage.{SessionStage}
+use Rattle.session_core.specs.declared.session_stage.SessionStage.TheVariants.{Head, Over, Source, Relay, Rover}
 use Rattle.session_model.specs.Headings.{Heading}
 use Rattle.session_model.specs.Judged.{Opening, Judged, judged, rover, source, relay_judged, SourceTerms}
 use Rattle.session_model.specs.Owed.{Came, holding, inside, came_by, came_to, closing, closing_by}
@@ -65,7 +65,7 @@ relay_closes mount text None came segments is = free_closed came segments is
 relay_closes mount text (Some claim) came segments is = ap (λ (x : Came). closing_by x segments) is.3
 
 pub closing_is : (c : Config) (me : ℕ) (h : Histories) (o : Opening) (heading : Heading) (text : List ℕ)
-    (steps : List Step) (stage : Stage) → IsHeadingOf (Some o) text heading
+    (steps : List Step) (stage : SessionStage) → IsHeadingOf (Some o) text heading
     → IsAtStage c me h o (judged c o heading text) text steps stage
     → closing (judged c o heading text) steps ≡ closing_at stage
 closing_is c me h o heading text steps (Head head) is at =
@@ -89,7 +89,7 @@ closing_is c me h o heading text steps (Rover account session) is at =
 -- ---- what is told
 
 pub segments_is : (c : Config) (me : ℕ) (h : Histories) (o : Opening) (j : Judged) (text : List ℕ)
-    (steps : List Step) (stage : Stage) → IsAtStage c me h o j text steps stage
+    (steps : List Step) (stage : SessionStage) → IsAtStage c me h o j text steps stage
     → segments_at stage ≡ segments_after [] steps
 segments_is c me h o j text steps (Head head) at = ap (segments_after []) (sym at.2)
 segments_is c me h o j text steps Over at = sym at.segments
@@ -104,7 +104,7 @@ relay_out mount text None came is = sym (free_out came is)
 relay_out mount text (Some claim) came is = sym (ap is_entered is.3)
 
 pub entered_is : (c : Config) (me : ℕ) (h : Histories) (o : Opening) (heading : Heading) (text : List ℕ)
-    (steps : List Step) (stage : Stage) → IsHeadingOf (Some o) text heading
+    (steps : List Step) (stage : SessionStage) → IsHeadingOf (Some o) text heading
     → IsAtStage c me h o (judged c o heading text) text steps stage
     → is_rover stage ≡ is_entered (came_to (judged c o heading text) steps)
 entered_is c me h o heading text steps (Head head) is at =
@@ -124,7 +124,7 @@ relay_end mount text None came unended is = sym (free_unended came is unended)
 relay_end mount text (Some claim) came unended is = sym (ap at_end is.3)
 
 end_is : (c : Config) (me : ℕ) (h : Histories) (o : Opening) (heading : Heading) (text : List ℕ)
-    (steps : List Step) (stage : Stage) → IsHeadingOf (Some o) text heading
+    (steps : List Step) (stage : SessionStage) → IsHeadingOf (Some o) text heading
     → IsAtStage c me h o (judged c o heading text) text steps stage
     → ended_by (came_to (judged c o heading text) steps) ≡ None
     → end_at stage ≡ at_end (came_to (judged c o heading text) steps)
@@ -178,7 +178,7 @@ relay_junk ended mount text steps session junk (Some claim) came stands short no
 
 pub junk_is : (c : Config) (me : ℕ) (h : Histories) (ended : Option Ending) (o : Opening) (heading : Heading)
     (text : List ℕ)
-    (steps : List Step) (stage : Stage) (junk : ℕ) → IsHeadingOf (Some o) text heading
+    (steps : List Step) (stage : SessionStage) (junk : ℕ) → IsHeadingOf (Some o) text heading
     → IsAtStage c me h o (judged c o heading text) text steps stage → EndsAt stage ended → IsJunkAt stage junk
     → IsTold ended junk (junk_of (came_to (judged c o heading text) steps))
 junk_is c me h ended o heading text steps (Head head) junk is at ends told =
@@ -209,7 +209,7 @@ unended_by ended by (inr same) none = sym same ∙ none
 
 pub receipt_is : (c : Config) (me : ℕ) (h : Histories) (ended : Option Ending) (o : Opening) (heading : Heading)
     (text : List ℕ)
-    (steps : List Step) (stage : Stage) (last : Last) (receipt : Receipt) → IsHeadingOf (Some o) text heading
+    (steps : List Step) (stage : SessionStage) (last : Last) (receipt : Receipt) → IsHeadingOf (Some o) text heading
     → IsAtStage c me h o (judged c o heading text) text steps stage → EndsAt stage ended
     → EndsAs ended (ended_by (came_to (judged c o heading text) steps))
     → receipt.ending ≡ unwrap_or ended (ended_last last (end_at stage))

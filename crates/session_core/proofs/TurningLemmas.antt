@@ -33,8 +33,8 @@ use Rattle.cast_config.specs.declared.config.Config.{Config}
 use Rattle.session_model.specs.declared.ending.Ending.{Ending}
 use Rattle.session_model.specs.declared.ending.Ending.TheVariants as endings
 use Rattle.session_core.specs.declared.session.Session.{Session}
-use Rattle.session_core.specs.declared.stage.Stage.{Stage}
-use Rattle.session_core.specs.declared.stage.Stage.TheVariants as stages
+use Rattle.session_core.specs.declared.session_stage.SessionStage.{SessionStage}
+use Rattle.session_core.specs.declared.session_stage.SessionStage.TheVariants as stages
 use Rattle.session_model.specs.Setting.{caps, shapes}
 use Rattle.session_model.specs.Judged.{Opening, Judged, rover, judged}
 use Rattle.session_model.specs.Owed.{came_by, first_answer, came_to, plan_of}
@@ -216,7 +216,7 @@ is_none_of None none = refl
 is_none_of (Some x) none = absurd cc
 
 readable_at : (c : Config) (me : ℕ) (h now : Histories) (opening : Opening) (j : Judged) (text : List ℕ)
-    (steps : List Step) (stage : Stage) → IsAtStage c me h opening j text steps stage → EndsAt stage None
+    (steps : List Step) (stage : SessionStage) → IsAtStage c me h opening j text steps stage → EndsAt stage None
     → OthersCalled h now me → IsReadBy (shapes c) me now.rings stage
 readable_at c me h now opening j text steps (stages.Head head) at halts others = tt
 readable_at c me h now opening j text steps stages.Over at halts others = tt
@@ -406,7 +406,7 @@ turned_rover c ring_alone book_alone old now book budget session o text steps h 
 
 turned_at : (c : Config) (ring_alone book_alone : Bool) (old now : List (History RingCall))
     (book : History BookCall) (budget : ℕ) (session : Session) (o : Opening) (text : List ℕ) (steps : List Step)
-    (h : Histories) (sent before after : List ℕ) (was stage : Stage) (ended : Option Ending)
+    (h : Histories) (sent before after : List ℕ) (was stage : SessionStage) (ended : Option Ending)
     → is_rover was ≡ true → session.ended ≡ None → (stands : Stands c session o text steps h sent)
     → IsAtStage c session.me h o (judged c o stands.heading text) text steps was
     → EndsAt was None → OthersCalled h (record { rings = old; book = book }) session.me
@@ -424,7 +424,7 @@ turned_at c ring_alone book_alone old now book budget session o text steps h sen
     (stages.Relay mount relay) stage ended is going stands at halts others turned halted = absurd cc
 turned_at c ring_alone book_alone old now book budget session o text steps h sent before after
     (stages.Rover account was) stage ended is going stands at halts others (next, same, turned) halted =
-    subst (λ (s : Stage). Turned c (ring_alone && book_alone) (record { rings = old; book = book })
+    subst (λ (s : SessionStage). Turned c (ring_alone && book_alone) (record { rings = old; book = book })
     (record { rings = now; book = book }) budget (record session { stage = s; ended = ended }) o text steps sent before
     after) (sym same)
     (turned_rover c ring_alone book_alone old now book budget session o text steps h sent before after account was next
@@ -432,7 +432,7 @@ turned_at c ring_alone book_alone old now book budget session o text steps h sen
 
 pub turned_by : (c : Config) (ring_alone book_alone : Bool) (given : List RingShape) (old now : List (History RingCall))
     (book : History BookCall) (budget : ℕ) (session : Session) (o : Opening) (text : List ℕ) (steps : List Step)
-    (h : Histories) (sent before after : List ℕ) (stage : Stage) (ended : Option Ending)
+    (h : Histories) (sent before after : List ℕ) (stage : SessionStage) (ended : Option Ending)
     → is_rover session.stage ≡ true → session.ended ≡ None → given ≡ shapes c
     → StandsFor c session o text steps h sent → OthersCalled h (record { rings = old; book = book }) session.me
     → TurnedAt given ring_alone old now budget session.stage stage ended before after
@@ -452,14 +452,14 @@ turned_by c ring_alone book_alone given old now book budget session o text steps
 
 -- ---- of anything else
 
-pub no_bystander : (was : Stage) (account : ℕ) (session : RoverSession) → was ≡ stages.Rover account session
+pub no_bystander : (was : SessionStage) (account : ℕ) (session : RoverSession) → was ≡ stages.Rover account session
     → is_rover was ≡ false → ⊥
 no_bystander was account session is apart = absurd (both (sym (ap is_rover is) ∙ apart)) where
   both : true ≡ false → ⊥
   both e = cc
 
-pub same_session : (session : Session) (stage : Stage) (ended : Option Ending) → stage ≡ session.stage → ended ≡ None
+pub same_session : (session : Session) (stage : SessionStage) (ended : Option Ending) → stage ≡ session.stage → ended ≡ None
     → session.ended ≡ None → record session { stage = stage; ended = ended } ≡ session
 same_session session stage ended still none going =
-    ap (λ (s : Stage). record session { stage = s; ended = ended }) still
+    ap (λ (s : SessionStage). record session { stage = s; ended = ended }) still
     ∙ ap (λ (e : Option Ending). record session { ended = e }) (none ∙ sym going)

@@ -14,8 +14,8 @@ use Rattle.session_model.specs.Reports.{IsHeadingOf}
 use Rattle.session_core.specs.declared.asked.Asked.{Asked}
 use Rattle.session_core.specs.declared.asked.Asked.TheVariants.{Table, Rover, Source}
 use Rattle.session_core.specs.declared.session.Session.{Session}
-use Rattle.session_core.specs.declared.stage.Stage.{Stage}
-use Rattle.session_core.specs.declared.stage.Stage.TheVariants.{Head}
+use Rattle.session_core.specs.declared.session_stage.SessionStage.{SessionStage}
+use Rattle.session_core.specs.declared.session_stage.SessionStage.TheVariants.{Head}
 
 -- ---- by the head
 
@@ -54,7 +54,7 @@ TellsBehind opening text told ended =
     → IsAsking told ended (asked_in heading)
 
 -- While the head of a connection is awaited, nothing is told of it.
-abbrev pub TellsAt : Opening → List ℕ → Option Asked → Option Ending → Stage → Type 0
+abbrev pub TellsAt : Opening → List ℕ → Option Asked → Option Ending → SessionStage → Type 0
 TellsAt opening text told ended (Head head) =
     (opening ≡ sends_head) × (head ≡ text) × IsOpen head × (told ≡ None)
 TellsAt opening text told ended _ = TellsBehind opening text told ended

@@ -6,8 +6,8 @@ use Rattle.rover_session.specs.Body.{body_of}
 use Rattle.cast_config.specs.declared.config.Config.{Config}
 use Rattle.session_model.specs.declared.ending.Ending.{Ending}
 use Rattle.session_model.specs.declared.ending.Ending.TheVariants.{Memory}
-use Rattle.session_core.specs.declared.stage.Stage.{Stage}
-use Rattle.session_core.specs.declared.stage.Stage.TheVariants.{Over, Rover}
+use Rattle.session_core.specs.declared.session_stage.SessionStage.{SessionStage}
+use Rattle.session_core.specs.declared.session_stage.SessionStage.TheVariants.{Over, Rover}
 use Rattle.session_model.specs.Judged.{Opening, Judged}
 use Rattle.session_model.specs.Owed.{came_to, plan_of}
 use Rattle.session_model.specs.Endings.{ended_by}
@@ -26,14 +26,14 @@ due_by c histories j steps =
 
 -- a connection that was just begun goes on, unless nothing is left to be closed, or it is a rover
 -- that was halted as it joined
-abbrev pub StartsAs : Stage → Option Ending → Type 0
+abbrev pub StartsAs : SessionStage → Option Ending → Type 0
 StartsAs Over ended = ⊤
 StartsAs (Rover account session) ended = ended ≡ ended_joining session.halt
 StartsAs _ ended = ended ≡ None
 
 -- A connection that is so judged was begun: it made what it owes and was sent its reply.
 pub record Begins (c : Config) (alone : Bool) (old now : Histories) (me : ℕ) (j : Judged)
-    (stage : Stage) (ended : Option Ending) (before after : List ℕ) : Type 0 where
+    (stage : SessionStage) (ended : Option Ending) (before after : List ℕ) : Type 0 where
   pub more : List Step
   pub added : List ℕ
   pub out : after ≡ before ++ added
@@ -48,15 +48,15 @@ pub record Begins (c : Config) (alone : Bool) (old now : Histories) (me : ℕ) (
   pub sent_is : IsSentBy (is_halted_uncalled ended more) added (due_by c now j more)
 
 -- memory was lacking before anything was called or appended
-pub record IsLostAt (old now : Histories) (stage : Stage) (ended : Option Ending)
+pub record IsLostAt (old now : Histories) (stage : SessionStage) (ended : Option Ending)
     (before after : List ℕ) : Type 0 where
   pub uncalled : now ≡ old
   pub unsent : after ≡ before
   pub stage_is : stage ≡ Over
   pub ended_is : ended ≡ Some Memory
 
-abbrev pub BeginsFor : Config → Bool → Histories → Histories → ℕ → Judged → Stage → Option Ending
-    → List ℕ → List ℕ → Type 0
+abbrev pub BeginsFor : Config → (alone : Bool) → Histories → Histories → ℕ → Judged → SessionStage
+    → Option Ending → List ℕ → List ℕ → Type 0
 BeginsFor c alone old now me j stage ended before after =
     Begins c alone old now me j stage ended before after
     ⊎ IsLostAt old now stage ended before after

@@ -16,7 +16,7 @@ use Rattle.session_model.specs.Called.{Called}
 use Rattle.session_core.specs.Standing.{is_halted}
 
 -- each turn that closes it was taken, or none was
-abbrev pub IsSettled : Bool → Plan → List Step → Type 0
+abbrev pub IsSettled : (settled : Bool) → Plan → List Step → Type 0
 IsSettled true plan steps = IsMade plan steps
 IsSettled false plan steps = steps ≡ []
 

@@ -18,8 +18,8 @@ use Rattle.upstream_relay.specs.Standing as relay_standing
 use Rattle.rover_session.specs.Made.{sent_in, overrun_in}
 use Rattle.cast_config.specs.declared.config.Config.{Config}
 use Rattle.session_core.specs.declared.session.Session.{Session}
-use Rattle.session_core.specs.declared.stage.Stage.{Stage}
-use Rattle.session_core.specs.declared.stage.Stage.TheVariants.{Source, Relay, Rover}
+use Rattle.session_core.specs.declared.session_stage.SessionStage.{SessionStage}
+use Rattle.session_core.specs.declared.session_stage.SessionStage.TheVariants.{Source, Relay, Rover}
 use Rattle.session_model.specs.declared.ending.Ending.{Ending}
 use Rattle.session_model.specs.declared.ending.Ending.TheVariants as endings
 use Rattle.session_model.specs.Run.{Histories}
@@ -31,7 +31,7 @@ releasing mount None = done
 releasing mount (Some claim) = asks (to_ring mount (Release claim)) (λ answer. done)
 
 -- the one turn that gives back what is held, or none
-abbrev pub closing_at : Stage → Plan
+abbrev pub closing_at : SessionStage → Plan
 closing_at (Source mount session) = releasing mount (Some session.claim)
 closing_at (Relay mount session) = releasing mount (relay_standing.claim_at session.stage)
 closing_at (Rover account session) =
@@ -44,7 +44,7 @@ abbrev pub closing_of : Session → Plan
 closing_of session = closing_at session.stage
 
 -- the claim or the account is held by this caller, under these caps of accounts
-abbrev pub IsHeldBy : List ℕ → ℕ → Histories → Stage → Type 0
+abbrev pub IsHeldBy : List ℕ → ℕ → Histories → SessionStage → Type 0
 IsHeldBy caps me histories (Source mount session) =
     (session.me ≡ me) × (mount < length histories.rings)
     × HeldSince me session.claim (history_at histories.rings mount)
@@ -65,14 +65,14 @@ abbrev pub end_claimed : Option ℕ → Ending
 end_claimed None = endings.NoHead
 end_claimed (Some claim) = endings.SourceEnd claim
 
-abbrev pub end_at : Stage → Ending
+abbrev pub end_at : SessionStage → Ending
 end_at (Source mount session) = endings.SourceEnd session.claim
 end_at (Relay mount session) = end_claimed (relay_standing.claim_at session.stage)
 end_at (Rover account session) = endings.RoverEnd
 end_at _ = endings.NoHead
 
 -- the segments of a rover, the newest first
-abbrev pub segments_at : Stage → List Segment
+abbrev pub segments_at : SessionStage → List Segment
 segments_at (Rover account session) = session.segments
 segments_at _ = []
 
@@ -91,7 +91,7 @@ pub record IsRelayJunk (session : RelaySession) (junk : ℕ) : Type 0 where
   pub exact : IfSome (relay_standing.claim_at session.stage) (λ claim. IsJunk session junk)
   pub at_most : IfSome (relay_standing.claim_at session.stage) (λ claim. IsAtMostJunk session junk)
 
-abbrev pub IsJunkAt : Stage → ℕ → Type 0
+abbrev pub IsJunkAt : SessionStage → ℕ → Type 0
 IsJunkAt (Source mount session) junk = IsSourceJunk session junk
 IsJunkAt (Relay mount session) junk = IsRelayJunk session junk
 IsJunkAt _ junk = junk ≡ 0

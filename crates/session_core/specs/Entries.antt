@@ -14,10 +14,10 @@ use Rattle.session_model.specs.Setting.{caps}
 use Rattle.session_model.specs.Owed.{terms_of}
 use Rattle.session_model.specs.Run.{Histories}
 use Rattle.session_model.specs.Called.{book_answer}
-use Rattle.session_core.specs.declared.book.Entry.{Entry}
-use Rattle.session_core.specs.declared.book.Entry.TheVariants.{Entered, Full}
+use Rattle.session_core.specs.declared.book.EnterAnswer.{EnterAnswer}
+use Rattle.session_core.specs.declared.book.EnterAnswer.TheVariants.{Entered, Full}
 
-abbrev pub answer_of : Entry → BookAnswer
+abbrev pub answer_of : EnterAnswer → BookAnswer
 answer_of Entered = books.Entered
 answer_of (Full busy cap) = books.Full busy cap
 

@@ -1,4 +1,4 @@
--- What becomes of a connection that takes more bytes behind its head.
+-- How a connection goes on with the bytes that come after its head.
 use Rattle.std.specs.Prelude.{◌≡◌, ℕ, ◌⊎◌, Bool, List, ◌++◌, Option, unwrap_or}
 use Rattle.source_session.specs.declared.fault.SourceHalt.{SourceHalt}
 use Rattle.source_session.specs.declared.fault.SourceHalt.TheVariants as sources
@@ -10,8 +10,8 @@ use Rattle.cast_config.specs.declared.config.Config.{Config}
 use Rattle.session_model.specs.declared.ending.Ending.{Ending}
 use Rattle.session_model.specs.declared.ending.Ending.TheVariants as endings
 use Rattle.session_core.specs.declared.session.Session.{Session}
-use Rattle.session_core.specs.declared.stage.Stage.{Stage}
-use Rattle.session_core.specs.declared.stage.Stage.TheVariants.{Head, Over}
+use Rattle.session_core.specs.declared.session_stage.SessionStage.{SessionStage}
+use Rattle.session_core.specs.declared.session_stage.SessionStage.TheVariants.{Head, Over}
 use Rattle.session_model.specs.Headings.{Heading, IsHeading}
 use Rattle.session_model.specs.Judged.{Opening, heading_judged}
 use Rattle.session_model.specs.Run.{Histories}
@@ -40,20 +40,20 @@ end_of_relay claim (relays.Worn given) = endings.Worn given
 end_of_relay claim relays.Memory = endings.Memory
 
 -- the connection's head is whole, or it has none
-abbrev pub IsBehindHead : Stage → Type 0
+abbrev pub IsBehindHead : SessionStage → Type 0
 IsBehindHead (Head head) = ⊥
 IsBehindHead Over = ⊥
 IsBehindHead _ = Unit {0}
 
 -- A connection whose head these bytes are was begun by what they say of it.
 pub record HasBegun (c : Config) (alone : Bool) (old now : Histories) (me : ℕ) (front : List ℕ)
-    (stage : Stage) (ended : Option Ending) (before after : List ℕ) : Type 0 where
+    (stage : SessionStage) (ended : Option Ending) (before after : List ℕ) : Type 0 where
   pub heading : Heading
   pub is_heading : IsHeading front heading
   pub begins : Begins c alone old now me (heading_judged c heading front) stage ended before after
 
 -- so it was, or memory was lacking before anything was called or appended
-abbrev pub HasBegunFor : Config → Bool → Histories → Histories → ℕ → List ℕ → Stage
+abbrev pub HasBegunFor : Config → (alone : Bool) → Histories → Histories → ℕ → List ℕ → SessionStage
     → Option Ending → List ℕ → List ℕ → Type 0
 HasBegunFor c alone old now me front stage ended before after =
     HasBegun c alone old now me front stage ended before after

@@ -24,8 +24,8 @@ use Rattle.ntrip_head.specs.Head.{IsOpen}
 use Rattle.cast_config.specs.declared.config.Config.{Config}
 use Rattle.session_model.specs.declared.ending.Ending.{Ending}
 use Rattle.session_model.specs.declared.ending.Ending.TheVariants.{Memory}
-use Rattle.session_core.specs.declared.stage.Stage.{Stage}
-use Rattle.session_core.specs.declared.stage.Stage.TheVariants.{Head, Over, Source, Relay, Rover}
+use Rattle.session_core.specs.declared.session_stage.SessionStage.{SessionStage}
+use Rattle.session_core.specs.declared.session_stage.SessionStage.TheVariants.{Head, Over, Source, Relay, Rover}
 use Rattle.session_core.specs.declared.session.Session.{Session}
 use Rattle.session_model.specs.Setting.{shapes, caps}
 use Rattle.session_model.specs.Headings.{Heading}
@@ -54,11 +54,11 @@ abbrev pub is_halted_uncalled : Option Ending → List Step → Bool
 is_halted_uncalled ended steps = is_halted ended && is_uncalled steps
 
 -- all of a plan was made, and by a session that was halted the first of it
-abbrev pub IsMadeBy : Bool → Plan → List Step → Type 0
+abbrev pub IsMadeBy : (halted : Bool) → Plan → List Step → Type 0
 IsMadeBy halted plan steps = IsDone halted plan steps
 
 -- all of these bytes, or the first of them where it was cut
-abbrev pub IsSentBy : Bool → List ℕ → List ℕ → Type 0
+abbrev pub IsSentBy : (cut : Bool) → List ℕ → List ℕ → Type 0
 IsSentBy false sent due = sent ≡ due
 IsSentBy true sent due = (rest : List ℕ) × (due ≡ sent ++ rest)
 
@@ -112,7 +112,7 @@ pub record IsRelay (c : Config) (me : ℕ) (histories : Histories) (opening : Op
       (history_at histories.rings mount)
 
 -- a relay of this mountpoint before the first byte of the answer
-abbrev pub IsNewRelay : ℕ → ℕ → Stage → Type 0
+abbrev pub IsNewRelay : ℕ → ℕ → SessionStage → Type 0
 IsNewRelay me mount (Relay at session) =
     (at ≡ mount) × (session.me ≡ me) × (relay_standing.claim_at session.stage ≡ None)
     × (relay_standing.halt_at session.stage ≡ None)
@@ -135,7 +135,7 @@ pub record IsRover (c : Config) (me : ℕ) (histories : Histories) (judged : Jud
   pub resumes : IsResumable (shapes c) me histories.rings session.segments
   pub inside : IsTrue (may_leave (caps c) histories.book me account)
 
-abbrev pub IsAtStage : Config → ℕ → Histories → Opening → Judged → List ℕ → List Step → Stage
+abbrev pub IsAtStage : Config → ℕ → Histories → Opening → Judged → List ℕ → List Step → SessionStage
     → Type 0
 IsAtStage c me h opening j text steps (Head head) =
     (opening ≡ sends_head) × (head ≡ text) × (steps ≡ []) × IsOpen head
@@ -149,7 +149,7 @@ IsAtStage c me h opening j text steps (Rover account session) =
 -- ---- halts of stages
 
 -- what comes is taken
-abbrev pub is_going : Stage → Bool
+abbrev pub is_going : SessionStage → Bool
 is_going (Head head) = true
 is_going Over = false
 is_going (Source mount session) = is_none session.halt
@@ -157,13 +157,13 @@ is_going (Relay mount session) = is_none (relay_standing.halt_at session.stage)
 is_going (Rover account session) = is_none session.halt
 
 -- a turn of a source or of a relay was refused
-abbrev pub is_refused_at : Stage → Bool
+abbrev pub is_refused_at : SessionStage → Bool
 is_refused_at (Source mount session) = source_standing.is_cut_short session.halt
 is_refused_at (Relay mount session) = relay_standing.is_short_at session.stage
 is_refused_at _ = false
 
 -- a session that has not ended is halted nowhere, and one whose turn was refused has ended by that
-pub record EndsAt (stage : Stage) (ended : Option Ending) : Type 0 where
+pub record EndsAt (stage : SessionStage) (ended : Option Ending) : Type 0 where
   pub goes : ended ≡ None → IsTrue (is_going stage)
   pub refused : IsTrue (is_refused_at stage) → IsTrue (is_halted ended)
 

@@ -9,8 +9,8 @@ use Rattle.session_model.specs.declared.ending.Ending.{Ending}
 use Rattle.session_core.specs.declared.held.Held.{Held}
 use Rattle.session_core.specs.declared.held.Held.TheVariants as holds
 use Rattle.session_core.specs.declared.rover_state.RoverState.{RoverState}
-use Rattle.session_core.specs.declared.stage.Stage.{Stage}
-use Rattle.session_core.specs.declared.stage.Stage.TheVariants.{Source, Relay, Rover}
+use Rattle.session_core.specs.declared.session_stage.SessionStage.{SessionStage}
+use Rattle.session_core.specs.declared.session_stage.SessionStage.TheVariants.{Source, Relay, Rover}
 use Rattle.session_core.specs.declared.session.Session.{Session}
 
 -- with these segments, the newest first
@@ -27,7 +27,7 @@ abbrev pub state_of : RoverValue → Option RoverState
 state_of rover = state_in rover.version rover.segments
 
 -- of a session that ended so, if it did, at this stage
-abbrev pub state_at : Option Ending → Stage → Option RoverState
+abbrev pub state_at : Option Ending → SessionStage → Option RoverState
 state_at None (Rover account session) = state_of session
 state_at _ _ = None
 
@@ -37,7 +37,7 @@ rover_state session = state_at session.ended session.stage
 -- ---- where it is
 
 -- the mountpoint of a source or a relay, and of a rover that stands so
-abbrev pub mount_at : Stage → Option RoverState → Option ℕ
+abbrev pub mount_at : SessionStage → Option RoverState → Option ℕ
 mount_at (Source mount session) rover = Some mount
 mount_at (Relay mount session) rover = Some mount
 mount_at (Rover account session) (Some rover) = Some rover.mount
@@ -49,7 +49,7 @@ session_mount session = mount_at session.stage (rover_state session)
 -- ---- what it holds
 
 -- an account, or a claim: that of a source, or of a relay that was given one
-abbrev pub holding_at : Stage → Held
+abbrev pub holding_at : SessionStage → Held
 holding_at (Source mount session) = holds.Source mount session.claim
 holding_at (Relay mount session) = holds.Relay mount (claim_at session.stage)
 holding_at (Rover account session) = holds.Rover account

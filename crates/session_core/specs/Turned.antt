@@ -16,8 +16,8 @@ use Rattle.cast_config.specs.declared.config.Config.{Config}
 use Rattle.session_model.specs.declared.ending.Ending.{Ending}
 use Rattle.session_core.specs.declared.ending.Flow.{Flow}
 use Rattle.session_core.specs.declared.ending.Flow.TheVariants as flows
-use Rattle.session_core.specs.declared.stage.Stage.{Stage}
-use Rattle.session_core.specs.declared.stage.Stage.TheVariants as stages
+use Rattle.session_core.specs.declared.session_stage.SessionStage.{SessionStage}
+use Rattle.session_core.specs.declared.session_stage.SessionStage.TheVariants as stages
 use Rattle.session_core.specs.declared.session.Session.{Session}
 use Rattle.session_model.specs.Judged.{Opening}
 use Rattle.session_model.specs.Run.{Histories}
@@ -42,12 +42,12 @@ pub record HaltedUnread {H : Type 0} (old now : H) (before after : List ℕ) (en
 -- ---- by stage
 
 -- whether it entered an account as a rover
-abbrev pub is_rover : Stage → Bool
+abbrev pub is_rover : SessionStage → Bool
 is_rover (stages.Rover account session) = true
 is_rover _ = false
 
 -- a rover was not halted, and its newest segment can be read on by this caller
-abbrev pub IsReadBy : List RingShape → ℕ → List (History RingCall) → Stage → Type 0
+abbrev pub IsReadBy : List RingShape → ℕ → List (History RingCall) → SessionStage → Type 0
 IsReadBy shapes me histories (stages.Rover account session) =
     (session.me ≡ me) × (session.halt ≡ None)
     × WasResumable shapes me histories session.segments
@@ -79,8 +79,9 @@ pub record RoverTurned (shapes : List RingShape) (alone : Bool) (old now : List 
       → ReadAt shapes alone old now budget before after ended first bytes steps
 
 -- a turn of a rover leaves it one of the same account
-abbrev pub TurnedAt : List RingShape → Bool → List (History RingCall) → List (History RingCall) → ℕ
-    → Stage → Stage → Option Ending → List ℕ → List ℕ → Type 0
+abbrev pub TurnedAt : List RingShape → (alone : Bool) → List (History RingCall)
+    → List (History RingCall) → ℕ
+    → SessionStage → SessionStage → Option Ending → List ℕ → List ℕ → Type 0
 TurnedAt shapes alone old now budget (stages.Rover account session) after ended out_old out_new =
     (next : RoverSession) × (after ≡ stages.Rover account next)
     × RoverTurned shapes alone old now budget session next ended out_old

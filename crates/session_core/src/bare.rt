@@ -69,7 +69,8 @@ impl Session {
         ensures begun { IfOk result (λ session. Fed config.now (alone_in T.Turns B.Turns places.old)
             (seen_in T.Turns B.Turns places.old) (seen_in T.Turns B.Turns places.new) session
             (bare_opening role mount.now) [] [] [] [] []) }
-        ensures asks { IfOk result (λ session. TellsAsked (bare_opening role mount.now) [] session) }
+        ensures asks { IfOk result (λ session.
+            TellsAsked (bare_opening role mount.now) [] session) }
         ensures cause { IfOk result (λ session. IfSome session.ended
             (IsCause (worn_in T.Turns B.Turns places.new))) }
         ensures err { OnErr result (places.new ≡ places.old) }

@@ -13,7 +13,7 @@ ghost use Rattle.session_core.specs.Places.{Stay, alone_in, seen_in, worn_in};
 
 use crate::begun::{Begun, REPLY_ROOM, push_reply};
 use crate::places::Places;
-use crate::stage::Stage;
+use crate::session_stage::SessionStage;
 use caster_accounts::Book;
 use mount_ring::Ring;
 use ntrip_head::Version;
@@ -25,9 +25,9 @@ use std::alloc::AllocError;
 use turn_log::Turns;
 
 /// A source whose claim was not given is told so, if another one holds the mountpoint.
-fn unclaimed(version: Option<Version>, fault: ClaimFault, out: &mut Vec<u8>) -> Begun
+fn begin_unclaimed(version: Option<Version>, fault: ClaimFault, out: &mut Vec<u8>) -> Begun
     requires room { vec_len out.old + 256 ≤ vec_capacity out.old }
-    ensures stage { result.stage ≡ Stage.Over }
+    ensures stage { result.stage ≡ SessionStage.Over }
     ensures ended { result.ended ≡ Some (end_unclaimed fault) }
     ensures sent { out.new.items ≡ out.old.items ++ text_unclaimed version fault }
 {
@@ -77,10 +77,10 @@ pub(crate) fn begin_source<T: Turns<Ring>, B: Turns<Book>>(
         Ok(session) => {
             push_reply(version, Reply::SourceOk, out);
             Begun {
-                stage: Stage::Source { mount, session },
+                stage: SessionStage::Source { mount, session },
                 ended: None,
             }
         }
-        Err(fault) => unclaimed(version, fault, out),
+        Err(fault) => begin_unclaimed(version, fault, out),
     }
 }

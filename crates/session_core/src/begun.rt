@@ -1,4 +1,4 @@
-//! What becomes of a connection as it begins, and its reply.
+//! A connection whose head was judged: its first stage, or its ending, and its reply.
 
 ghost use Rattle.std.specs.Prelude.{◌≡◌, ℕ, ◌+◌, ◌≤◌, ◌++◌, Bool, List, [], vec_len, IfNone, IfSome, Some};
 ghost use Rattle.std.specs.Vec.{vec_capacity};
@@ -10,7 +10,7 @@ ghost use Rattle.session_model.specs.Run.{Histories};
 ghost use Rattle.session_core.specs.Beginnings.{IsTableFor};
 ghost use Rattle.session_core.specs.Begun.{BeginsFor};
 
-use crate::stage::Stage;
+use crate::session_stage::SessionStage;
 use ntrip_head::Version;
 use ntrip_reply::{Reply, reply};
 use session_model::Ending;
@@ -19,10 +19,10 @@ use std::alloc::AllocError;
 /// Room for each reply without a sourcetable.
 pub(crate) const REPLY_ROOM: usize = 256;
 
-/// What became of a connection that began.
+/// The first stage of a connection, and its ending where it has one already.
 #[derive(Drop)]
 pub(crate) struct Begun {
-    pub(crate) stage: Stage,
+    pub(crate) stage: SessionStage,
     /// How it ended by itself, or what halted it.
     pub(crate) ended: Option<Ending>,
 }
@@ -30,17 +30,17 @@ pub(crate) struct Begun {
 impl Begun {
     /// Nothing is left to be closed.
     pub(crate) fn over(ending: Ending) -> Begun
-        ensures stage { result.stage ≡ Stage.Over }
+        ensures stage { result.stage ≡ SessionStage.Over }
         ensures ended { result.ended ≡ Some ending }
     {
         Begun {
-            stage: Stage::Over,
+            stage: SessionStage::Over,
             ended: Some(ending),
         }
     }
 }
 
-/// Sends a connection this as its last reply, if it is replied to, and ends it so.
+/// Ends a connection with this ending, and sends it this last reply where it is sent one.
 pub(crate) fn finish(
     version: Option<Version>,
     last: (Reply, Ending),

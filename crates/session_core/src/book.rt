@@ -12,7 +12,7 @@ use turn_log::{Played, TurnFault, Turns};
 
 /// What became of an entry.
 #[derive(Clone, Copy)]
-pub enum Entry {
+pub enum EnterAnswer {
     /// The session is open.
     Entered,
     /// So many sessions of the account are open, and no more may be.
@@ -20,7 +20,11 @@ pub enum Entry {
 }
 
 /// Enters an account: one turn at the book.
-pub(crate) fn enter<B: Turns<Book>>(book: &mut B, me: u32, account: u32) -> Result<Entry, TurnFault>
+pub(crate) fn enter<B: Turns<Book>>(
+    book: &mut B,
+    me: u32,
+    account: u32,
+) -> Result<EnterAnswer, TurnFault>
     requires speaks { IsTrue (B.speaks book.old me) }
     requires known { account < length (B.shape book.old) }
     ensures stay { Stays B.Turns book.old book.new }
@@ -28,14 +32,14 @@ pub(crate) fn enter<B: Turns<Book>>(book: &mut B, me: u32, account: u32) -> Resu
         Heard (B.alone book.old) (⟦<Book as Played>⟧.answer (B.shape book.old))
         (B.seen book.old) (B.seen book.new) me
         ((BookCall.Enter account, answer_of entry) ∷ [])) }
-    ensures inside { IfOk result (λ entry. entry ≡ Entry.Entered
+    ensures inside { IfOk result (λ entry. entry ≡ EnterAnswer.Entered
         → IsTrue (may_leave (B.shape book.old) (B.seen book.new) me account)) }
     ensures err { OnErr result (B.seen book.new ≡ B.seen book.old) }
     ensures fault { IfErr result (IsFault (B.may_lack book.old) (B.worn book.new)) }
 {
     match book.turn(me, BookCall::Enter(account), &mut ())? {
-        BookAnswer::Entered => Ok(Entry::Entered),
-        BookAnswer::Full { busy, cap } => Ok(Entry::Full { busy, cap }),
+        BookAnswer::Entered => Ok(EnterAnswer::Entered),
+        BookAnswer::Full { busy, cap } => Ok(EnterAnswer::Full { busy, cap }),
         BookAnswer::Left => unreachable!(),
     }
 }

@@ -6,23 +6,23 @@ ghost use Rattle.session_core.specs.Closing.{IsJunkAt, end_at, segments_at};
 ghost use Rattle.session_model.specs.Endings.{ended_last};
 ghost use Rattle.session_core.specs.Turned.{is_rover};
 
-use crate::stage::Stage;
+use crate::session_stage::SessionStage;
 use session_model::{Ending, Last, Receipt, Segments};
 use std::alloc::Global;
 
 /// How a connection at this stage ends that came to its end.
-fn ending_at_end(stage: &Stage) -> Ending
+fn ending_at_end(stage: &SessionStage) -> Ending
     ensures { result ≡ end_at stage.now }
 {
     match stage {
-        Stage::Source { mount: _, session } => Ending::SourceEnd {
+        SessionStage::Source { mount: _, session } => Ending::SourceEnd {
             claim: session.claim_number(),
         },
-        Stage::Relay { mount: _, session } => match session.claim_number() {
+        SessionStage::Relay { mount: _, session } => match session.claim_number() {
             None => Ending::NoHead,
             Some(claim) => Ending::SourceEnd { claim },
         },
-        Stage::Rover {
+        SessionStage::Rover {
             account: _,
             session: _,
         } => Ending::RoverEnd,
@@ -30,8 +30,8 @@ fn ending_at_end(stage: &Stage) -> Ending
     }
 }
 
-/// How a connection at this stage ends that is closed so.
-fn ending_last(stage: &Stage, last: Last) -> Ending
+/// The ending of a connection that is closed at this stage for this reason.
+fn ending_last(stage: &SessionStage, last: Last) -> Ending
     ensures { result ≡ ended_last last (end_at stage.now) }
 {
     match last {
@@ -42,12 +42,12 @@ fn ending_last(stage: &Stage, last: Last) -> Ending
 }
 
 /// How many bytes of a source's payload were no part of a frame.
-fn junk_at(stage: &Stage) -> u64
+fn junk_at(stage: &SessionStage) -> u64
     ensures { IsJunkAt stage.now result }
 {
     match stage {
-        Stage::Source { mount: _, session } => session.junk(),
-        Stage::Relay { mount: _, session } => session.junk(),
+        SessionStage::Source { mount: _, session } => session.junk(),
+        SessionStage::Relay { mount: _, session } => session.junk(),
         _ => 0,
     }
 }
@@ -55,7 +55,7 @@ fn junk_at(stage: &Stage) -> u64
 /// What is told of a connection that was closed at this stage.
 pub(crate) fn receipt_of(
     alloc: Global,
-    stage: Stage,
+    stage: SessionStage,
     ended: Option<Ending>,
     last: Last,
     settled: bool,
@@ -80,20 +80,20 @@ pub(crate) fn receipt_of(
         settled,
     };
     match stage {
-        Stage::Head(head) => {
+        SessionStage::Head(head) => {
             drop(head);
             told
         }
-        Stage::Over => told,
-        Stage::Source { mount: _, session } => {
+        SessionStage::Over => told,
+        SessionStage::Source { mount: _, session } => {
             drop(session);
             told
         }
-        Stage::Relay { mount: _, session } => {
+        SessionStage::Relay { mount: _, session } => {
             drop(session);
             told
         }
-        Stage::Rover {
+        SessionStage::Rover {
             account: _,
             session,
         } => {

@@ -27,10 +27,10 @@ use crate::begun::{Begun, finish};
 use crate::ending::Flow;
 use crate::judging::{begin_request, refused_head};
 use crate::places::Places;
-use crate::rovers::halted;
+use crate::rovers::halt_of;
 use crate::session::Session;
+use crate::session_stage::SessionStage;
 use crate::setup::Setup;
-use crate::stage::Stage;
 use crate::turning::flow_after;
 use cast_config::Config;
 use caster_accounts::Book;
@@ -86,7 +86,7 @@ fn ended_relay(claim: Option<u64>, fed: Result<(), RelayHalt>) -> Option<Ending>
     }
 }
 
-/// What becomes of a connection whose head ended so, and what its head asked.
+/// Begins a connection whose head ended this way. Gives what the head asked for, too.
 fn begin<T: Turns<Ring>, B: Turns<Book>>(
     setup: &Setup,
     end: HeadEnd,
@@ -158,21 +158,21 @@ impl Session {
         ensures cause { IfSome self.new.ended (IsCause (worn_in T.Turns B.Turns places.new)) }
     {
         match &mut self.stage {
-            Stage::Head(_) => unreachable!(),
-            Stage::Over => unreachable!(),
-            Stage::Source { mount, session } => {
+            SessionStage::Head(_) => unreachable!(),
+            SessionStage::Over => unreachable!(),
+            SessionStage::Source { mount, session } => {
                 let fed = session.feed(bytes, &mut places.rings[*mount as usize]);
                 self.ended = ended_source(session.claim_number(), fed);
             }
-            Stage::Relay { mount, session } => {
+            SessionStage::Relay { mount, session } => {
                 let fed = session.feed(bytes, &mut places.rings[*mount as usize]);
                 self.ended = ended_relay(session.claim_number(), fed);
             }
-            Stage::Rover {
+            SessionStage::Rover {
                 account: _,
                 session,
             } => {
-                self.ended = halted(session.feed(bytes, places.rings.as_mut_slice()));
+                self.ended = halt_of(session.feed(bytes, places.rings.as_mut_slice()));
             }
         }
     }
@@ -219,7 +219,7 @@ impl Session {
             opening (text ++ bytes.now) steps sent out.old.items out.new.items }
         ensures cause { IfSome self.new.ended (IsCause (worn_in T.Turns B.Turns places.new)) }
     {
-        let Stage::Head(head) = &mut self.stage else {
+        let SessionStage::Head(head) = &mut self.stage else {
             self.feed_behind(bytes, places);
             return flow_after(self.ended);
         };

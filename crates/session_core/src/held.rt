@@ -13,7 +13,7 @@ ghost use Rattle.session_core.specs.States.{holding_at, session_holding};
 ghost use Rattle.session_core.specs.Holding.{HoldsAs};
 
 use crate::session::Session;
-use crate::stage::Stage;
+use crate::session_stage::SessionStage;
 
 /// What a connection holds, which its closing gives back.
 #[derive(Clone, Copy)]
@@ -29,21 +29,21 @@ pub enum Held {
 }
 
 /// What a connection at this stage holds.
-fn held_at(stage: &Stage) -> Held
+fn held_at(stage: &SessionStage) -> Held
     ensures { result ≡ holding_at stage.now }
 {
     match stage {
-        Stage::Head(_head) => Held::Nothing,
-        Stage::Over => Held::Nothing,
-        Stage::Source { mount, session } => Held::Source {
+        SessionStage::Head(_head) => Held::Nothing,
+        SessionStage::Over => Held::Nothing,
+        SessionStage::Source { mount, session } => Held::Source {
             mount: *mount,
             claim: session.claim_number(),
         },
-        Stage::Relay { mount, session } => Held::Relay {
+        SessionStage::Relay { mount, session } => Held::Relay {
             mount: *mount,
             claim: session.claim_number(),
         },
-        Stage::Rover {
+        SessionStage::Rover {
             account,
             session: _session,
         } => Held::Rover { account: *account },

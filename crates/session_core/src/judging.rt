@@ -1,4 +1,4 @@
-//! What becomes of a connection, by what its head asks for.
+//! Judges the request of a head: it is admitted, or refused with a reply.
 
 ghost use Rattle.std.specs.Prelude.{◌≡◌, ℕ, ◌≤◌, Bool, IsTrue, [], length, map, Some, Ok, Err, IfNone, IfSome, Option, ◌<◌, None, IfOk, false};
 ghost use Rattle.base_select.specs.Measure.{IsOnEarth};
@@ -33,7 +33,7 @@ use session_model::Ending;
 use turn_log::Turns;
 
 /// The last reply to a rover that is given nothing, and how it ends.
-fn denied(denial: Denial) -> (Reply, Ending)
+fn denial_answer(denial: Denial) -> (Reply, Ending)
     ensures { (version : Option VersionValue) (first : Option PositionValue)
         → finished (replied version result.0) result.1
         ≡ rover_judged version first [] (Err denial) }
@@ -69,7 +69,7 @@ pub(crate) fn refused_head(fault: HeadFault) -> (Reply, Ending)
     }
 }
 
-/// What becomes of a rover that asks for a mountpoint with these credentials.
+/// Admits a rover that asks for a mountpoint with these credentials, or refuses it.
 pub(crate) fn judge_rover<T: Turns<Ring>, B: Turns<Book>>(
     setup: &Setup,
     version: Option<Version>,
@@ -99,12 +99,14 @@ pub(crate) fn judge_rover<T: Turns<Ring>, B: Turns<Book>>(
             drop(admission);
             begun
         }
-        Err(AdmissionError::Denied(denial)) => { finish(version, denied(denial), setup.table, out) }
+        Err(AdmissionError::Denied(denial)) => {
+            finish(version, denial_answer(denial), setup.table, out)
+        }
         Err(AdmissionError::Memory) => Begun::over(Ending::Memory),
     }
 }
 
-/// What becomes of a source that would feed a mountpoint with this password.
+/// Admits a source that asks to feed a mountpoint with this password, or refuses it.
 fn judge_source<T: Turns<Ring>, B: Turns<Book>>(
     setup: &Setup,
     version: Option<Version>,
@@ -145,7 +147,7 @@ fn admit_bare(config: &Config, mount: &MountName) -> Result<u32, SourceDenial>
     }
 }
 
-/// What becomes of a source without a head, by the name of its mountpoint alone.
+/// Admits a source without a head by the name of its mountpoint alone, or refuses it.
 pub(crate) fn judge_bare_source<T: Turns<Ring>, B: Turns<Book>>(
     config: &Config,
     me: u32,
@@ -170,7 +172,7 @@ pub(crate) fn judge_bare_source<T: Turns<Ring>, B: Turns<Book>>(
     }
 }
 
-/// What becomes of a connection whose head asks for this.
+/// Answers this request: sends the sourcetable, or judges the rover or source that asks.
 pub(crate) fn begin_request<T: Turns<Ring>, B: Turns<Book>>(
     setup: &Setup,
     request: &Request,

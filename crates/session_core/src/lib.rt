@@ -15,9 +15,9 @@ mod places;
 mod rover_state;
 mod rovers;
 mod session;
+mod session_stage;
 mod settle;
 mod setup;
-mod stage;
 mod turning;
 
 pub use asked::Asked;

@@ -4,7 +4,7 @@ ghost use Rattle.std.specs.Prelude.{◌≡◌, is_some};
 ghost use Rattle.session_core.specs.States.{rover_state, session_mount, state_of};
 
 use crate::session::Session;
-use crate::stage::Stage;
+use crate::session_stage::SessionStage;
 use ntrip_head::Version;
 use rover_session::RoverSession;
 
@@ -53,7 +53,7 @@ impl Session {
         match (&self.ended, &self.stage) {
             (
                 None,
-                Stage::Rover {
+                SessionStage::Rover {
                     account: _,
                     session,
                 },
@@ -67,11 +67,11 @@ impl Session {
         ensures { result ≡ session_mount self.now }
     {
         match &self.stage {
-            Stage::Head(_head) => None,
-            Stage::Over => None,
-            Stage::Source { mount, session: _ } => Some(*mount),
-            Stage::Relay { mount, session: _ } => Some(*mount),
-            Stage::Rover {
+            SessionStage::Head(_head) => None,
+            SessionStage::Over => None,
+            SessionStage::Source { mount, session: _ } => Some(*mount),
+            SessionStage::Relay { mount, session: _ } => Some(*mount),
+            SessionStage::Rover {
                 account: _,
                 session: _,
             } => self.rover().map(|rover| rover.mount),

@@ -25,10 +25,10 @@ ghost use Rattle.session_core.specs.Setups.{IsSetUpFor};
 ghost use Rattle.session_core.specs.Places.{Stay, StayAtRings, seen_in, alone_in, worn_in};
 
 use crate::begun::{Begun, REPLY_ROOM, push_reply};
-use crate::book::{Entry, enter};
+use crate::book::{EnterAnswer, enter};
 use crate::places::Places;
+use crate::session_stage::SessionStage;
 use crate::setup::Setup;
-use crate::stage::Stage;
 use access_groups::Admission;
 use base_select::Base;
 use cast_config::Config;
@@ -117,7 +117,7 @@ fn new_session(
 }
 
 /// What ends a rover whose entry was refused.
-fn unentered(fault: TurnFault) -> Ending
+fn entry_fault(fault: TurnFault) -> Ending
     ensures { result ≡ end_unentered fault }
 {
     match fault {
@@ -127,7 +127,7 @@ fn unentered(fault: TurnFault) -> Ending
 }
 
 /// What halted a rover, by what its session answered.
-pub(crate) fn halted<X: Copy>(answered: Result<X, SegFault>) -> Option<Ending>
+pub(crate) fn halt_of<X: Copy>(answered: Result<X, SegFault>) -> Option<Ending>
     ensures { result ≡ ended_joining (result_err answered) }
 {
     match answered {
@@ -140,7 +140,7 @@ pub(crate) fn halted<X: Copy>(answered: Result<X, SegFault>) -> Option<Ending>
 /// A rover whose account is full is told so.
 fn turn_away(version: Option<Version>, busy: u32, cap: u32, out: &mut Vec<u8>) -> Begun
     requires room { vec_len out.old + 256 ≤ vec_capacity out.old }
-    ensures stage { result.stage ≡ Stage.Over }
+    ensures stage { result.stage ≡ SessionStage.Over }
     ensures ended { result.ended ≡ Some (Ending.Full busy cap) }
     ensures sent { out.new.items ≡ out.old.items ++ text_if version Reply.Full [] }
 {
@@ -176,8 +176,8 @@ fn join<T: Turns<Ring>>(
     push_reply(version, Reply::RoverOk, out);
     let joined = session.start(first, rings);
     Begun {
-        stage: Stage::Rover { account, session },
-        ended: halted(joined),
+        stage: SessionStage::Rover { account, session },
+        ended: halt_of(joined),
     }
 }
 
@@ -212,17 +212,17 @@ pub(crate) fn begin_rover<T: Turns<Ring>, B: Turns<Book>>(
     };
     let account = admission.account;
     match enter(&mut places.book, setup.me, account) {
-        Ok(Entry::Entered) => {
+        Ok(EnterAnswer::Entered) => {
             let rings = places.rings.as_mut_slice();
             join(account, session, version, first, rings, out)
         }
-        Ok(Entry::Full { busy, cap }) => {
+        Ok(EnterAnswer::Full { busy, cap }) => {
             drop(session);
             turn_away(version, busy, cap, out)
         }
         Err(fault) => {
             drop(session);
-            Begun::over(unentered(fault))
+            Begun::over(entry_fault(fault))
         }
     }
 }

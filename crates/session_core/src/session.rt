@@ -23,8 +23,8 @@ ghost use Rattle.session_core.specs.Places.{Stay, seen_in, alone_in, worn_in, la
 use crate::asked::Asked;
 use crate::closing::receipt_of;
 use crate::places::Places;
+use crate::session_stage::SessionStage;
 use crate::settle::settle;
-use crate::stage::Stage;
 use cast_config::{Config, Relay};
 use caster_accounts::Book;
 use mount_ring::Ring;
@@ -39,14 +39,19 @@ use upstream_relay::RelaySession;
 pub struct Session {
     pub(crate) alloc: Global,
     pub(crate) me: u32,
-    pub(crate) stage: Stage,
+    pub(crate) stage: SessionStage,
     pub(crate) ended: Option<Ending>,
     /// What its head asked.
     pub(crate) asked: Option<Asked>,
 }
 
 /// A relay before the first byte of the answer, whose request is appended.
-fn new_relay(alloc: Global, me: u32, relay: &Relay, out: &mut Vec<u8>) -> Result<Stage, AllocError>
+fn new_relay(
+    alloc: Global,
+    me: u32,
+    relay: &Relay,
+    out: &mut Vec<u8>,
+) -> Result<SessionStage, AllocError>
     requires { (1 ≤ relay.now.protocol) × (relay.now.protocol ≤ 2) }
     ensures ok { OnOk result (out.new.items ≡ out.old.items ++ relay_request relay.now) }
     ensures err { OnErr result (out.new.items ≡ out.old.items) }
@@ -58,7 +63,7 @@ fn new_relay(alloc: Global, me: u32, relay: &Relay, out: &mut Vec<u8>) -> Result
         return Err(AllocError);
     };
     let mount = relay.mount;
-    Ok(Stage::Relay { mount, session })
+    Ok(SessionStage::Relay { mount, session })
 }
 
 impl Session {
@@ -78,7 +83,7 @@ impl Session {
         Ok(Session {
             alloc,
             me,
-            stage: Stage::Head(head),
+            stage: SessionStage::Head(head),
             ended: None,
             asked: None,
         })

@@ -10,7 +10,7 @@ ghost use Rattle.session_core.specs.Places.{Stay, seen_in, alone_in, worn_in, la
 
 use crate::book::leave;
 use crate::places::Places;
-use crate::stage::Stage;
+use crate::session_stage::SessionStage;
 use caster_accounts::Book;
 use mount_ring::Ring;
 use turn_log::{TurnFault, Turns};
@@ -20,7 +20,7 @@ use turn_log::{TurnFault, Turns};
 /// held.
 pub(crate) fn settle<T: Turns<Ring>, B: Turns<Book>>(
     me: u32,
-    stage: &mut Stage,
+    stage: &mut SessionStage,
     places: &mut Places<T, B>,
 ) -> Result<(), TurnFault>
     requires rings { AllSpeak T.speaks places.old.rings.items me }
@@ -39,14 +39,16 @@ pub(crate) fn settle<T: Turns<Ring>, B: Turns<Book>>(
         (worn_in T.Turns B.Turns places.new)) }
 {
     match stage {
-        Stage::Head(_) => Ok(()),
-        Stage::Over => Ok(()),
-        Stage::Source { mount, session } => session.release(&mut places.rings[*mount as usize]),
-        Stage::Relay { mount, session } => match session.claim_number() {
+        SessionStage::Head(_) => Ok(()),
+        SessionStage::Over => Ok(()),
+        SessionStage::Source { mount, session } => session.release(
+            &mut places.rings[*mount as usize],
+        ),
+        SessionStage::Relay { mount, session } => match session.claim_number() {
             None => Ok(()),
             Some(_) => session.release(&mut places.rings[*mount as usize]),
         },
-        Stage::Rover { account, session } => {
+        SessionStage::Rover { account, session } => {
             let sent = session.sent();
             leave(&mut places.book, me, *account, sent, session.overrun())
         }

@@ -17,9 +17,9 @@ ghost use Rattle.session_core.specs.Places.{Stay, StayAtRings, seen_in, alone_in
 
 use crate::ending::Flow;
 use crate::places::Places;
-use crate::rovers::halted;
+use crate::rovers::halt_of;
 use crate::session::Session;
-use crate::stage::Stage;
+use crate::session_stage::SessionStage;
 use caster_accounts::Book;
 use mount_ring::Ring;
 use session_model::Ending;
@@ -38,7 +38,7 @@ pub(crate) fn flow_after(ended: Option<Ending>) -> Flow
 /// One turn of a rover, whose frames are appended; gives what halted it. Nothing else takes a turn.
 fn turn_at<T: Turns<Ring>>(
     me: u32,
-    stage: &mut Stage,
+    stage: &mut SessionStage,
     budget: u32,
     rings: &mut [T],
     out: &mut Vec<u8>,
@@ -57,10 +57,10 @@ fn turn_at<T: Turns<Ring>>(
     ensures cause { IfSome result (IsCause (map T.worn rings.new)) }
 {
     match stage {
-        Stage::Rover {
+        SessionStage::Rover {
             account: _account,
             session,
-        } => halted(session.turn(budget, rings, out)),
+        } => halt_of(session.turn(budget, rings, out)),
         _ => None,
     }
 }

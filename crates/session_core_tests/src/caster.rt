@@ -2,16 +2,17 @@
 
 ghost use Rattle.std.specs.Prelude.{◌≡◌, ◌≤◌, ℕ, IfOk, length, map};
 ghost use Rattle.cast_config.specs.Kept.{KeepsRules};
-ghost use Rattle.session_model.specs.Setting.{anonymous_cap, caps, shapes};
-ghost use Rattle.session_model.specs.Setting as setting;
+ghost use Rattle.session_model.specs.Setting.{caps, shapes};
 
-use crate::{Act, Start, Tired, Told, Two, Who, serve_two, start_as, start_head};
+use crate::{
+    Act, ConnectionOutcome, SessionStart, Tired, Two, Who, serve_two, start_as, start_head,
+};
 use cast_config::{Config, read_config};
 use caster_accounts::Book;
-use config_table::table_of;
+use config_table::table_text;
 use mount_ring::Ring;
 use session_core::{Ending, Last, Places};
-use sourcetable::write_table;
+use session_model::caps_of;
 use std::alloc::{AllocError, Global};
 use std::process::Abort;
 use std::test::Fail;
@@ -125,17 +126,6 @@ pub(crate) fn silent() -> Wanted<'static> {
     ends(Ending::NoHead, b"")
 }
 
-/// The sourcetable of the configuration.
-fn table_text(alloc: Global, config: &Config) -> Result<Vec<u8>, AllocError>
-    requires { (cap : ℕ) × KeepsRules cap config.now }
-    ensures { IfOk result (λ text. text.items ≡ setting.table config.now) }
-{
-    let table = table_of(alloc, config)?;
-    let mut text = Vec::new(alloc);
-    write_table(&table, &mut text)?;
-    Ok(text)
-}
-
 /// A ring of this capacity that offers these filters, and refuses this turn.
 fn ring_place(
     alloc: Global,
@@ -171,28 +161,6 @@ fn ring_places(
     Ok(places)
 }
 
-/// How many rovers without credentials may be served.
-fn anonymous_cap(config: &Config) -> u32
-    ensures { result ≡ anonymous_cap config.now.anonymous }
-{
-    match &config.anonymous {
-        None => 0,
-        Some(anonymous) => anonymous.cap,
-    }
-}
-
-/// How many rovers of each account may be served.
-fn caps_of(alloc: Global, config: &Config) -> Result<Vec<u32>, AllocError>
-    ensures { IfOk result (λ numbers. numbers.items ≡ caps config.now) }
-{
-    let mut numbers = Vec::new(alloc);
-    numbers.push(anonymous_cap(config))?;
-    for account in config.account.as_slice() {
-        numbers.push(account.cap)?;
-    }
-    Ok(numbers)
-}
-
 /// The book of a configuration, which refuses this turn.
 fn book_place(alloc: Global, config: &Config, refused: u64) -> Result<Tired<Desk<Book>>, AllocError>
     ensures { IfOk result (λ place. ⟦<Tired<Desk<Book>> as Turns<Book>>⟧.shape place
@@ -221,11 +189,11 @@ fn places_of(alloc: Global, config: &Config, refused: Refused) -> Result<AllPlac
 fn served_at(
     alloc: Global,
     config: &Config,
-    how: Start,
+    how: SessionStart,
     script: &[(Who, Act)],
     last: Last,
     places: &mut AllPlaces,
-) -> Result<(Told, Told), Fail>
+) -> Result<(ConnectionOutcome, ConnectionOutcome), Fail>
     requires kept { (cap : ℕ) × KeepsRules cap config.now }
     requires relay { 1 ≤ length config.now.relay }
     requires rings { map ⟦<Tired<Desk<Ring>> as Turns<Ring>>⟧.shape places.old.rings.items
@@ -242,13 +210,13 @@ fn served_at(
 
 /// What became of two connections at the caster, of which the first starts so and the second sends
 /// a head.
-pub(crate) fn served(
+pub(crate) fn serve_pair(
     alloc: Global,
-    how: Start,
+    how: SessionStart,
     refused: Refused,
     script: &[(Who, Act)],
     last: Last,
-) -> Result<(Told, Told), Fail> {
+) -> Result<(ConnectionOutcome, ConnectionOutcome), Fail> {
     let config = read_config(alloc, FILE)?;
     if config.relay.as_slice().is_empty() {
         return Err(Fail::from("no relay"));
@@ -269,8 +237,8 @@ struct Came {
 }
 
 /// What a connection came to, and what it was sent.
-fn outcome(told: Told) -> Came {
-    let Told { receipt, sent, .. } = told;
+fn outcome(told: ConnectionOutcome) -> Came {
+    let ConnectionOutcome { receipt, sent, .. } = told;
     let fate = (
         receipt.ending,
         receipt.junk,
@@ -284,12 +252,12 @@ fn outcome(told: Told) -> Came {
 /// What both connections came to, and what they were sent.
 fn both_came(
     alloc: Global,
-    how: Start,
+    how: SessionStart,
     refused: Refused,
     script: &[(Who, Act)],
     last: Last,
 ) -> Result<(Came, Came), Fail> {
-    let (first, second) = served(alloc, how, refused, script, last)?;
+    let (first, second) = serve_pair(alloc, how, refused, script, last)?;
     Ok((outcome(first), outcome(second)))
 }
 
@@ -310,7 +278,7 @@ fn expect_came(rt: &impl Abort, came: &Came, wanted: Wanted) {
 pub(crate) fn expect_two_from(
     rt: &impl Abort,
     alloc: Global,
-    how: Start,
+    how: SessionStart,
     script: &[(Who, Act)],
     first: Wanted,
     second: Wanted,
@@ -329,14 +297,14 @@ pub(crate) fn expect_two(
     first: Wanted,
     second: Wanted,
 ) -> Result<(), Fail> {
-    expect_two_from(rt, alloc, Start::Head, script, first, second)
+    expect_two_from(rt, alloc, SessionStart::Head, script, first, second)
 }
 
-/// What became of two connections, where these pieces of bytes come to the first, which starts so
-/// and is closed so, and nothing to the second.
+/// What two connections came to. The first starts this way, takes these pieces of bytes, and is
+/// closed for this reason. Nothing comes to the second.
 fn pieces_came(
     alloc: Global,
-    how: Start,
+    how: SessionStart,
     pieces: &[&[u8]],
     last: Last,
 ) -> Result<(Came, Came), Fail> {
@@ -347,12 +315,12 @@ fn pieces_came(
     both_came(alloc, how, NONE, &script, last)
 }
 
-/// A connection that starts so, to which so many pieces of bytes come, and then is closed so, came
-/// to what was wanted.
+/// Expects what a connection comes to that starts this way, takes these pieces of bytes, and is
+/// closed for this reason.
 pub(crate) fn expect_closed(
     rt: &impl Abort,
     alloc: Global,
-    how: Start,
+    how: SessionStart,
     pieces: &[&[u8]],
     last: Last,
     wanted: Wanted,
@@ -370,7 +338,7 @@ pub(crate) type HeadRow<'a> = (&'a [u8], Ending, &'a [u8]);
 pub(crate) fn expect_heads(rt: &impl Abort, alloc: Global, rows: &[HeadRow]) -> Result<(), Fail> {
     for (bytes, ending, sent) in rows {
         let wanted = ends(*ending, *sent);
-        expect_closed(rt, alloc, Start::Head, &[*bytes], Last::End, wanted)?;
+        expect_closed(rt, alloc, SessionStart::Head, &[*bytes], Last::End, wanted)?;
     }
     Ok(())
 }
@@ -379,7 +347,7 @@ pub(crate) fn expect_heads(rt: &impl Abort, alloc: Global, rows: &[HeadRow]) -> 
 pub(crate) fn expect_refused(
     rt: &impl Abort,
     alloc: Global,
-    how: Start,
+    how: SessionStart,
     refused: Refused,
     script: &[(Who, Act)],
     wanted: Wanted,

@@ -5,7 +5,7 @@ use crate::caster::{
     FRAME_A, FRAME_B, HeadRow, ICY, ROVER, SOURCE, Wanted, ends, expect_closed, expect_heads,
     expect_two, silent,
 };
-use crate::{Act, Start, Who};
+use crate::{Act, SessionStart, Who};
 use cast_text::MountName;
 use session_core::{Bare, Ending, Last};
 use std::alloc::Global;
@@ -130,9 +130,23 @@ fn heads_are_no_longer_than_8192_bytes(rt: HostRuntime) -> Result<(), Fail> {
     let pieces = [bytes.as_slice(), b"a".as_slice()];
     let long = ends(Ending::LongHead, BAD);
     expect_heads(&rt, rt.alloc(), &[(bytes.as_slice(), Ending::NoHead, b"")])?;
-    expect_closed(&rt, rt.alloc(), Start::Head, &pieces, Last::End, long)?;
+    expect_closed(
+        &rt,
+        rt.alloc(),
+        SessionStart::Head,
+        &pieces,
+        Last::End,
+        long,
+    )?;
     expect_heads(&rt, rt.alloc(), &OPEN_HEAD)?;
-    expect_closed(&rt, rt.alloc(), Start::Head, &[], Last::End, silent())
+    expect_closed(
+        &rt,
+        rt.alloc(),
+        SessionStart::Head,
+        &[],
+        Last::End,
+        silent(),
+    )
 }
 
 const ASKS_TABLE: [HeadRow; 4] = [
@@ -301,7 +315,14 @@ fn chunked_bodies_end_by_themselves(rt: HostRuntime) -> Result<(), Fail> {
         (b"\r\n0\r\n\r\n".as_slice(), done),
     ] {
         let pieces = [PUSH_TWO, b"8\r\n".as_slice(), FRAME_A, rest];
-        expect_closed(&rt, alloc, Start::Head, &pieces, Last::WriteFault, wanted)?;
+        expect_closed(
+            &rt,
+            alloc,
+            SessionStart::Head,
+            &pieces,
+            Last::WriteFault,
+            wanted,
+        )?;
     }
     Ok(())
 }
@@ -321,7 +342,7 @@ fn faults_end_what_goes_on(rt: HostRuntime) -> Result<(), Fail> {
         ),
         ([ROVER].as_slice(), Last::ReadFault, rover),
     ] {
-        expect_closed(&rt, rt.alloc(), Start::Head, pieces, last, wanted)?;
+        expect_closed(&rt, rt.alloc(), SessionStart::Head, pieces, last, wanted)?;
     }
     Ok(())
 }
@@ -336,7 +357,7 @@ fn expect_bare(
     wanted: Wanted,
 ) -> Result<(), Fail> {
     let mount = MountName::new(alloc, name)?;
-    let how = Start::Bare(role, &mount);
+    let how = SessionStart::Bare(role, &mount);
     expect_closed(rt, alloc, how, &[FRAME_A], Last::End, wanted)
 }
 

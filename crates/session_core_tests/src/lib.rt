@@ -7,8 +7,8 @@ mod serving;
 mod starting;
 mod tired;
 
-pub use serving::{Act, Served, Told, Two, Who, serve_two};
-pub use starting::{Start, start_as, start_head};
+pub use serving::{Act, ConnectionOutcome, Served, Two, Who, serve_two};
+pub use starting::{SessionStart, start_as, start_head};
 pub use tired::Tired;
 
 #[cfg(test)]

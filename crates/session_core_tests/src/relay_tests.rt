@@ -1,7 +1,7 @@
 //! What other casters answer. What is expected is written by hand from the form of their answers.
 
 use crate::caster::{FRAME_A, SOURCE, Wanted, ends, expect_closed, expect_two_from};
-use crate::{Act, Start, Who};
+use crate::{Act, SessionStart, Who};
 use session_core::{Ending, Last};
 use std::alloc::Global;
 use std::process::Abort;
@@ -16,7 +16,14 @@ User-Agent: NTRIP lapcast/1.0\r
 fn expect_answered(rt: &impl Abort, alloc: Global, rows: &[(&[u8], Ending)]) -> Result<(), Fail> {
     for (answer, ending) in rows {
         let wanted = ends(*ending, ASKED);
-        expect_closed(rt, alloc, Start::Relay, &[*answer], Last::End, wanted)?;
+        expect_closed(
+            rt,
+            alloc,
+            SessionStart::Relay,
+            &[*answer],
+            Last::End,
+            wanted,
+        )?;
     }
     Ok(())
 }
@@ -40,7 +47,14 @@ fn an_answer_is_published(rt: HostRuntime) -> Result<(), Fail> {
         ..ends(Ending::SourceEnd { claim: 1 }, ASKED)
     };
     let pieces = [b"ICY 200 OK\r\n\r\n".as_slice(), FRAME_A];
-    expect_closed(&rt, rt.alloc(), Start::Relay, &pieces, Last::End, wanted)?;
+    expect_closed(
+        &rt,
+        rt.alloc(),
+        SessionStart::Relay,
+        &pieces,
+        Last::End,
+        wanted,
+    )?;
     expect_answered(&rt, rt.alloc(), &CHUNKED)
 }
 
@@ -77,5 +91,5 @@ fn a_relay_finds_its_mountpoint_held(rt: HostRuntime) -> Result<(), Fail> {
     };
     let first = ends(taken, ASKED);
     let second = ends(Ending::SourceEnd { claim: 1 }, b"ICY 200 OK\r\n\r\n");
-    expect_two_from(&rt, rt.alloc(), Start::Relay, &script, first, second)
+    expect_two_from(&rt, rt.alloc(), SessionStart::Relay, &script, first, second)
 }

@@ -91,7 +91,7 @@ fn segment(alloc: Global) -> Result<Segment, Fail> {
 }
 
 // What a caster of one mountpoint came to.
-fn closed(alloc: Global) -> Result<Closed, Fail>
+fn close_caster(alloc: Global) -> Result<Closed, Fail>
     ensures mounts { IfOk result (λ closed. length closed.mounts ≡ 1) }
     ensures accounts { IfOk result (λ closed. length closed.accounts ≡ 0) }
 {
@@ -166,7 +166,7 @@ fn text_of(alloc: Global, connections: Connections, before: &[u8]) -> Result<Vec
     let config = Config::bare(alloc, 2)?;
     let report = Report {
         connections,
-        closed: closed(alloc)?,
+        closed: close_caster(alloc)?,
     };
     let mut text = Vec::from_slice(alloc, before)?;
     report_text(&config, &report, &mut text)?;

@@ -1,7 +1,7 @@
 //! Where a rover stands, and the laps of its segment. What is expected is counted by hand.
 
-use crate::caster::{FRAME_A, FRAME_B, NONE, ROVER, SOURCE, served};
-use crate::{Act, Start, Told, Who};
+use crate::caster::{FRAME_A, FRAME_B, NONE, ROVER, SOURCE, serve_pair};
+use crate::{Act, ConnectionOutcome, SessionStart, Who};
 use mount_ring::Lap;
 use ntrip_head::Version;
 use rover_cursor::Segment;
@@ -25,8 +25,8 @@ const READ_TWO: (Who, Act) = (Who::First, Act::Turn(2));
 const READ: (Who, Act) = (Who::First, Act::Turn(16));
 
 /// What became of a rover, where a source comes second.
-fn rover_told(alloc: Global, script: &[(Who, Act)]) -> Result<Told, Fail> {
-    let told = served(alloc, Start::Head, NONE, script, Last::End)?;
+fn rover_told(alloc: Global, script: &[(Who, Act)]) -> Result<ConnectionOutcome, Fail> {
+    let told = serve_pair(alloc, SessionStart::Head, NONE, script, Last::End)?;
     Ok(told.0)
 }
 

@@ -16,7 +16,7 @@ use session_core::{Last, Places, Receipt, RoverState, Session};
 use turn_log::Turns;
 
 /// How many bytes may come in all on two connections.
-pub const MOST: usize = 1 << 32;
+pub const MAX_INPUT_BYTES: usize = 1 << 32;
 
 /// What happens to a connection.
 #[derive(Clone, Copy, Debug)]
@@ -169,7 +169,7 @@ fn close_at<T: Turns<Ring>, B: Turns<Book>>(
 
 /// What became of a connection, and what it was sent.
 #[derive(Drop)]
-pub struct Told {
+pub struct ConnectionOutcome {
     /// Where it stood as a rover before it was closed.
     pub rover: Option<RoverState>,
     /// What became of it.
@@ -178,7 +178,8 @@ pub struct Told {
     pub sent: Vec<u8>,
 }
 
-/// All of this happens to two connections. Then the first is closed so, and the second at its end.
+/// Plays these acts on two connections. Then the first is closed for this reason, and the second at
+/// its end.
 pub fn serve_two<T: Turns<Ring>, B: Turns<Book>>(
     config: &Config,
     table: &[u8],
@@ -186,7 +187,7 @@ pub fn serve_two<T: Turns<Ring>, B: Turns<Book>>(
     script: &[(Who, Act)],
     last: Last,
     places: &mut Places<T, B>,
-) -> (Told, Told)
+) -> (ConnectionOutcome, ConnectionOutcome)
     requires kept { (cap : ℕ) × KeepsRules cap config.now }
     requires table { table.now ≡ setting.table config.now }
     requires shapes { map T.shape places.old.rings.items ≡ shapes config.now }
@@ -205,7 +206,7 @@ pub fn serve_two<T: Turns<Ring>, B: Turns<Book>>(
         places.old.book places.new.book }
 {
     let mut two = two;
-    let mut room = MOST;
+    let mut room = MAX_INPUT_BYTES;
     for step in script {
         let (who, act) = *step;
         room = happen_to(config, table, &mut two, who, act, room, places);
@@ -213,14 +214,14 @@ pub fn serve_two<T: Turns<Ring>, B: Turns<Book>>(
     let Two { first, second } = two;
     let rover = first.session.rover();
     let receipt = close_at(config, first.session, last, places);
-    let first = Told {
+    let first = ConnectionOutcome {
         rover,
         receipt,
         sent: first.sent,
     };
     let rover = second.session.rover();
     let receipt = close_at(config, second.session, Last::End, places);
-    let second = Told {
+    let second = ConnectionOutcome {
         rover,
         receipt,
         sent: second.sent,

@@ -21,7 +21,7 @@ use turn_log::Turns;
 
 /// How a connection starts.
 #[derive(Clone, Copy, Debug)]
-pub enum Start<'a> {
+pub enum SessionStart<'a> {
     /// It is to send a head.
     Head,
     /// It is the first relay of the configuration.
@@ -89,7 +89,7 @@ pub fn start_as<T: Turns<Ring>, B: Turns<Book>>(
     alloc: Global,
     config: &Config,
     me: u32,
-    how: Start,
+    how: SessionStart,
     places: &mut Places<T, B>,
 ) -> Result<Served, AllocError>
     requires kept { (cap : ℕ) × KeepsRules cap config.now }
@@ -107,8 +107,8 @@ pub fn start_as<T: Turns<Ring>, B: Turns<Book>>(
         (seen_at T.seen B.seen places.new.rings.items places.new.book) 4294967296) }
 {
     match how {
-        Start::Head => start_head(alloc, me),
-        Start::Relay => start_relay(alloc, config, me),
-        Start::Bare(role, mount) => start_bare(alloc, config, me, role, mount, places),
+        SessionStart::Head => start_head(alloc, me),
+        SessionStart::Relay => start_relay(alloc, config, me),
+        SessionStart::Bare(role, mount) => start_bare(alloc, config, me, role, mount, places),
     }
 }

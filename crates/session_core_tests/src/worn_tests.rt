@@ -3,7 +3,7 @@
 use crate::caster::{
     BOOK_WORN, FRAME_A, ICY, NEVER, RING_WORN, ROVER, Refused, SOURCE, Wanted, ends, expect_refused,
 };
-use crate::{Act, Start, Who};
+use crate::{Act, SessionStart, Who};
 use session_core::Ending;
 use std::alloc::Global;
 use std::process::Abort;
@@ -33,7 +33,12 @@ fn book(turn: u64) -> Refused {
 type Row<'a> = (Refused, &'a [(Who, Act<'a>)], Wanted<'a>);
 
 // Connections that start so, of which a turn was refused, came to what is wanted of each.
-fn expect_worn(rt: &impl Abort, alloc: Global, how: Start, rows: &[Row]) -> Result<(), Fail> {
+fn expect_worn(
+    rt: &impl Abort,
+    alloc: Global,
+    how: SessionStart,
+    rows: &[Row],
+) -> Result<(), Fail> {
     for (refused, script, wanted) in rows {
         expect_refused(rt, alloc, how, *refused, *script, *wanted)?;
     }
@@ -69,7 +74,7 @@ fn a_turn_of_a_source_is_refused(rt: HostRuntime) -> Result<(), Fail> {
         (ring(1), SENDS_JUNK.as_slice(), junk),
         (ring(2), SENDS.as_slice(), unreleased),
     ];
-    expect_worn(&rt, rt.alloc(), Start::Head, &rows)
+    expect_worn(&rt, rt.alloc(), SessionStart::Head, &rows)
 }
 
 const JOINS: [(Who, Act); 2] = [(Who::First, Act::In(ROVER)), (Who::First, Act::Turn(16))];
@@ -92,7 +97,7 @@ fn a_turn_of_a_rover_is_refused(rt: HostRuntime) -> Result<(), Fail> {
         (ring(1), JOINS.as_slice(), inside),
         (book(1), JOINS.as_slice(), left_inside),
     ];
-    expect_worn(&rt, rt.alloc(), Start::Head, &rows)
+    expect_worn(&rt, rt.alloc(), SessionStart::Head, &rows)
 }
 
 const ASKED: &[u8] = b"GET /UP HTTP/1.0\r\nUser-Agent: NTRIP lapcast/1.0\r\n\r\n";
@@ -115,5 +120,5 @@ fn a_turn_of_a_relay_is_refused(rt: HostRuntime) -> Result<(), Fail> {
         (ring(1), ANSWERS.as_slice(), worn),
         (ring(2), ANSWERS.as_slice(), unreleased),
     ];
-    expect_worn(&rt, rt.alloc(), Start::Relay, &rows)
+    expect_worn(&rt, rt.alloc(), SessionStart::Relay, &rows)
 }

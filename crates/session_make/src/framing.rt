@@ -33,7 +33,7 @@ pub(crate) fn draw_payload(alloc: Global, draws: &mut Draws) -> Result<Vec<u8>, 
 }
 
 /// The whole frame of a payload of fewer than 1,024 bytes, with reserved bits of zero.
-pub(crate) fn framed(alloc: Global, payload: &[u8]) -> Result<Vec<u8>, AllocError>
+pub(crate) fn frame_of(alloc: Global, payload: &[u8]) -> Result<Vec<u8>, AllocError>
     requires { length payload.now < 1024 }
     ensures { IfOk result (λ frame. frame.items ≡ framed 0 payload.now) }
 {

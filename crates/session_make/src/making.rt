@@ -1,13 +1,13 @@
 //! Making a whole session.
 
-ghost use Rattle.std.specs.Prelude.{◌≡◌, ◌*◌, ◌≤◌, ◌++◌, codes, length, sum_by, IfOk, OnOk};
+ghost use Rattle.std.specs.Prelude.{◌≡◌, ◌*◌, ◌≤◌, ◌++◌, codes, sum_by, IfOk, OnOk};
 ghost use Rattle.session_script.specs.declared.ScriptKind.TheVariants.{Bare};
 ghost use Rattle.session_script.specs.Script.{IsSession, input_length};
 ghost use Rattle.session_make.specs.Rounds.{round, after_round, opening, last_turns, events_of};
 
 use crate::draws::Draws;
-use crate::framing::{draw_payload, framed};
-use cast_text::{MountName, NameFault, Text, TextFault};
+use crate::framing::{draw_payload, frame_of};
+use cast_text::{MountName, Text};
 use session_script::Event;
 use std::alloc::{AllocError, Global};
 
@@ -18,29 +18,13 @@ const SOURCE: u32 = 1;
 const FIRST_ROVER: u32 = 2;
 
 /// The largest budget of a turn.
-const LARGEST_BUDGET: u32 = 16;
+const MAX_BUDGET: u32 = 16;
 
 /// The name of the only mountpoint, `A`.
 fn mountpoint(alloc: Global) -> Result<MountName, AllocError>
     ensures { IfOk result (λ name. name ≡ codes "A") }
 {
-    match MountName::new(alloc, b"A") {
-        Ok(name) => Ok(name),
-        Err(NameFault::Memory) => Err(AllocError),
-        Err(_) => unreachable!(),
-    }
-}
-
-/// A text of these bytes, at most 8,192.
-fn text_of(alloc: Global, bytes: &[u8]) -> Result<Text, AllocError>
-    requires { length bytes.now ≤ 8192 }
-    ensures { IfOk result (λ text. text ≡ bytes.now) }
-{
-    match Text::new(alloc, bytes) {
-        Ok(text) => Ok(text),
-        Err(TextFault::Memory) => Err(AllocError),
-        Err(TextFault::Long(_)) => unreachable!(),
-    }
+    MountName::of(alloc, b"A")
 }
 
 /// The source opens, and then so many rovers.
@@ -68,10 +52,10 @@ fn push_round(
     ensures state { OnOk result (draws.new.state ≡ after_round draws.old.state) }
 {
     let payload = draw_payload(alloc, draws)?;
-    let frame = framed(alloc, &payload)?;
-    events.push(Event::In(SOURCE, text_of(alloc, &frame)?))?;
+    let frame = frame_of(alloc, &payload)?;
+    events.push(Event::In(SOURCE, Text::of(alloc, &frame)?))?;
     let rover = FIRST_ROVER + draws.draw(rovers);
-    let budget = 1 + draws.draw(LARGEST_BUDGET);
+    let budget = 1 + draws.draw(MAX_BUDGET);
     events.push(Event::Turn(rover, budget))?;
     Ok(())
 }
@@ -82,7 +66,7 @@ fn push_last_turns(rovers: u32, events: &mut Vec<Event>) -> Result<(), AllocErro
     ensures { OnOk result (events.new.items ≡ events.old.items ++ last_turns rovers) }
 {
     for i in 0..rovers {
-        events.push(Event::Turn(FIRST_ROVER + i, LARGEST_BUDGET))?;
+        events.push(Event::Turn(FIRST_ROVER + i, MAX_BUDGET))?;
     }
     Ok(())
 }

@@ -169,7 +169,7 @@ ask_sound c h me segments (to_ring mount call) good all = ring_sound c h me segm
 ask_sound c h me segments (to_book call) good all = all
 
 -- a step asks what was asked
-asked_same : (c : Config) (me : ℕ) (h : Histories) (ask : Ask) → ask_of (step_at c me h ask) ≡ ask
+pub asked_same : (c : Config) (me : ℕ) (h : Histories) (ask : Ask) → ask_of (step_at c me h ask) ≡ ask
 asked_same c me h (to_ring mount call) = refl
 asked_same c me h (to_book call) = refl
 

@@ -34,14 +34,14 @@ between_frames : (from to : ℕ) (published : List (List ℕ)) → All IsOne pub
 between_frames from to published all = All-take IsOne (to - from) (drop from published)
     (All-drop IsOne from published all)
 
-outside_frames : (from : ℕ) (laps : List Lap) (to : ℕ) (published : List (List ℕ)) → All IsOne published
+pub outside_frames : (from : ℕ) (laps : List Lap) (to : ℕ) (published : List (List ℕ)) → All IsOne published
     → All IsOne (outside from laps to published)
 outside_frames from [] to published all = between_frames from to published all
 outside_frames from (lap ∷ laps) to published all =
     All-append IsOne (between from lap.from published) (outside lap.to laps to published)
     (between_frames from lap.from published all) (outside_frames lap.to laps to published all)
 
-filter_frames : (permits : List ℕ → Bool) (frames : List (List ℕ)) → All IsOne frames
+pub filter_frames : (permits : List ℕ → Bool) (frames : List (List ℕ)) → All IsOne frames
     → All IsOne (filter permits frames)
 filter_frames permits [] all = all
 filter_frames permits (frame ∷ frames) all =
@@ -62,7 +62,7 @@ kept_are_frames c h (segment ∷ more) all =
 
 -- ---- all frames are counted
 
-all_count : (c : Config) (h : List (History RingCall)) (segments : List Segment) → AllSound c h segments
+pub all_count : (c : Config) (h : List (History RingCall)) (segments : List Segment) → AllSound c h segments
     → All (CountsAll c h) segments
 all_count c h [] all = All-nil (CountsAll c h)
 all_count c h (segment ∷ more) all =

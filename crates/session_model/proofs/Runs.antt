@@ -10,7 +10,7 @@ use Rattle.rtcm_frame.specs.Transport.{is_frame, number_of}
 use Rattle.rtcm_frame.specs.Cut.{cut, cut_after}
 use Rattle.chunk_body.specs.Answer.{plain_of, answer}
 use Rattle.chunk_body.specs.Machine.{expected, in_digits, in_extension, behind_size, in_data, in_trailers, step, after, read}
-use Rattle.gga_read.specs.Report.{report_of}
+use Rattle.gga_read.specs.Report.{fix_of}
 use Rattle.base_select.specs.Measure.{measure_of}
 use Rattle.ntrip_client.specs.declared.answer.Refusal.TheVariants.{Status}
 use Rattle.config_table.specs.Table.{table_records}
@@ -112,7 +112,7 @@ there_and_back : report_text example (report example (heads_of (alpha_source ∷
     sent (icy ++ frame_b ++ frame_b ++ frame_z) ∷ codes "mount ALPHA 4 1" ∷ codes "mount BRAVO 2 1" ∷
     codes "account rover1 1 3 0" ∷ codes "account rover2 0 0 0" ∷ codes "total 1 3 0" ∷ []))
 unfolding cut cut_after is_frame crc24q_of bits_of after_bit connection_lines closed_text digits encode_with admission
-    source_admission table_records report_of measure_of
+    source_admission table_records fix_of measure_of
 there_and_back = refl
 
 -- only a base that a source holds is chosen; where none is, the rover stays
@@ -127,7 +127,7 @@ live_bases : report_text example (report example (heads_of (alpha_source ∷ bra
     codes "mount ALPHA 1 1" ∷ codes "mount BRAVO 2 1" ∷ codes "account rover1 1 2 0" ∷
     codes "account rover2 0 0 0" ∷ codes "total 1 2 0" ∷ []))
 unfolding cut cut_after is_frame crc24q_of bits_of after_bit connection_lines closed_text digits encode_with admission
-    source_admission table_records report_of measure_of
+    source_admission table_records fix_of measure_of
 live_bases = refl
 
 -- a near rover whose bases nobody holds has no segment
@@ -137,7 +137,7 @@ no_live_base : report_text example (report example (heads_of (near_rover ∷ [])
     codes "mount BRAVO 0 0" ∷ codes "account rover1 1 0 0" ∷ codes "account rover2 0 0 0" ∷
     codes "total 1 0 0" ∷ []))
 unfolding cut cut_after is_frame crc24q_of bits_of after_bit connection_lines closed_text digits encode_with admission
-    source_admission table_records report_of measure_of
+    source_admission table_records fix_of measure_of
 no_live_base = refl
 
 -- a chunked body breaks at its seventh digit of a size, and the mountpoint is free again
@@ -166,7 +166,7 @@ own_filter : report_text with_filter (report with_filter (heads_of (alpha_source
     codes "mount BRAVO 2 1" ∷ codes "account rover1 1 2 0" ∷ codes "account rover2 0 0 0" ∷
     codes "total 1 2 0" ∷ []))
 unfolding cut cut_after is_frame crc24q_of bits_of after_bit connection_lines closed_text digits encode_with admission
-    source_admission table_records report_of measure_of number_of
+    source_admission table_records fix_of measure_of number_of
 own_filter = refl
 
 -- a relay publishes what the other caster sends behind its first line

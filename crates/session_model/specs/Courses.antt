@@ -66,7 +66,7 @@ IsCourse c opening text steps (event ∷ events) =
 
 -- A connection that was halted, by a place that was worn or by want of memory, may have made but
 -- the first of what it owed for its last event. It may be halted before the first event.
-abbrev pub IsBroken : Bool → Config → Opening → List ℕ → List Step → List Event → Type 0
+abbrev pub IsBroken : (halted : Bool) → Config → Opening → List ℕ → List Step → List Event → Type 0
 IsBroken false c opening text steps last = last ≡ []
 IsBroken true c opening text steps [] = ⊤
 IsBroken true c opening text steps (event ∷ []) =

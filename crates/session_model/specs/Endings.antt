@@ -13,13 +13,13 @@ use Rattle.session_model.specs.Owed.{Came, nothing, over, holding, inside, came_
 
 -- a body in the chunked transfer coding (RFC 9112, section 7.1) that has ended, or that is broken
 -- behind so many bytes
-abbrev pub body_ending : ℕ → Bool → Bool → ℕ → Option Ending
+abbrev pub body_ending : ℕ → (ended : Bool) → (broken : Bool) → ℕ → Option Ending
 body_ending claim true broken before = Some (endings.SourceEnd claim)
 body_ending claim false true before = Some (endings.BadChunk before)
 body_ending claim false false before = None
 
 -- a body that is not chunked has no end of its own
-abbrev pub claimed_ending : Bool → ℕ → List ℕ → Option Ending
+abbrev pub claimed_ending : (chunked : Bool) → ℕ → List ℕ → Option Ending
 claimed_ending false claim body = None
 claimed_ending true claim body =
     let reading : Reading = read body in
@@ -52,6 +52,6 @@ ending_of judged steps last =
     let came : Came = came_to judged steps in
     unwrap_or (ended_by came) (ended_last last (at_end came))
 
--- whether it goes on, closed so or not
+-- whether it goes on: it was not closed, and nothing ended it
 abbrev pub goes_on : Judged → List Step → Option Last → Bool
 goes_on judged steps closed = is_none closed && is_none (ended_by (came_to judged steps))

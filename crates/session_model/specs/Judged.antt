@@ -63,7 +63,8 @@ pub data Judged : Type 0 where
 
 -- ---- who is let in, with the reply and the ending of each refusal
 
-abbrev pub source_judged : Option Version → Bool → List ℕ → Result ℕ SourceDenial → Judged
+abbrev pub source_judged : Option Version → (chunked : Bool) → List ℕ → Result ℕ SourceDenial
+    → Judged
 source_judged version chunked body (Ok mount) =
     source (record { version = version; mount = mount; chunked = chunked }) body
 source_judged version chunked body (Err sources.NoMount) =
@@ -103,7 +104,7 @@ request_judged c body (Ok (requests.Source version mount password chunked)) =
 -- ---- all bytes so far
 
 -- nothing is said of fewer bytes than a head has
-abbrev pub once : Bool → Judged → Judged
+abbrev pub once : (whole : Bool) → Judged → Judged
 once true judged = judged
 once false judged = waiting
 

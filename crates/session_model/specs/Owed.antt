@@ -74,7 +74,7 @@ is_let_in (of_book books.Entered) = true
 is_let_in _ = false
 
 -- one that entered goes on so
-abbrev pub if_entered : Bool → Plan → Plan
+abbrev pub if_entered : (entered : Bool) → Plan → Plan
 if_entered true plan = plan
 if_entered false plan = done
 

@@ -40,7 +40,7 @@ abbrev pub is_entered : Came → Bool
 is_entered (inside terms) = true
 is_entered _ = false
 
--- what a connection came to that was closed so, with every closing turn taken
+-- the receipt of a connection that was closed for this reason, with every closing turn taken
 abbrev pub receipt_of : Judged → List Step → Last → Receipt
 receipt_of judged steps last =
     let segments : List Segment = segments_after [] steps in
@@ -94,15 +94,15 @@ closed_of c h =
 
 -- ---- of the run
 
-abbrev pub report_of : Config → (ℕ → Heading) → World → Report
-report_of c headings w = record {
+abbrev pub world_report : Config → (ℕ → Heading) → World → Report
+world_report c headings w = record {
   connections = map (told_of c headings w.histories) w.connections;
   closed = closed_of c w.histories;
 }
 
 -- the report of these events, where the connections have these headings by number
 abbrev pub report : Config → (ℕ → Heading) → List Event → Report
-report c headings events = report_of c headings (world c headings events)
+report c headings events = world_report c headings (world c headings events)
 
 -- bare connections send no heads
 abbrev pub no_heads : ℕ → Heading
@@ -110,7 +110,7 @@ no_heads number = incomplete
 
 -- ---- which headings a script has
 
-abbrev pub opened_if : Bool → Opening → Option Opening → Option Opening
+abbrev pub opened_if : (opens : Bool) → Opening → Option Opening → Option Opening
 opened_if true opening later = Some opening
 opened_if false opening later = later
 

@@ -136,7 +136,8 @@ moved c heading h d (takes_turn budget) =
 moved c heading h d (ends last) =
     makes c h (with_last d last) (owed c d.opening heading d.text d.steps (ends last))
 
-abbrev pub moved_if : Bool → Config → Heading → Histories → Connected → Happening → Moved
+abbrev pub moved_if : (concerned : Bool) → Config → Heading → Histories → Connected → Happening
+    → Moved
 moved_if true c heading h d what = moved c heading h d what
 moved_if false c heading h d what = record { connection = d; histories = h }
 
@@ -160,7 +161,8 @@ abbrev pub happens : Config → (ℕ → Heading) → World → ℕ → Happenin
 happens c headings w number what = happens_in c headings number what w.histories w.connections
 
 -- a connection among others, in increasing order of number
-abbrev pub placed_if : Bool → Connected → Connected → List Connected → List Connected
+abbrev pub placed_if : (same_number : Bool) → Connected → Connected → List Connected
+    → List Connected
     → List Connected
 placed_if true d e more behind = e ∷ behind
 placed_if false d e more behind = d ∷ e ∷ more
@@ -173,7 +175,7 @@ placed d (e ∷ more) = placed_if (nat_lt e.number d.number) d e more (placed d 
 abbrev pub is_opened : ℕ → List Connected → Bool
 is_opened number connections = list_any (λ (d : Connected). d.number == number) connections
 
-abbrev pub opened_if : Bool → World → Moved → World
+abbrev pub opened_if : (opened : Bool) → World → Moved → World
 opened_if true w first = w
 opened_if false w first = record {
   connections = placed first.connection w.connections;

@@ -3,11 +3,13 @@
 //! `specs`, their laws in [`laws`].
 #![tactic(auto)]
 
+mod caps;
 mod ending;
 pub mod laws;
 mod lists;
 mod report;
 
+pub use caps::caps_of;
 pub use ending::{Ending, Last};
 pub use lists::{Connections, MountTotals, Segments, Sent, Sums};
 pub use report::{Closed, Connection, MountTotal, Receipt, Report};

@@ -8,7 +8,7 @@ use std::alloc::{AllocError, Global};
 use std::marker::Model;
 
 /// The most connections that a script opens.
-const LIMIT: usize = 256;
+const MAX_CONNECTIONS: usize = 256;
 
 /// The numbers of the connections that were opened, and of those that `break` or `end` closed.
 #[derive(Drop)]
@@ -43,7 +43,7 @@ impl Connections {
     fn may_open(&self, k: u32) -> bool
         ensures { result ≡ may_open self.now k }
     {
-        !self.opened.contains(&k) && self.opened.len() < LIMIT
+        !self.opened.contains(&k) && self.opened.len() < MAX_CONNECTIONS
     }
 
     /// Whether the number was opened, and not closed since.

@@ -7,18 +7,18 @@ ghost use Rattle.session_script.specs.Line.{is_bare, is_replay, mount_of, input_
 use crate::number::{number_of, number_within};
 use crate::parts::split_part;
 use crate::{Event, ScriptKind};
-use cast_text::{MountName, NameFault, Text, TextFault};
+use cast_text::{MountName, NameFault, Text};
 use hex::FromHexError;
 use std::alloc::{AllocError, Global};
 
 /// The largest number of a connection.
-const LAST_CONNECTION: u32 = 9999;
+const MAX_CONNECTION: u32 = 9999;
 
 /// The largest budget of a turn.
-const LAST_BUDGET: u32 = 16;
+const MAX_BUDGET: u32 = 16;
 
 /// The most bytes of one `in` line.
-const INPUT_LIMIT: usize = 4096;
+const MAX_INPUT_BYTES: usize = 4096;
 
 fn is_bare(kind: ScriptKind) -> bool
     ensures { result ≡ is_bare kind }
@@ -52,14 +52,11 @@ fn input_of(alloc: Global, text: &[u8]) -> Result<Option<Text>, AllocError>
         Err(FromHexError::OutOfMemory) => return Err(AllocError),
         Err(_) => return Ok(None),
     };
-    if bytes.is_empty() || bytes.len() > INPUT_LIMIT {
+    if bytes.is_empty() || bytes.len() > MAX_INPUT_BYTES {
         return Ok(None);
     }
-    match Text::new(alloc, &bytes) {
-        Ok(input) => Ok(Some(input)),
-        Err(TextFault::Memory) => Err(AllocError),
-        Err(TextFault::Long(_)) => unreachable!(),
-    }
+    let input = Text::of(alloc, &bytes)?;
+    Ok(Some(input))
 }
 
 /// The number from 0 of the relay with this number from 1. No relay has the last `u32`, which
@@ -119,7 +116,7 @@ fn long_event(
     if word == b"in".as_slice() {
         Ok(input_of(alloc, value)?.map(|input| Event::In(k, input)))
     } else if word == b"turn".as_slice() {
-        Ok(number_within(LAST_BUDGET, value).map(|budget| Event::Turn(k, budget)))
+        Ok(number_within(MAX_BUDGET, value).map(|budget| Event::Turn(k, budget)))
     } else {
         opening_event(alloc, kind, word, k, value)
     }
@@ -138,7 +135,7 @@ pub fn event_of_line(
         return Ok(None);
     };
     let (number, value) = split_part(rest);
-    let Some(k) = number_within(LAST_CONNECTION, number) else {
+    let Some(k) = number_within(MAX_CONNECTION, number) else {
         return Ok(None);
     };
     let Some(value) = value else {

@@ -11,7 +11,7 @@ use cast_text::split_line;
 use std::alloc::{AllocError, Global};
 
 /// The most bytes of a script.
-const LIMIT: usize = 8_388_608;
+const MAX_SCRIPT_BYTES: usize = 8_388_608;
 
 /// The bytes of the shortest line of an event, with its LF.
 const SHORTEST_LINE: usize = 6;
@@ -118,7 +118,7 @@ impl Reader {
 fn events_of(alloc: Global, bytes: &[u8], kind: ScriptKind) -> Result<Vec<Event>, ScriptFault>
     ensures { Gives (items_of result) (script_of kind bytes.now) }
 {
-    if bytes.len() > LIMIT {
+    if bytes.len() > MAX_SCRIPT_BYTES {
         return Err(ScriptFault::Long);
     }
     let mut reader = Reader::new(alloc, kind, bytes.len() / SHORTEST_LINE + 1)?;

@@ -12,7 +12,7 @@ type Looked = Result<Option<u64>, TurnFault>;
 
 /// What is answered to the claim of caller 1 at the mountpoint 1, and what looks then tell: caller
 /// 2 looks at the mountpoints 0 and 1, and caller 1 at the mountpoint 1.
-fn looked(alloc: Global) -> Result<(RingAnswer, [Looked; 3]), Fail> {
+fn look_and_claim(alloc: Global) -> Result<(RingAnswer, [Looked; 3]), Fail> {
     let mut held = ring_desk(alloc)?;
     let claim = held.turn(1, RingCall::Claim, &mut Outbox::new())?;
     let mut places = [ring_desk(alloc)?, held];
@@ -25,6 +25,6 @@ fn looked(alloc: Global) -> Result<(RingAnswer, [Looked; 3]), Fail> {
 #[test]
 fn a_look_tells_who_holds_the_mountpoint(rt: HostRuntime) -> Result<(), Fail> {
     let told = (RingAnswer::Given(1), [Ok(None), Ok(Some(1)), Ok(Some(1))]);
-    expect_eq(&rt, looked(rt.alloc())?, told);
+    expect_eq(&rt, look_and_claim(rt.alloc())?, told);
     Ok(())
 }

@@ -26,7 +26,7 @@ type Came = (Result<(), RelayHalt>, Option<u64>, u64);
 
 // What became of a relay, and the frames that its mountpoint has then.
 #[derive(Drop)]
-struct Told {
+struct RelayOutcome {
     came: Came,
     frames: Vec<Frame>,
 }
@@ -50,7 +50,12 @@ fn relay_of(alloc: Global, protocol: u32, user: Option<&[u8]>) -> Result<Relay, 
 }
 
 // Caller 1 is a relay of this protocol that is answered in two pieces, cut at this place.
-fn answered_in_two(alloc: Global, protocol: u32, answer: &[u8], at: usize) -> Result<Told, Fail>
+fn answered_in_two(
+    alloc: Global,
+    protocol: u32,
+    answer: &[u8],
+    at: usize,
+) -> Result<RelayOutcome, Fail>
     requires protocol { (1 ≤ protocol) × (protocol ≤ 2) }
     requires few { length answer.now < 2 ^ 62 }
     requires within { at ≤ length answer.now }
@@ -59,14 +64,14 @@ fn answered_in_two(alloc: Global, protocol: u32, answer: &[u8], at: usize) -> Re
     let mut relay = RelaySession::new(alloc, 1, &relay_of(alloc, protocol, None)?)?;
     let _first = relay.feed(&answer[..at], &mut desk);
     let ended = relay.feed(&answer[at..], &mut desk);
-    Ok(Told {
+    Ok(RelayOutcome {
         came: (ended, relay.claim_number(), relay.junk()),
         frames: frames_at(alloc, &mut desk)?,
     })
 }
 
-// The same in pieces of one byte.
-fn answered_by_bytes(alloc: Global, answer: &[u8]) -> Result<Told, Fail>
+// Caller 1 is a relay of version 2 that is answered byte by byte.
+fn answered_by_bytes(alloc: Global, answer: &[u8]) -> Result<RelayOutcome, Fail>
     requires { length answer.now < 2 ^ 62 }
 {
     let mut desk = ring_desk(alloc)?;
@@ -75,14 +80,19 @@ fn answered_by_bytes(alloc: Global, answer: &[u8]) -> Result<Told, Fail>
     for byte in answer {
         ended = relay.feed(&[*byte], &mut desk);
     }
-    Ok(Told {
+    Ok(RelayOutcome {
         came: (ended, relay.claim_number(), relay.junk()),
         frames: frames_at(alloc, &mut desk)?,
     })
 }
 
 // The same of an answer that is short, cut at a place in it.
-fn answered(alloc: Global, protocol: u32, answer: &[u8], at: usize) -> Result<Told, Fail>
+fn feed_cut_answer(
+    alloc: Global,
+    protocol: u32,
+    answer: &[u8],
+    at: usize,
+) -> Result<RelayOutcome, Fail>
     requires { (1 ≤ protocol) × (protocol ≤ 2) }
 {
     if answer.len() >= 10_000 || at > answer.len() {
@@ -100,7 +110,7 @@ fn expect_published(
     at: usize,
     junk: u64,
 ) -> Result<(), Fail> {
-    let told = answered(alloc, 1, answer, at)?;
+    let told = feed_cut_answer(alloc, 1, answer, at)?;
     let wanted = frames_of(alloc, "a")?;
     assert_eq!(rt; told.came, (Ok(()), Some(1), junk), "cut at {at}");
     assert_eq!(rt; told.frames.as_slice(), wanted.as_slice(), "cut at {at}");
@@ -108,10 +118,10 @@ fn expect_published(
 }
 
 // What became of a relay, and how many frames its mountpoint has.
-fn counted(alloc: Global, protocol: u32, answer: &[u8]) -> Result<(Came, usize), Fail>
+fn feed_and_count(alloc: Global, protocol: u32, answer: &[u8]) -> Result<(Came, usize), Fail>
     requires { (1 ≤ protocol) × (protocol ≤ 2) }
 {
-    let told = answered(alloc, protocol, answer, answer.len() / 2)?;
+    let told = feed_cut_answer(alloc, protocol, answer, answer.len() / 2)?;
     Ok((told.came, told.frames.len()))
 }
 
@@ -141,8 +151,8 @@ fn a_refused_answer_claims_nothing(rt: HostRuntime) -> Result<(), Fail> {
         ([b'a'; 8192].as_slice(), RelayHalt::LongHead),
     ] {
         let refused = ((Err(halt), None, 0), 0);
-        let one = counted(rt.alloc(), 1, answer)?;
-        let two = counted(rt.alloc(), 2, answer)?;
+        let one = feed_and_count(rt.alloc(), 1, answer)?;
+        let two = feed_and_count(rt.alloc(), 2, answer)?;
         assert_eq!(rt; [one, two], [refused, refused]);
     }
     Ok(())
@@ -202,7 +212,7 @@ fn a_release_lets_the_next_claim_be_given(rt: HostRuntime) -> Result<(), Fail> {
 }
 
 // What a relay asks.
-fn asked(alloc: Global, protocol: u32, user: Option<&[u8]>) -> Result<Vec<u8>, Fail>
+fn request_of(alloc: Global, protocol: u32, user: Option<&[u8]>) -> Result<Vec<u8>, Fail>
     requires { (1 ≤ protocol) × (protocol ≤ 2) }
 {
     let mut out = Vec::new(alloc);
@@ -230,7 +240,7 @@ fn expect_asked(
 ) -> Result<(), Fail>
     requires { (1 ≤ protocol) × (protocol ≤ 2) }
 {
-    assert_eq!(rt; asked(alloc, protocol, user)?.as_slice(), request);
+    assert_eq!(rt; request_of(alloc, protocol, user)?.as_slice(), request);
     Ok(())
 }
 
@@ -243,7 +253,7 @@ fn a_relay_asks_as_its_configuration_says(rt: HostRuntime) -> Result<(), Fail> {
 }
 
 // How a relay is printed that asks its caster as the user `caster` with the password `secret`.
-fn printed(alloc: Global) -> Result<String, Fail> {
+fn print_relay(alloc: Global) -> Result<String, Fail> {
     let relay = RelaySession::new(alloc, 1, &relay_of(alloc, 1, Some(b"caster"))?)?;
     Ok(format!(in alloc; "{relay:?}")?)
 }
@@ -258,7 +268,7 @@ const SECRETS: [&str; 4] = [
 
 #[test]
 fn a_relay_is_printed_without_its_password(rt: HostRuntime) -> Result<(), Fail> {
-    let text = printed(rt.alloc())?;
+    let text = print_relay(rt.alloc())?;
     assert!(rt; text.starts_with("RelaySession"), "{text}");
     for secret in SECRETS {
         assert!(rt; !text.contains(secret), "{secret}");

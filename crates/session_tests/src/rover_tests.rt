@@ -247,17 +247,17 @@ fn shown(alloc: Global, rover: &RoverSession) -> Result<Vec<Row>, Fail> {
 /// What became of a rover: its segments, how many frames they were sent and how many were overrun,
 /// and what it was sent.
 #[derive(Drop)]
-struct Told {
+struct RoverOutcome {
     segments: Vec<Row>,
     sums: (u64, u64),
     body: Vec<u8>,
 }
 
 /// What became of a rover that was sent these bytes.
-fn told_of(alloc: Global, rover: RoverSession, body: Vec<u8>) -> Result<Told, Fail> {
+fn told_of(alloc: Global, rover: RoverSession, body: Vec<u8>) -> Result<RoverOutcome, Fail> {
     let sums = (rover.sent(), rover.overrun());
     let segments = shown(alloc, &rover)?;
-    Ok(Told {
+    Ok(RoverOutcome {
         segments,
         sums,
         body,
@@ -270,7 +270,7 @@ fn rover_told(
     version: Version,
     near: bool,
     script: &[Happening],
-) -> Result<Told, Fail> {
+) -> Result<RoverOutcome, Fail> {
     let mut desks = [ring_desk(alloc)?, ring_desk(alloc)?];
     let mut body = Vec::new(alloc);
     let rover = play(alloc, version, near, &mut desks, script, &mut body)?;
@@ -278,7 +278,7 @@ fn rover_told(
 }
 
 /// These frames, one behind the other.
-fn joined(alloc: Global, frames: &[&[u8]]) -> Result<Vec<u8>, Fail> {
+fn join_frames(alloc: Global, frames: &[&[u8]]) -> Result<Vec<u8>, Fail> {
     let mut body = Vec::new(alloc);
     for frame in frames {
         body.extend_from_slice(*frame)?;
@@ -297,7 +297,7 @@ fn expect_near(
     frames: &[&[u8]],
 ) -> Result<(), Fail> {
     let told = rover_told(alloc, Version::One, true, script)?;
-    let body = joined(alloc, frames)?;
+    let body = join_frames(alloc, frames)?;
     expect_eq(rt, told.segments.as_slice(), segments);
     expect_eq(rt, told.sums, sums);
     expect_eq(rt, told.body.as_slice(), body.as_slice());

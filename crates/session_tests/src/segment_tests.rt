@@ -73,7 +73,7 @@ type Row = (u32, u64, u64, u64, u64, (u64, u64, u32));
 
 /// What a rover has of a mountpoint, its laps, and the frames that it took last.
 #[derive(Drop)]
-struct Told {
+struct SegmentOutcome {
     row: Row,
     laps: Vec<Lap>,
     frames: Vec<Frame>,
@@ -93,7 +93,7 @@ fn read_told(
     capacity: u32,
     number: Option<u16>,
     rounds: &[&str],
-) -> Result<Told, Fail>
+) -> Result<SegmentOutcome, Fail>
     requires { (1 ≤ capacity) × (capacity ≤ 4096) }
 {
     let filter = filter_of(alloc, number)?;
@@ -112,7 +112,7 @@ fn read_told(
         passed,
         filter,
     } = cursor;
-    Ok(Told {
+    Ok(SegmentOutcome {
         row: (mount, from, to, sent, overrun, (next, passed, filter)),
         laps: laps.into_vec(),
         frames: Vec::from_slice(alloc, out.frames())?,
@@ -201,7 +201,7 @@ fn a_rover_may_be_lapped_many_times(rt: HostRuntime) -> Result<(), Fail> {
 }
 
 /// How many laps a list of this lap has, whether it is empty, and what it gives back.
-fn listed(alloc: Global, lap: Lap) -> Result<(usize, bool, Vec<Lap>), Fail> {
+fn list_lap(alloc: Global, lap: Lap) -> Result<(usize, bool, Vec<Lap>), Fail> {
     let mut list = Vec::new(alloc);
     list.push(lap)?;
     let laps = Laps::new(list);
@@ -211,7 +211,7 @@ fn listed(alloc: Global, lap: Lap) -> Result<(usize, bool, Vec<Lap>), Fail> {
 #[test]
 fn laps_give_their_list_back(rt: HostRuntime) -> Result<(), Fail> {
     let lap = lap_of(0, 2, 4, 1);
-    let (count, is_empty, list) = listed(rt.alloc(), lap)?;
+    let (count, is_empty, list) = list_lap(rt.alloc(), lap)?;
     expect_eq(&rt, (count, is_empty), (1, false));
     expect_eq(&rt, list.as_slice(), [lap].as_slice());
     Ok(())

@@ -31,7 +31,7 @@ type Came = (Result<(), SourceHalt>, u64);
 
 // What became of a source, and the frames that its mountpoint has then.
 #[derive(Drop)]
-struct Told {
+struct SourceOutcome {
     came: Came,
     frames: Vec<Frame>,
 }
@@ -42,17 +42,17 @@ fn source_told(
     session: SourceSession,
     desk: Desk<Ring>,
     ended: Result<(), SourceHalt>,
-) -> Result<Told, Fail>
+) -> Result<SourceOutcome, Fail>
     requires { 0 < length (desk_shape desk).filters }
 {
     let came = (ended, session.junk());
     let mut desk = desk;
     let frames = frames_at(alloc, &mut desk)?;
-    Ok(Told { came, frames })
+    Ok(SourceOutcome { came, frames })
 }
 
 // Caller 1 sends a body in two pieces, cut at this place.
-fn sent_in_two(alloc: Global, chunked: bool, body: &[u8], at: usize) -> Result<Told, Fail>
+fn sent_in_two(alloc: Global, chunked: bool, body: &[u8], at: usize) -> Result<SourceOutcome, Fail>
     requires few { length body.now < 2 ^ 62 }
     requires within { at ≤ length body.now }
 {
@@ -65,7 +65,7 @@ fn sent_in_two(alloc: Global, chunked: bool, body: &[u8], at: usize) -> Result<T
 }
 
 // Caller 1 sends a body in pieces of one byte.
-fn sent_by_bytes(alloc: Global, chunked: bool, body: &[u8]) -> Result<Told, Fail>
+fn sent_by_bytes(alloc: Global, chunked: bool, body: &[u8]) -> Result<SourceOutcome, Fail>
     requires { length body.now < 2 ^ 62 }
 {
     let mut desk = ring_desk(alloc)?;
@@ -82,7 +82,7 @@ fn sent_by_bytes(alloc: Global, chunked: bool, body: &[u8]) -> Result<Told, Fail
 fn expect_told(
     rt: &impl Abort,
     alloc: Global,
-    told: &Told,
+    told: &SourceOutcome,
     came: Came,
     names: &str,
 ) -> Result<(), Fail> {

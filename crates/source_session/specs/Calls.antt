@@ -37,7 +37,7 @@ pub record HeardAll {C A : Type 0} (alone : Bool) (answer : History C → ℕ �
 
 -- what was called by the time of a halt: with none, at the end of the body or at a fault of it all
 -- of these, and by a refused turn the first of them
-abbrev pub HeardBy : {C A : Type 0} → Option SourceHalt → Bool → (History C → ℕ → C → A)
+abbrev pub HeardBy : {C A : Type 0} → Option SourceHalt → (alone : Bool) → (History C → ℕ → C → A)
     → History C → History C → ℕ → List C → Type 0
 HeardBy None alone answer old now me calls = HeardAll alone answer old now me calls
 HeardBy (Some Done) alone answer old now me calls = HeardAll alone answer old now me calls
@@ -47,7 +47,8 @@ HeardBy (Some Memory) alone answer old now me calls = HeardFirst alone answer ol
 
 -- what was called where a claim was not given: Claim, which was answered by who holds the
 -- mountpoint; or nothing, where the turn was refused
-abbrev pub IsUnclaimed : ClaimFault → Bool → (History RingCall → ℕ → RingCall → RingAnswer)
+abbrev pub IsUnclaimed : ClaimFault → (alone : Bool) → (History RingCall → ℕ → RingCall
+    → RingAnswer)
     → History RingCall → History RingCall → ℕ → Type 0
 IsUnclaimed (faults.Taken caller claim) alone answer old now me =
     Heard alone answer old now me ((Claim, answers.Taken caller claim) ∷ [])
@@ -74,8 +75,8 @@ pub record IsRefusedAt {A : Type 0} (alone : Bool) (answer : History RingCall �
   pub counted : before + sum_by length given + junk ≡ length front
 
 -- the same of what more of a body completes, where all frames of the body before were published
-abbrev pub IsRefusedIn : {A : Type 0} → Bool → (History RingCall → ℕ → RingCall → A)
-    → History RingCall → History RingCall → ℕ → ℕ → Bool → List ℕ → List ℕ → ℕ → Type 0
+abbrev pub IsRefusedIn : {A : Type 0} → (alone : Bool) → (History RingCall → ℕ → RingCall → A)
+    → History RingCall → History RingCall → ℕ → ℕ → (chunked : Bool) → List ℕ → List ℕ → ℕ → Type 0
 IsRefusedIn alone answer old now me claim chunked body more junk =
     IsRefusedAt alone answer old now me claim (completed chunked body more)
     (payload chunked (body ++ more)) (sum_by length (frames_of chunked body)) junk

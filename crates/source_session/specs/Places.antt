@@ -48,7 +48,7 @@ module _ {P : Type 0} (ring : Ghosts P Ring RingCall RingAnswer Outbox RingShape
       me claim frames bytes before junk
 
   -- or one that more of a body completes
-  abbrev pub LeftOutIn : ℕ → Bool → List ℕ → List ℕ → ℕ → Type 0
+  abbrev pub LeftOutIn : ℕ → (chunked : Bool) → List ℕ → List ℕ → ℕ → Type 0
   LeftOutIn claim chunked body more junk =
       IsRefusedIn (ring.alone old) (ring_answer (ring.shape old)) (ring.seen old) (ring.seen now)
       me claim chunked body more junk

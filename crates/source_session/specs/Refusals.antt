@@ -20,13 +20,13 @@ halt_refused turns.Memory = halts.Memory
 
 -- A claim that is not given is taken, or the place refused the turn: it is worn by so many turns,
 -- or may lack memory.
-abbrev pub IsClaimFault : Bool → ℕ → ClaimFault → Type 0
+abbrev pub IsClaimFault : (may_lack : Bool) → ℕ → ClaimFault → Type 0
 IsClaimFault may_lack worn (claims.Taken caller claim) = ⊤
 IsClaimFault may_lack worn (claims.Worn given) = IsFault may_lack worn (turns.Worn given)
 IsClaimFault may_lack worn claims.Memory = IsFault may_lack worn turns.Memory
 
 -- A session is halted by its body, or the place refused the turn.
-abbrev pub IsHaltOf : Bool → ℕ → SourceHalt → Type 0
+abbrev pub IsHaltOf : (may_lack : Bool) → ℕ → SourceHalt → Type 0
 IsHaltOf may_lack worn halts.Done = ⊤
 IsHaltOf may_lack worn (halts.BadChunk place) = ⊤
 IsHaltOf may_lack worn (halts.Worn given) = IsFault may_lack worn (turns.Worn given)

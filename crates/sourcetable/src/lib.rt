@@ -14,4 +14,5 @@ pub use fault::{RecordFault, TableFault};
 pub use lists::{Field, Fields, Records};
 pub use reading::{read_record, read_table};
 pub use record::{Kind, Record, Table};
-pub use writing::write_table;
+pub use split::push_field;
+pub use writing::{push_record, write_table};

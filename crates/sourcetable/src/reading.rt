@@ -12,7 +12,7 @@ use cast_text::split_line;
 use std::alloc::Global;
 
 /// The most bytes of a text.
-const MOST: usize = 1 << 20;
+const MAX_TABLE_BYTES: usize = 1 << 20;
 
 /// The kind of a line, by how it begins.
 fn kind_in(line: &[u8]) -> Option<Kind>
@@ -80,7 +80,7 @@ pub fn read_record(alloc: Global, line: &[u8]) -> Result<Record, RecordFault>
 pub fn read_table(alloc: Global, bytes: &[u8]) -> Result<Table, TableFault>
     ensures { IsTableRead bytes.now result }
 {
-    if bytes.len() > MOST {
+    if bytes.len() > MAX_TABLE_BYTES {
         return Err(TableFault::Long);
     }
     let mut records = Vec::new(alloc);

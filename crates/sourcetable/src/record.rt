@@ -28,7 +28,7 @@ pub struct Record {
 }
 
 impl Record {
-    /// The same record once more.
+    /// A copy of the record.
     pub fn copy(&self, alloc: Global) -> Result<Record, AllocError>
         ensures { IfOk result (λ r. r ≡ self.now) }
     {

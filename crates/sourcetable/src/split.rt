@@ -15,11 +15,7 @@ pub fn line_end_place(text: &[u8]) -> Option<usize>
 }
 
 /// Appends a field of these bytes.
-pub(crate) fn push_field(
-    alloc: Global,
-    fields: &mut Vec<Field>,
-    text: &[u8],
-) -> Result<(), AllocError>
+pub fn push_field(alloc: Global, fields: &mut Vec<Field>, text: &[u8]) -> Result<(), AllocError>
     ensures { OnOk result (fields.new.items ≡ fields.old.items ++ text.now ∷ []) }
 {
     let field = Field::new(Vec::from_slice(alloc, text)?);

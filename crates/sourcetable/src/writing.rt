@@ -20,7 +20,7 @@ fn letters_of(kind: Kind) -> &'static [u8]
 }
 
 /// Appends the line of a record, without a line end. After a refusal a part of it stands there.
-fn push_record(entry: &Record, out: &mut Vec<u8>) -> Result<(), AllocError>
+pub fn push_record(entry: &Record, out: &mut Vec<u8>) -> Result<(), AllocError>
     ensures ok { OnOk result (out.new.items ≡ out.old.items ++ line_of entry.now) }
     ensures begins { (more : List ℕ) × (out.new.items ≡ out.old.items ++ more) }
     ensures room { HasRoom out.old (line_of entry.now) → IsOk result }

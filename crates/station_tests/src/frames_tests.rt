@@ -217,7 +217,7 @@ fn a_greeting_stands_until_it_is_cleared(rt: HostRuntime) -> Result<(), Fail> {
 }
 
 /// How many frames were published at the station that a place gives back.
-fn published(alloc: Global) -> Result<u64, Fail> {
+fn count_published(alloc: Global) -> Result<u64, Fail> {
     let place = joined_place(alloc, Filter::all(), &ALL)?;
     let desk = place.inner();
     Ok(desk.value().ring().published())
@@ -225,7 +225,7 @@ fn published(alloc: Global) -> Result<u64, Fail> {
 
 #[test]
 fn a_place_gives_its_station_back(rt: HostRuntime) -> Result<(), Fail> {
-    assert_eq!(rt; published(rt.alloc())?, 10);
+    assert_eq!(rt; count_published(rt.alloc())?, 10);
     Ok(())
 }
 

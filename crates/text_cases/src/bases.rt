@@ -30,7 +30,7 @@ fn base_at(words: &str, place: usize) -> Option<Base>
 }
 
 /// The measure between two positions, each of a latitude and a longitude.
-pub fn measured(words: &str, out: &mut Vec<u8>) -> Result<(), AllocError> {
+pub fn measure_positions(words: &str, out: &mut Vec<u8>) -> Result<(), AllocError> {
     match (position_at(words, 0), position_at(words, 2)) {
         (Some(rover), Some(base)) => say(out, &measure(rover, base)),
         _ => Ok(()),
@@ -51,7 +51,7 @@ fn choice(words: &str, present: Option<u32>, percent: u32) -> Option<u32>
 
 /// The selected mountpoint: the present one of 1 to 9, or 0, the hysteresis of 0 to 50, the rover's
 /// latitude and longitude, and the mountpoint, the latitude and the longitude of each base.
-pub fn selected(words: &str, out: &mut Vec<u8>) -> Result<(), AllocError> {
+pub fn select_base(words: &str, out: &mut Vec<u8>) -> Result<(), AllocError> {
     let present = match count_at(words, 0).min(9) as u32 {
         0 => None,
         mount => Some(mount),

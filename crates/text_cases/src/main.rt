@@ -44,7 +44,7 @@ fn text_call(call: &str, words: &str, text: &[u8], out: &mut Vec<u8>) -> Result<
         "lines" => names::lines(words, text, out),
         "decimal" => numbers::decimal(words, out),
         "hex" => numbers::hex(words, out),
-        "make" => making::made(words, out),
+        "make" => making::make_session(words, out),
         _ => put(out, "no such call"),
     }
 }
@@ -68,8 +68,8 @@ fn station_call(call: &str, words: &str, text: &[u8], out: &mut Vec<u8>) -> Resu
     match call {
         "gga" => positions::gga(text, out),
         "reports" => positions::reports(text, out),
-        "measure" => bases::measured(words, out),
-        "select" => bases::selected(words, out),
+        "measure" => bases::measure_positions(words, out),
+        "select" => bases::select_base(words, out),
         "data" => chunks::data(text, out),
         "last" => chunks::last(text, out),
         "cuts" => chunks::cuts(text, out),
@@ -85,7 +85,7 @@ fn call_with(call: &str, words: &str, text: &[u8], out: &mut Vec<u8>) -> Result<
         "head" => heads::head(text, out),
         "head-end" => heads::head_end(text, out),
         "upstream" => heads::upstream(text, out),
-        "reply" => replies::replied(words, text, out),
+        "reply" => replies::write_reply(words, text, out),
         "request" => requests::request(words, text, out),
         "answer" => requests::answer(text, out),
         "answer-at" => requests::answer_at(words, text, out),

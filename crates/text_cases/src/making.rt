@@ -21,7 +21,7 @@ fn say_some(
 
 /// A made session: its seed, 1 to 10,000 frames, 1 to 64 rovers, and the places of the first event
 /// that is told and of the first behind it.
-pub fn made(words: &str, out: &mut Vec<u8>) -> Result<(), AllocError> {
+pub fn make_session(words: &str, out: &mut Vec<u8>) -> Result<(), AllocError> {
     let seed = match words.split(',').next() {
         Some(word) => word.parse::<u64>().unwrap_or(0),
         None => 0,

@@ -41,7 +41,7 @@ fn reply_of(word: &str) -> Reply {
 
 /// The reply of this version and name, where this is the table, behind a text that an ampersand
 /// parts from the table.
-pub fn replied(words: &str, text: &[u8], out: &mut Vec<u8>) -> Result<(), AllocError> {
+pub fn write_reply(words: &str, text: &[u8], out: &mut Vec<u8>) -> Result<(), AllocError> {
     let (version, name) = words.split_once(',').unwrap_or((words, ""));
     let (table, front) = split_first(b'&', text).unwrap_or((text, b""));
     let mut written = Vec::from_slice(*out.allocator(), front)?;

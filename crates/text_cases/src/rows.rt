@@ -22,7 +22,7 @@ pub fn number_at(words: &str, place: usize) -> Option<i64> {
     words.split(',').nth(place)?.parse::<i64>().ok()
 }
 
-/// The same where it is at least 0, or else 0.
+/// The number at this place among these words, and 0 where it is below 0 or is none.
 pub fn count_at(words: &str, place: usize) -> u64 {
     match number_at(words, place) {
         Some(number) => number.max(0).unsigned_abs(),

@@ -24,5 +24,5 @@ counted_yard count =
     record { asked = None; gates = None; notes = None; faults = 0; note_faults = count }
 
 -- a console that told so many workers as busy, and may be over
-abbrev pub console_told : List ℕ → Bool → ConsoleTold
+abbrev pub console_told : List ℕ → (over : Bool) → ConsoleTold
 console_told busy over = record { busy = busy; over = over }

@@ -92,7 +92,7 @@ impl<'a, R: Clock> TimedLink<'a, R> {
     }
 
     /// Whether each flag came so far that it waited for.
-    pub fn met(&self) -> bool {
+    pub fn has_met(&self) -> bool {
         self.met
     }
 

@@ -34,7 +34,7 @@ impl<'a, R: Clock> TimedGate<'a, R> {
     ghost use Rattle.cast_io.specs.declared.yard_asked.YardAsked.TheVariants as asked;
 
     // One of so many gates at this address, where the link of this door arrives.
-    fn opened(door: TimedDoor<'a, R>, addr: &str, gates: u32, quiet: u32) -> Self
+    fn at_door(door: TimedDoor<'a, R>, addr: &str, gates: u32, quiet: u32) -> Self
         ensures { result.origin ≡ asked.OpenGates addr.now gates quiet }
     {
         TimedGate {
@@ -152,8 +152,8 @@ impl<'a, R: Clock> Yard for TimedYard<'a, R> {
             return Err(StreetFault::Memory);
         };
         let opened = [
-            TimedGate::opened(first, addr, gates, quiet),
-            TimedGate::opened(second, addr, gates, quiet),
+            TimedGate::at_door(first, addr, gates, quiet),
+            TimedGate::at_door(second, addr, gates, quiet),
         ];
         match Vec::from_array(self.alloc, opened) {
             Ok(opened) => Ok(opened),

@@ -104,24 +104,6 @@ heard_turn {answer} {old} {me} {call} t = record {
   nothing_else = λ is. ap (λ h. h ++ (me, call) ∷ []) (t.nothing_between is);
 }
 
--- the same with what the room held after the call beside the answer
-pub heard_room : {C A R : Type 0} {alone : Bool} {fits : History C → ℕ → C → Bool}
-    {answer : History C → ℕ → C → A} {filled : History C → ℕ → C → R → R}
-    {old now : History C} {me : ℕ} {call : C} {reply : A} {before after : R}
-    → Turned alone fits answer filled old now me call reply before after
-    → Heard {A = A × R} alone (λ h by asked. (answer h by asked, filled h by asked before)) old now me
-    ((call, (reply, after)) ∷ [])
-heard_room {alone} {fits} {answer} {filled} {old} {now} {me} {call} {reply} {before} {after} t =
-    heard_turn {alone = alone} {fits = fits} {filled = filled} {before = before} {after = after} (record {
-      others = t.others;
-      none_of_mine = t.none_of_mine;
-      nothing_between = t.nothing_between;
-      seen = t.seen;
-      legal = t.legal;
-      answered = ap (λ r. (r, after)) t.answered ∙ ap (λ r. (answer (old ++ t.others) me call, r)) t.room;
-      room = t.room;
-    })
-
 -- entries of others change nothing of it
 pub heard_on : {C A : Type 0} (alone : Bool) (answer : History C → ℕ → C → A) (a b c : History C) (me : ℕ)
     (pairs : List (C × A))
@@ -202,23 +184,6 @@ heard_call alone answer h me call = record {
   nothing_else = λ is. refl;
 }
 
--- the last answer there is that of the history that the calls before it left
-pub heard_last : {C A : Type 0} (answer : History C → ℕ → C → A) (old now : History C) (me : ℕ) (pairs : List (C × A))
-    (call : C) (reply : A)
-    → Heard true answer old now me (pairs ++ (call, reply) ∷ [])
-    → (mid : History C) × Heard true answer old mid me pairs × (now ≡ mid ++ (me, call) ∷ [])
-    × (reply ≡ answer mid me call)
-heard_last answer old now me [] call reply x =
-    let one = heard_first answer old now me call reply [] x in
-    (old, heard_none true answer old me, heard_alone one.1 ∙ append-nil (old ++ (me, call) ∷ []), one.0)
-heard_last {C} {A} answer old now me (p ∷ pairs) call reply x =
-    let one = heard_first answer old now me p.0 p.1 (pairs ++ (call, reply) ∷ []) x in
-    let on : History C = old ++ (me, p.0) ∷ [] in
-    let rest = heard_last answer on now me pairs call reply one.1 in
-    let first : Heard true answer old on me (p ∷ []) =
-    subst (λ r. Heard true answer old on me ((p.0, r) ∷ [])) (sym one.0) (heard_call true answer old me p.0) in
-    (rest.0, heard_both true answer old on rest.0 me (p ∷ []) pairs first rest.1, rest.2, rest.3)
-
 -- the first of some calls
 
 pub first_none : {C A : Type 0} (alone : Bool) (answer : History C → ℕ → C → A) (h : History C) (me : ℕ)
@@ -238,20 +203,6 @@ pub first_refused : {C A : Type 0} {alone : Bool} {answer : History C → ℕ �
     → Heard alone answer old mid me pairs → now ≡ mid → HeardFirst alone answer old now me (calls_in pairs ++ unmade)
 first_refused {C} {A} {alone} {answer} {old} {mid} {now} {me} {pairs} unmade x same =
     subst (λ h. HeardFirst alone answer old h me (calls_in pairs ++ unmade)) (sym same) (first_some unmade x)
-
--- calls that were made, and then the first of some more
-pub first_after : {C A : Type 0} (alone : Bool) (answer : History C → ℕ → C → A) (a b c : History C) (me : ℕ)
-    (pairs : List (C × A)) (calls : List C)
-    → Heard alone answer a b me pairs → HeardFirst alone answer b c me calls
-    → HeardFirst alone answer a c me (calls_in pairs ++ calls)
-first_after alone answer a b c me pairs calls x y = record {
-  pairs = pairs ++ y.pairs;
-  unmade = y.unmade;
-  split = ap (λ l. calls_in pairs ++ l) y.split
-      ∙ sym (append_assoc (calls_in pairs) (calls_in y.pairs) y.unmade)
-      ∙ ap (λ l. l ++ y.unmade) (sym (map-append (λ p. p.0) pairs y.pairs));
-  heard = heard_both alone answer a b c me pairs y.pairs x y.heard;
-}
 
 -- what a caller knows from its own answers
 

@@ -1,5 +1,6 @@
 -- Lists of numbers and sums over lists, for the rule of the lock.
-use Rattle.std.proofs.Common.{◌≡◌, ◌≢◌, ℕ, zero, suc, ◌+◌, ◌<◌, ◌≤◌, ◌⊎◌, inl, inr, ⊎_elim, Bool, cond, List, [], ◌∷◌, ◌++◌, length, get_or, set, take, drop, refl, sym, ◌∙◌, ap, subst, arith, sum_by, eqb, eq-eqb, ne_eqb, take-append-drop, length-append}
+use Rattle.std.proofs.Common.{◌≡◌, ◌≢◌, ℕ, zero, suc, ◌+◌, ◌<◌, ◌≤◌, ◌⊎◌, inl, inr, ⊎_elim, Bool, cond, List, [], ◌∷◌, ◌++◌, length, get_or, set, take, drop, refl, sym, ◌∙◌, ap, subst, arith, sum_by, eqb, eq-eqb, ne_eqb, take-append-drop, length-append, append-nil}
+use Rattle.std.proofs.lemmas.List.{take_all, drop_all}
 use Rattle.std.proofs.lemmas.List.Sums.{sum_by-cons, sum_by-append, sum_by-set}
 use mathlib.Core.Option.{some, some-injective, some-ne-none}
 use mathlib.Core.Logic.{dite}
@@ -148,3 +149,16 @@ at_two {A} xs ys zs a b cut_b cut_a long =
           ∙ at_longer (zs ++ a ∷ []) (b ∷ []) 0 a (at_last zs a 0 n),
       ap (λ (l : List A). get_elem? l 1) cut_b ∙ at_last ys b 1 m,
     )
+
+-- a slice of a whole list, given back as it is now
+pub as_it_is : {X : Type 0} (olds news : List X) (len : ℕ) → len ≡ length olds → length news ≡ length olds
+    → take len (news ++ drop (length news) olds) ≡ news
+as_it_is olds news len long same =
+    ap (λ (n : ℕ). take len (news ++ drop n olds)) same
+    ∙ ap (λ l. take len (news ++ l)) (drop_all (length olds) olds (omega arith))
+    ∙ ap (take len) (append-nil news) ∙ take_all len news (omega (arith, long, same))
+
+pub slice_size : {X : Type 0} (olds slice news : List X) (len : ℕ) → slice ≡ olds → len ≡ length olds
+    → length news ≡ length slice → length (take len (news ++ drop (length news) olds)) ≡ length olds
+slice_size olds slice news len is long same =
+    ap length (as_it_is olds news len long (same ∙ ap length is)) ∙ same ∙ ap length is

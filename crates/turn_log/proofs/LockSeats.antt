@@ -11,8 +11,8 @@ use native.Mathlib.Decide.{dec_le}
 use lib.ListN.{get_elem?}
 use Rattle.atomic_table.specs.Table.{State, Splits, Joins, opening, Final, Seen}
 use Rattle.atomic_table.proofs.Lists.{set_else, at_longer, at_snoc}
-use Rattle.turn_log.specs.declared.lock.rule.Stage.{Stage}
-use Rattle.turn_log.specs.declared.lock.rule.Stage.TheVariants.{Idle, Cleared, Waiting, AtTurn}
+use Rattle.turn_log.specs.declared.lock.rule.SeatStage.{SeatStage}
+use Rattle.turn_log.specs.declared.lock.rule.SeatStage.TheVariants.{Idle, Cleared, Waiting, AtTurn}
 use Rattle.turn_log.specs.declared.lock.rule.Known.{Known}
 use Rattle.turn_log.specs.declared.lock.rule.Held.{Held}
 use Rattle.turn_log.specs.History.{History, own, GoesOn}
@@ -49,7 +49,7 @@ module _ {V C Z : Type 0} (passes : ℕ) (stands : V → History C → Type 0) (
     below = fair.below;
     own_seen = fair.own_seen;
     own_told = fair.own_told;
-    stage = subst (λ (stage : Stage). StageOk serving ticket whole view.seen view.numbers stage) (sym idle) tt;
+    stage = subst (λ (stage : SeatStage). StageOk serving ticket whole view.seen view.numbers stage) (sym idle) tt;
   }
 
   -- the two parts of a view speak together for no more than it did
@@ -383,7 +383,7 @@ module _ {V C Z : Type 0} (passes : ℕ) (stands : V → History C → Type 0) (
       }
 
   -- who has a ticket speaks for some caller
-  speaks_with : (serving ticket n : ℕ) (whole seen : History C) (numbers : List ℕ) (stage : Stage) → HasTicket stage n
+  speaks_with : (serving ticket n : ℕ) (whole seen : History C) (numbers : List ℕ) (stage : SeatStage) → HasTicket stage n
       → StageOk serving ticket whole seen numbers stage → 0 < length numbers
   speaks_with serving ticket n whole seen numbers Idle has is = absurd has
   speaks_with serving ticket n whole seen numbers Cleared has is = absurd has
@@ -440,7 +440,7 @@ module _ {V C Z : Type 0} (passes : ℕ) (stands : V → History C → Type 0) (
       let u : Known C V = out.1.1 in
       let else : id ≢ j = λ is. not_served v.stage idle out.1.2
       (ap (λ (view : Known C V). view.stage) (at_same s.views id j v u is here out.1.3) ∙ out.1.4) in
-      let turn = subst (λ (stage : Stage). StageOk k.serving k.ticket k.whole u.seen u.numbers stage) out.1.4
+      let turn = subst (λ (stage : SeatStage). StageOk k.serving k.ticket k.whole u.seen u.numbers stage) out.1.4
       (k.each j u out.1.3).stage in
       absurd (omega (
         arith,

@@ -9,8 +9,8 @@ use native.Mathlib.Decide.{dec_le, ℕ_discrete}
 use lib.ListN.{get_elem?}
 use Rattle.atomic_table.specs.Table.{State, Act, keeps, takes, gives, Valid, Allows, rest, put_back, homes_after, carried_after}
 use Rattle.atomic_table.proofs.Lists.{at_set, set_here, set_else}
-use Rattle.turn_log.specs.declared.lock.rule.Stage.{Stage}
-use Rattle.turn_log.specs.declared.lock.rule.Stage.TheVariants.{Idle, Cleared, Waiting, AtTurn}
+use Rattle.turn_log.specs.declared.lock.rule.SeatStage.{SeatStage}
+use Rattle.turn_log.specs.declared.lock.rule.SeatStage.TheVariants.{Idle, Cleared, Waiting, AtTurn}
 use Rattle.turn_log.specs.declared.lock.rule.Known.{Known}
 use Rattle.turn_log.specs.declared.lock.rule.Held.{Held}
 use Rattle.turn_log.specs.History.{History, IsLegal, own, GoesOn}
@@ -55,10 +55,10 @@ apart_set {C} {V} views id w apart new i j u v n at_i at_j has_i has_j =
 
 -- who is idle has no ticket, and is not at its turn
 
-pub no_ticket : (stage : Stage) → stage ≡ Idle → (n : ℕ) → HasTicket stage n → ⊥
-no_ticket stage idle n has = subst (λ (x : Stage). HasTicket x n) idle has
+pub no_ticket : (stage : SeatStage) → stage ≡ Idle → (n : ℕ) → HasTicket stage n → ⊥
+no_ticket stage idle n has = subst (λ (x : SeatStage). HasTicket x n) idle has
 
-pub not_served : (stage : Stage) → stage ≡ Idle → (t : ℕ) → stage ≡ AtTurn t → ⊥
+pub not_served : (stage : SeatStage) → stage ≡ Idle → (t : ℕ) → stage ≡ AtTurn t → ⊥
 not_served stage idle t is = let e : Idle ≡ AtTurn t = sym idle ∙ is in absurd (cc e)
 
 -- the seat that was set has this ticket
@@ -93,7 +93,7 @@ all_one : {A : Type 0} (P : A → Type 0) (x : A) → P x → All P (x ∷ [])
 all_one P x holds zero d le = holds
 all_one P x holds (suc i) d le = absurd (omega (arith, le))
 
-at_stage : {C : Type 0} (stage : Stage) (numbers brought : List ℕ) (seen : History C) (serving ticket : ℕ)
+at_stage : {C : Type 0} (stage : SeatStage) (numbers brought : List ℕ) (seen : History C) (serving ticket : ℕ)
     (whole : History C)
     → StageOk serving ticket whole seen numbers stage → is_cleared stage ≤ length (numbers ++ brought)
 at_stage Idle numbers brought seen serving ticket whole ok = omega arith
@@ -281,7 +281,7 @@ module _ {V C Z : Type 0} (passes : ℕ) (stands : V → History C → Type 0) (
 
   -- draw: the ticket word goes up by one
 
-  later_stage : (serving ticket : ℕ) (whole seen : History C) (numbers : List ℕ) (stage : Stage)
+  later_stage : (serving ticket : ℕ) (whole seen : History C) (numbers : List ℕ) (stage : SeatStage)
       → StageOk serving ticket whole seen numbers stage → StageOk serving (ticket + 1) whole seen numbers stage
   later_stage serving ticket whole seen numbers Idle ok = tt
   later_stage serving ticket whole seen numbers Cleared ok = ok
@@ -302,7 +302,7 @@ module _ {V C Z : Type 0} (passes : ℕ) (stands : V → History C → Type 0) (
   }
 
   -- a ticket that a seat has was drawn
-  drawn_stage : (serving ticket : ℕ) (whole seen : History C) (numbers : List ℕ) (stage : Stage) (n : ℕ)
+  drawn_stage : (serving ticket : ℕ) (whole seen : History C) (numbers : List ℕ) (stage : SeatStage) (n : ℕ)
       → StageOk serving ticket whole seen numbers stage → HasTicket stage n → (serving ≤ n) × (n < ticket)
   drawn_stage serving ticket whole seen numbers Idle n ok has = absurd has
   drawn_stage serving ticket whole seen numbers Cleared n ok has = absurd has
@@ -338,7 +338,7 @@ module _ {V C Z : Type 0} (passes : ℕ) (stands : V → History C → Type 0) (
           let sums = sum_set (λ (view : Known C V). is_cleared view.stage) s.views id me.0 w here in
           let small : k.ticket + 1 < 2 ^ 64 = omega (arith, k.counts.room, k.few, one, may) in
           let speaks : 0 < length me.0.numbers =
-          subst (λ (stage : Stage). StageOk k.serving k.ticket k.whole me.0.seen me.0.numbers stage) cleared was.stage
+          subst (λ (stage : SeatStage). StageOk k.serving k.ticket k.whole me.0.seen me.0.numbers stage) cleared was.stage
           in (
             w,
             keeps,
@@ -370,7 +370,7 @@ module _ {V C Z : Type 0} (passes : ℕ) (stands : V → History C → Type 0) (
               drawn = λ n from below. dite (dec_le k.ticket n)
                   (λ last. holder_here s.views id n me.0 w here (omega (arith, last, below)))
                   (λ earlier. holder_set s.views id n me.0 w here
-                  (λ has. absurd (subst (λ (stage : Stage). HasTicket stage n) cleared has))
+                  (λ has. absurd (subst (λ (stage : SeatStage). HasTicket stage n) cleared has))
                   (k.drawn n from (omega (arith, earlier))));
               apart = apart_set s.views id w k.apart
                   (λ j u n else at has mine. let d = was_drawn s k j n u at has in
@@ -452,7 +452,7 @@ module _ {V C Z : Type 0} (passes : ℕ) (stands : V → History C → Type 0) (
           let more : History C = was.sees.0 in
           let w : Known C V = record me.0 { stage = AtTurn t; seen = me.0.seen ++ more } in
           let waits : (k.serving ≤ t) × (t < k.ticket) × (0 < length me.0.numbers) =
-          subst (λ (stage : Stage). StageOk k.serving k.ticket k.whole me.0.seen me.0.numbers stage) waiting
+          subst (λ (stage : SeatStage). StageOk k.serving k.ticket k.whole me.0.seen me.0.numbers stage) waiting
           was.stage in
           let zero_before : is_cleared me.0.stage ≡ 0 = ap is_cleared waiting in (
             w,
@@ -484,10 +484,10 @@ module _ {V C Z : Type 0} (passes : ℕ) (stands : V → History C → Type 0) (
                     stage = (sym is, waits.1, waits.2, sym was.sees.1);
                   });
               drawn = λ n from below. holder_set s.views id n me.0 w here
-                  (λ has. subst (λ (stage : Stage). HasTicket stage n) waiting has) (k.drawn n from below);
+                  (λ has. subst (λ (stage : SeatStage). HasTicket stage n) waiting has) (k.drawn n from below);
               apart = apart_set s.views id w k.apart
                   (λ j u n else at has mine. else (k.apart j id u me.0 n at here has
-                  (subst (λ (stage : Stage). HasTicket stage n) (sym waiting) mine)));
+                  (subst (λ (stage : SeatStage). HasTicket stage n) (sym waiting) mine)));
               lies = inr (
                 ap (λ (hs : List (maybe.Option (Held V C))). slice_set hs 0 none) home,
                 (id, w, t, set_here s.views id w (at_length s.views id me.0 here), refl),
@@ -515,10 +515,10 @@ module _ {V C Z : Type 0} (passes : ℕ) (stands : V → History C → Type 0) (
           let j : ℕ = out.1.0 in
           let u : Known C V = out.1.1 in
           let x : ℕ = out.1.2 in
-          let turn = subst (λ (stage : Stage). StageOk k.serving k.ticket k.whole u.seen u.numbers stage) out.1.4
+          let turn = subst (λ (stage : SeatStage). StageOk k.serving k.ticket k.whole u.seen u.numbers stage) out.1.4
           (k.each j u out.1.3).stage in
-          let theirs : HasTicket u.stage t = subst (λ (stage : Stage). HasTicket stage t) (sym out.1.4) (turn.0 ∙ is) in
-          let mine : HasTicket me.0.stage t = subst (λ (stage : Stage). HasTicket stage t) (sym waiting) refl in
+          let theirs : HasTicket u.stage t = subst (λ (stage : SeatStage). HasTicket stage t) (sym out.1.4) (turn.0 ∙ is) in
+          let mine : HasTicket me.0.stage t = subst (λ (stage : SeatStage). HasTicket stage t) (sym waiting) refl in
           let one = k.apart j id u me.0 t out.1.3 here theirs mine in
           let e : AtTurn x ≡ Waiting t = sym out.1.4
           ∙ ap (λ (view : Known C V). view.stage) (at_same s.views j id u me.0 one out.1.3 here) ∙ waiting in
@@ -528,7 +528,7 @@ module _ {V C Z : Type 0} (passes : ℕ) (stands : V → History C → Type 0) (
   -- advance: the serving word goes up by one
 
   -- the seats that wait are one ticket nearer
-  passed_stage : (serving ticket : ℕ) (whole next seen : History C) (numbers : List ℕ) (stage : Stage)
+  passed_stage : (serving ticket : ℕ) (whole next seen : History C) (numbers : List ℕ) (stage : SeatStage)
       → StageOk serving ticket whole seen numbers stage → (HasTicket stage serving → ⊥)
       → StageOk (serving + 1) ticket next seen numbers stage
   passed_stage serving ticket whole next seen numbers Idle ok apart = tt
@@ -607,11 +607,11 @@ module _ {V C Z : Type 0} (passes : ℕ) (stands : V → History C → Type 0) (
           let w : Known C V = ended me by call in
           let was = k.each id me.0 here in
           let turn : (t ≡ k.serving) × (t < k.ticket) × (0 < length me.0.numbers) × (me.0.seen ≡ k.whole) =
-          subst (λ (stage : Stage). StageOk k.serving k.ticket k.whole me.0.seen me.0.numbers stage) ready.turn
+          subst (λ (stage : SeatStage). StageOk k.serving k.ticket k.whole me.0.seen me.0.numbers stage) ready.turn
           was.stage in
           let grown : me.0.seen ++ e ≡ k.whole ++ e = ap (λ (h : History C). h ++ e) turn.3 in
           let mine : HasTicket me.0.stage k.serving =
-          subst (λ (stage : Stage). HasTicket stage k.serving) (sym ready.turn) turn.0 in
+          subst (λ (stage : SeatStage). HasTicket stage k.serving) (sym ready.turn) turn.0 in
           let shape_is : shape ready.value ≡ z = was.about ready.value ready.about in
           let voiced = times-append by me.0.numbers me.0.brought in
           let small : k.serving + 1 < 2 ^ 64 = omega (arith, k.counts.room, k.few, k.behind) in
@@ -654,7 +654,7 @@ module _ {V C Z : Type 0} (passes : ℕ) (stands : V → History C → Type 0) (
                     stage = tt;
                   });
               drawn = λ n from below. holder_set s.views id n me.0 w here
-                  (λ has. let is : t ≡ n = subst (λ (stage : Stage). HasTicket stage n) ready.turn has in
+                  (λ has. let is : t ≡ n = subst (λ (stage : SeatStage). HasTicket stage n) ready.turn has in
                   absurd (omega (arith, is, turn.0, from)))
                   (k.drawn n (omega (arith, from)) below);
               apart = apart_set s.views id w k.apart (λ j u n else at has mine. absurd mine);
@@ -668,11 +668,11 @@ module _ {V C Z : Type 0} (passes : ℕ) (stands : V → History C → Type 0) (
                     ready.shaped ∙ shape_is,
                     quiet_set s.views id w
                         (λ j u x else at is.
-                        let theirs = subst (λ (stage : Stage). StageOk k.serving k.ticket k.whole u.seen u.numbers
+                        let theirs = subst (λ (stage : SeatStage). StageOk k.serving k.ticket k.whole u.seen u.numbers
                         stage) is
                         (k.each j u at).stage in
                         else (k.apart j id u me.0 k.serving at here
-                        (subst (λ (stage : Stage). HasTicket stage k.serving) (sym is) theirs.0) mine))
+                        (subst (λ (stage : SeatStage). HasTicket stage k.serving) (sym is) theirs.0) mine))
                         (λ x is. absurd (cc is)),
                   ))
                   k.lies;
@@ -727,7 +727,7 @@ module _ {V C Z : Type 0} (passes : ℕ) (stands : V → History C → Type 0) (
                       (was.own_seen n (omega (arith, seen)))).1)
                       (λ other. (told n (omega (arith, other, speaks, times-append n me.0.numbers me.0.brought))).1);
                   own_told = λ n speaks. absurd (omega (arith, speaks));
-                  stage = subst (λ (stage : Stage). StageOk k.serving k.ticket k.whole now (voices me.0) stage)
+                  stage = subst (λ (stage : SeatStage). StageOk k.serving k.ticket k.whole now (voices me.0) stage)
                       (sym idle) tt;
                 }),
             (

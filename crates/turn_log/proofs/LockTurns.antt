@@ -1,8 +1,8 @@
 -- One whole turn at the lock, from what its steps tell.
 use Rattle.std.proofs.Common.{◌≡◌, ◌≢◌, ℕ, ◌^◌, ◌<◌, Bool, IsTrue, List, [], ◌∷◌, ◌++◌, length, sym, ◌∙◌, ap, subst, Some, get_or}
 use Rattle.atomic_table.specs.Table.{rest}
-use Rattle.turn_log.specs.declared.lock.rule.Stage.TheVariants.{Idle, Waiting, AtTurn}
-use Rattle.turn_log.specs.declared.lock.rule.Stage.{Stage}
+use Rattle.turn_log.specs.declared.lock.rule.SeatStage.TheVariants.{Idle, Waiting, AtTurn}
+use Rattle.turn_log.specs.declared.lock.rule.SeatStage.{SeatStage}
 use Rattle.turn_log.specs.declared.lock.rule.Known.{Known}
 use Rattle.turn_log.specs.declared.lock.rule.Held.{Held}
 use Rattle.turn_log.specs.History.{History}
@@ -82,7 +82,7 @@ module _ {V C Z : Type 0} (stands : V → History C → Type 0) (shape : V → Z
       ap (λ (s : Seated C V). s.0) took.2 in
       let after : Known C V → Known C V = λ v. record v { stage = Idle; seen = v.seen ++ (me, call) ∷ [] } in
       ap after is
-      ∙ ap (λ (stage : Stage). let v : Known C V = record old {
+      ∙ ap (λ (stage : SeatStage). let v : Known C V = record old {
         stage = stage;
         seen =
             (old.seen ++ took.1) ++ (me, call) ∷ [];

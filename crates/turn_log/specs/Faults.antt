@@ -5,12 +5,12 @@ use Rattle.turn_log.specs.declared.place.TurnFault.TheVariants.{Worn, Memory}
 
 -- What a refused turn shows, of a place that may lack memory or not and is worn by so many
 -- turns: Worn names that number, which is at least 2 ^ 62.
-abbrev pub IsFault : Bool → ℕ → TurnFault → Type 0
+abbrev pub IsFault : (may_lack : Bool) → ℕ → TurnFault → Type 0
 IsFault may_lack worn (Worn turns) = (worn ≡ turns) × (2 ^ 62 ≤ turns)
 IsFault may_lack worn Memory = IsTrue may_lack
 
 -- What a call shows that hands on the refusal of a turn: the place may have worn further since.
-abbrev pub IsHandedOn : Bool → ℕ → TurnFault → Type 0
+abbrev pub IsHandedOn : (may_lack : Bool) → ℕ → TurnFault → Type 0
 IsHandedOn may_lack worn (Worn turns) = (turns ≤ worn) × (2 ^ 62 ≤ turns)
 IsHandedOn may_lack worn Memory = IsTrue may_lack
 

@@ -6,8 +6,8 @@ use mathlib.Core.Option.{some, none}
 use mathlib.Core.Option as maybe
 use lib.ListN.{get_elem?}
 use Rattle.atomic_table.specs.Table.{State}
-use Rattle.turn_log.specs.declared.lock.rule.Stage.{Stage}
-use Rattle.turn_log.specs.declared.lock.rule.Stage.TheVariants.{Idle, Cleared, Waiting, AtTurn}
+use Rattle.turn_log.specs.declared.lock.rule.SeatStage.{SeatStage}
+use Rattle.turn_log.specs.declared.lock.rule.SeatStage.TheVariants.{Idle, Cleared, Waiting, AtTurn}
 use Rattle.turn_log.specs.declared.lock.rule.Known.{Known}
 use Rattle.turn_log.specs.declared.lock.rule.Held.{Held}
 use Rattle.turn_log.specs.History.{History, IsLegal, own}
@@ -25,7 +25,7 @@ abbrev pub voices : {C V : Type 0} → Known C V → List ℕ
 voices view = view.numbers ++ view.brought
 
 -- the seat has this ticket
-abbrev pub HasTicket : Stage → ℕ → Type 0
+abbrev pub HasTicket : SeatStage → ℕ → Type 0
 HasTicket Idle n = ⊥
 HasTicket Cleared n = ⊥
 HasTicket (Waiting t) n = t ≡ n
@@ -37,7 +37,7 @@ HasHolder {C} {V} views n =
     (id : ℕ) × (view : Known C V) × (get_elem? views id ≡ some view) × HasTicket view.stage n
 
 -- 1 where the seat may draw a ticket, else 0
-abbrev pub is_cleared : Stage → ℕ
+abbrev pub is_cleared : SeatStage → ℕ
 is_cleared Idle = 0
 is_cleared Cleared = 1
 is_cleared (Waiting t) = 0
@@ -46,7 +46,7 @@ is_cleared (AtTurn t) = 0
 -- Who draws or waits speaks for some caller. A ticket that a seat has was drawn and not served; at
 -- its turn it is the one that is served, and the seat has seen the whole history.
 module _ {C : Type 0} (serving ticket : ℕ) (whole seen : History C) (numbers : List ℕ) where
-  abbrev pub StageOk : Stage → Type 0
+  abbrev pub StageOk : SeatStage → Type 0
   StageOk Idle = Unit {0}
   StageOk Cleared = 0 < length numbers
   StageOk (Waiting t) = (serving ≤ t) × (t < ticket) × (0 < length numbers)

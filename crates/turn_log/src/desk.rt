@@ -4,7 +4,7 @@ ghost use Rattle.turn_log.specs.Past.{so_far};
 
 use crate::object::Played;
 use crate::past::{Entry, and_then};
-use crate::place::{MOST, TurnFault, Turns};
+use crate::place::{MAX_TURNS, TurnFault, Turns};
 use std::snapshot::Snapshot;
 
 /// A place of one thread: it keeps the object and counts the calls, and speaks for every caller.
@@ -85,7 +85,7 @@ impl<V: Played> Turns<V> for Desk<V> {
             (desk.seen self.new ≡ desk.seen self.old) × (room.new ≡ room.old)
             × IsFault false (desk.worn self.new) fault) }
     {
-        if self.turns >= MOST {
+        if self.turns >= MAX_TURNS {
             return Err(TurnFault::Worn { turns: self.turns });
         }
         let answer = self.value.play(me, call, room);

@@ -8,7 +8,7 @@ use thiserror::Error;
 
 /// How many turns a desk gives, and for how many a ticket may be drawn at a lock. At a lock each
 /// of the callers that look at the same time may still draw one more.
-pub const MOST: u64 = 1 << 62;
+pub const MAX_TURNS: u64 = 1 << 62;
 
 /// Why a place refused a turn. The call was not made: history and room are as before.
 #[derive(Clone, Copy, Debug, PartialEq, Eq, Error)]

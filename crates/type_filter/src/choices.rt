@@ -49,7 +49,7 @@ impl Filters {
         &self.list[g as usize]
     }
 
-    /// The same filters once more.
+    /// A copy of the filters.
     pub fn copy(&self, alloc: Global) -> Result<Filters, AllocError>
         ensures { IfOk result (λ copy. copy ≡ self.now) }
     {

@@ -9,10 +9,10 @@ use std::marker::Model;
 use thiserror::Error;
 
 /// The highest message number (RTCM 10403.3, DF002 has twelve bits).
-const HIGHEST: u16 = 4095;
+const MAX_NUMBER: u16 = 4095;
 
 /// How many numbers a list may have.
-const MOST: usize = 64;
+const MAX_LISTED: usize = 64;
 
 /// Why a list of message numbers is no filter.
 #[derive(Clone, Copy, Debug, PartialEq, Eq, Error)]
@@ -158,14 +158,14 @@ fn is_among(numbers: &[u16], number: u16) -> bool
 fn has_good_count(numbers: &[u16]) -> bool
     ensures { result ≡ is_good_count numbers.now }
 {
-    !numbers.is_empty() && numbers.len() <= MOST
+    !numbers.is_empty() && numbers.len() <= MAX_LISTED
 }
 
 // The first place of a number above 4095.
 fn first_too_high(numbers: &[u16]) -> Option<usize>
     ensures { result ≡ position is_too_high numbers.now }
 {
-    numbers.iter().position(|number| *number > HIGHEST)
+    numbers.iter().position(|number| *number > MAX_NUMBER)
 }
 
 // The numbers in increasing order, each once.

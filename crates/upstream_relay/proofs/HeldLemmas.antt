@@ -8,14 +8,14 @@ use Rattle.source_session.proofs.HeldLemmas.{held_here}
 use Rattle.source_session.specs.declared.fault.SourceHalt.{SourceHalt}
 use Rattle.source_session.specs.Calls.{IsHolding, HeldSince}
 use Rattle.upstream_relay.specs.declared.fault.RelayHalt.{RelayHalt}
-use Rattle.upstream_relay.specs.declared.body.Stage.{Stage}
-use Rattle.upstream_relay.specs.declared.body.Stage.TheVariants.{Head, Body, Halted}
+use Rattle.upstream_relay.specs.declared.body.RelayStage.{RelayStage}
+use Rattle.upstream_relay.specs.declared.body.RelayStage.TheVariants.{Head, Body, Halted}
 use Rattle.upstream_relay.specs.declared.session.RelaySession.{RelaySession}
 use Rattle.upstream_relay.specs.Halts.{halt_of_source}
 use Rattle.upstream_relay.specs.Standing.{halt_at, claim_at}
 use Rattle.upstream_relay.specs.Called.{IsHoldingBy, IsHeldAt}
 
-pub held_by : (me : ℕ) (stage : Stage) (h : History RingCall) → IfNone (halt_at stage)
+pub held_by : (me : ℕ) (stage : RelayStage) (h : History RingCall) → IfNone (halt_at stage)
     (IsHoldingBy me (claim_at stage) h)
     → IsHeldAt me stage h
 held_by me (Head head cutter) h holds = tt

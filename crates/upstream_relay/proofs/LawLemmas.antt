@@ -15,8 +15,8 @@ use Rattle.ntrip_client.specs.Answer.{IsAnswer}
 use Rattle.ntrip_client.proofs.OnceLemmas.{one_answer}
 use Rattle.upstream_relay.specs.declared.fault.RelayHalt.{RelayHalt}
 use Rattle.upstream_relay.specs.declared.fault.RelayHalt.TheVariants.{BadHead, LongHead, Coding, Table, Status, Taken, Done, BadChunk, Worn, Memory}
-use Rattle.upstream_relay.specs.declared.body.Stage.{Stage}
-use Rattle.upstream_relay.specs.declared.body.Stage.TheVariants.{Head, Body, Halted}
+use Rattle.upstream_relay.specs.declared.body.RelayStage.{RelayStage}
+use Rattle.upstream_relay.specs.declared.body.RelayStage.TheVariants.{Head, Body, Halted}
 use Rattle.upstream_relay.specs.Halts.{halt_of_refusal, halt_of_source, is_refused_turn}
 use Rattle.upstream_relay.specs.Owed.{owed, given_in, first_claim, IsDone}
 use Rattle.upstream_relay.specs.Standing.{IsAccepted, IsClaimed, IsHaltedBy, StandsAt, halt_at, claim_at, is_short_at}
@@ -24,7 +24,7 @@ use Rattle.upstream_relay.proofs.StageLemmas.{open_steps, body_said}
 
 -- ---- what is owed
 
-pub called_owed : (mount me : ℕ) (stage : Stage) (bytes : List ℕ) (steps : List Step) (answer : Answer)
+pub called_owed : (mount me : ℕ) (stage : RelayStage) (bytes : List ℕ) (steps : List Step) (answer : Answer)
     → StandsAt mount me stage bytes steps → IsAnswer bytes answer
     → IsDone (is_short_at stage) (owed mount answer bytes) steps
 called_owed mount me stage bytes steps answer x says =
@@ -60,7 +60,7 @@ given_claim : (mount claim : ℕ) (steps : List Step) → IsClaimed mount claim 
 given_claim mount claim [] x = absurd x
 given_claim mount claim (step ∷ steps) x = ap (λ (s : Step). given_in (answer_of s)) (sym x)
 
-pub claim_first : (mount me : ℕ) (stage : Stage) (bytes : List ℕ) (steps : List Step)
+pub claim_first : (mount me : ℕ) (stage : RelayStage) (bytes : List ℕ) (steps : List Step)
     → StandsAt mount me stage bytes steps → claim_at stage ≡ first_claim steps
 claim_first mount me (Head head cutter) bytes steps x = none_first steps (open_steps mount me head cutter bytes steps x)
 claim_first mount me (Body session) bytes steps x = given_claim mount session.claim steps x.at_stage.claimed
@@ -125,7 +125,7 @@ refusal_halts mount answer steps (BadChunk place) why x says = absurd x
 refusal_halts mount answer steps (Worn turns) why x says = absurd (accepts_none answer why x.0 says)
 refusal_halts mount answer steps Memory why x says = absurd (accepts_none answer why x.0 says)
 
-to_halt : (mount me : ℕ) (stage : Stage) (bytes : List ℕ) (steps : List Step) (why : Refusal)
+to_halt : (mount me : ℕ) (stage : RelayStage) (bytes : List ℕ) (steps : List Step) (why : Refusal)
     → (x : StandsAt mount me stage bytes steps) → x.answer ≡ Refused why → halt_at stage ≡ Some (halt_of_refusal why)
 to_halt mount me (Head head cutter) bytes steps why x is =
     let open_ : x.answer ≡ Open = x.at_stage.1 in
@@ -143,7 +143,7 @@ refusal_of mount answer steps refusals.Coding x = x
 refusal_of mount answer steps refusals.Table x = x
 refusal_of mount answer steps (refusals.Status status) x = x
 
-from_halt : (mount me : ℕ) (stage : Stage) (bytes : List ℕ) (steps : List Step) (why : Refusal)
+from_halt : (mount me : ℕ) (stage : RelayStage) (bytes : List ℕ) (steps : List Step) (why : Refusal)
     → (x : StandsAt mount me stage bytes steps) → halt_at stage ≡ Some (halt_of_refusal why) → x.answer ≡ Refused why
 from_halt mount me (Head head cutter) bytes steps why x is = absurd cc
 from_halt mount me (Body session) bytes steps why x is = absurd (no_refusal session.halt why is)
@@ -151,7 +151,7 @@ from_halt mount me (Halted halt) bytes steps why x is =
     let same : halt ≡ halt_of_refusal why = cc in
     refusal_of mount x.answer steps why (subst (IsHaltedBy mount x.answer steps) same x.at_stage)
 
-pub halts_as_answered : (mount me : ℕ) (stage : Stage) (bytes : List ℕ) (steps : List Step) (why : Refusal)
+pub halts_as_answered : (mount me : ℕ) (stage : RelayStage) (bytes : List ℕ) (steps : List Step) (why : Refusal)
     → StandsAt mount me stage bytes steps
     → IsAnswer bytes (Refused why) ↔ (halt_at stage ≡ Some (halt_of_refusal why))
 halts_as_answered mount me stage bytes steps why x = (
@@ -178,7 +178,7 @@ source_bad (Some (sources.BadChunk place)) at is =
 source_bad (Some (sources.Worn turns)) at is = absurd cc
 source_bad (Some sources.Memory) at is = absurd cc
 
-pub done_ended : (mount me : ℕ) (stage : Stage) (bytes : List ℕ) (steps : List Step) (at : ℕ) (chunked : Bool)
+pub done_ended : (mount me : ℕ) (stage : RelayStage) (bytes : List ℕ) (steps : List Step) (at : ℕ) (chunked : Bool)
     → StandsAt mount me stage bytes steps → IsAnswer bytes (Accepted at chunked) → halt_at stage ≡ Some Done
     → HasEnded (drop at bytes)
 done_ended mount me (Head head cutter) bytes steps at chunked x says is = absurd cc
@@ -189,7 +189,7 @@ done_ended mount me (Halted halt) bytes steps at chunked x says is =
     let same : halt ≡ Done = cc in
     absurd (subst (IsHaltedBy mount x.answer steps) same x.at_stage)
 
-pub bad_chunk : (mount me : ℕ) (stage : Stage) (bytes : List ℕ) (steps : List Step) (at : ℕ) (chunked : Bool)
+pub bad_chunk : (mount me : ℕ) (stage : RelayStage) (bytes : List ℕ) (steps : List Step) (at : ℕ) (chunked : Bool)
     (place : ℕ)
     → StandsAt mount me stage bytes steps → IsAnswer bytes (Accepted at chunked) → halt_at stage ≡ Some (BadChunk place)
     → IsBadAt (drop at bytes) place

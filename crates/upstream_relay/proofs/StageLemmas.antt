@@ -30,8 +30,8 @@ use Rattle.ntrip_client.specs.Answer.{IsAnswer}
 use Rattle.ntrip_client.proofs.OnceLemmas.{answer_stays, one_answer}
 use Rattle.upstream_relay.specs.declared.fault.RelayHalt.{RelayHalt}
 use Rattle.upstream_relay.specs.declared.fault.RelayHalt.TheVariants.{BadHead, LongHead, Coding, Table, Status, Taken, Done, BadChunk, Worn, Memory}
-use Rattle.upstream_relay.specs.declared.body.Stage.{Stage}
-use Rattle.upstream_relay.specs.declared.body.Stage.TheVariants.{Head, Body, Halted}
+use Rattle.upstream_relay.specs.declared.body.RelayStage.{RelayStage}
+use Rattle.upstream_relay.specs.declared.body.RelayStage.TheVariants.{Head, Body, Halted}
 use Rattle.upstream_relay.specs.Halts.{halt_of_refusal, halt_of_claim, is_refused_turn}
 use Rattle.upstream_relay.specs.Owed.{publishing, owed, IsDone}
 use Rattle.upstream_relay.specs.Standing.{IsAccepted, IsClaimed, IsHaltedBy, HasBody, StandsAt}
@@ -345,7 +345,7 @@ module _ (alone : Bool) (said : History RingCall → ℕ → RingCall → RingAn
       (subst (λ (m : ℕ). Adds still says old now m mount (Holds m)) as_me x))
 
   -- where nothing was called before
-  pub adds_first : (stage : Stage) (head before more : List ℕ) (steps : List Step) (old now : History RingCall)
+  pub adds_first : (stage : RelayStage) (head before more : List ℕ) (steps : List Step) (old now : History RingCall)
       → head ≡ before → steps ≡ []
       → Adds alone said old now me mount (StandsAt mount me stage (head ++ more))
       → Adds alone said old now me mount (λ later. StandsAt mount me stage (before ++ more) (steps ++ later))

@@ -11,12 +11,12 @@ use Rattle.mount_ring.specs.declared.RingShape.{RingShape}
 use Rattle.session_calls.specs.Steps.{Step, on_ring}
 use Rattle.source_session.specs.Calls.{IsHolding, HeldSince}
 use Rattle.source_session.specs.Places.{ring_answer}
-use Rattle.upstream_relay.specs.declared.body.Stage.{Stage}
-use Rattle.upstream_relay.specs.declared.body.Stage.TheVariants.{Head, Body, Halted}
+use Rattle.upstream_relay.specs.declared.body.RelayStage.{RelayStage}
+use Rattle.upstream_relay.specs.declared.body.RelayStage.TheVariants.{Head, Body, Halted}
 
 -- some calls were made, in order and no other of the caller's, each answered at its own point, and
 -- this holds of them
-abbrev pub Adds : Bool → (History RingCall → ℕ → RingCall → RingAnswer) → History RingCall
+abbrev pub Adds : (alone : Bool) → (History RingCall → ℕ → RingCall → RingAnswer) → History RingCall
     → History RingCall → ℕ → ℕ → (List Step → Type 0) → Type 0
 Adds alone answer old now me mount Holds =
     (steps : List Step) × Heard alone answer old now me (on_ring mount steps) × Holds steps
@@ -34,7 +34,7 @@ IsHoldingBy me None history = ⊤
 IsHoldingBy me (Some claim) history = IsHolding me claim history
 
 -- where a body goes on, its claim was not given back
-abbrev pub IsHeldAt : ℕ → Stage → History RingCall → Type 0
+abbrev pub IsHeldAt : ℕ → RelayStage → History RingCall → Type 0
 IsHeldAt me (Head head cutter) history = ⊤
 IsHeldAt me (Body session) history =
     IfNone session.halt (HeldSince me session.claim history)

@@ -47,7 +47,7 @@ is_refused_turn Memory = true
 
 -- A relay is halted by what it met, or the place refused a turn: it is worn by so many turns, or
 -- may lack memory.
-abbrev pub IsHaltOf : Bool → ℕ → RelayHalt → Type 0
+abbrev pub IsHaltOf : (may_lack : Bool) → ℕ → RelayHalt → Type 0
 IsHaltOf may_lack worn BadHead = ⊤
 IsHaltOf may_lack worn LongHead = ⊤
 IsHaltOf may_lack worn Coding = ⊤

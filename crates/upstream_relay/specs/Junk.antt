@@ -9,7 +9,7 @@ use Rattle.upstream_relay.specs.declared.session.RelaySession.{RelaySession}
 use Rattle.upstream_relay.specs.Standing.{StandsFor, is_short_at}
 
 -- those of the bytes that the body behind the head carries
-abbrev pub junk_of : Bool → ℕ → List ℕ → ℕ
+abbrev pub junk_of : (chunked : Bool) → ℕ → List ℕ → ℕ
 junk_of chunked at bytes = (cut (payload chunked (drop at bytes))).junk
 
 -- exactly so many, unless a turn was refused

@@ -55,6 +55,6 @@ first_claim [] = None
 first_claim (step ∷ steps) = given_in (answer_of step)
 
 -- all of this was made, or where a turn was refused a beginning of it
-abbrev pub IsDone : Bool → Plan → List Step → Type 0
+abbrev pub IsDone : (halted : Bool) → Plan → List Step → Type 0
 IsDone false plan steps = IsMade plan steps
 IsDone true plan steps = IsBegun plan steps

@@ -14,26 +14,26 @@ use Rattle.ntrip_client.specs.declared.answer.Refusal.TheVariants as refusals
 use Rattle.ntrip_client.specs.Answer.{IsAnswer}
 use Rattle.upstream_relay.specs.declared.fault.RelayHalt.{RelayHalt}
 use Rattle.upstream_relay.specs.declared.fault.RelayHalt.TheVariants.{BadHead, LongHead, Coding, Table, Status, Taken, Done, BadChunk, Worn, Memory}
-use Rattle.upstream_relay.specs.declared.body.Stage.{Stage}
-use Rattle.upstream_relay.specs.declared.body.Stage.TheVariants.{Head, Body, Halted}
+use Rattle.upstream_relay.specs.declared.body.RelayStage.{RelayStage}
+use Rattle.upstream_relay.specs.declared.body.RelayStage.TheVariants.{Head, Body, Halted}
 use Rattle.upstream_relay.specs.declared.session.RelaySession.{RelaySession}
 use Rattle.upstream_relay.specs.Halts.{halt_of_source, is_refused_turn}
 use Rattle.upstream_relay.specs.Owed.{owed, IsDone}
 
 -- what halted the relay, if it was
-abbrev pub halt_at : Stage → Option RelayHalt
+abbrev pub halt_at : RelayStage → Option RelayHalt
 halt_at (Head head cutter) = None
 halt_at (Body session) = option_map halt_of_source session.halt
 halt_at (Halted halt) = Some halt
 
 -- the number of the claim that it was given, if it was
-abbrev pub claim_at : Stage → Option ℕ
+abbrev pub claim_at : RelayStage → Option ℕ
 claim_at (Head head cutter) = None
 claim_at (Body session) = Some session.claim
 claim_at (Halted halt) = None
 
 -- whether a turn was refused
-abbrev pub is_short_at : Stage → Bool
+abbrev pub is_short_at : RelayStage → Bool
 is_short_at (Head head cutter) = false
 is_short_at (Body session) = is_cut_short session.halt
 is_short_at (Halted halt) = is_refused_turn halt
@@ -73,14 +73,14 @@ pub record HasBody (mount me : ℕ) (session : SourceSession) (answer : Answer) 
   pub stands : source.StandsFor session (drop at bytes)
   pub claimed : IsClaimed mount session.claim steps
 
-abbrev pub IsAtStage : ℕ → ℕ → Stage → Answer → List ℕ → List Step → Type 0
+abbrev pub IsAtStage : ℕ → ℕ → RelayStage → Answer → List ℕ → List Step → Type 0
 IsAtStage mount me (Head head cutter) answer bytes steps = (head ≡ bytes) × (answer ≡ Open)
 IsAtStage mount me (Body session) answer bytes steps = HasBody mount me session answer bytes steps
 IsAtStage mount me (Halted halt) answer bytes steps = IsHaltedBy mount answer steps halt
 
 -- These bytes came and these calls were made, under this number of the mountpoint: the calls are
 -- those that the bytes owe, all of them, or where a turn was refused a beginning of them.
-pub record StandsAt (mount me : ℕ) (stage : Stage) (bytes : List ℕ) (steps : List Step)
+pub record StandsAt (mount me : ℕ) (stage : RelayStage) (bytes : List ℕ) (steps : List Step)
     : Type 0 where
   pub answer : Answer
   pub says : IsAnswer bytes answer

@@ -18,7 +18,7 @@ use turn_log::Turns;
 
 /// How far a relay is with the answer of the other caster.
 #[derive(Debug, Drop)]
-pub enum Stage {
+pub enum RelayStage {
     /// The head of the answer comes; the frames of its body will be cut by this cutter.
     Head {
         head: AnswerHead,
@@ -33,7 +33,7 @@ pub enum Stage {
 /// What a relay comes to with more bytes of the answer.
 #[derive(Debug, Drop)]
 pub struct Begun {
-    pub stage: Stage,
+    pub stage: RelayStage,
     pub fed: Result<(), RelayHalt>,
 }
 
@@ -47,16 +47,16 @@ pub fn feed_body<T: Turns<Ring>>(
     requires held { IfNone source.old.halt
         (HeldSince source.old.me source.old.claim (T.seen place.old)) }
     requires few { (mount : ℕ) × (body : List ℕ) × (steps : List Step)
-        × StandsAt mount source.old.me (Stage.Body source.old) body steps
+        × StandsAt mount source.old.me (RelayStage.Body source.old) body steps
         × (length body + length bytes.now < 2 ^ 63) }
     ensures stays { Stays T.Turns place.old place.new }
     ensures source { (source.new.me ≡ source.old.me) × (source.new.claim ≡ source.old.claim) }
     ensures adds { (mount : ℕ) (before : List ℕ) (steps : List Step)
-        → StandsAt mount source.old.me (Stage.Body source.old) before steps
+        → StandsAt mount source.old.me (RelayStage.Body source.old) before steps
         → AddsAt T.Turns place.old place.new source.old.me mount (λ more.
-        StandsAt mount source.old.me (Stage.Body source.new) (before ++ bytes.now)
+        StandsAt mount source.old.me (RelayStage.Body source.new) (before ++ bytes.now)
         (steps ++ more)) }
-    ensures fed { halt_at (Stage.Body source.new) ≡ result_err result }
+    ensures fed { halt_at (RelayStage.Body source.new) ≡ result_err result }
     ensures halted { IfSome source.old.halt (λ halt.
         (source.new ≡ source.old) × (place.new ≡ place.old)) }
     ensures holds { IfNone source.old.halt
@@ -94,14 +94,14 @@ pub fn begin<T: Turns<Ring>>(
         Err(fault) => {
             let halt = RelayHalt::from(fault);
             Begun {
-                stage: Stage::Halted(halt),
+                stage: RelayStage::Halted(halt),
                 fed: Err(halt),
             }
         }
         Ok(mut source) => {
             let fed = feed_body(&mut source, body, place);
             Begun {
-                stage: Stage::Body(source),
+                stage: RelayStage::Body(source),
                 fed,
             }
         }
@@ -131,7 +131,7 @@ pub fn decide<T: Turns<Ring>>(
     let taken = head.feed(bytes);
     match taken.answer {
         Answer::Open => Begun {
-            stage: Stage::Head { head, cutter },
+            stage: RelayStage::Head { head, cutter },
             fed: Ok(()),
         },
         Answer::Accepted { at: _, chunked } => {
@@ -140,7 +140,7 @@ pub fn decide<T: Turns<Ring>>(
         Answer::Refused(refusal) => {
             let halt = RelayHalt::from(refusal);
             Begun {
-                stage: Stage::Halted(halt),
+                stage: RelayStage::Halted(halt),
                 fed: Err(halt),
             }
         }
@@ -148,7 +148,7 @@ pub fn decide<T: Turns<Ring>>(
 }
 
 /// Takes more bytes of an answer at this stage.
-pub fn go_on<T: Turns<Ring>>(stage: Stage, me: u32, bytes: &[u8], place: &mut T) -> Begun
+pub fn go_on<T: Turns<Ring>>(stage: RelayStage, me: u32, bytes: &[u8], place: &mut T) -> Begun
     requires speaks { IsTrue (T.speaks place.old me) }
     requires held { IsHeldAt me stage (T.seen place.old) }
     requires few { (mount : ℕ) × (before : List ℕ) × (steps : List Step)
@@ -167,17 +167,17 @@ pub fn go_on<T: Turns<Ring>>(stage: Stage, me: u32, bytes: &[u8], place: &mut T)
         (IfErr result.fed (IsHaltOf (T.may_lack place.old) (T.worn place.new))) }
 {
     match stage {
-        Stage::Halted(halt) => Begun {
-            stage: Stage::Halted(halt),
+        RelayStage::Halted(halt) => Begun {
+            stage: RelayStage::Halted(halt),
             fed: Err(halt),
         },
-        Stage::Body(mut source) => {
+        RelayStage::Body(mut source) => {
             let fed = feed_body(&mut source, bytes, place);
             Begun {
-                stage: Stage::Body(source),
+                stage: RelayStage::Body(source),
                 fed,
             }
         }
-        Stage::Head { head, cutter } => decide(head, cutter, me, bytes, place),
+        RelayStage::Head { head, cutter } => decide(head, cutter, me, bytes, place),
     }
 }

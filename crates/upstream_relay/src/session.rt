@@ -6,33 +6,21 @@ ghost use Rattle.mount_ring.specs.History.{state_of};
 ghost use Rattle.session_calls.specs.Steps.{Step};
 ghost use Rattle.source_session.specs.Calls.{IsHolding, HeldSince};
 ghost use Rattle.source_session.specs.Places.{Stays, HeardAt};
-ghost use Rattle.upstream_relay.specs.Request.{version_of, relay_request};
+ghost use Rattle.upstream_relay.specs.Request.{relay_request};
 ghost use Rattle.upstream_relay.specs.Standing.{StandsFor, halt_at, claim_at};
 ghost use Rattle.upstream_relay.specs.Junk.{IsJunk, IsAtMostJunk};
 ghost use Rattle.upstream_relay.specs.Halts.{IsHaltOf};
 ghost use Rattle.upstream_relay.specs.Called.{AddsAt, IsHoldingBy, IsHeldAt};
 
-use crate::body::{Stage, go_on};
+use crate::body::{RelayStage, go_on};
 use crate::fault::RelayHalt;
 use cast_config::Relay;
 use mount_ring::{Ring, RingAnswer, RingCall};
-use ntrip_client::{AnswerHead, push_request};
-use ntrip_head::Version;
+use ntrip_client::{AnswerHead, push_request, version_of};
 use rtcm_frame::Cutter;
 use std::alloc::{AllocError, Global};
 use std::{fmt, mem};
 use turn_log::{TurnFault, Turns};
-
-/// The version of NTRIP that this protocol is.
-fn version_of(protocol: u32) -> Version
-    ensures { result ≡ version_of protocol }
-{
-    if protocol == 2 {
-        Version::Two
-    } else {
-        Version::One
-    }
-}
 
 /// A relay: it has a request for another caster, is fed what that caster answers, and publishes the
 /// frames of the answer's body (RTCM 10403.3) at a mountpoint here, which it claims once the answer
@@ -45,7 +33,7 @@ fn version_of(protocol: u32) -> Version
 pub struct RelaySession {
     me: u32,
     request: Vec<u8>,
-    stage: Stage,
+    stage: RelayStage,
 }
 
 impl RelaySession {
@@ -73,7 +61,7 @@ impl RelaySession {
         Ok(RelaySession {
             me,
             request,
-            stage: Stage::Head { head, cutter },
+            stage: RelayStage::Head { head, cutter },
         })
     }
 
@@ -121,7 +109,7 @@ impl RelaySession {
         ensures cause { IfNone (halt_at self.old.stage)
             (IfErr result (IsHaltOf (T.may_lack place.old) (T.worn place.new))) }
     {
-        let stage = mem::replace(&mut self.stage, Stage::Halted(RelayHalt::Memory));
+        let stage = mem::replace(&mut self.stage, RelayStage::Halted(RelayHalt::Memory));
         let begun = go_on(stage, self.me, bytes, place);
         self.stage = begun.stage;
         begun.fed
@@ -147,9 +135,9 @@ impl RelaySession {
         ensures fault { IfErr result (IsFault (T.may_lack place.old) (T.worn place.new)) }
     {
         match &mut self.stage {
-            Stage::Body(source) => source.release(place),
-            Stage::Head { head: _, cutter: _ } => unreachable!(),
-            Stage::Halted(_) => unreachable!(),
+            RelayStage::Body(source) => source.release(place),
+            RelayStage::Head { head: _, cutter: _ } => unreachable!(),
+            RelayStage::Halted(_) => unreachable!(),
         }
     }
 
@@ -158,9 +146,9 @@ impl RelaySession {
         ensures { result ≡ claim_at self.now.stage }
     {
         match &self.stage {
-            Stage::Body(source) => Some(source.claim_number()),
-            Stage::Head { head: _, cutter: _ } => None,
-            Stage::Halted(_) => None,
+            RelayStage::Body(source) => Some(source.claim_number()),
+            RelayStage::Head { head: _, cutter: _ } => None,
+            RelayStage::Halted(_) => None,
         }
     }
 
@@ -172,9 +160,9 @@ impl RelaySession {
             IsAtMostJunk self.now result) }
     {
         match &self.stage {
-            Stage::Body(source) => source.junk(),
-            Stage::Head { head: _, cutter: _ } => 0,
-            Stage::Halted(_) => 0,
+            RelayStage::Body(source) => source.junk(),
+            RelayStage::Head { head: _, cutter: _ } => 0,
+            RelayStage::Halted(_) => 0,
         }
     }
 }

@@ -16,7 +16,7 @@ use Rattle.session_model.proofs.WellLemmas.{IsSoundOf}
 use Rattle.caster_replay.specs.Going.{rover_among, rover_of}
 use Rattle.caster_replay.specs.Runs.{AreAbove, IsIncreasing}
 use Rattle.caster_replay.specs.Sends.{told_sent}
-use Rattle.caster_replay.proofs.WorldListLemmas.{none_above, moved_by, apart_moved, happens_nowhere}
+use Rattle.caster_replay.proofs.WorldListLemmas.{none_above, moved_by, apart_moved, happens_nowhere, onto}
 use Rattle.caster_warm.specs.Warm.{greeting_for}
 use Rattle.run_promise.proofs.StoodLemmas.{Stood}
 use Rattle.warm_promise.proofs.SentLemmas.{version_in, none_more, sent_greeting}
@@ -156,9 +156,6 @@ module _ (c : Config) (headings : ℕ → Heading) (old now : Histories) where
       by_goes false d = refl
 
 -- ---- one changes, and the others stay
-
-abbrev onto : Connected → World → World
-onto d w = record { connections = d ∷ w.connections; histories = w.histories }
 
 pub each_happens : (c : Config) (headings : ℕ → Heading) (number : ℕ) (what : Happening) (h : Histories)
     (P Q : Connected → Type 0) (ds : List Connected) → IsIncreasing ds → All P ds

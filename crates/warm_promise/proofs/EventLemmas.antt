@@ -23,10 +23,10 @@ use Rattle.session_model.proofs.KeepLemmas.{Later}
 use Rattle.session_model.proofs.WellLemmas.{IsSoundOf, IsWell, happens_stays}
 use Rattle.session_model.proofs.WellLemmas as well
 use Rattle.caster_replay.specs.Runs.{IsIncreasing}
-use Rattle.caster_replay.proofs.WorldKnownLemmas.{number_by, opened_same}
+use Rattle.caster_replay.proofs.WorldKnownLemmas.{number_by, opened_same, known_placed}
 use Rattle.caster_replay.proofs.WorldListLemmas.{moved_by}
 use Rattle.caster_warm.specs.Warm.{greeting_for}
-use Rattle.run_promise.proofs.RunLemmas.{IsStood, IsRunning, all_placed, placed_opened, new_walked, happens_extends, happens_runs}
+use Rattle.run_promise.proofs.RunLemmas.{IsStood, IsRunning, placed_opened, new_walked, happens_extends, happens_runs}
 use Rattle.warm_promise.proofs.SentLemmas.{none_more}
 use Rattle.warm_promise.proofs.MoveLemmas.{SentOf, plain_of, greeting_to, with_more, stays_so, sent_on, end_sent}
 use Rattle.warm_promise.proofs.OpenLemmas.{opened_sent}
@@ -302,7 +302,7 @@ module _ (c : Config) (cap : ℕ) (headings : ℕ → Heading) (w : World) (byte
     new_sent : is_opened number w.connections ≡ false → (o ≡ sends_head → judged c o (headings number) [] ≡ waiting)
         → IsIncreasing after.connections → IsOpened false
     new_sent new waits order =
-        let all = all_placed (λ e. IsNow e e.number) m.connection w.connections
+        let all = known_placed (λ e. IsNow e e.number) m.connection w.connections
         (subst (IsNow m.connection)
         (sym (number_by true c (headings number) w.histories (fresh number o) (arrives []))) (first_now new waits))
         others_now in

@@ -1,8 +1,8 @@
 -- What a rover was sent with its greetings are frames.
-use Rattle.std.proofs.Common.{◌∙◌, ◌-◌, ◌++◌, ℕ, Bool, true, false, cond, List, [], ◌∷◌, take, drop, reverse, All, IsTrue, Some, inl, inr, sym, ap, subst, option_to_list}
+use Rattle.std.proofs.Common.{◌∙◌, ◌-◌, ◌++◌, ℕ, Bool, true, false, cond, List, [], ◌∷◌, take, reverse, All, IsTrue, Some, inl, inr, sym, ap, subst, option_to_list}
 use Rattle.std.specs.Prelude.{find}
-use Rattle.std.specs.List.{filter, flat_map}
-use Rattle.std.proofs.lemmas.List.Elements.{All-append, All-drop, All-take, All-cons, All-nil, All-head, All-tail}
+use Rattle.std.specs.List.{flat_map}
+use Rattle.std.proofs.lemmas.List.Elements.{All-append, All-take, All-cons, All-nil, All-head, All-tail}
 use Rattle.std.proofs.lemmas.List.Sorted.{All-permutation, IsPermutation-reverse}
 use Rattle.rtcm_frame.specs.Transport.{is_frame}
 use Rattle.rtcm_frame.specs.Cut.{cut}
@@ -10,10 +10,9 @@ use Rattle.rtcm_frame.proofs.CutLemmas.{cut-frames-joined}
 use Rattle.chunk_body.proofs.ChunkLemmas.{frames_open, frames_plain}
 use Rattle.turn_log.specs.History.{History}
 use Rattle.mount_ring.specs.declared.call.RingCall.{RingCall}
-use Rattle.mount_ring.specs.declared.cursor.Lap.{Lap}
 use Rattle.last_frames.specs.Last.{station_numbers, has_number, last_of, if_permitted}
 use Rattle.rover_cursor.specs.declared.segment.Segment.{Segment}
-use Rattle.rover_cursor.specs.Sound.{between, outside}
+use Rattle.rover_cursor.specs.Sound.{outside}
 use Rattle.ntrip_head.specs.declared.request.Version.{Version}
 use Rattle.rover_session.specs.Body.{body_of}
 use Rattle.rover_session.proofs.LawLemmas.{body_plain}
@@ -26,19 +25,10 @@ use Rattle.run_promise.proofs.AccountLemmas.{holds_so}
 use Rattle.warm_promise.specs.Greeted.{IsGreeting}
 use Rattle.warm_promise.proofs.BackLemmas.{AreBack}
 use Rattle.warm_promise.proofs.SentLemmas.{AreSentBack}
+use Rattle.session_model.proofs.PromiseLemmas.{outside_frames, filter_frames}
 
 abbrev pub IsOne : List ℕ → Type 0
 IsOne frame = IsTrue (is_frame frame)
-
-filter_frames : (permits : List ℕ → Bool) (frames : List (List ℕ)) → All IsOne frames
-    → All IsOne (filter permits frames)
-filter_frames permits [] all = all
-filter_frames permits (frame ∷ frames) all =
-    let rest = filter_frames permits frames (All-tail IsOne frame frames all) in
-    elim (permits frame) as (λ b. All IsOne (cond b (frame ∷ filter permits frames) (filter permits frames))) [
-      | true ↦ All-cons IsOne frame (filter permits frames) (All-head IsOne frame frames all) rest
-      | false ↦ rest
-    ]
 
 -- ---- the greeting
 
@@ -63,15 +53,6 @@ greeting_frames permits frames (number ∷ numbers) all =
     (greeting_frames permits frames numbers all)
 
 -- ---- what was kept
-
-outside_frames : (from : ℕ) (laps : List Lap) (to : ℕ) (published : List (List ℕ)) → All IsOne published
-    → All IsOne (outside from laps to published)
-outside_frames from [] to published all = All-take IsOne (to - from) (drop from published)
-    (All-drop IsOne from published all)
-outside_frames from (lap ∷ laps) to published all =
-    All-append IsOne (between from lap.from published) (outside lap.to laps to published)
-    (All-take IsOne (lap.from - from) (drop from published) (All-drop IsOne from published all))
-    (outside_frames lap.to laps to published all)
 
 kept_one : (c : Config) (h : List (History RingCall)) (segment : Segment) → AreFrames h → All IsOne (kept_of c h segment)
 kept_one c h segment all =

@@ -24,9 +24,9 @@ use Rattle.session_model.specs.Setting.{shapes}
 use Rattle.session_model.specs.Run.{Histories, with_call, with_calls, step_at, made}
 use Rattle.session_model.specs.Promises.{published_at}
 use Rattle.session_model.proofs.GoodLemmas.{IsGoodAsk, IsGood}
-use Rattle.session_model.proofs.KeepLemmas.{Later}
+use Rattle.session_model.proofs.KeepLemmas.{Later, asked_same}
 use Rattle.session_model.proofs.QuietLemmas.{claim_quiet}
-use Rattle.run_promise.proofs.MadeLemmas.{asked_same, IsAskWithin, IsWithin}
+use Rattle.run_promise.proofs.MadeLemmas.{IsAskWithin, IsWithin}
 use Rattle.run_promise.proofs.WalkLemmas.{IsNever, IsJoinAsk, JoinsSuch}
 use Rattle.warm_promise.specs.Greeted.{greeting_of}
 use Rattle.warm_promise.proofs.BackLemmas.{IsNew, greeting_later}

@@ -51,7 +51,8 @@ joins_by_bytes (bare_source mount) terms = true
 joins_by_bytes (bare_rover mount) terms = terms.admission.near
 
 -- a rover that joins by bytes is greeted, and another one is sent what its segments kept
-abbrev pub AreSent : Bool → Config → List (History RingCall) → List Segment → List (List ℕ) → Type 0
+abbrev pub AreSent : (joins_by_bytes : Bool) → Config → List (History RingCall) → List Segment
+    → List (List ℕ) → Type 0
 AreSent true c histories segments frames = AreGreeted c histories segments frames
 AreSent false c histories segments frames = frames ≡ kept_frames c histories segments
 
@@ -77,7 +78,8 @@ pub record IsGreetedRover (c : Config) (heads : ℕ → Heading) (script : List 
   pub holds : Holds (unwrap_or terms.version One) body frames
 
 -- one that was let in as a rover is sent this, and any other what it is sent without greetings
-abbrev pub IsSentSo : Bool → Config → (ℕ → Heading) → List Event → List (History RingCall)
+abbrev pub IsSentSo : (let_in : Bool) → Config → (ℕ → Heading) → List Event
+    → List (History RingCall)
     → Connection → Connection → Type 0
 IsSentSo true c heads script histories told plain = IsGreetedRover c heads script histories told
 IsSentSo false c heads script histories told plain = told.bytes ≡ plain.bytes

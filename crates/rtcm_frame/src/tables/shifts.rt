@@ -347,7 +347,7 @@ pub(crate) static NEAR: [u32; 3072] = [
     0xF00C5D, 0x7170ED, 0x0E5B7D,
 ];
 
-// The same, moved on by 0 to 32 times 32 bytes of zero.
+// Each digit at each of the six places of a register, moved on by 0 to 32 times 32 bytes of zero.
 pub(crate) static FAR: [u32; 3168] = [
     0x000000, 0x000001, 0x000002, 0x000003, 0x000004, 0x000005, 0x000006, 0x000007, 0x000008,
     0x000009, 0x00000A, 0x00000B, 0x00000C, 0x00000D, 0x00000E, 0x00000F, 0x000000, 0x000010,

@@ -2,7 +2,7 @@
 ghost use Rattle.std.specs.Prelude.{◌≡◌, ℕ, ◌<◌, ◌≤◌, ◌+◌, [], ◌∷◌, length, All};
 ghost use mathlib.Core.Option.{some};
 ghost use lib.ListN.{get_elem?};
-ghost use Rattle.turn_log.specs.declared.lock.rule.Stage.TheVariants.{Idle};
+ghost use Rattle.turn_log.specs.declared.lock.rule.SeatStage.TheVariants.{Idle};
 ghost use Rattle.turn_log.specs.History.{History, GoesOn};
 ghost use Rattle.turn_log.specs.LockRule.{times};
 ghost use Rattle.turn_log.specs.Lock.{turn_passes, turn_value, pass_number, pass_seen, pass_worn, IsPassOf};

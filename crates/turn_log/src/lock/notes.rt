@@ -1,6 +1,6 @@
 //! What one pass has seen is told to another.
 ghost use Rattle.std.specs.Prelude.{◌≡◌, []};
-ghost use Rattle.turn_log.specs.declared.lock.rule.Stage.TheVariants.{Idle};
+ghost use Rattle.turn_log.specs.declared.lock.rule.SeatStage.TheVariants.{Idle};
 ghost use Rattle.turn_log.specs.History.{GoesOn};
 ghost use Rattle.turn_log.specs.LockRule.{Begins};
 ghost use Rattle.turn_log.specs.LockSteps.{met, settles};

@@ -1,6 +1,6 @@
 //! What the lock is made of, as its callers hold it.
 ghost use Rattle.std.specs.Prelude.{◌≡◌, ◌<◌, IsTrue, [], ◌∷◌, length, is_some, Some};
-ghost use Rattle.turn_log.specs.declared.lock.rule.Stage.TheVariants.{Idle};
+ghost use Rattle.turn_log.specs.declared.lock.rule.SeatStage.TheVariants.{Idle};
 ghost use Rattle.turn_log.specs.History.{IsLegal};
 ghost use Rattle.turn_log.specs.LockNames.{table_id_set};
 

@@ -6,7 +6,7 @@ use std::marker::PhantomData;
 use std::snapshot::Snapshot;
 
 /// Where a seat is in its turn.
-pub enum Stage {
+pub enum SeatStage {
     /// It takes no turn now.
     Idle,
     /// It may draw a ticket.
@@ -28,7 +28,7 @@ pub struct Known<C, V> {
     /// The callers of a seat that was taken in, and what that seat had seen.
     pub brought: LinkedList<u32>,
     pub told: LinkedList<(u32, C)>,
-    pub stage: Stage,
+    pub stage: SeatStage,
     /// The last count of tickets of 2 ^ 62 or more that the seat met, or 0.
     pub worn: u64,
 }

@@ -1,6 +1,6 @@
 //! The steps of one turn, each at the lock's table.
 ghost use Rattle.std.specs.Prelude.{◌≡◌, ℕ, ◌^◌, ◌<◌, ◌≤◌, [], ◌∷◌, ◌++◌, length, IsTrue, IfOk, IfErr};
-ghost use Rattle.turn_log.specs.declared.lock.rule.Stage.TheVariants.{Idle, Waiting};
+ghost use Rattle.turn_log.specs.declared.lock.rule.SeatStage.TheVariants.{Idle, Waiting};
 ghost use Rattle.turn_log.specs.History.{History};
 ghost use Rattle.turn_log.specs.LockRule.{times};
 ghost use Rattle.turn_log.specs.LockSteps.{Took, TookTurn};
@@ -10,7 +10,7 @@ use super::parts::{Token, Turn};
 use super::plays::{Advance, Clear, Draw, Look};
 use super::rule::Held;
 use crate::object::Played;
-use crate::place::MOST;
+use crate::place::MAX_TURNS;
 use std::hint::spin_loop;
 use std::sync::Wait;
 
@@ -40,7 +40,7 @@ impl<V: Played> Turn<V> {
             × (token.new.me.0 ≡ record token.old.me.0 { worn = turns })) }
     {
         let drawn = self.table.shared.load::<Clear<V>>(token, TICKET);
-        if drawn >= MOST {
+        if drawn >= MAX_TURNS {
             return Err(drawn);
         }
         Ok(self.table.shared.fetch_add::<Draw<V>>(token, TICKET, 1))

@@ -5,9 +5,10 @@ use Rattle.std.specs.Option.{option_copied}
 use Rattle.session_core.specs.declared.asked.Asked.{Asked}
 use Rattle.session_core.specs.Asking.{AsksOn}
 use Rattle.session_core.specs.Holding.{HoldsOn}
-use Rattle.caster_keep.specs.Links.{ArePut, asked_lines, told_lines}
+use Rattle.caster_keep.specs.Links.{asked_lines, told_lines}
 use Rattle.caster_keep.proofs.KeepLemmas.{some_copied}
 use Rattle.caster_keep.proofs.first.tell_session.Goals as goal
+use Rattle.keep_porter.specs.Porters.{ArePut}
 
 pub returns-clause-asked : goal.returns-clause-asked
 returns-clause-asked g c = c.is_some.ensures ∙ some_copied c.asked-asked.result ∙ ap is_some c.asked-asked.ensures.value

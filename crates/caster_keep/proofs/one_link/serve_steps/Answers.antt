@@ -15,9 +15,10 @@ use Rattle.caster_link.specs.Wear.{IsWornBy}
 use Rattle.caster_link.proofs.PlaceLemmas.{fit_kept}
 use Rattle.caster_link.proofs.WornLemmas.{not_ended, stay_both, stay_none}
 use Rattle.caster_press.proofs.PlaceLemmas.{same_as_it_is, same_then}
-use Rattle.caster_keep.specs.Links.{ArePut, told_lines}
+use Rattle.caster_keep.specs.Links.{told_lines}
 use Rattle.caster_keep.proofs.KeepLemmas.{closed_as}
 use Rattle.caster_keep.proofs.one_link.serve_steps.Goals as goal
+use Rattle.keep_porter.specs.Porters.{ArePut}
 
 pub returns-in-Err-clause-stay : goal.returns-in-Err-clause-stay
 returns-in-Err-clause-stay g c = stay_none _ _

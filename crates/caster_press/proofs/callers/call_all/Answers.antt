@@ -1,7 +1,8 @@
 -- Each of them did its work.
 use Rattle.caster_press.specs.Callers.{MayCall}
-use Rattle.caster_press.proofs.CallerLemmas.{all_both, slice_called, slice_size, slice_wrote}
+use Rattle.caster_press.proofs.CallerLemmas.{all_both, slice_called, slice_wrote}
 use Rattle.caster_press.proofs.callers.call_all.Goals as goal
+use Rattle.turn_log.proofs.LockLists.{slice_size}
 
 pub call_each-requires-clause-fit : goal.call_each-requires-clause-fit
 call_each-requires-clause-fit g c κs within =

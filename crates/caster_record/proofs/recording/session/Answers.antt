@@ -17,11 +17,11 @@ run-requires-clause-rests g c =
     c.in_ok-recorder.recorder c.args.links.now.items c.new-torn.result.items c.requires.empty c.new-torn.ensures.items c.in_ok-recorder.ensures.records
     c.in_ok-recorder.ensures.events c.in_ok-recorder.ensures.unsent
 
-pub finished-requires-clause-records : goal.finished-requires-clause-records
-finished-requires-clause-records g c = c.in_ok-run.ensures.rests.keeps.records
+pub finish_run-requires-clause-records : goal.finish_run-requires-clause-records
+finish_run-requires-clause-records g c = c.in_ok-run.ensures.rests.keeps.records
 
-pub finished-requires-clause-bound : goal.finished-requires-clause-bound
-finished-requires-clause-bound g c = c.in_ok-run.ensures.rests.keeps.bound
+pub finish_run-requires-clause-bound : goal.finish_run-requires-clause-bound
+finish_run-requires-clause-bound g c = c.in_ok-run.ensures.rests.keeps.bound
 
 pub returns-clause-recorded : goal.returns-clause-recorded
 returns-clause-recorded g c =

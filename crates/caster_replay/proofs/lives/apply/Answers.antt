@@ -1,6 +1,6 @@
 use Rattle.std.proofs.Common.{◌∙◌, ◌++◌, ℕ, List, [], ◌∷◌, ap}
 use Rattle.std.proofs.lemmas.Result.{on_ok_weaker}
-use Rattle.caster_replay.specs.declared.entry.Entry.{Entry}
+use Rattle.caster_replay.specs.declared.run_connection.RunConnection.{RunConnection}
 use Rattle.caster_replay.specs.Lives.{live_in, lives_in}
 use Rattle.caster_replay.proofs.EntryLemmas.{within_lives, here_at, room_for}
 use Rattle.caster_replay.proofs.PlayLemmas.{may_apply, play_applied}
@@ -28,8 +28,8 @@ apply-requires-clause-may g c =
     let script = c.requires.run.0 in
     let event = c.requires.run.1 in
     let plays = c.requires.run.3 in
-    let entry : Entry = c.index_mut.result.now in
-    let entries : List Entry = c.args.entries.now.items in
+    let entry : RunConnection = c.index_mut.result.now in
+    let entries : List RunConnection = c.args.entries.now.items in
     let place : ℕ = c.place_of-place.result in
     let there = (looked c.deref.result.now c.deref-2.result.now entries c.args.number place c.stands_at.result
     c.deref.ensures.value c.deref-2.ensures.value c.place_of-place.ensures.place c.stands_at.ensures).here
@@ -44,8 +44,8 @@ returns g c = record {
   same = c.apply.ensures.same;
   ok = λ script event so plays.
       let config = c.args.config.now in
-      let entry : Entry = c.index_mut.result.now in
-      let entries : List Entry = c.args.entries.now.items in
+      let entry : RunConnection = c.index_mut.result.now in
+      let entries : List RunConnection = c.args.entries.now.items in
       let place : ℕ = c.place_of-place.result in
       let there = (looked c.deref.result.now c.deref-2.result.now entries c.args.number place c.stands_at.result
       c.deref.ensures.value c.deref-2.ensures.value c.place_of-place.ensures.place c.stands_at.ensures).here
@@ -54,7 +54,7 @@ returns g c = record {
         places = places_stay config c.args.desks.now c.apply.new.desks c.apply.ensures.same plays.places;
         runs = runs_put config (script ++ event ∷ []) entries place c.args.number c.apply.new.self
             c.apply.new.desks.seen
-            (c.apply.ensures.number ∙ ap (λ (e : Entry). e.number) c.index_mut.ensures.value ∙ there.1 entry)
+            (c.apply.ensures.number ∙ ap (λ (e : RunConnection). e.number) c.index_mut.ensures.value ∙ there.1 entry)
             (play_applied config script (lives_in entries) c.args.desks.now.seen c.args.number place (live_in entry)
             entry.bytes.items plays.runs (within_lives entries place there.0) event c.args.act c.apply.new.desks.seen
             entry.state c.apply.new.self.state c.apply.new.self.bytes.items so
@@ -62,8 +62,8 @@ returns g c = record {
       }) c.apply.ensures.acted;
   sends = λ event so.
       let config = c.args.config.now in
-      let entry : Entry = c.index_mut.result.now in
-      let entries : List Entry = c.args.entries.now.items in
+      let entry : RunConnection = c.index_mut.result.now in
+      let entries : List RunConnection = c.args.entries.now.items in
       let place : ℕ = c.place_of-place.result in
       let look = looked c.deref.result.now c.deref-2.result.now entries c.args.number place c.stands_at.result
       c.deref.ensures.value c.deref-2.ensures.value c.place_of-place.ensures.place c.stands_at.ensures in
@@ -72,7 +72,7 @@ returns g c = record {
       sends_applied config c.requires.run.0 event c.args.act entries c.args.desks.now.seen c.apply.new.desks.seen place
       c.args.number entry c.apply.new.self so c.requires.run.3.runs there look.place_is
       (here_at entries place c.args.number entry there c.index_mut.ensures.value)
-      (c.apply.ensures.number ∙ ap (λ (e : Entry). e.number) c.index_mut.ensures.value ∙ there.1 entry) acted)
+      (c.apply.ensures.number ∙ ap (λ (e : RunConnection). e.number) c.index_mut.ensures.value ∙ there.1 entry) acted)
       c.apply.ensures.acted;
 }
 

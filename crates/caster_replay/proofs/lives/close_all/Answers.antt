@@ -1,8 +1,8 @@
 use Rattle.std.proofs.Common.{◌∙◌, ◌<◌, ◌++◌, List, length, map, set, take, sym, subst, arith}
 use Rattle.std.proofs.lemmas.List.{take_all, length-map}
 use Rattle.session_model.specs.declared.ending.Last.TheVariants as lasts
-use Rattle.caster_replay.specs.declared.entry.Entry.{Entry}
-use Rattle.caster_replay.specs.Entries.{AreOver, MayBeClosed}
+use Rattle.caster_replay.specs.declared.run_connection.RunConnection.{RunConnection}
+use Rattle.caster_replay.specs.RunConnections.{AreOver, MayBeClosed}
 use Rattle.caster_replay.specs.Lives.{Live, end_of, live_in, lives_in}
 use Rattle.caster_replay.specs.Scripts.{Stands}
 use Rattle.caster_replay.proofs.EntryLemmas.{closed_put}
@@ -13,7 +13,7 @@ use Rattle.caster_replay.proofs.lives.close_all.Goals as goal
 pub close-requires : goal.close-requires
 close-requires g c =
     let config = c.requires.run.0 in
-    let entries : List Entry = c.loop-place.entries.items in
+    let entries : List RunConnection = c.loop-place.entries.items in
     let so_far = c.loop-place.invariant.closes config c.requires.run.1 c.requires.run.2 c.requires.run.3 in
     let within : c.loop-place.place < length entries =
     omega (arith, c.loop-place-test.true, c.len-place-end.ensures, c.loop-place.invariant.count) in
@@ -21,7 +21,7 @@ close-requires g c =
       may = (
         config,
         so_far.stands.places,
-        subst (λ (e : Entry). MayBeClosed config c.loop-place.desks.seen e.state) (sym c.index_mut.ensures.value)
+        subst (λ (e : RunConnection). MayBeClosed config c.loop-place.desks.seen e.state) (sym c.index_mut.ensures.value)
             (may_close_at config (c.requires.run.1 ++ map end_of (take c.loop-place.place (lives_in entries))) entries
             c.loop-place.desks c.loop-place.place c.index_mut.result.now within so_far.short so_far.stands),
       );
@@ -30,13 +30,13 @@ close-requires g c =
 pub loop-place-preserved : goal.loop-place-preserved
 loop-place-preserved g c =
     let config = c.requires.run.0 in
-    let entries : List Entry = c.loop-place.entries.items in
+    let entries : List RunConnection = c.loop-place.entries.items in
     let so_far = c.loop-place.invariant.closes config c.requires.run.1 c.requires.run.2 c.requires.run.3 in
     let within : c.loop-place.place < length entries =
     omega (arith, c.loop-place-test.true, c.len-place-end.ensures, c.loop-place.invariant.count) in
     let place = c.loop-place.place in
-    let d : Entry = c.index_mut.result.now in
-    let after : List Entry = set entries place c.close.new.self in
+    let d : RunConnection = c.index_mut.result.now in
+    let after : List RunConnection = set entries place c.close.new.self in
     let closed = closed_put config c.loop-place.desks.seen c.close.new.desks.seen lasts.End place entries d d
     c.close.new.self within c.index_mut.ensures.value c.close.ensures.number c.close.ensures.bytes
     (c.in_ok-close.ensures.closed config so_far.stands.places) in

@@ -2,7 +2,7 @@
 use Rattle.std.proofs.Common.{◌≡◌, List, length, take}
 use Rattle.session_script.specs.declared.Event.{Event}
 use Rattle.cast_config.specs.declared.config.Config.{Config}
-use Rattle.caster_replay.specs.Entries.{AreOver}
+use Rattle.caster_replay.specs.RunConnections.{AreOver}
 use Rattle.caster_replay.specs.Lives.{lives_in}
 use Rattle.caster_replay.specs.Scripts.{IsShort, Stands}
 use Rattle.caster_replay.specs.Sends.{IsSilent}

@@ -1,8 +1,8 @@
 use Rattle.std.proofs.Common.{◌≡◌, ◌∙◌, ◌≤◌, ◌++◌, ℕ, List, [], ◌∷◌, length, set, sym, ap, subst, arith}
 use Rattle.std.specs.Prelude.{insert}
 use Rattle.std.proofs.lemmas.Result.{on_ok_weaker}
-use Rattle.caster_replay.specs.declared.entry.Entry.{Entry}
-use Rattle.caster_replay.specs.Entries.{IsUnsent, MayBeClosed, SettledAt, opening_of}
+use Rattle.caster_replay.specs.declared.run_connection.RunConnection.{RunConnection}
+use Rattle.caster_replay.specs.RunConnections.{IsUnsent, MayBeClosed, SettledAt, opening_of}
 use Rattle.caster_replay.specs.Lives.{lives_in}
 use Rattle.caster_replay.specs.Scripts.{Stands}
 use Rattle.caster_replay.specs.Sends.{Sends}
@@ -25,8 +25,8 @@ returns-then-stands_at g c = record {
   sends = λ event begins. sends_none event (lives_in c.args.entries.now.items);
 }
 
-pub opened-requires-clause-relay : goal.opened-requires-clause-relay
-opened-requires-clause-relay g c =
+pub open_connection-requires-clause-relay : goal.open_connection-requires-clause-relay
+open_connection-requires-clause-relay g c =
     names_relay c.args.config.now c.requires.run.0 c.requires.run.1 c.requires.run.3.later c.args.number
     (opening_of c.args.way) c.requires.run.3.script_is c.requires.run.2
 
@@ -34,17 +34,17 @@ pub settle-requires : goal.settle-requires
 settle-requires g c =
     let config = c.args.config.now in
     let plays = c.requires.run.3 in
-    let entry : Entry = c.in_ok-entry.entry in
+    let entry : RunConnection = c.in_ok-entry.entry in
     record {
       may = (
         config,
-        places_stay config c.args.desks.now c.opened.new.desks c.opened.ensures.same plays.places,
-        subst (λ (e : Entry). MayBeClosed config c.opened.new.desks.seen e.state)
+        places_stay config c.args.desks.now c.open_connection.new.desks c.open_connection.ensures.same plays.places,
+        subst (λ (e : RunConnection). MayBeClosed config c.open_connection.new.desks.seen e.state)
             (sym (placed_is c.args.entries.now.items c.insert.new.self.items c.place_of-place.result entry
             c.index_mut.result.now
             (omega (arith, c.place_of-place.ensures.within, ap length c.deref.ensures.value))
             c.in_ok-insert.ensures.items c.index_mut.ensures.value))
-            (may_close_opened config c.args.desks.now.seen c.opened.new.desks.seen c.args.number
+            (may_close_opened config c.args.desks.now.seen c.open_connection.new.desks.seen c.args.number
             (opening_of c.args.way) entry.state entry.bytes.items c.in_ok-entry.ensures.opened),
       );
     }
@@ -52,10 +52,10 @@ settle-requires g c =
 pub returns : goal.returns
 returns g c =
     let config = c.args.config.now in
-    let entries : List Entry = c.args.entries.now.items in
+    let entries : List RunConnection = c.args.entries.now.items in
     let place : ℕ = c.place_of-place.result in
-    let entry : Entry = c.in_ok-entry.entry in
-    let next : Entry = c.settle.new.self in
+    let entry : RunConnection = c.in_ok-entry.entry in
+    let next : RunConnection = c.settle.new.self in
     let look = looked c.deref.result.now c.deref-2.result.now entries c.args.number place c.stands_at.result
     c.deref.ensures.value c.deref-2.ensures.value c.place_of-place.ensures.place c.stands_at.ensures in
     let within : place ≤ length entries =
@@ -63,29 +63,29 @@ returns g c =
     let there : c.index_mut.result.now ≡ entry =
     placed_is entries c.insert.new.self.items place entry c.index_mut.result.now within c.in_ok-insert.ensures.items
     c.index_mut.ensures.value in
-    let number : next.number ≡ entry.number = c.settle.ensures.number ∙ ap (λ (e : Entry). e.number) there in
+    let number : next.number ≡ entry.number = c.settle.ensures.number ∙ ap (λ (e : RunConnection). e.number) there in
     let bytes : next.bytes.items ≡ entry.bytes.items =
-    c.settle.ensures.bytes ∙ ap (λ (e : Entry). e.bytes.items) there in
+    c.settle.ensures.bytes ∙ ap (λ (e : RunConnection). e.bytes.items) there in
     let all : set c.insert.new.self.items place next ≡ insert entries place next =
-    ap (λ (l : List Entry). set l place next) c.in_ok-insert.ensures.items
+    ap (λ (l : List RunConnection). set l place next) c.in_ok-insert.ensures.items
     ∙ set_insert entries place entry next within in
     let settled = c.settle.ensures.settled config
-    (places_stay config c.args.desks.now c.opened.new.desks c.opened.ensures.same c.requires.run.3.places) in
+    (places_stay config c.args.desks.now c.open_connection.new.desks c.open_connection.ensures.same c.requires.run.3.places) in
     record {
-      same = same_twice c.args.desks.now c.opened.new.desks c.settle.new.desks c.opened.ensures.same
+      same = same_twice c.args.desks.now c.open_connection.new.desks c.settle.new.desks c.open_connection.ensures.same
           c.settle.ensures.same;
       ok = λ script event begins plays.
           on_ok_weaker c.settle.result (λ so.
-          subst (λ (l : List Entry). Stands config (script ++ event ∷ []) l c.settle.new.desks) (sym all)
-          (stands_opened config script event entries c.args.desks.now c.opened.new.desks c.settle.new.desks
+          subst (λ (l : List RunConnection). Stands config (script ++ event ∷ []) l c.settle.new.desks) (sym all)
+          (stands_opened config script event entries c.args.desks.now c.open_connection.new.desks c.settle.new.desks
           c.args.number place (opening_of c.args.way) entry next begins plays (look.absent c.if-stands_at.false)
-          look.place_is c.opened.ensures.same c.settle.ensures.same c.in_ok-entry.ensures.number number bytes
+          look.place_is c.open_connection.ensures.same c.settle.ensures.same c.in_ok-entry.ensures.number number bytes
           c.in_ok-entry.ensures.opened
-          (subst (λ (e : Entry). SettledAt config c.opened.new.desks.seen c.settle.new.desks.seen e.state next.state)
+          (subst (λ (e : RunConnection). SettledAt config c.open_connection.new.desks.seen c.settle.new.desks.seen e.state next.state)
           there so))) settled;
       sends = λ event begins.
           on_ok_weaker c.settle.result (λ so.
-          subst (λ (l : List Entry). Sends event (lives_in entries) (lives_in l)) (sym all)
+          subst (λ (l : List RunConnection). Sends event (lives_in entries) (lives_in l)) (sym all)
           (sends_placed event c.args.number place (opening_of c.args.way) entries next begins
           (look.absent c.if-stands_at.false) look.place_is (number ∙ c.in_ok-entry.ensures.number)
           (subst (IsUnsent (opening_of c.args.way)) (sym bytes) c.in_ok-entry.ensures.unsent))) settled;

@@ -1,7 +1,8 @@
 -- Each of them served.
 use Rattle.caster_serve.specs.Serving.{MayServe}
-use Rattle.caster_serve.proofs.CallersLemmas.{slice_may, slice_served, slice_size}
+use Rattle.caster_serve.proofs.CallersLemmas.{slice_may, slice_served}
 use Rattle.caster_serve.proofs.callers.serve_hands.Goals as goal
+use Rattle.turn_log.proofs.LockLists.{slice_size}
 
 pub serve_all-requires-clause-fit : goal.serve_all-requires-clause-fit
 serve_all-requires-clause-fit g c κs within =

@@ -1,7 +1,7 @@
 -- All served, and left.
 use Rattle.std.proofs.Common.{◌∙◌, length, map, ap, arith}
 use Rattle.std.specs.List.{list_all}
-use Rattle.caster_serve.specs.Ends.{end_told}
+use Rattle.caster_serve.specs.Endpoints.{end_told}
 use Rattle.caster_serve.specs.Serving.{task_told}
 use Rattle.caster_serve.proofs.CallingLemmas.{have_called, have_room, may_serve, new_served}
 use Rattle.caster_seats.proofs.SittingLemmas.{less_room}

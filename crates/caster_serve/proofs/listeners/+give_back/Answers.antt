@@ -1,6 +1,6 @@
 -- The last is given back behind the others.
 use Rattle.std.proofs.Common.{◌++◌, [], ◌∷◌, map, sym, subst}
-use Rattle.caster_serve.specs.Ends.{HasTakenBack, end_of, end_told}
+use Rattle.caster_serve.specs.Endpoints.{HasTakenBack, end_of, end_told}
 use Rattle.caster_serve.proofs.StreetLemmas.{back_door, back_link, told_snoc}
 use Rattle.caster_serve.proofs.listeners.+give_back.Goals as goal
 

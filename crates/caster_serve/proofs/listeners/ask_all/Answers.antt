@@ -4,7 +4,7 @@ use Rattle.std.specs.Prelude.{OnOk, Err}
 use Rattle.std.proofs.lemmas.Result.{err_from_is_err_and}
 use Rattle.std.specs.List.{All}
 use Rattle.cast_config.specs.Kept.{KeepsRelay}
-use Rattle.caster_serve.specs.Ends.{dial_of}
+use Rattle.caster_serve.specs.Endpoints.{dial_of}
 use Rattle.caster_serve.proofs.StreetLemmas.{opened, opened_only, all_asked, kinds_more, unused_more, unserved_at, behind}
 use Rattle.caster_serve.proofs.listeners.ask_all.Goals as goal
 

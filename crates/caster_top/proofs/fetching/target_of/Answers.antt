@@ -7,6 +7,6 @@ use Rattle.caster_top.proofs.fetching.target_of.Goals as goal
 pub returns-clause-can : goal.returns-clause-can
 returns-clause-can c = (
   c.protocol_of.ensures.spoken,
-  ap is_utf8 (c.in_ok-text_of.ensures ∙ c.as_bytes.ensures.value)
+  ap is_utf8 (c.in_ok-of.ensures ∙ c.as_bytes.ensures.value)
       ∙ is_utf8-from_IsUtf8 c.args.address.now c.utf8.address,
 )

@@ -1,4 +1,4 @@
-use Rattle.caster_top.specs.declared.command.Start.TheVariants.{Cold, Warm}
+use Rattle.caster_top.specs.declared.command.RoverStart.TheVariants.{Cold, Warm}
 use Rattle.caster_top.proofs.CallLemmas.{complete_bare, complete_make, complete_over, complete_played}
 use Rattle.caster_top.proofs.laws.undisturbed_says.Goals as goal
 

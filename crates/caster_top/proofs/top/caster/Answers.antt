@@ -1,5 +1,5 @@
 -- The clauses of the call, from how the run of its words ended.
-use Rattle.caster_top.specs.declared.command.Start.TheVariants.{Cold, Warm}
+use Rattle.caster_top.specs.declared.command.RoverStart.TheVariants.{Cold, Warm}
 use Rattle.caster_top.proofs.OutcomeLemmas.{Decided-made, Decided-no_config, Decided-no_session, Decided-played, Decided-report, Decided-too_long, Decided-usage}
 use Rattle.caster_top.proofs.RunLemmas.{HasRun-casting, HasRun-decided, HasRun-done, HasRun-done_promised, HasRun-fault_line, HasRun-fetch_memory, HasRun-fetch_torn, HasRun-fetched, HasRun-fetching, HasRun-keeping, HasRun-memory_line, HasRun-network_fault, HasRun-no_form, HasRun-outcome, HasRun-promised, HasRun-read_fault, HasRun-too_few, HasRun-torn, HasRun-undisturbed, HasRun-write_fault}
 use Rattle.caster_top.proofs.KeepEndLemmas.{keep_whole}

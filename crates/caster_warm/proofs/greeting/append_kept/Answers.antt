@@ -7,10 +7,10 @@ use Rattle.caster_warm.proofs.greeting.append_kept.Goals as goal
 
 pub returns-in-Some : goal.returns-in-Some
 returns-in-Some c = λ old cleared.
-    on_ok_weaker c.append_frames.result (λ appended.
+    on_ok_weaker c.push_frames.result (λ appended.
     appended
     ∙ ap (λ (g : Greeting). c.args.out.now.items ++ greeting_text c.args.rover.version g) (sym (c.in-Some.ensures.some old cleared)))
-    c.append_frames.ensures
+    c.push_frames.ensures.ok
 
 pub returns-in-None : goal.returns-in-None
 returns-in-None c = λ old cleared.

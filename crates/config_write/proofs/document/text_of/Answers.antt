@@ -1,7 +1,7 @@
-use Rattle.std.proofs.Common.{◌≡◌, ◌≤◌, true, Some, Err, sym, ap, subst, ◌∙◌, arith}
+use Rattle.std.proofs.Common.{◌≡◌, ◌≤◌, Some, Err, sym, ap, subst, ◌∙◌, arith}
 use Rattle.std.proofs.lemmas.Bool.{false≢true}
 use Rattle.std.proofs.lemmas.Str.{IsUtf8-had}
-use Rattle.toml.specs.Data.{members_depth, members_have_valid_dates}
+use Rattle.toml.specs.Data.{members_depth}
 use Rattle.toml.specs.View.{table_view}
 use Rattle.config_write.specs.Written.{config_tree}
 use Rattle.config_write.proofs.Depths.{AreShallow, config_shallow}

@@ -7,11 +7,11 @@ use Rattle.keep_porter.proofs.looks.find.Goals as goal
 
 pub returns-clause-went : goal.returns-clause-went
 returns-clause-went g c =
-    went_on_at g.T.Turns c.args.places.now c.looked-claim.new.places c.joined-cursor.new.places c.args.me
-    (looks_at c.args.mount c.looked-claim.result) (joins_at c.args.mount c.joined-cursor.result)
-    c.looked-claim.ensures.stay c.looked-claim.ensures.went c.joined-cursor.ensures.went
+    went_on_at g.T.Turns c.args.places.now c.look_at-claim.new.places c.join_now-cursor.new.places c.args.me
+    (looks_at c.args.mount c.look_at-claim.result) (joins_at c.args.mount c.join_now-cursor.result)
+    c.look_at-claim.ensures.stay c.look_at-claim.ensures.went c.join_now-cursor.ensures.went
 
-pub joined-cursor-requires-clause-speaks : goal.joined-cursor-requires-clause-speaks
-joined-cursor-requires-clause-speaks g c =
-    speak_same g.T.Turns.speaks c.args.places.now c.looked-claim.new.places c.args.me c.looked-claim.ensures.stay.same.1
+pub join_now-cursor-requires-clause-speaks : goal.join_now-cursor-requires-clause-speaks
+join_now-cursor-requires-clause-speaks g c =
+    speak_same g.T.Turns.speaks c.args.places.now c.look_at-claim.new.places c.args.me c.look_at-claim.ensures.stay.same.1
     c.requires.speaks

@@ -16,10 +16,10 @@ loop-init g c = record {
       c.requires.empty c.requires.open (appends_none (g.O.Sink.taken c.args.out.now));
 }
 
-pub returns-then-given-ge-MOST-clause-received : goal.returns-then-given-ge-MOST-clause-received
-returns-then-given-ge-MOST-clause-received g c =
+pub returns-then-given-ge-MAX_LINK_BYTES-clause-received : goal.returns-then-given-ge-MAX_LINK_BYTES-clause-received
+returns-then-given-ge-MAX_LINK_BYTES-clause-received g c =
     runs_out c.args.most _ _ _ _ c.loop.stage c.loop.frames c.loop.given c.requires.some c.loop.invariant.receiving
-    (omega (arith, c.if-given-ge-MOST.true))
+    (omega (arith, c.if-given-ge-MAX_LINK_BYTES.true))
 
 pub hear-requires-clause-received : goal.hear-requires-clause-received
 hear-requires-clause-received g c =

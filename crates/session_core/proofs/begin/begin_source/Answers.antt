@@ -64,20 +64,20 @@ returns-in-Err-clause-begins g c config same =
     let alone = alone_in g.T.Turns g.B.Turns c.args.places.now in
     begins_unclaimed config alone (map g.T.Turns.seen rings) (map g.T.Turns.seen now)
     (g.B.Turns.seen c.args.places.now.book)
-    c.args.me c.args.mount c.args.version c.args.chunked c.in-Err.fault c.unclaimed.result.stage
-    c.unclaimed.result.ended c.args.out.now.items c.unclaimed.new.out.items
+    c.args.me c.args.mount c.args.version c.args.chunked c.in-Err.fault c.begin_unclaimed.result.stage
+    c.begin_unclaimed.result.ended c.args.out.now.items c.begin_unclaimed.new.out.items
     (went_as config (map g.T.Turns.shape rings) alone (all_alone g.T.Turns.alone rings)
     (map g.T.Turns.seen rings) (map g.T.Turns.seen now) c.args.me
     (steps_unclaimed c.args.mount c.in-Err.fault) same
     (λ both. (and_parts (all_alone g.T.Turns.alone rings) (g.B.Turns.alone c.args.places.now.book) both).0)
     (unclaimed_picked g.T.Turns rings c.args.mount c.index_mut.result.now c.claim.new.place c.args.me c.in-Err.fault
     c.requires.within c.index_mut.ensures.value c.in-Err.ensures.unclaimed))
-    c.unclaimed.ensures.stage c.unclaimed.ensures.ended
-    (c.unclaimed.ensures.sent ∙ ap (λ (l : List ℕ). l ++ text_unclaimed c.args.version c.in-Err.fault)
+    c.begin_unclaimed.ensures.stage c.begin_unclaimed.ensures.ended
+    (c.begin_unclaimed.ensures.sent ∙ ap (λ (l : List ℕ). l ++ text_unclaimed c.args.version c.in-Err.fault)
     c.new_cutter.ensures.unsent)
 
 pub returns-in-Err-clause-cause : goal.returns-in-Err-clause-cause
 returns-in-Err-clause-cause g c =
     cause_picked g.T.Turns c.args.places.now.rings.items c.args.mount c.claim.new.place
     (g.T.Turns.may_lack c.index_mut.result.now) (g.B.Turns.worn c.args.places.now.book) c.in-Err.fault
-    c.unclaimed.result.ended c.requires.within c.in-Err.ensures.cause c.unclaimed.ensures.ended
+    c.begin_unclaimed.result.ended c.requires.within c.in-Err.ensures.cause c.begin_unclaimed.ensures.ended

@@ -76,7 +76,7 @@ pub returns-in-Err-clause-cause : goal.returns-in-Err-clause-cause
 returns-in-Err-clause-cause g c =
     cause_unentered (g.B.Turns.may_lack c.args.places.now.book) (map g.T.Turns.worn c.args.places.now.rings.items)
     (g.B.Turns.worn c.enter.new.book) c.in-Err.fault c.over-in-Err.result.ended
-    (c.over-in-Err.ensures.ended ∙ ap Some c.unentered.ensures) c.in-Err.ensures.fault
+    (c.over-in-Err.ensures.ended ∙ ap Some c.entry_fault.ensures) c.in-Err.ensures.fault
 
 pub returns-in-Err-clause-begins : goal.returns-in-Err-clause-begins
 returns-in-Err-clause-begins g c =
@@ -88,7 +88,7 @@ returns-in-Err-clause-begins g c =
     c.over-in-Err.result.stage c.over-in-Err.result.ended c.args.out.now.items c.new_session.new.out.items
     (called_none_by c.args.setup.now.config.now alone (map g.T.Turns.seen c.args.places.now.rings.items)
     (g.B.Turns.seen c.args.places.now.book) (g.B.Turns.seen c.enter.new.book) c.args.setup.now.me c.in-Err.ensures.err)
-    c.over-in-Err.ensures.stage (c.over-in-Err.ensures.ended ∙ ap Some c.unentered.ensures) c.new_session.ensures.unsent
+    c.over-in-Err.ensures.stage (c.over-in-Err.ensures.ended ∙ ap Some c.entry_fault.ensures) c.new_session.ensures.unsent
 
 pub returns-in-Ok-Entered-clause-cause : goal.returns-in-Ok-Entered-clause-cause
 returns-in-Ok-Entered-clause-cause g c =

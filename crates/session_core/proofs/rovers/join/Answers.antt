@@ -4,7 +4,7 @@ use Rattle.mount_ring.specs.declared.call.RingCall.{RingCall}
 use Rattle.mount_ring.specs.declared.shape.RingShape.{RingShape}
 use Rattle.rover_session.specs.Standing.{IsResumable, Told, frames_sent}
 use Rattle.session_model.specs.declared.ending.Ending.{Ending}
-use Rattle.session_core.specs.declared.stage.Stage.TheVariants as stages
+use Rattle.session_core.specs.declared.session_stage.SessionStage.TheVariants as stages
 use Rattle.session_model.specs.Setting.{shapes}
 use Rattle.session_model.specs.Judged.{rover_judged}
 use Rattle.session_core.specs.Beginnings.{ended_joining}
@@ -18,7 +18,7 @@ returns-clause-begins g c = λ config alone old now me a shaped from before afte
     let new = c.start-joined.new.places in
     let session = c.start-joined.new.self in
     let start = c.start-joined.ensures in
-    let halts : c.halted.result ≡ ended_joining session.halt = c.halted.ensures ∙ ap ended_joining (sym start.halt) in
+    let halts : c.halt_of.result ≡ ended_joining session.halt = c.halt_of.ensures ∙ ap ended_joining (sym start.halt) in
     subst (λ (e : Option Ending). BeginsFor config alone old now me (rover_judged c.args.version c.args.first [] (Ok a))
     (stages.Rover c.args.account session) e c.args.out.now.items c.push_reply.new.out.items) (sym halts)
     (subst (λ (n : ℕ). BeginsFor config alone old now me (rover_judged c.args.version c.args.first [] (Ok a))
@@ -45,5 +45,5 @@ returns-clause-begins g c = λ config alone old now me a shaped from before afte
 
 pub returns-clause-cause : goal.returns-clause-cause
 returns-clause-cause g c =
-    cause_halted (map g.T.Turns.worn c.start-joined.new.places) c.start-joined.result c.halted.result c.halted.ensures
+    cause_halted (map g.T.Turns.worn c.start-joined.new.places) c.start-joined.result c.halt_of.result c.halt_of.ensures
     c.start-joined.ensures.cause

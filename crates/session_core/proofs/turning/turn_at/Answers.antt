@@ -2,8 +2,8 @@
 use Rattle.std.proofs.Common.{ℕ, map, refl, sym, subst}
 use Rattle.session_calls.specs.Rings.{AllSpeak, all_alone}
 use Rattle.rover_session.specs.Standing.{WasResumable}
-use Rattle.session_core.specs.declared.stage.Stage.{Stage}
-use Rattle.session_core.specs.declared.stage.Stage.TheVariants as stages
+use Rattle.session_core.specs.declared.session_stage.SessionStage.{SessionStage}
+use Rattle.session_core.specs.declared.session_stage.SessionStage.TheVariants as stages
 use Rattle.session_core.specs.Turned.{IsReadBy, TurnedAt}
 use Rattle.session_core.proofs.HoldingLemmas.{rover_on}
 use Rattle.session_core.proofs.TurningLemmas.{rover_turned, halted_of, cause_of, no_bystander}
@@ -33,27 +33,27 @@ returns-in-Rover-clause-holds g c =
 pub returns-in-Rover-clause-turned : goal.returns-in-Rover-clause-turned
 returns-in-Rover-clause-turned g c =
     let t = c.turn.ensures in
-    subst (λ (s : Stage). TurnedAt (map g.T.Turns.shape c.args.rings.now) (all_alone g.T.Turns.alone c.args.rings.now)
+    subst (λ (s : SessionStage). TurnedAt (map g.T.Turns.shape c.args.rings.now) (all_alone g.T.Turns.alone c.args.rings.now)
     (map g.T.Turns.seen c.args.rings.now) (map g.T.Turns.seen c.turn.new.places) c.args.budget s
-    (stages.Rover c.in-Rover._account c.turn.new.self) c.halted.result c.args.out.now.items c.turn.new.out.items)
+    (stages.Rover c.in-Rover._account c.turn.new.self) c.halt_of.result c.args.out.now.items c.turn.new.out.items)
     (sym c.in-Rover.is) (
       c.turn.new.self,
       refl,
       rover_turned (map g.T.Turns.shape c.args.rings.now)
           (all_alone g.T.Turns.alone c.args.rings.now)
           (map g.T.Turns.seen c.args.rings.now) (map g.T.Turns.seen c.turn.new.places) c.args.budget
-          c.in-Rover.session c.turn.new.self c.turn.result c.halted.result c.args.out.now.items
-          c.turn.new.out.items c.halted.ensures t.same t.resumable t.turned t.err,
+          c.in-Rover.session c.turn.new.self c.turn.result c.halt_of.result c.args.out.now.items
+          c.turn.new.out.items c.halt_of.ensures t.same t.resumable t.turned t.err,
     )
 
 pub returns-in-Rover-clause-halted : goal.returns-in-Rover-clause-halted
 returns-in-Rover-clause-halted g c =
     halted_of _ (map g.T.Turns.seen c.args.rings.now) (map g.T.Turns.seen c.turn.new.places) c.args.out.now.items
-    c.turn.new.out.items c.turn.result c.halted.result c.halted.ensures c.turn.ensures.err
+    c.turn.new.out.items c.turn.result c.halt_of.result c.halt_of.ensures c.turn.ensures.err
 
 pub returns-in-Rover-clause-cause : goal.returns-in-Rover-clause-cause
 returns-in-Rover-clause-cause g c =
     let reads = subst (IsReadBy (map g.T.Turns.shape c.args.rings.now) c.args.me (map g.T.Turns.seen c.args.rings.now))
     c.in-Rover.is c.requires.reads in
-    cause_of (map g.T.Turns.worn c.turn.new.places) c.in-Rover.session.halt c.turn.result c.halted.result
-    c.halted.ensures reads.1 c.turn.ensures.cause
+    cause_of (map g.T.Turns.worn c.turn.new.places) c.in-Rover.session.halt c.turn.result c.halt_of.result
+    c.halt_of.ensures reads.1 c.turn.ensures.cause

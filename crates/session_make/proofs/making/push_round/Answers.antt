@@ -15,9 +15,9 @@ returns-clause-events c =
     c.in_ok-push-2.ensures.items
     ∙ ap (λ xs. xs ++ Turn rover budget ∷ []) c.in_ok-push.ensures.items
     ∙ round_is c.args.rovers start rover budget c.in_ok-payload.payload.items
-    c.in_ok-text_of.field-0 c.args.events.now.items
+    c.in_ok-of.field-0 c.args.events.now.items
     c.in_ok-payload.ensures.bytes
-    (c.in_ok-text_of.ensures ∙ c.deref-2.ensures.value ∙ c.in_ok-frame.ensures
+    (c.in_ok-of.ensures ∙ c.deref-2.ensures.value ∙ c.in_ok-frame.ensures
     ∙ ap (λ p. framed 0 p) c.deref.ensures.value)
     (rover_is c.args.rovers start now then c.draw-rover.result
     c.in_ok-payload.ensures.state c.draw-rover.ensures.state c.draw-rover.ensures.number)

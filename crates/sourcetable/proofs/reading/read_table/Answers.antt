@@ -13,7 +13,7 @@ returns-then-eq c =
     ∙ sym c.eq.ensures ∙ c.if-eq.true in
     rw c.new.ensures (read_whole c.args.bytes.now c.loop-line.rest.now c.in-Some.more.now c.in-Some.line.now
     c.loop-line.records.items
-    c.loop-line.invariant.so_far step ends c.if-bytes-gt-MOST.false)
+    c.loop-line.invariant.so_far step ends c.if-bytes-gt-MAX_TABLE_BYTES.false)
 
 pub returns-in-Err : goal.returns-in-Err
 returns-in-Err c =
@@ -23,9 +23,9 @@ returns-in-Err c =
     ∙ sym c.eq.ensures ∙ c.if-eq.false in
     rw c.at.ensures (read_fault c.args.bytes.now c.loop-line.rest.now c.in-Some.more.now c.in-Some.line.now
     c.loop-line.records.items
-    (c.loop-line.number + 1) c.in-Err.fault c.loop-line.invariant.so_far step goes_on c.if-bytes-gt-MOST.false
+    (c.loop-line.number + 1) c.in-Err.fault c.loop-line.invariant.so_far step goes_on c.if-bytes-gt-MAX_TABLE_BYTES.false
     (omega arith) c.in-Err.ensures)
 
 pub returns : goal.returns
 returns c = read_no_end c.args.bytes.now c.loop-line.rest.now c.loop-line.records.items c.loop-line.invariant.so_far
-    c.in_default.ensures.none c.if-bytes-gt-MOST.false
+    c.in_default.ensures.none c.if-bytes-gt-MAX_TABLE_BYTES.false

@@ -9,7 +9,7 @@ use Rattle.source_session.specs.Places.{ring_answer}
 use Rattle.source_session.specs.Standing.{IsUnfed}
 use Rattle.source_session.proofs.HeldLemmas.{held_here}
 use Rattle.source_session.proofs.TakenLemmas.{stays_both, if_none}
-use Rattle.upstream_relay.specs.declared.body.Stage.TheVariants.{Body}
+use Rattle.upstream_relay.specs.declared.body.RelayStage.TheVariants.{Body}
 use Rattle.upstream_relay.specs.Standing.{StandsAt}
 use Rattle.upstream_relay.proofs.StageLemmas.{claim_stands, adds_unclaimed_as, adds_behind, adds_again}
 use Rattle.upstream_relay.proofs.body.begin.Goals as goal

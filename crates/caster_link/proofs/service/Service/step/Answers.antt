@@ -14,7 +14,7 @@ use Rattle.caster_link.proofs.ReachLemmas.{ended_flow, follows_fed}
 use Rattle.caster_link.proofs.ServingLemmas.{sent_on, torn, stops, ends_so, fails_so, going_by, follows_serving}
 use Rattle.caster_link.proofs.SteppedLemmas.{served_ended, served_idle, served_turned}
 use Rattle.caster_link.proofs.WornLemmas.{stay_both, stay_known, stay_none}
-use Rattle.caster_link.proofs.service.Service.step.Goals.{then-ended-via-then-ended, then-ended-via-else-ended+then-self-ge-MOST}
+use Rattle.caster_link.proofs.service.Service.step.Goals.{then-ended-via-then-ended, then-ended-via-else-ended+then-self-ge-MAX_LINK_BYTES}
 use Rattle.caster_link.proofs.service.Service.step.Goals as goal
 
 -- ---- with no read
@@ -35,7 +35,7 @@ returns-then-ended-clause-closes g c =
     let enough : IsTrue (is_some c.args.self.now.session.ended) ⊎ (2 ^ 62 ≤ c.args.self.now.given) =
     elim c.then-ended.branch [
       | then-ended-via-then-ended w ↦ inl (sym c.whereabouts-ended.ensures.ended ∙ w.if-ended.true)
-      | then-ended-via-else-ended+then-self-ge-MOST w ↦ inr w.if-self-ge-MOST.true
+      | then-ended-via-else-ended+then-self-ge-MAX_LINK_BYTES w ↦ inr w.if-self-ge-MAX_LINK_BYTES.true
     ] in record {
       stopped = inr (c.in-Ok.ensures.ok, enough);
       still = refl;
@@ -83,7 +83,7 @@ returns-in-Ended-clause-goes_on g c =
     let long : length (take count buf) ≡ count =
     omega (arith, length-take count buf, c.in-Bytes.ensures.bound.1, c.read.auto.buf) in
     record {
-      was = record { goes_on = going; few = omega (arith, c.if-self-ge-MOST.false) };
+      was = record { goes_on = going; few = omega (arith, c.if-self-ge-MAX_LINK_BYTES.false) };
       took = took.Bytes (take count buf);
       no_end = refl;
       link = link_step _ _ _ [] _ (got.Bytes count) buf c.in-Ok.ensures.ok c.in-Bytes.ensures.read;
@@ -101,7 +101,7 @@ returns-in-Ended-clause-goes_on g c =
                 (c.feed.ensures.fed opening (text_of s.whats) (steps_of s.reached.events) now (s.written ++ [])
                 s.reached.stands (others_none now c.args.self.now.session.me))
                 (c.feed.ensures.asks opening (text_of s.whats) s.reached.asks);
-            few = omega (arith, c.if-self-ge-MOST.false, c.in-Bytes.ensures.bound.1, so_far.size);
+            few = omega (arith, c.if-self-ge-MAX_LINK_BYTES.false, c.in-Bytes.ensures.bound.1, so_far.size);
             size = c.read.auto.buf ∙ so_far.size;
           };
     }
@@ -147,7 +147,7 @@ returns-in-Open-clause-goes_on g c =
     let long : length (take count buf) ≡ count =
     omega (arith, length-take count buf, c.in-Bytes.ensures.bound.1, c.read.auto.buf) in
     record {
-      was = record { goes_on = going; few = omega (arith, c.if-self-ge-MOST.false) };
+      was = record { goes_on = going; few = omega (arith, c.if-self-ge-MAX_LINK_BYTES.false) };
       took = took.Bytes (take count buf);
       no_end = refl;
       link = link_step _ _ _ [] _ (got.Bytes count) buf c.in-Ok.ensures.ok c.in-Bytes.ensures.read;
@@ -169,7 +169,7 @@ returns-in-Open-clause-goes_on g c =
                 s.reached.stands (others_none now c.args.self.now.session.me))
                 (c.feed.ensures.asks opening (text_of s.whats) s.reached.asks)
                 (λ sent whats reached. c.take_turn.ensures.turned config opening me start sent whats fit reached);
-            few = omega (arith, c.if-self-ge-MOST.false, c.in-Bytes.ensures.bound.1, so_far.size);
+            few = omega (arith, c.if-self-ge-MAX_LINK_BYTES.false, c.in-Bytes.ensures.bound.1, so_far.size);
             size = c.read.auto.buf ∙ so_far.size;
           };
     }
@@ -191,7 +191,7 @@ returns-in-Idle-clause-goes_on g c =
     let buf = c.read.new.buf in
     let going : c.args.self.now.session.ended ≡ None = going_by _ _ c.if-ended.false c.whereabouts-ended.ensures.ended in
     record {
-      was = record { goes_on = going; few = omega (arith, c.if-self-ge-MOST.false) };
+      was = record { goes_on = going; few = omega (arith, c.if-self-ge-MAX_LINK_BYTES.false) };
       took = took.Idle;
       no_end = refl;
       link = link_step _ _ _ [] _ got.Idle buf c.in-Ok.ensures.ok c.in-Idle.ensures.read;
@@ -218,7 +218,7 @@ returns-in-End-clause-closes g c = record {
   stopped = inl (
     record {
       goes_on = going_by _ _ c.if-ended.false c.whereabouts-ended.ensures.ended;
-      few = omega (arith, c.if-self-ge-MOST.false);
+      few = omega (arith, c.if-self-ge-MAX_LINK_BYTES.false);
     },
     link_step _ _ _ [] _ got.End _ c.in-Ok.ensures.ok c.in-End.ensures.read,
   );
@@ -233,7 +233,7 @@ returns-in-Failed-clause-closes g c = record {
   stopped = (
     record {
       goes_on = going_by _ _ c.if-ended.false c.whereabouts-ended.ensures.ended;
-      few = omega (arith, c.if-self-ge-MOST.false);
+      few = omega (arith, c.if-self-ge-MAX_LINK_BYTES.false);
     },
     link_step _ _ _ [] _ got.Failed _ c.in-Ok.ensures.ok c.in-Failed.ensures.read,
   );

@@ -1,6 +1,6 @@
 use Rattle.std.proofs.Common.{List, subst}
-use Rattle.caster_replay.specs.declared.entry.Entry.{Entry}
-use Rattle.caster_replay.specs.Entries.{IsRoverIn}
+use Rattle.caster_replay.specs.declared.run_connection.RunConnection.{RunConnection}
+use Rattle.caster_replay.specs.RunConnections.{IsRoverIn}
 use Rattle.caster_replay.proofs.RunLemmas.{run_order, told_rover}
 use Rattle.caster_replay.proofs.run.Run.rover.Goals as goal
 
@@ -13,4 +13,4 @@ rover_of-requires g c = record {
 pub returns : goal.returns
 returns g c = λ config script stands.
     told_rover config script c.args.self.now c.args.number stands c.rover_of.result
-    (subst (λ (l : List Entry). IsRoverIn l c.args.number c.rover_of.result) c.deref.ensures.value c.rover_of.ensures)
+    (subst (λ (l : List RunConnection). IsRoverIn l c.args.number c.rover_of.result) c.deref.ensures.value c.rover_of.ensures)

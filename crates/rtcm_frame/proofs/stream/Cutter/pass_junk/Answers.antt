@@ -9,7 +9,7 @@ pub returns-clause-took : goal.returns-clause-took
 returns-clause-took c =
     let now = c.args.self.now in
     let run = c.bytes_before_preamble-run.result in
-    let behind = take_rest c.waiting.result.now 1 ∙ ap (λ (xs : List ℕ). drop 1 xs) c.waiting.ensures in
+    let behind = take_rest c.uncut_bytes.result.now 1 ∙ ap (λ (xs : List ℕ). drop 1 xs) c.uncut_bytes.ensures in
     let others = subst (λ (xs : List ℕ). (k : ℕ) → k < run → get_or xs k 0 ≡ preamble → ⊥) behind
     c.bytes_before_preamble-run.ensures.others in
     let within : run ≤ length now.bytes - 1 =
@@ -27,7 +27,7 @@ pub returns-clause-passed : goal.returns-clause-passed
 returns-clause-passed c =
     let now = c.args.self.now in
     let run = c.bytes_before_preamble-run.result in
-    let behind = take_rest c.waiting.result.now 1 ∙ ap (λ (xs : List ℕ). drop 1 xs) c.waiting.ensures in
+    let behind = take_rest c.uncut_bytes.result.now 1 ∙ ap (λ (xs : List ℕ). drop 1 xs) c.uncut_bytes.ensures in
     let within : 1 + run ≤ length now.bytes =
     omega (
       arith,

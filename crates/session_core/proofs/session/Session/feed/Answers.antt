@@ -7,7 +7,7 @@ use Rattle.ntrip_head.specs.Head.{IsOpen}
 use Rattle.session_calls.proofs.PlaceLemmas.{speak_same}
 use Rattle.session_model.specs.Judged.{sends_head}
 use Rattle.session_core.specs.declared.session.Session.{Session}
-use Rattle.session_core.specs.declared.stage.Stage.TheVariants.{Head}
+use Rattle.session_core.specs.declared.session_stage.SessionStage.TheVariants.{Head}
 use Rattle.session_core.specs.Feeding.{FedOn}
 use Rattle.session_core.specs.Places.{alone_in, seen_in}
 use Rattle.session_core.specs.Standing.{Follows}

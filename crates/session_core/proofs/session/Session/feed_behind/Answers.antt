@@ -25,7 +25,7 @@ use Rattle.session_model.specs.Run.{Histories}
 use Rattle.session_model.specs.Setting.{shapes}
 use Rattle.session_model.specs.Called.{OthersCalled}
 use Rattle.session_core.specs.declared.session.Session.{Session}
-use Rattle.session_core.specs.declared.stage.Stage.TheVariants as stages
+use Rattle.session_core.specs.declared.session_stage.SessionStage.TheVariants as stages
 use Rattle.session_core.specs.Beginnings.{ended_joining, histories_of}
 use Rattle.session_core.specs.Feeding.{FedOn, end_of_relay, end_of_source}
 use Rattle.session_core.specs.Places.{alone_in, seen_in}
@@ -306,7 +306,7 @@ returns-in-Rover-clause-fed g c = λ config opening text steps histories sent sa
       alloc = c.args.self.now.alloc;
       me = c.args.self.now.me;
       stage = stages.Rover c.in-Rover.account c.feed.new.self;
-      ended = c.halted-self.result;
+      ended = c.halt_of-self.result;
       asked = c.args.self.now.asked;
     } in
     entered_back g.T.Turns.seen g.B.Turns.seen new items places.rings.len places.book
@@ -319,7 +319,7 @@ returns-in-Rover-clause-fed g c = λ config opening text steps histories sent sa
     (rover_fed_on config alone (histories_of (map g.T.Turns.seen slice) book)
     (histories_of (map g.T.Turns.seen new) book) histories c.args.self.now session opening text
     c.args.bytes.now steps sent c.in-Rover.account c.in-Rover.session c.feed.new.self c.in-Rover.is
-    c.requires.goes_on refl refl (c.halted-self.ensures ∙ ap ended_joining (sym fed.halt)) stands
+    c.requires.goes_on refl refl (c.halt_of-self.ensures ∙ ap ended_joining (sym fed.halt)) stands
     (subst (λ (h : List (History RingCall)). OthersCalled histories (histories_of h book) c.args.self.now.me)
     (ap (map g.T.Turns.seen) (sym there)) others) fed.admission
     (λ first before ss is. told_by config (map g.T.Turns.shape slice) alone (all_alone g.T.Turns.alone slice)
@@ -344,8 +344,8 @@ returns-in-Rover-clause-cause g c =
     length_same g.T.Turns.shape c.as_mut_slice.result.now new c.feed.ensures.stay.same.0
     ∙ ap length c.as_mut_slice.ensures.value in
     worn_back g.T.Turns.worn g.B.Turns.worn new items c.args.places.now.rings.len c.args.places.now.book
-    c.halted-self.result
+    c.halt_of-self.result
     (back_whole new items c.args.places.now.rings.len long (omega (arith, c.args.places.now.rings.ok)))
-    (cause_joined (map g.T.Turns.worn new) (g.B.Turns.worn c.args.places.now.book) c.feed.result c.halted-self.result
-    c.halted-self.ensures (subst (λ (halt : Option SegFault). IfNone halt (IfErr c.feed.result (IsRefusedBy
+    (cause_joined (map g.T.Turns.worn new) (g.B.Turns.worn c.args.places.now.book) c.feed.result c.halt_of-self.result
+    c.halt_of-self.ensures (subst (λ (halt : Option SegFault). IfNone halt (IfErr c.feed.result (IsRefusedBy
     (map g.T.Turns.worn new)))) ready.goes c.feed.ensures.cause))

@@ -12,7 +12,7 @@ invariant_of-self g c =
     let entry : ℕ × g.row.V-Call.Denot = (c.args.me, c.args.call) in
     let seen : so_far c.and_then.result ≡ old ++ entry ∷ [] =
     subst (λ past. so_far c.and_then.result ≡ so_far past ++ entry ∷ []) c.take.ensures.value c.and_then.ensures in
-    let few : length old < 2 ^ 63 = omega (arith, desk.counted, c.if-self-ge-MOST.false) in
+    let few : length old < 2 ^ 63 = omega (arith, desk.counted, c.if-self-ge-MAX_TURNS.false) in
     let played = c.play-answer.ensures.played old desk.stands few c.requires in
     record {
       counted = omega (arith, desk.counted, ap length seen, length-append old (entry ∷ []));

@@ -15,7 +15,7 @@ load-drawn-requires g c =
 pub fetch_add-requires : goal.fetch_add-requires
 fetch_add-requires g c =
     let key = c.args.self.now.table.shared.key in
-    let cleared = c.load-drawn.ensures.2.0 (omega (arith, c.if-drawn-ge-MOST.false)) in (
+    let cleared = c.load-drawn.ensures.2.0 (omega (arith, c.if-drawn-ge-MAX_TURNS.false)) in (
       c.load-drawn.ensures.0 ∙ c.requires.here,
       omega (arith, c.args.self.now.sized.0),
       draws_allowed key.passes g.V.Played.stands g.V.Played.shape g.V.Played.fits (g.V.Played.shape key.value.value)

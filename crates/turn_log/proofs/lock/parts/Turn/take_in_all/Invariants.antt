@@ -1,5 +1,5 @@
 use Rattle.std.proofs.Common.{◌≡◌, []}
-use Rattle.turn_log.specs.declared.lock.rule.Stage.TheVariants.{Idle}
+use Rattle.turn_log.specs.declared.lock.rule.SeatStage.TheVariants.{Idle}
 use Rattle.turn_log.proofs.LockPasses.{Gathered, WornAsFar}
 use Rattle.turn_log.proofs.lock.parts.Turn.take_in_all.Given as goal
 

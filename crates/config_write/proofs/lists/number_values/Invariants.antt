@@ -1,7 +1,0 @@
-use Rattle.std.proofs.Common.{◌≡◌, map, take}
-use Rattle.toml.specs.View.{view}
-use Rattle.config_write.specs.Members.{number}
-use Rattle.config_write.proofs.lists.number_values.Given as goal
-
-abbrev pub invariant-loop-number : goal.invariant-loop-number
-invariant-loop-number l = map view l.values.items ≡ map (number) (take l.number-index l.numbers)
