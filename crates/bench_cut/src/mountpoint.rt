@@ -4,7 +4,7 @@ ghost use Rattle.mount_ring.specs.History as history;
 ghost use Rattle.mount_ring.specs.Shapes.{shape_of};
 
 use crate::taking::Taker;
-use mount_ring::{Cursor, Outbox, ReadReport, Ring, RingAnswer, RingCall};
+use mount_ring::{Cursor, MAX_BUDGET, Outbox, ReadReport, Ring, RingAnswer, RingCall};
 use rtcm_frame::Frame;
 use std::alloc::Global;
 use std::io::{self, Error};
@@ -18,9 +18,6 @@ const ROVER: u32 = 2;
 
 // How many frames the ring keeps.
 const KEPT: u32 = 256;
-
-// How many frames the rover reads at once.
-const BUDGET: u32 = 16;
 
 /// A ring that the source holds under claim 1, and the rover that joined it.
 #[derive(Drop)]
@@ -75,7 +72,7 @@ impl Mountpoint {
     fn read_on(&mut self) -> Result<ReadReport, TurnFault> {
         let call = RingCall::Read {
             cursor: self.cursor,
-            budget: BUDGET,
+            budget: MAX_BUDGET,
         };
         match self.desk.turn(ROVER, call, &mut self.out)? {
             RingAnswer::Read(report) => {
@@ -100,7 +97,7 @@ impl Taker for Mountpoint {
         if self.publish(*frame).is_ok() {
             self.unread = self.unread.saturating_add(1);
         }
-        if self.unread >= BUDGET {
+        if self.unread >= MAX_BUDGET {
             self.catch_up();
         }
     }

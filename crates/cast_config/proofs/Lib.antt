@@ -6,4 +6,4 @@ pub mod ReferenceKeeps
 pub mod EntryKeeps
 pub mod ListKeeps
 pub mod KeptLemmas
-pub mod Example
+pub mod WorkedExample

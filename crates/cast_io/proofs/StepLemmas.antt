@@ -23,18 +23,18 @@ first_within (Idle ∷ xs) p = refl
 first_within (End ∷ xs) p = refl
 
 -- with any step the next one begins
-pub next_within : (xs : List LinkStep) (n : ℕ) → IsTrue (list_all has_bytes xs)
+pub next_in : (xs : List LinkStep) (n : ℕ) → IsTrue (list_all has_bytes xs)
     → IsTrue (is_within (drop n xs) 0)
-next_within xs zero p = first_within xs p
-next_within [] (suc n) p = refl
-next_within (x ∷ xs) (suc n) p = next_within xs n (and_right (has_bytes x) _ p)
+next_in xs zero p = first_within xs p
+next_in [] (suc n) p = refl
+next_in (x ∷ xs) (suc n) p = next_in xs n (and_right (has_bytes x) _ p)
 
 -- nothing of the first step is done
-pub without_none : (xs : List LinkStep) → without 0 xs ≡ xs
-without_none [] = refl
-without_none (Bytes bytes ∷ xs) = refl
-without_none (Idle ∷ xs) = refl
-without_none (End ∷ xs) = refl
+pub none_done : (xs : List LinkStep) → without 0 xs ≡ xs
+none_done [] = refl
+none_done (Bytes bytes ∷ xs) = refl
+none_done (Idle ∷ xs) = refl
+none_done (End ∷ xs) = refl
 
 ahead_some : (bytes : List ℕ) (more : List LinkStep) → 0 < length bytes
     → ahead bytes more ≡ Bytes bytes ∷ more
@@ -55,7 +55,7 @@ takes_whole old new more offset n bytes buf before after count front whole =
       before,
       count,
       front,
-      after ∙ without_none more ∙ sym (ap (λ rest. ahead rest more) nothing),
+      after ∙ none_done more ∙ sym (ap (λ rest. ahead rest more) nothing),
     )
 
 -- a read that filled the buffer within its step

@@ -62,15 +62,15 @@ pub record IsYardOf (yard : YardState) (gates : List GateState) (notes : List Si
 abbrev pub gates_fail : YardState → ℕ → Bool
 gates_fail yard count = fails_next yard.calls yard.fails || nat_lt (length yard.gates) count
 
--- the next call for notes fails: it is told to, or no notes are left
-abbrev pub notes_fail : YardState → Bool
-notes_fail yard = fails_next yard.calls yard.fails || nat_lt (length yard.notes) 1
-
 -- a call counted a fault where it failed; where the list of what was asked was lost in it, that may
 -- be one more
 abbrev pub HasCounted : (failed : Bool) → YardState → YardState → Type 0
 HasCounted failed old new = is_some new.asked ≡ is_some old.asked
     → new.faults ≡ (if failed then next_count old.faults else old.faults)
+
+-- the next call for notes fails: it is told to, or no notes are left
+abbrev pub notes_fail : YardState → Bool
+notes_fail yard = fails_next yard.calls yard.fails || nat_lt (length yard.notes) 1
 
 -- A call of the yard fails where it is to fail, and a failure is counted.
 pub record IsYardCall {X : Type 0} (fails : Bool) (old new : YardState)

@@ -67,6 +67,10 @@ TakesStep got.Idle buf old new = old ≡ steps.Idle ∷ new
 TakesStep got.End buf old new = (old ≡ steps.End ∷ new) ⊎ ((old ≡ []) × (new ≡ []))
 TakesStep got.Failed buf old new = new ≡ old
 
+-- what a write adds to the steps taken: itself where it failed
+abbrev pub write_steps : (ok : Bool) → List Step
+write_steps ok = if ok then [] else took.WriteFailed ∷ []
+
 -- a read went from what the link told before it to what it tells after it
 pub record HasRead (old new : LinkTold) (result : Got) (buf : List ℕ) : Type 0 where
   pub given : new.given ≡ old.given
@@ -75,10 +79,6 @@ pub record HasRead (old new : LinkTold) (result : Got) (buf : List ℕ) : Type 0
   pub bytes : new.bytes ≡ old.bytes
   pub later : old.faults ≤ new.faults
   pub failed : IsTrue (has_failed result) → Rose old.faults new.faults
-
--- what a write adds to the steps taken: itself where it failed
-abbrev pub write_steps : (ok : Bool) → List Step
-write_steps ok = if ok then [] else took.WriteFailed ∷ []
 
 -- a write took all of the piece, or after a failure some first bytes of it, none to all; one that
 -- was taken whole leaves the count as it was

@@ -8,14 +8,14 @@ use Rattle.cast_io.specs.Told.{StoreTold, Grew}
 abbrev pub content_of : List (List ℕ × List ℕ) → List ℕ → Option (List ℕ)
 content_of files path = option_map (λ file. file.1) (find (λ file. bytes_eq file.0 path) files)
 
+-- where it is told what is left to read, it is nothing
+abbrev pub NoneLeft : Option (List ℕ) → Type 0
+NoneLeft left = (bytes : List ℕ) → left ≡ Some bytes → bytes ≡ []
+
 -- where the files are told, one of them has this path, and all that it holds is left to read
 abbrev pub IsOpen : List ℕ → Option (List (List ℕ × List ℕ)) → Option (List ℕ) → Type 0
 IsOpen path files left = (list : List (List ℕ × List ℕ)) → files ≡ Some list
     → (content : List ℕ) × (content_of list path ≡ Some content) × (left ≡ Some content)
-
--- where it is told what is left to read, it is nothing
-abbrev pub NoneLeft : Option (List ℕ) → Type 0
-NoneLeft left = (bytes : List ℕ) → left ≡ Some bytes → bytes ≡ []
 
 -- the store was asked for this path, and told so, also where it refused; `left` is what is left to
 -- read after it

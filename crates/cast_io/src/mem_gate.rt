@@ -56,7 +56,7 @@ impl MemGate {
             peer: PeerAddr::unknown(),
             end,
             asks: 0,
-            origin: Origin::reached("", 0),
+            origin: Origin::of_reach("", 0),
         }
     }
 
@@ -88,14 +88,14 @@ impl MemGate {
     pub(crate) fn be_opened(&mut self, addr: &str, gates: u32, quiet: u32)
         ensures { self.new ≡ made_for (asked.OpenGates addr.now gates quiet) self.old }
     {
-        self.origin = Origin::opened(addr, gates, quiet);
+        self.origin = Origin::of_open_gates(addr, gates, quiet);
     }
 
     // A yard gives it as one that dials this address.
     pub(crate) fn be_reached(&mut self, addr: &str, quiet: u32)
         ensures { self.new ≡ made_for (asked.Reach addr.now quiet) self.old }
     {
-        self.origin = Origin::reached(addr, quiet);
+        self.origin = Origin::of_reach(addr, quiet);
     }
 
     // The peer of the next link is that of the last one now.

@@ -115,7 +115,7 @@ impl MemLink {
 
     /// The steps that the link took so far, in order: the answer of each read, and each write that
     /// failed. `None` once there was no memory for one.
-    pub fn taken(&self) -> Option<&[Step]>
+    pub fn steps(&self) -> Option<&[Step]>
         ensures { option_map (λ steps. steps.now) result ≡ self.now.taken }
     {
         self.taken.items()
@@ -129,7 +129,7 @@ impl MemLink {
     }
 
     // Takes what the next read gives from the steps to come.
-    #[tactic(auto, using(crate::proofs::StepLemmas::next_within, crate::proofs::StepLemmas::without_none))]
+    #[tactic(auto, using(crate::proofs::StepLemmas::next_in, crate::proofs::StepLemmas::none_done))]
     fn take_step(&mut self, buf: &mut [u8]) -> Got
         requires { 0 < length buf.old }
         ensures bound { IsGot result (length buf.old) }

@@ -26,7 +26,7 @@ impl Origin {
     ghost use Rattle.cast_io.specs.declared.yard_asked.YardAsked.TheVariants as asked;
 
     /// That of each of so many gates that are opened at this address. `quiet` is in seconds.
-    pub fn opened(addr: &str, gates: u32, quiet: u32) -> Self
+    pub fn of_open_gates(addr: &str, gates: u32, quiet: u32) -> Self
         ensures { result ≡ asked.OpenGates addr.now gates quiet }
     {
         Origin {
@@ -37,7 +37,7 @@ impl Origin {
     }
 
     /// That of a gate that dials this address. `quiet` is in seconds.
-    pub fn reached(addr: &str, quiet: u32) -> Self
+    pub fn of_reach(addr: &str, quiet: u32) -> Self
         ensures { result ≡ asked.Reach addr.now quiet }
     {
         Origin {

@@ -45,7 +45,7 @@ fn steps_taken(alloc: Global) -> Result<Vec<Step>, Fail> {
 // Whether a link took this, had so many faults, and tells just those steps.
 fn has_taken(alloc: Global, link: &MemLink, bytes: &[u8], faults: u64) -> Result<bool, Fail> {
     let wanted = steps_taken(alloc)?;
-    let told = link.taken() == Some(wanted.as_slice());
+    let told = link.steps() == Some(wanted.as_slice());
     Ok(told && link.bytes() == bytes && link.faults() == faults)
 }
 

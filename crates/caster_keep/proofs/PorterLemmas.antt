@@ -55,16 +55,6 @@ sat_down {C} shared number work booth c hand is same seated = (
   subst (λ (b : BoothTold C). IsSeated shared number work b.hand) (sym is) seated,
 )
 
--- it has a place at each of the rings as it leaves
-pub still_there : {C P : Type 0} (home : P → Gv) (places : List P) (shared : Shared) (number : ℕ) (work : Porter C)
-    (hand before now : SeatedTold (Porter C)) (mounts : ℕ) → map home places ≡ hand.known.homes → hand ≡ now
-    → now.known ≡ before.known → IsSeated shared number work before → mounts ≡ length shared.rings.items
-    → length places ≡ mounts
-still_there {C} home places shared number work hand before now mounts are same still seated long =
-    sym (length-map places home) ∙ ap length are ∙ ap (λ (h : SeatedTold (Porter C)). length h.known.homes) same
-    ∙ ap (λ (k : Known). length k.homes) still ∙ ap length seated.at.homes ∙ length-map shared.rings.items turn_home
-    ∙ sym long
-
 -- ---- it left
 
 -- the same with places that are worn further, from its first call on
@@ -86,6 +76,16 @@ answered_on c me number lacks worn later start none now before first after given
       said = answered.said;
       why = answered.why;
     })))
+
+-- it has a place at each of the rings as it leaves
+pub still_there : {C P : Type 0} (home : P → Gv) (places : List P) (shared : Shared) (number : ℕ) (work : Porter C)
+    (hand before now : SeatedTold (Porter C)) (mounts : ℕ) → map home places ≡ hand.known.homes → hand ≡ now
+    → now.known ≡ before.known → IsSeated shared number work before → mounts ≡ length shared.rings.items
+    → length places ≡ mounts
+still_there {C} home places shared number work hand before now mounts are same still seated long =
+    sym (length-map places home) ∙ ap length are ∙ ap (λ (h : SeatedTold (Porter C)). length h.known.homes) same
+    ∙ ap (λ (k : Known). length k.homes) still ∙ ap length seated.at.homes ∙ length-map shared.rings.items turn_home
+    ∙ sym long
 
 module _ {G C : Type 0} (told : G → DoorTold) (over : G → Bool) (peer : G → List ℕ) (heard : C → ConsoleTold) where
   -- what is told of the porter, which was seated so, and is at its booth now

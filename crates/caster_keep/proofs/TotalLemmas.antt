@@ -48,6 +48,28 @@ fold_plus a b (receipt ∷ receipts) =
 abbrev tally_of : {G : Type 0} → KeeperTold G → Sum
 tally_of keeper = keeper.tally
 
+-- ---- why they stopped
+
+-- where all of these were over, the next one tells why
+pub when_over : (stops : List Stop) (last : Stop) → first_stop stops ≡ ways.Over → first_stop (stops ++ last ∷ []) ≡ last
+when_over [] ways.Over is = refl
+when_over [] ways.Failed is = refl
+when_over [] ways.Worn is = refl
+when_over [] ways.Full is = refl
+when_over (ways.Over ∷ stops) last is = when_over stops last is
+when_over (ways.Failed ∷ stops) last is = absurd (let clash : ways.Failed ≡ ways.Over = is in cc)
+when_over (ways.Worn ∷ stops) last is = absurd (let clash : ways.Worn ≡ ways.Over = is in cc)
+when_over (ways.Full ∷ stops) last is = absurd (let clash : ways.Full ≡ ways.Over = is in cc)
+
+-- else these do
+pub unless_over : (stops more : List Stop) (stop : Stop) → first_stop stops ≡ stop → (stop ≡ ways.Over → ⊥)
+    → first_stop (stops ++ more) ≡ stop
+unless_over [] more stop is other = absurd (other (sym is))
+unless_over (ways.Over ∷ stops) more stop is other = unless_over stops more stop is other
+unless_over (ways.Failed ∷ stops) more stop is other = is
+unless_over (ways.Worn ∷ stops) more stop is other = is
+unless_over (ways.Full ∷ stops) more stop is other = is
+
 module _ {G : Type 0} (told : G → DoorTold) (over : G → Bool) (peer : G → List ℕ) where
   -- a sum with what the keepers counted is the sum with all their receipts
   sums_added : (c : Config) (worn : List ℕ) (most n : ℕ) (sum : Sum) (keepers : List (KeeperTold G))
@@ -118,25 +140,3 @@ module _ {G : Type 0} (told : G → DoorTold) (over : G → Bool) (peer : G → 
       ∙ added_none nothing (left_by 0 (map seen_by keepers))
       ∙ ap (added nothing) (tallies_are c worn most 0 keepers are)
       ∙ sums_added c worn most 0 nothing keepers are
-
--- ---- why they stopped
-
--- where all of these were over, the next one tells why
-pub when_over : (stops : List Stop) (last : Stop) → first_stop stops ≡ ways.Over → first_stop (stops ++ last ∷ []) ≡ last
-when_over [] ways.Over is = refl
-when_over [] ways.Failed is = refl
-when_over [] ways.Worn is = refl
-when_over [] ways.Full is = refl
-when_over (ways.Over ∷ stops) last is = when_over stops last is
-when_over (ways.Failed ∷ stops) last is = absurd (let clash : ways.Failed ≡ ways.Over = is in cc)
-when_over (ways.Worn ∷ stops) last is = absurd (let clash : ways.Worn ≡ ways.Over = is in cc)
-when_over (ways.Full ∷ stops) last is = absurd (let clash : ways.Full ≡ ways.Over = is in cc)
-
--- else these do
-pub unless_over : (stops more : List Stop) (stop : Stop) → first_stop stops ≡ stop → (stop ≡ ways.Over → ⊥)
-    → first_stop (stops ++ more) ≡ stop
-unless_over [] more stop is other = absurd (other (sym is))
-unless_over (ways.Over ∷ stops) more stop is other = unless_over stops more stop is other
-unless_over (ways.Failed ∷ stops) more stop is other = is
-unless_over (ways.Worn ∷ stops) more stop is other = is
-unless_over (ways.Full ∷ stops) more stop is other = is

@@ -211,9 +211,9 @@ pub(crate) fn tell_session<P: AtPress>(
         (first ∷ told_lines config.now teller.number session.now.asked result.held)
         sheet (P.told place.new).seen }
 {
-    let asked = session.asked();
+    let asked = session.asks();
     let so_far = tell_asked(place, teller, told.is_asked, asked, told.so_far);
-    let held = session.held();
+    let held = session.holds();
     ToldSoFar {
         is_asked: asked.is_some(),
         held,

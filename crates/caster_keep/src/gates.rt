@@ -17,18 +17,17 @@ use caster_link::Role;
 use caster_serve::address_of;
 
 /// Puts a worker's keeper at each gate behind what stands in `keepers`, in order.
-fn put_workers<G>(mut gates: Vec<G>, keepers: &mut Vec<Keeper<G>>)
+fn put_workers<G>(gates: Vec<G>, keepers: &mut Vec<Keeper<G>>)
     requires room { vec_len keepers.old + length gates.items ≤ vec_capacity keepers.old }
     ensures put { keepers.new.items
         ≡ keepers.old.items ++ map (new_keeper Role.Caller) gates.items }
     ensures space { vec_capacity keepers.old ≤ vec_capacity keepers.new }
 {
-    let Some(last) = gates.pop() else {
-        gates.destroy_empty();
-        return;
-    };
-    put_workers(gates, keepers);
-    keepers.push_reserved(Keeper::new(Role::Caller, last));
+    let mut gates = gates.into_iter();
+    while let Some(gate) = gates.next() {
+        keepers.push_reserved(Keeper::new(Role::Caller, gate));
+    }
+    gates.destroy_empty();
 }
 
 /// Makes a gate to the peer of each of these relays, numbered from `number` on, until one is

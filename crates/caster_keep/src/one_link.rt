@@ -32,7 +32,7 @@ use session_core::{Held, Places, Receipt, Setup};
 use std::sync::Wait;
 use turn_log::Turns;
 
-/// What a link came to that was served.
+/// The outcome of a link that was served.
 #[derive(Drop)]
 struct Served {
     receipt: Receipt,

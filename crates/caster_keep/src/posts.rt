@@ -33,7 +33,7 @@ pub(crate) fn room_for_posts<A, B>(
     }
 }
 
-/// Each of these hands takes its post, behind those that took theirs before.
+/// Puts each of these callers at its post, behind those that were put before.
 pub(crate) fn take_posts<'a, G: Gate, B, R: Wait + Sync>(
     rt: &'a R,
     alloc: Global,
@@ -60,7 +60,7 @@ pub(crate) fn take_posts<'a, G: Gate, B, R: Wait + Sync>(
     posts.push_reserved(Duty::Gate(Post::new(rt, alloc, config, table, hand)));
 }
 
-/// Each of these leaves its post: the hands of those at gates come to the one list, and those at
+/// Takes each of these from its post: the callers at gates come to the one list, and those at
 /// the console to the other, in order.
 pub(crate) fn leave_posts<'a, G: Gate, B, R: Wait + Sync>(
     mut posts: Vec<Duty<Post<'a, G, R>, B>>,

@@ -18,22 +18,21 @@ use keep_porter::WaitEnd;
 use session_core::Closed;
 use session_text::closed_text;
 
-/// Why the first of these stopped that did not stop since its gate was over; or that the gate of
-/// each was.
+/// The stop of the first of these keepers that stopped before its gate was over; `Over` where none
+/// did.
 pub(crate) fn first_stop<G>(keepers: &[Keeper<G>]) -> Stop
     ensures { result ≡ first_stop (map stop_at keepers.now) }
 {
-    let Some((keeper, later)) = keepers.split_first() else {
-        return Stop::Over;
-    };
-    match keeper.stop {
-        None => first_stop(later),
-        Some(Stop::Over) => first_stop(later),
-        Some(stop) => stop,
+    for keeper in keepers {
+        match keeper.stop {
+            None | Some(Stop::Over) => {}
+            Some(stop) => return stop,
+        }
     }
+    Stop::Over
 }
 
-/// Why the first of these keepers stopped whose gate was not over, or else why the porter did.
+/// The same of these keepers, or else the stop of the porter.
 pub(crate) fn first_stop_of_all<G, C>(keepers: &[Keeper<G>], porter: &Porter<C>) -> Stop
     ensures { result ≡ first_stop (map stop_at keepers.now ++ porter_stop_at porter.now ∷ []) }
 {

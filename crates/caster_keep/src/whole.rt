@@ -28,10 +28,10 @@ use std::sync::Wait;
 use std::thread::Threads;
 use thiserror::Error;
 
-/// What a caster came to that kept serving until its gates were over.
+/// The outcome of a caster that kept serving until its gates were over.
 #[derive(Drop)]
 pub struct Outcome {
-    /// What its mountpoints and accounts came to.
+    /// The totals of its mountpoints and accounts.
     pub closed: Closed,
     /// Why the first of its callers stopped that did not stop since its gate was over; or `Over`.
     pub stop: Stop,

@@ -11,7 +11,7 @@ use std::test::Fail;
 use std::thread::Threads;
 use std::time::Clock;
 use test_support::{FRAMES_AB, link_of};
-use timed_io::{Stop as Pause, TimedDoor, TimedLink, TimedLodge, TimedYard};
+use test_timed_io::{Stop as Pause, TimedDoor, TimedLink, TimedLodge, TimedYard};
 
 /// No flag.
 const NONE: usize = 2;

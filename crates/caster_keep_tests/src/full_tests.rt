@@ -16,7 +16,7 @@ use std::test::Fail;
 use std::thread::Threads;
 use std::time::Clock;
 use test_support::link_of;
-use timed_io::{Stop as Pause, TimedDoor, TimedLink, TimedYard};
+use test_timed_io::{Stop as Pause, TimedDoor, TimedLink, TimedYard};
 
 // Two workers, and an account for one rover at a time.
 const FILE: &[u8] = b"version = 1

@@ -45,7 +45,7 @@ pub struct Service {
     piece: [u8; MAX_READ_BYTES],
 }
 
-/// Opens the session of a connection that is served so. What it asks of another caster is appended.
+/// Opens the session of a connection in this role. The request of a relay is appended.
 fn open_as(setup: &Setup, role: Role, out: &mut Vec<u8>) -> Result<Session, AllocError>
     requires ready { IsSetUp setup.now }
     requires relay { (number : ℕ) → role ≡ Role.Relay number
@@ -64,7 +64,7 @@ fn open_as(setup: &Setup, role: Role, out: &mut Vec<u8>) -> Result<Session, Allo
 }
 
 /// The receipt of a connection for whose session there was no memory.
-fn not_opened(alloc: Global) -> Receipt
+fn receipt_without_session(alloc: Global) -> Receipt
     ensures settled { result.settled ≡ true }
     ensures receipt { IsReceipt (Some Ending.Memory) waiting [] Last.End result }
 {
@@ -80,7 +80,7 @@ fn not_opened(alloc: Global) -> Receipt
 }
 
 impl Service {
-    /// Opens the session of a connection that is served so, before its first step. What it asks of
+    /// Opens the session of a connection in this role, before its first step. What it asks of
     /// another caster is the first that is to be written.
     ///
     /// # Errors
@@ -97,7 +97,7 @@ impl Service {
     {
         let mut out = Vec::new(setup.alloc);
         let Ok(session) = open_as(setup, role, &mut out) else {
-            return Err(not_opened(setup.alloc));
+            return Err(receipt_without_session(setup.alloc));
         };
         Ok(Service {
             session,

@@ -15,12 +15,9 @@ ghost use Rattle.caster_link.specs.Served.{Arrived, Reached};
 
 use caster_accounts::Book;
 use caster_places::AllPlaces;
-use mount_ring::Ring;
+use mount_ring::{MAX_BUDGET, Ring};
 use session_core::{Places, Session};
 use turn_log::Turns;
-
-/// How many frames a served connection reads in one turn at most.
-const BUDGET: u32 = 16;
 
 /// The place of the next frame that a rover reads; 0 of any other session.
 fn next_of(session: &Session) -> u64
@@ -37,7 +34,7 @@ fn next_of(session: &Session) -> u64
 fn is_caught_up(session: &Session, from: u64) -> bool
     ensures { result ≡ is_caught_up session.now from }
 {
-    !session.ended() && next_of(session).saturating_sub(from) < u64::from(BUDGET)
+    !session.ended() && next_of(session).saturating_sub(from) < u64::from(MAX_BUDGET)
 }
 
 /// One turn of a session that goes on. Answers whether its link may rest.
@@ -68,6 +65,6 @@ pub(crate) fn take_turn<T: Turns<Ring>, B: Turns<Book>>(
         sent out.old.items out.new.items whats (takes_turn 16 ∷ []) }
 {
     let from = next_of(session);
-    session.turn(BUDGET, places, out);
+    session.turn(MAX_BUDGET, places, out);
     is_caught_up(session, from)
 }

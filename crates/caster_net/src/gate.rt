@@ -91,7 +91,7 @@ impl<'a> TcpGate<'a> {
         TcpGate::over(
             ground,
             Way::Porch(porch),
-            Origin::opened(addr, gates, quiet),
+            Origin::of_open_gates(addr, gates, quiet),
             quiet,
         )
     }
@@ -100,7 +100,12 @@ impl<'a> TcpGate<'a> {
     pub(crate) fn to_peer(ground: Ground<'a>, peer: Redial, addr: &str, quiet: u32) -> Self
         ensures { result ≡ new_gate (asked.Reach addr.now quiet) }
     {
-        TcpGate::over(ground, Way::Peer(peer), Origin::reached(addr, quiet), quiet)
+        TcpGate::over(
+            ground,
+            Way::Peer(peer),
+            Origin::of_reach(addr, quiet),
+            quiet,
+        )
     }
 
     // A gate that was made for this, of which it is a part for how many seconds its links may be

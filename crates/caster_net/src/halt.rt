@@ -11,8 +11,8 @@ use std::time::{Duration, Instant};
 // How long the input is left alone after a look at it, in milliseconds.
 const LOOK_EVERY: u64 = 100;
 
-// The most bytes that one look takes.
-const MAX_TAKEN: usize = 4096;
+// The most bytes that one read takes.
+const MAX_READ_BYTES: usize = 4096;
 
 /// Whether all gates of a street are to be over and all links of these to end. It is asked for by
 /// the line `stop` of an input, and by who else finds a cause for it; then it stands for good.
@@ -165,7 +165,7 @@ impl Input {
             stop: false,
             statuses: 0,
         };
-        let mut taken = [0u8; MAX_TAKEN];
+        let mut taken = [0u8; MAX_READ_BYTES];
         let Some(bytes) = self.take(&mut taken) else {
             return came;
         };

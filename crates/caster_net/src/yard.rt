@@ -31,8 +31,7 @@ impl<'a> Yard for TcpStreet<'a> {
         gates: u32,
         quiet: u32,
     ) -> Result<Vec<TcpGate<'a>>, StreetFault> {
-        self.calls
-            .add(&CallNote::Gates(Origin::opened(addr, gates, quiet)));
+        self.calls.add(&CallNote::Gates(Origin::of_open_gates(addr, gates, quiet)));
         match opened_at(self.ground(), addr, gates, quiet) {
             Err(StreetFault::Failed) => count_fault(
                 &mut self.yard_faults,
@@ -44,7 +43,7 @@ impl<'a> Yard for TcpStreet<'a> {
 
     fn reach(&mut self, addr: &str, quiet: u32) -> Result<TcpGate<'a>, StreetFault> {
         self.calls
-            .add(&CallNote::Gates(Origin::reached(addr, quiet)));
+            .add(&CallNote::Gates(Origin::of_reach(addr, quiet)));
         let ground = self.ground();
         match String::from_str(ground.rt.alloc(), addr) {
             Ok(peer) => Ok(TcpGate::to_peer(ground, Redial::of(peer), addr, quiet)),

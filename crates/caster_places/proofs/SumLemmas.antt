@@ -36,13 +36,6 @@ abbrev AreBelow : ℕ → History BookCall → Type 0
 AreBelow n [] = ⊤
 AreBelow n (entry ∷ h) = (entry.0 < n) × AreBelow n h
 
-below_all : (n : ℕ) (h : History BookCall) → All (λ (entry : ℕ × BookCall). entry.0 < n) h → AreBelow n h
-below_all n [] all = tt
-below_all n (entry ∷ h) all = (
-  All-head (λ (e : ℕ × BookCall). e.0 < n) entry h all,
-  below_all n h (All-tail (λ (e : ℕ × BookCall). e.0 < n) entry h all),
-)
-
 -- caller by caller, or call by call
 of_callers : (weight : ℕ → ℕ → ℕ) (n : ℕ) (h : History BookCall) → AreBelow n h
     → from (λ me. sum_by (counted_by weight me) h) 0 n
@@ -71,6 +64,13 @@ of_own weight me (entry ∷ h) =
         ≡ sum_by (counted weight) (if b then entry.1 ∷ own me h else own me h)
     by_test true = sym (sum_by-cons (counted weight) entry.1 (own me h))
     by_test false = omega arith
+
+below_all : (n : ℕ) (h : History BookCall) → All (λ (entry : ℕ × BookCall). entry.0 < n) h → AreBelow n h
+below_all n [] all = tt
+below_all n (entry ∷ h) all = (
+  All-head (λ (e : ℕ × BookCall). e.0 < n) entry h all,
+  below_all n h (All-tail (λ (e : ℕ × BookCall). e.0 < n) entry h all),
+)
 
 -- ---- one of the three numbers of a sum
 

@@ -25,7 +25,7 @@ use mount_ring::Ring;
 use session_core::{Closed, MountTotal, MountTotals, Sums};
 use turn_log::{Pass, Played, Turn};
 
-/// Closes the lock of a ring, and tells what its mountpoint came to.
+/// Closes the lock of a ring, and gives the totals of its mountpoint.
 fn close_ring(lock: Turn<Ring>, pile: Vec<Pass<Ring>>) -> MountTotal
     requires all { AreAllOf pile.items lock }
     ensures { (whole : History RingCall) × (result ≡ mount_total whole)
@@ -38,7 +38,7 @@ fn close_ring(lock: Turn<Ring>, pile: Vec<Pass<Ring>>) -> MountTotal
     }
 }
 
-/// Closes the locks of the rings, and tells what each mountpoint came to, in their order.
+/// Closes the locks of the rings, and gives the totals of each mountpoint, in their order.
 fn close_rings(
     mut locks: Vec<Turn<Ring>>,
     mut piles: Vec<Vec<Pass<Ring>>>,
@@ -62,7 +62,7 @@ fn close_rings(
     totals.push_reserved(close_ring(lock, pile));
 }
 
-/// What the named accounts came to, which are numbered from 1.
+/// The totals of the named accounts, which are numbered from 1.
 fn sum_up(book: &Book, accounts: &[Account], sums: &mut Vec<Sum>)
     requires accounts { length accounts.now < length (caps_of book.now) }
     requires few { length accounts.now < 2 ^ 31 }
@@ -75,7 +75,7 @@ fn sum_up(book: &Book, accounts: &[Account], sums: &mut Vec<Sum>)
     }
 }
 
-/// Closes the lock of the book, and tells what the named accounts came to, and all of them.
+/// Closes the lock of the book, and gives the totals of the named accounts and of all accounts.
 fn close_book(
     lock: Turn<Book>,
     pile: Vec<Pass<Book>>,

@@ -1,5 +1,5 @@
 -- What a read of a link gave.
-use Rattle.std.specs.Prelude.{◌≡◌, ◌≤◌, ⊤, ℕ, nat_lt, true, List, length, take}
+use Rattle.std.specs.Prelude.{◌≡◌, ◌≤◌, ⊤, ℕ, nat_lt, Bool, true, false, List, length, take}
 use Rattle.std.specs.List.{list_all}
 use Rattle.cast_io.specs.declared.link.Got.{Got}
 use Rattle.cast_io.specs.declared.link.Got.TheVariants as got
@@ -16,6 +16,11 @@ step_heard (heard.Bytes bytes) = took.Bytes bytes
 step_heard heard.Idle = took.Idle
 step_heard heard.End = took.End
 step_heard heard.Failed = took.ReadFailed
+
+-- there was nothing yet
+abbrev pub is_idle : GotText → Bool
+is_idle heard.Idle = true
+is_idle _ = false
 
 -- the bytes are 1 to 4,096
 abbrev pub IsPiece : GotText → Type 0

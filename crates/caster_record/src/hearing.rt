@@ -3,7 +3,7 @@
 ghost use Rattle.std.specs.Prelude.{◌≡◌, nat_lt, true, IfOk};
 ghost use Rattle.std.specs.List.{list_all};
 ghost use Rattle.caster_record.specs.Giving.{HasGiven};
-ghost use Rattle.caster_record.specs.Hearing.{HasHeard};
+ghost use Rattle.caster_record.specs.Hearing.{HasHeard, is_idle};
 
 use cast_io::{Got, Link};
 use cast_text::Text;
@@ -27,7 +27,9 @@ pub(crate) enum GotText {
 
 impl GotText {
     /// Whether there was nothing yet.
-    pub(crate) fn is_idle(&self) -> bool {
+    pub(crate) fn is_idle(&self) -> bool
+        ensures { result ≡ is_idle self.now }
+    {
         matches!(self, GotText::Idle)
     }
 }

@@ -17,7 +17,7 @@ use cast_config::Config;
 use cast_io::Link;
 use std::alloc::AllocError;
 
-/// So many bytes the lines of the events have at most before one more link or one more step.
+/// The most bytes that the lines of the events have before one more link or one more step.
 pub(crate) const MAX_TAPE_BYTES: u64 = 8_370_000;
 
 impl Recorder {

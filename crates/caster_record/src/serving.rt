@@ -16,7 +16,7 @@ use crate::hearing::{GotText, give, hear};
 use crate::recorder::Recorder;
 use cast_config::Config;
 use cast_io::Link;
-use session_script::Event;
+use session_script::{Event, MAX_BUDGET};
 use std::alloc::{AllocError, Global};
 
 /// What came of a step.
@@ -27,9 +27,6 @@ pub(crate) struct Outcome {
     /// Something was read or written.
     pub(crate) busy: bool,
 }
-
-/// How many frames one turn reads at most.
-const BUDGET: u32 = 16;
 
 /// Whether something was read, or was written from one place to the other.
 fn is_busy(idle: bool, from: usize, until: usize) -> bool {
@@ -96,7 +93,7 @@ impl Recorder {
         ensures size { IfOk result (λ behind. self.new.tape.size ≤ self.old.tape.size + 40) }
     {
         if self.is_behind(config, number) {
-            self.play(alloc, config, Event::Turn(number, BUDGET))?;
+            self.play(alloc, config, Event::Turn(number, MAX_BUDGET))?;
             Ok(true)
         } else {
             Ok(false)

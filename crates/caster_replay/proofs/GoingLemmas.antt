@@ -171,25 +171,6 @@ opened_by n k o first numbers next later is some rest =
       | inr other ↦ rest (ap (λ (b : Bool). opened_if b first (opened_as n later)) (sym other) ∙ some)
     ]
 
-opened_now : (n : ℕ) (numbers : Numbers) (script : List Event) (o : Opening) → opened_as n script ≡ Some o
-    → is_among n (numbers_from numbers script).opened ≡ true
-opened_now n numbers [] o some = absurd cc
-opened_now n numbers (events.Open k ∷ later) o some =
-    opened_by n k o sends_head numbers (opening numbers k) later refl some (opened_now n (opening numbers k) later o)
-opened_now n numbers (events.Source k mount ∷ later) o some =
-    opened_by n k o (bare_source mount) numbers (opening numbers k) later refl some
-    (opened_now n (opening numbers k) later o)
-opened_now n numbers (events.Rover k mount ∷ later) o some =
-    opened_by n k o (bare_rover mount) numbers (opening numbers k) later refl some
-    (opened_now n (opening numbers k) later o)
-opened_now n numbers (events.Relay k relay ∷ later) o some =
-    opened_by n k o (relays relay) numbers (opening numbers k) later refl some
-    (opened_now n (opening numbers k) later o)
-opened_now n numbers (events.In k bytes ∷ later) o some = opened_now n numbers later o some
-opened_now n numbers (events.Turn k budget ∷ later) o some = opened_now n numbers later o some
-opened_now n numbers (events.Break k ∷ later) o some = opened_now n (closing numbers k) later o some
-opened_now n numbers (events.End k ∷ later) o some = opened_now n (closing numbers k) later o some
-
 closed_by : (n k : ℕ) (numbers : Numbers) (later : List Event)
     → (if k == n then true else is_cut n later) ≡ false → is_among n numbers.closed ≡ false
     → (is_cut n later ≡ false → is_among n (closing numbers k).closed ≡ false
@@ -214,6 +195,25 @@ closed_now n numbers (events.Break k ∷ later) uncut none =
     closed_by n k numbers later uncut none (closed_now n (closing numbers k) later)
 closed_now n numbers (events.End k ∷ later) uncut none =
     closed_by n k numbers later uncut none (closed_now n (closing numbers k) later)
+
+opened_now : (n : ℕ) (numbers : Numbers) (script : List Event) (o : Opening) → opened_as n script ≡ Some o
+    → is_among n (numbers_from numbers script).opened ≡ true
+opened_now n numbers [] o some = absurd cc
+opened_now n numbers (events.Open k ∷ later) o some =
+    opened_by n k o sends_head numbers (opening numbers k) later refl some (opened_now n (opening numbers k) later o)
+opened_now n numbers (events.Source k mount ∷ later) o some =
+    opened_by n k o (bare_source mount) numbers (opening numbers k) later refl some
+    (opened_now n (opening numbers k) later o)
+opened_now n numbers (events.Rover k mount ∷ later) o some =
+    opened_by n k o (bare_rover mount) numbers (opening numbers k) later refl some
+    (opened_now n (opening numbers k) later o)
+opened_now n numbers (events.Relay k relay ∷ later) o some =
+    opened_by n k o (relays relay) numbers (opening numbers k) later refl some
+    (opened_now n (opening numbers k) later o)
+opened_now n numbers (events.In k bytes ∷ later) o some = opened_now n numbers later o some
+opened_now n numbers (events.Turn k budget ∷ later) o some = opened_now n numbers later o some
+opened_now n numbers (events.Break k ∷ later) o some = opened_now n (closing numbers k) later o some
+opened_now n numbers (events.End k ∷ later) o some = opened_now n (closing numbers k) later o some
 
 -- ---- of a run
 

@@ -18,5 +18,6 @@ pub mod ReplayLemmas
 pub mod LivesLemmas
 pub mod SendsLemmas
 pub mod GoingLemmas
+pub mod StateLemmas
 pub mod RoverLemmas
 pub mod RunLemmas

@@ -10,7 +10,6 @@ use Rattle.session_script.specs.declared.Event.TheVariants as events
 use Rattle.session_script.specs.Script.{input_length}
 use Rattle.cast_config.specs.declared.config.Config.{Config}
 use Rattle.session_model.specs.declared.ending.Ending.{Ending}
-use Rattle.session_core.specs.declared.ending.Flow.TheVariants as flows
 use Rattle.session_model.specs.declared.ending.Last.{Last}
 use Rattle.session_model.specs.declared.ending.Last.TheVariants as lasts
 use Rattle.session_model.specs.declared.report.Receipt.{Receipt}
@@ -23,7 +22,7 @@ use Rattle.session_model.specs.Run.{Histories}
 use Rattle.session_model.specs.Called.{is_halt}
 use Rattle.session_core.specs.Standing.{is_halted, StandsFor, Follows}
 use Rattle.session_core.specs.Closed.{ending_by}
-use Rattle.session_core.specs.Turned.{flow_of, is_rover}
+use Rattle.session_core.specs.Turned.{is_rover}
 use Rattle.session_model.proofs.WellLemmas.{events_well}
 use Rattle.caster_replay.specs.declared.run_connection.Act.{Act}
 use Rattle.caster_replay.specs.declared.run_connection.Act.TheVariants as acts
@@ -64,10 +63,6 @@ runs_of c script lives now r = record {
 }
 
 -- ---- answers
-
-pub flow_on : (ended : Option Ending) → flow_of ended ≡ flows.Open → ended ≡ None
-flow_on None open_now = refl
-flow_on (Some end) open_now = absurd cc
 
 -- one that was closed because it had ended, and one that had not
 settled_some : (ended : Option Ending) (c : Config) (old now : Histories) (before after : State)
@@ -129,6 +124,11 @@ ending_so c mid now next last receipt o text steps sent (inr lost) closes =
     (others_none mid next.me) in
     (came_to (judged c (bare_source []) incomplete []) [], closed.receipt_is.ending)
 
+-- ---- what stays
+
+put_same : (lives : List Live) (at : ℕ) (y new : Live) → get_or lives at y ≡ new → lives ≡ set lives at new
+put_same lives at y new same = sym (set-get_or lives at y) ∙ ap (set lives at) same
+
 not_halted : (c : Config) (mid now : Histories) (next : Session) (last : Last) (receipt : Receipt) (end : Ending)
     (o : Opening) (text : List ℕ) (steps : List Step) (sent : List ℕ) → StandsFor c next o text steps mid sent
     → Closes c mid now next last receipt → next.ended ≡ Some end → is_halt receipt.ending ≡ false
@@ -138,11 +138,6 @@ not_halted c mid now next last receipt end o text steps sent stands closes over 
     let same : receipt.ending ≡ end =
     so.1 ∙ ap (λ (e : Option Ending). ending_by e last so.0) over in
     ap is_halted over ∙ ap is_halt (sym same) ∙ goes
-
--- ---- what stays
-
-put_same : (lives : List Live) (at : ℕ) (y new : Live) → get_or lives at y ≡ new → lives ≡ set lives at new
-put_same lives at y new same = sym (set-get_or lives at y) ∙ ap (set lives at) same
 
 -- ---- what may happen
 

@@ -20,7 +20,7 @@ use Rattle.caster_replay.specs.Lives.{Live, live_in, lives_in, live_of, place_of
 use Rattle.caster_replay.specs.Runs.{Runs}
 use Rattle.caster_replay.specs.Scripts.{IsScriptFor, Plays}
 use Rattle.caster_replay.specs.Sends.{sent_in}
-use Rattle.caster_replay.proofs.WorldRunnerLemmas.{IsAbsent, run_new, headings_now}
+use Rattle.caster_replay.proofs.WorldRunnerLemmas.{IsAbsent, headings_now}
 use Rattle.caster_replay.proofs.EntryLemmas.{no_live, within_lives, here_at, absent_at}
 use Rattle.caster_replay.proofs.GoingLemmas.{going_missing, behind_missing, going_found, behind_found, found_speaks}
 use Rattle.caster_replay.proofs.LivesLemmas.{in_order}
@@ -30,9 +30,6 @@ use Rattle.caster_replay.proofs.RoverLemmas.{rover_missing, rover_found}
 use Rattle.caster_replay.proofs.SendsLemmas.{sent_here, sent_absent}
 
 -- ---- events
-
-pub runs_new : (c : Config) → Runs c [] [] (nothing_called c)
-runs_new c = runs_of c [] [] (nothing_called c) (run_new c)
 
 pub plays_of : {P : Type 0} (c : Config) (script : List Event) (event : Event) (run : Run P) → StandsFor c script run
     → MayCome c script event → Plays c script event run.entries.items run.desks
@@ -60,11 +57,6 @@ stands_whole c list i run over stands = subst (λ (l : List Event). StandsFor c 
 
 -- ---- what is found
 
-pub run_order : {P : Type 0} (c : Config) (script : List Event) (run : Run P) (slice : List RunConnection) → StandsFor c script run
-    → slice ≡ run.entries.items → IsNonDecreasingBy (λ (entry : RunConnection). entry.number) slice
-run_order c script run slice stands same =
-    in_order c script run.entries.items slice run.desks.seen stands.stands.runs same
-
 module _ (entries : List RunConnection) (number : ℕ) where
   pub missing_absent : IsMissing entries number → IsAbsent number (lives_in entries) no_live
   missing_absent missing = absent_at entries (place_of number (lives_in entries)) number refl missing
@@ -91,6 +83,11 @@ behind_so : (rings : List (History RingCall)) (state : State)
     → is_behind_by rings (rover_at state) ≡ is_behind_at rings state
 behind_so rings (Open session) = refl
 behind_so rings (Closed receipt) = refl
+
+pub run_order : {P : Type 0} (c : Config) (script : List Event) (run : Run P) (slice : List RunConnection) → StandsFor c script run
+    → slice ≡ run.entries.items → IsNonDecreasingBy (λ (entry : RunConnection). entry.number) slice
+run_order c script run slice stands same =
+    in_order c script run.entries.items slice run.desks.seen stands.stands.runs same
 
 module _ {P : Type 0} (c : Config) (script : List Event) (run : Run P) (number : ℕ) (stands : StandsFor c script run) where
   pub missing_goes : IsMissing run.entries.items number → (answer : Bool) → answer ≡ false

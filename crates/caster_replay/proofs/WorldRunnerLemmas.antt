@@ -5,7 +5,7 @@ use Rattle.std.specs.Prelude.{is_none}
 use Rattle.std.proofs.lemmas.Bool.{cases_eq}
 use Rattle.std.proofs.lemmas.List.{append-nil}
 use Rattle.std.proofs.lemmas.List.Sums.{fold-append}
-use Rattle.std.proofs.lemmas.List.Elements.{All-nil, All-get_or}
+use Rattle.std.proofs.lemmas.List.Elements.{All-get_or}
 use Rattle.session_script.specs.declared.Event.{Event}
 use Rattle.session_script.specs.declared.Event.TheVariants as events
 use Rattle.rover_session.specs.Owed.{reads}
@@ -27,11 +27,11 @@ use Rattle.session_model.specs.Judged.{Opening, sends_head, Judged, judged}
 use Rattle.session_model.specs.Owed.{Happening, arrives, takes_turn, ends}
 use Rattle.session_model.specs.Endings.{goes_on}
 use Rattle.session_model.specs.Reports.{IsHeadingOf, AreHeadings, opened_as, bytes_to}
-use Rattle.session_model.specs.Run.{Histories, Connected, Moved, World, makes, nothing_called, judged_of, fresh, happens, is_opened, after_event, after_events}
+use Rattle.session_model.specs.Run.{Histories, Connected, Moved, World, makes, judged_of, fresh, happens, is_opened, after_event, after_events}
 use Rattle.session_model.specs.Called.{OthersCalled}
 use Rattle.session_core.specs.Standing.{is_halted, IsAtStage, Fed}
 use Rattle.session_model.proofs.KeepLemmas.{AreFrames}
-use Rattle.session_model.proofs.WellLemmas.{IsSoundOf, events_well}
+use Rattle.session_model.proofs.WellLemmas.{IsSoundOf}
 use Rattle.caster_replay.specs.Lives.{IsGoing, IsKept, Live, live_of, IsLive, place_of}
 use Rattle.caster_replay.specs.Runs.{IsKnown, AreKnown, HasHeadings}
 use Rattle.caster_replay.specs.Calls.{Feeds, TakesTurn, Closes}
@@ -52,15 +52,6 @@ pub record IsRun (c : Config) (script : List Event) (lives : List Live) (now : H
   pub has : HasHeadings script
   pub stands : (more : List Event) (headings : ℕ → Heading) → AreHeadings (script ++ more) headings
       → IsRunAt c headings (after_events c headings script) lives now
-
--- before the first event
-pub run_new : (c : Config) → IsRun c [] [] (nothing_called c)
-run_new c = record {
-  known = λ headings. record { each = All-nil (IsKnown c headings []); none = λ n none. refl };
-  has = λ n. (incomplete, refl);
-  stands = λ more headings are.
-      record { histories = refl; order = tt; well = events_well c headings []; each = tt };
-}
 
 -- ---- headings
 

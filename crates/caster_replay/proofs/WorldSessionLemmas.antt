@@ -42,16 +42,6 @@ spoken_other numbers k n speaks none e =
     (and_parts (is_among k numbers.opened) _ speaks).0 in
     absurd (false≢true (sym none ∙ ap (λ (i : ℕ). is_among i numbers.opened) (sym e) ∙ was))
 
-among_more : (n k : ℕ) (numbers : List ℕ) → is_among n numbers ≡ false → k ≢ n
-    → is_among n (numbers ++ k ∷ []) ≡ false
-among_more n k [] none apart = ap (λ (b : Bool). b || false) (ne_eqb k n apart)
-among_more n k (i ∷ numbers) none apart = among_if (i == n) (is_among n numbers) (is_among n (numbers ++ k ∷ [])) none
-    (λ rest. among_more n k numbers rest apart)
-  where
-    among_if : (a b later : Bool) → (a || b) ≡ false → (b ≡ false → later ≡ false) → (a || later) ≡ false
-    among_if true b later none on = absurd cc
-    among_if false b later none on = on none
-
 opened_other : (k n : ℕ) (o : Opening) (later : Option Opening) → opened_if (k == n) o later ≡ None
     → (k ≢ n) × (later ≡ None)
 opened_other k n o later none = (
@@ -65,6 +55,16 @@ opened_other k n o later none = (
     opened_later : (b : Bool) (o : Opening) (later : Option Opening) → opened_if b o later ≡ None → later ≡ None
     opened_later true o later none = absurd cc
     opened_later false o later none = none
+
+among_more : (n k : ℕ) (numbers : List ℕ) → is_among n numbers ≡ false → k ≢ n
+    → is_among n (numbers ++ k ∷ []) ≡ false
+among_more n k [] none apart = ap (λ (b : Bool). b || false) (ne_eqb k n apart)
+among_more n k (i ∷ numbers) none apart = among_if (i == n) (is_among n numbers) (is_among n (numbers ++ k ∷ [])) none
+    (λ rest. among_more n k numbers rest apart)
+  where
+    among_if : (a b later : Bool) → (a || b) ≡ false → (b ≡ false → later ≡ false) → (a || later) ≡ false
+    among_if true b later none on = absurd cc
+    among_if false b later none on = on none
 
 module _ (kind : ScriptKind) (later : List Event) (n : ℕ) where
   -- the parts of what is said of an event and of those behind it
@@ -120,11 +120,6 @@ module _ (kind : ScriptKind) (later : List Event) (n : ℕ) where
         ap (λ (b : Bool). cond b [] (bytes_to n list)) other ∙ behind.0,
         ap (λ (b : Bool). cond b true (is_cut n list)) other ∙ behind.1,
       )
-
--- in a session of either kind nothing happens to a number before it opens
-pub session_clean : (kind : ScriptKind) (first later : List Event) (n : ℕ) → IsSession kind (first ++ later)
-    → IsClean n first
-session_clean kind first later n is none = clean_after kind later n no_numbers first is refl none
 
 -- ---- bytes
 
@@ -187,6 +182,11 @@ bytes_within n (events.End k ∷ list) =
       none_within (k == n) (bytes_to n list) (sum_by input_length list) (bytes_within n list),
       sum_by-cons input_length (events.End k) list,
     )
+
+-- in a session of either kind nothing happens to a number before it opens
+pub session_clean : (kind : ScriptKind) (first later : List Event) (n : ℕ) → IsSession kind (first ++ later)
+    → IsClean n first
+session_clean kind first later n is none = clean_after kind later n no_numbers first is refl none
 
 -- ---- a session that goes on
 

@@ -10,9 +10,9 @@ use session_script::Event;
 /// What an event asks of a connection.
 #[derive(Clone, Copy)]
 pub(crate) enum Request<'a> {
-    /// It opens so.
+    /// The connection opens this way.
     Open(Way<'a>),
-    /// This happens to it.
+    /// This happens to the open connection.
     Apply(Act<'a>),
 }
 

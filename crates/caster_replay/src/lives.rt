@@ -60,7 +60,7 @@ pub(crate) fn rover_of(entries: &[RunConnection], number: u32) -> Option<RoverSt
     }
 }
 
-/// This happens to the connection of this number, if there is one.
+/// Plays what happens to the connection of this number, if there is one.
 pub(crate) fn apply<P: RingPlace>(
     config: &Config,
     table: &[u8],

@@ -29,7 +29,7 @@ pub(crate) enum Way<'a> {
 }
 
 /// A connection that will send a head.
-fn head_opened(alloc: Global, number: u32) -> Result<RunConnection, AllocError>
+fn open_head(alloc: Global, number: u32) -> Result<RunConnection, AllocError>
     ensures number { IfOk result (λ entry. entry.number ≡ number) }
     ensures opened { (c : ConfigValue) (seen : Histories) → IfOk result (λ entry.
         HasOpened c seen seen number sends_head entry.state entry.bytes.items) }
@@ -44,7 +44,7 @@ fn head_opened(alloc: Global, number: u32) -> Result<RunConnection, AllocError>
 }
 
 /// A connection to another caster, which its request is sent to.
-fn relay_opened(
+fn open_relay(
     alloc: Global,
     config: &Config,
     number: u32,
@@ -66,7 +66,7 @@ fn relay_opened(
 }
 
 /// A connection without head and reply.
-fn bare_opened<P: RingPlace>(
+fn open_bare<P: RingPlace>(
     alloc: Global,
     config: &Config,
     desks: &mut Desks<P>,
@@ -108,8 +108,8 @@ pub(crate) fn open_connection<P: RingPlace>(
     ensures unsent { IfOk result (λ entry. IsUnsent (opening_of way.entry) entry.bytes.items) }
 {
     match way {
-        Way::Head => head_opened(alloc, number),
-        Way::Relay(relay) => relay_opened(alloc, config, number, relay),
-        Way::Bare(role, mount) => bare_opened(alloc, config, desks, number, role, mount),
+        Way::Head => open_head(alloc, number),
+        Way::Relay(relay) => open_relay(alloc, config, number, relay),
+        Way::Bare(role, mount) => open_bare(alloc, config, desks, number, role, mount),
     }
 }

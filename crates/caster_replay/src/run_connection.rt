@@ -20,7 +20,7 @@ use std::mem;
 pub(crate) enum State {
     /// It goes on.
     Open(Session),
-    /// It is over, and came to this.
+    /// It is over, with this receipt.
     Closed(Receipt),
 }
 
@@ -40,7 +40,7 @@ pub(crate) enum Act<'a> {
 pub(crate) struct RunConnection {
     /// Its number, which is that of its caller too.
     pub(crate) number: u32,
-    /// Its session, or what it came to.
+    /// Its session, or its receipt.
     pub(crate) state: State,
     /// All bytes that were sent to it.
     pub(crate) bytes: Vec<u8>,

@@ -16,7 +16,7 @@ use session_core::{Closed, MountTotal, MountTotals, Sums};
 use std::alloc::{AllocError, Global};
 use turn_log::Played;
 
-/// What the mountpoints of these places came to.
+/// The totals of the mountpoints of these places.
 fn mounts<P: RingPlace>(alloc: Global, places: &[P]) -> Result<Vec<MountTotal>, AllocError>
     ensures { IfOk result (λ totals. totals.items ≡ mount_totals P.Turns places.now) }
 {
@@ -31,7 +31,7 @@ fn mounts<P: RingPlace>(alloc: Global, places: &[P]) -> Result<Vec<MountTotal>, 
     Ok(totals)
 }
 
-/// What the named accounts came to, which are numbered from 1.
+/// The totals of the named accounts, which are numbered from 1.
 fn accounts(alloc: Global, config: &Config, book: &Book) -> Result<Vec<Sum>, AllocError>
     requires shape { ⟦<Book as Played>⟧.shape book.now ≡ caps config.now }
     requires few { length config.now.account < 2 ^ 31 }
@@ -45,7 +45,7 @@ fn accounts(alloc: Global, config: &Config, book: &Book) -> Result<Vec<Sum>, All
     Ok(sums)
 }
 
-/// What all accounts came to, with that of rovers without credentials.
+/// The total of all accounts, with that of rovers without credentials.
 fn total<P: RingPlace>(desks: &Desks<P>) -> Sum
     ensures { (c : ConfigValue) → ArePlaces c desks.now
         → result ≡ (closed_of c desks.now.seen).total }
@@ -53,7 +53,7 @@ fn total<P: RingPlace>(desks: &Desks<P>) -> Sum
     desks.places.book.value().total_of_all()
 }
 
-/// What a caster came to.
+/// The totals of a run.
 pub(crate) fn totals<P: RingPlace>(
     alloc: Global,
     config: &Config,

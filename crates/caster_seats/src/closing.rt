@@ -16,7 +16,7 @@ use caster_places::{PassPiles, Totals, close};
 use session_core::Closed;
 
 impl<'c> Shared<'c> {
-    /// Closes all locks with the passes of all callers, and tells what the caster came to.
+    /// Closes all locks with the passes of all callers, and gives the totals of the caster.
     ///
     /// What is shared is taken apart here by all its four parts, so a further one, such as one more
     /// lock, could not stand in it unseen.

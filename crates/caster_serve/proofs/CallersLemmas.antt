@@ -8,6 +8,7 @@ use Rattle.std.proofs.lemmas.List.Elements.{All-nil, All-cons, All-append, All-h
 use Rattle.turn_log.specs.History.{IsLegal, own}
 use Rattle.turn_log.specs.Lock.{turn_value, turn_home}
 use Rattle.cast_io.specs.Causes.{Rose}
+use Rattle.cast_io.specs.Told.{LinkTold, DoorTold}
 use Rattle.caster_accounts.specs.History.{fits}
 use Rattle.caster_accounts.specs.Kept.{caps_of}
 use Rattle.caster_accounts.specs.Sums.{nothing}
@@ -18,7 +19,7 @@ use Rattle.session_calls.specs.Rings.{AllLater}
 use Rattle.session_model.specs.Judged as judged
 use Rattle.session_model.specs.Run.{Histories}
 use Rattle.session_model.specs.Setting.{caps}
-use Rattle.caster_serve.specs.Endpoints.{EndpointTold, at_door, over_link, Kind, a_worker, a_relay, IsUnused, door_failed, kind_of, kinds, relays_from}
+use Rattle.caster_serve.specs.Endpoints.{EndpointTold, at_door, over_link, Kind, a_worker, a_relay, IsUnserved, IsUnused, door_failed, end_told, kind_of, kinds, relays_from}
 use Rattle.caster_places.specs.Known.{Fit}
 use Rattle.caster_places.specs.Leaves.{Leaves, left_in}
 use Rattle.caster_places.specs.Piles.{AreMatched}
@@ -30,7 +31,8 @@ use Rattle.caster_serve.specs.Works.{IsWithin}
 use Rattle.caster_serve.specs.Callers.{Caller, Served, ServedOver, IsServed, AreServed, ends_of, is_whole, is_whole_at, seen_of, uncalled}
 use Rattle.caster_seats.specs.SeatedCallers.{SeatedTold}
 use Rattle.caster_seats.specs.Seated.{AreAllAt, AreBelow, AreLegal, AreSeated, HavePlaces, IsSeated}
-use Rattle.caster_serve.specs.Serving.{TaskTold, CallerServed, FitsEndpoint, MayServe, caller_of}
+use Rattle.caster_serve.specs.Serving.{TaskTold, CallerServed, FitsEndpoint, MayServe, caller_of, task_told}
+use Rattle.caster_serve.specs.declared.caller_task.CallerTask.{CallerTask}
 use Rattle.caster_serve.proofs.WorkLemmas.{counted_on, worked_on}
 use Rattle.caster_link.proofs.WornLemmas.{WearsOn, later_none}
 use Rattle.turn_log.proofs.LockLists.{as_it_is}
@@ -42,6 +44,14 @@ callers_of hands = map caller_of hands
 -- a task over this end, of which nothing was done
 abbrev pub new_task : EndpointTold → TaskTold
 new_task end = record { end = end; tally = nothing; served = 0 }
+
+-- so are these, of which nothing was done
+pub new_tasks : {D L : Type 0} (f : D → DoorTold) (g : L → LinkTold) (tasks : List (CallerTask D L))
+    → All IsUnserved tasks → map (task_told f g) tasks ≡ map new_task (map (end_told f g) tasks)
+new_tasks f g [] fresh = refl
+new_tasks f g (task ∷ tasks) fresh =
+    ap (λ t. t ∷ map (task_told f g) tasks) (ap (task_told f g) (All-head IsUnserved task tasks fresh))
+    ∙ ap (λ l. new_task (end_told f g task) ∷ l) (new_tasks f g tasks (All-tail IsUnserved task tasks fresh))
 
 -- ---- before they serve
 

@@ -3,7 +3,6 @@ use Rattle.std.proofs.Common.{◌≡◌, ◌∙◌, ◌+◌, ◌<◌, ◌^◌, �
 use Rattle.std.specs.Prelude.{Bool}
 use Rattle.std.specs.List.{All, list_all}
 use Rattle.std.proofs.lemmas.List.{length-map}
-use Rattle.std.proofs.lemmas.List.Elements.{All-head, All-tail}
 use Rattle.cast_io.specs.Told.{LinkTold, DoorTold}
 use Rattle.caster_serve.specs.declared.caller_task.CallerTask.{CallerTask}
 use Rattle.caster_serve.specs.Endpoints.{EndpointTold, IsUnserved, IsUnused, end_told, kind_of, kinds}
@@ -16,16 +15,7 @@ use Rattle.caster_serve.specs.Callers.{ends_of, is_whole, seen_of}
 use Rattle.caster_seats.specs.SeatedCallers.{SeatedTold, with_work}
 use Rattle.caster_seats.specs.Seated.{AreAllAt, AreBelow, AreLegal, AreSeated, HaveLeft, HavePlaces, rows_of, works_of}
 use Rattle.caster_serve.specs.Serving.{CallerServed, HaveCalled, MayServe, TaskTold, caller_of, task_told}
-use Rattle.caster_serve.proofs.CallersLemmas.{HaveServed, callers_of, fit_ends, have_places, have_served, legal_rows, may_serve_with, new_task, whole_are}
-
--- ---- tasks of which nothing was done
-
-pub new_tasks : {D L : Type 0} (f : D → DoorTold) (g : L → LinkTold) (tasks : List (CallerTask D L))
-    → All IsUnserved tasks → map (task_told f g) tasks ≡ map new_task (map (end_told f g) tasks)
-new_tasks f g [] fresh = refl
-new_tasks f g (task ∷ tasks) fresh =
-    ap (λ t. t ∷ map (task_told f g) tasks) (ap (task_told f g) (All-head IsUnserved task tasks fresh))
-    ∙ ap (λ l. new_task (end_told f g task) ∷ l) (new_tasks f g tasks (All-tail IsUnserved task tasks fresh))
+use Rattle.caster_serve.proofs.CallersLemmas.{HaveServed, callers_of, fit_ends, have_places, have_served, legal_rows, may_serve_with, new_task, new_tasks, whole_are}
 
 -- ---- callers whose work is told as a task
 

@@ -16,7 +16,7 @@ use session_core::{Places, Setup};
 use std::sync::Wait;
 use turn_log::Turns;
 
-/// Serves the links that the door gives until so many came, or until the door fails. Answers how
+/// Serves the links that the door gives until `limit` came, or until the door fails. Answers how
 /// many came.
 pub fn work_places<T: Turns<Ring>, B: Turns<Book>, D: Door, R: Wait>(
     rt: &R,

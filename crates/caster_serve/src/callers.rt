@@ -41,7 +41,7 @@ fn serve_hands<'a, L: Link + Send, D: Door<Link = L> + Send, R: Threads + Wait +
     serve_all(rt, alloc, config, table, hands.as_mut_slice(), limit);
 }
 
-/// Each of these served as many links as it was to.
+/// Whether each of these served `limit` links.
 fn are_whole<'a, L: Link + Send, D: Door<Link = L> + Send, R: Wait + Sync>(
     hands: &[SeatedCaller<'a, CallerTask<D, L>, R>],
     limit: u64,

@@ -25,17 +25,16 @@ pub fn address_of(relay: &Relay) -> &str
 }
 
 /// Puts a task at each door behind what stands in `tasks`, in order.
-fn put_doors<D, L>(mut doors: Vec<D>, tasks: &mut Vec<CallerTask<D, L>>)
+fn put_doors<D, L>(doors: Vec<D>, tasks: &mut Vec<CallerTask<D, L>>)
     requires room { vec_len tasks.old + length doors.items ≤ vec_capacity tasks.old }
     ensures put { tasks.new.items ≡ tasks.old.items ++ map at_new_door doors.items }
     ensures space { vec_capacity tasks.old ≤ vec_capacity tasks.new }
 {
-    let Some(last) = doors.pop() else {
-        doors.destroy_empty();
-        return;
-    };
-    put_doors(doors, tasks);
-    tasks.push_reserved(CallerTask::new(Endpoint::Door(last)));
+    let mut doors = doors.into_iter();
+    while let Some(door) = doors.next() {
+        tasks.push_reserved(CallerTask::new(Endpoint::Door(door)));
+    }
+    doors.destroy_empty();
 }
 
 /// Dials the peer of each of these relays, numbered from `number` on, until one is refused.

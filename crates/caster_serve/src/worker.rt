@@ -72,7 +72,7 @@ impl<'a, D: Door, R: Wait + Sync> Worker<'a, D, R> {
     }
 }
 
-/// Serves the links that the worker's door gives until so many came, or until the door fails. Each
+/// Serves the links that the worker's door gives until `limit` came, or until the door fails. Each
 /// is hung up at the door after its receipt.
 pub fn work<'a, D: Door, R: Wait + Sync>(
     rt: &R,

@@ -17,7 +17,7 @@ use std::test::Fail;
 use std::thread::Threads;
 use std::time::Clock;
 use test_support::{FRAME_A, FRAMES_AB, link_of};
-use timed_io::{Stop, TimedLink, TimedStreet};
+use test_timed_io::{Stop, TimedLink, TimedStreet};
 
 // Two workers, and a ring that holds more frames than a turn takes.
 const FILE: &[u8] = b"version = 1

@@ -33,7 +33,7 @@ pub(crate) struct Back {
 pub(crate) fn ended_of(alloc: Global, link: &MemLink) -> Result<Ended, Fail> {
     Ok(Ended {
         bytes: link.bytes().to_vec(alloc)?,
-        steps: link.taken().ok_or("steps are told no longer")?.len(),
+        steps: link.steps().ok_or("steps are told no longer")?.len(),
         faults: link.faults(),
     })
 }

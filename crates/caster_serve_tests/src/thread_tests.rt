@@ -12,7 +12,7 @@ use std::test::Fail;
 use std::thread::Threads;
 use std::time::Clock;
 use test_support::{ICY, link_of};
-use timed_io::{Stop, TimedDoor, TimedLink, TimedStreet};
+use test_timed_io::{Stop, TimedDoor, TimedLink, TimedStreet};
 
 /// No flag.
 pub(crate) const NONE: usize = 2;

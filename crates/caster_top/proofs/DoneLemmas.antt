@@ -27,17 +27,17 @@ script_short kind bytes events is = elim (cases_lt 8388608 (length bytes)) [
   | inr short ↦ short
 ]
 
--- what is read is not too long
-pub config_more : (files more : Files) (path : List ℕ) (c : Config)
-    → ((path bytes : List ℕ) → length bytes ≤ 8388608 → files path bytes → more path bytes)
-    → IsConfigFrom files path c → IsConfigFrom more path c
-config_more files more path c each is = (is.0, each path is.0 is.2 is.1, is.2, is.3)
-
 session_more : (files more : Files) (path : List ℕ) (c : Config) (events : List Event)
     → ((path bytes : List ℕ) → length bytes ≤ 8388608 → files path bytes → more path bytes)
     → IsSessionFrom files path c events → IsSessionFrom more path c events
 session_more files more path c events each is =
     (is.0, each path is.0 (script_short (Replay (length c.relay)) is.0 events is.2) is.1, is.2)
+
+-- what is read is not too long
+pub config_more : (files more : Files) (path : List ℕ) (c : Config)
+    → ((path bytes : List ℕ) → length bytes ≤ 8388608 → files path bytes → more path bytes)
+    → IsConfigFrom files path c → IsConfigFrom more path c
+config_more files more path c each is = (is.0, each path is.0 is.2 is.1, is.2, is.3)
 
 -- where all of these that are not too many may have come from there
 module _ {words : List (List ℕ)} {input more_input : Input} {files more_files : Files} {before after : StreetTold}

@@ -47,7 +47,7 @@ pub enum Answer {
 
 impl Answer {
     /// The answer where an input or a file could not be read to its end.
-    pub fn unread(fault: ReadAllFault) -> Self
+    pub fn of_read_fault(fault: ReadAllFault) -> Self
         ensures { result ≡ answer_of_fault fault }
     {
         match fault {

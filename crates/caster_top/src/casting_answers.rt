@@ -168,7 +168,7 @@ fn answer_to_recorder<R: Wait, N: Street>(
     }
 }
 
-// The answer to a session of these events that was recorded.
+// The answer to a recorded session of these events.
 fn answer_to_events(alloc: Global, events: &[Event]) -> Answer
     ensures { GivesEnd (exactly (whole_exit (script_text events.now))) result }
 {

@@ -56,7 +56,7 @@ pub fn config_at<S: Store>(alloc: Global, path: &str, store: &mut S) -> Result<C
 {
     match read_file(alloc, path, store) {
         Ok(bytes) => config_of(alloc, &bytes),
-        Err(fault) => Err(Answer::unread(fault)),
+        Err(fault) => Err(Answer::of_read_fault(fault)),
     }
 }
 

@@ -40,7 +40,7 @@ pub fn fetch_in(words: &[String]) -> Option<Fetch<'_>>
     }
 }
 
-// The fetch of these words, where they have its name.
+// The fetch that these words ask for, where the first is its name.
 fn fetch_named<'a>(name: &str, frames: &str, targets: &'a [String]) -> Option<Fetch<'a>>
     ensures form { option_map fetch_form result
         ≡ form_of_more name.now frames.now (texts targets.now) }
@@ -53,7 +53,7 @@ fn fetch_named<'a>(name: &str, frames: &str, targets: &'a [String]) -> Option<Fe
     }
 }
 
-// The fetch of so many frames from the targets that these words name.
+// The fetch of `frames` frames from the targets that these words name.
 fn fetch_of<'a>(frames: &str, targets: &'a [String]) -> Option<Fetch<'a>>
     ensures form { option_map fetch_form result ≡ fetching_form frames.now (texts targets.now) }
     ensures targets { IfSome result (λ fetch. IsTrue (are_few_targets (texts fetch.targets.now))) }

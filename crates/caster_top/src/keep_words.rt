@@ -43,7 +43,7 @@ fn keep_of(words: &[String]) -> Option<Keep<'_>>
     }
 }
 
-// The one of these words, where they have its name, and their paths can be paths.
+// The `keep` that these words ask for, where the first is its name and the paths can be paths.
 fn keep_named<'a>(name: &str, config: &'a str, addr: &'a str, quiet: &str) -> Option<Keep<'a>>
     ensures { option_map keep_form result ≡ keep_of_four name.now config.now addr.now quiet.now }
 {

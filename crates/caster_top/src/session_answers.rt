@@ -41,11 +41,11 @@ pub fn answer_to_input<I: Source>(alloc: Global, capacity: u32, input: &mut I) -
 {
     match read_all(alloc, input, MAX_SCRIPT_BYTES) {
         Ok(bytes) => answer_to_bare(alloc, capacity, &bytes),
-        Err(fault) => Answer::unread(fault),
+        Err(fault) => Answer::of_read_fault(fault),
     }
 }
 
-/// The answer to the session in the file of this path, whose rovers start so, over the
+/// The answer to the session in the file of this path, whose rovers start by `start`, over the
 /// configuration in another. The store is asked for each once, and for the session only where the
 /// configuration is one.
 pub fn answer_to_replay<S: Store>(
@@ -86,7 +86,7 @@ fn answer_to_session<S: Store>(
 {
     match read_file(alloc, path, store) {
         Ok(bytes) => answer_to_script(alloc, start, config, kind_for(config), &bytes),
-        Err(fault) => Answer::unread(fault),
+        Err(fault) => Answer::of_read_fault(fault),
     }
 }
 

@@ -86,6 +86,14 @@ sends_more event before after sends =
     let own = sends_own event before after sends in
     omega (arith, ap length own.1, length-append (sent_in (number_of event) before) own.0)
 
+-- who is greeted, if the event brings bytes or not, by whether it is its own
+abbrev greeted_if : Bool → Bool → List ℕ → List ℕ
+greeted_if brings own greeting = if brings && own then greeting else []
+
+greeted_not : (brings : Bool) (greeting : List ℕ) → greeted_if brings false greeting ≡ []
+greeted_not true greeting = refl
+greeted_not false greeting = refl
+
 -- and no other
 sends_others : (event : Event) (n : ℕ) (before after : List Live) → Sends event before after → n ≢ number_of event
     → sent_in n after ≡ sent_in n before
@@ -97,14 +105,6 @@ sends_others (events.In k bytes) n before after sends apart = sends.others n apa
 sends_others (events.Turn k budget) n before after sends apart = sends.others n apart
 sends_others (events.Break k) n before after silent apart = silent n
 sends_others (events.End k) n before after silent apart = silent n
-
--- who is greeted, if the event brings bytes or not, by whether it is its own
-abbrev greeted_if : Bool → Bool → List ℕ → List ℕ
-greeted_if brings own greeting = if brings && own then greeting else []
-
-greeted_not : (brings : Bool) (greeting : List ℕ) → greeted_if brings false greeting ≡ []
-greeted_not true greeting = refl
-greeted_not false greeting = refl
 
 module _ (c : Config) (headings : ℕ → Heading) (w next : World) (event : Event) where
   abbrev greets : ℕ → List ℕ

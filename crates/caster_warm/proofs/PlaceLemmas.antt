@@ -53,19 +53,19 @@ over_suc before after (suc i) (first ∷ xs) (y ∷ ys) x new within inside over
       rest = next.rest;
     }
 
-pub over_next : {P Q : Type 0} (before after : P → Q) (i : ℕ) (xs ys : List P) (x new : P) → i < length xs
-    → i < length ys → IsOver before after i xs ys → x ≡ get_or ys i x → before new ≡ after x
-    → IsOver before after (i + 1) xs (set ys i new)
-over_next before after i xs ys x new within inside over is made =
-    subst (λ (n : ℕ). IsOver before after n xs (set ys i new)) (one_next i)
-    (over_suc before after i xs ys x new within inside over is made)
-
 -- ---- a run that is cleared
 
 cleared_again : (places : List GreetingPlace) → map cleared_home places ≡ homes_at (map place_seen places)
 cleared_again [] = refl
 cleared_again (place ∷ places) =
     ap (λ (l : List Gv). cleared_home place ∷ l) (cleared_again places)
+
+pub over_next : {P Q : Type 0} (before after : P → Q) (i : ℕ) (xs ys : List P) (x new : P) → i < length xs
+    → i < length ys → IsOver before after i xs ys → x ≡ get_or ys i x → before new ≡ after x
+    → IsOver before after (i + 1) xs (set ys i new)
+over_next before after i xs ys x new within inside over is made =
+    subst (λ (n : ℕ). IsOver before after n xs (set ys i new)) (one_next i)
+    (over_suc before after i xs ys x new within inside over is made)
 
 -- its places were taken out, these were cleared, and they were put in again
 module _ (run mid next : Run GreetingPlace) (places cleared : List GreetingPlace)

@@ -16,7 +16,7 @@ use rover_session::push_frames;
 use session_core::RoverState;
 use std::alloc::AllocError;
 
-/// Appends the greeting that the run keeps at the mountpoint of a rover that stands so, if it keeps
+/// Appends the greeting that the run keeps at the mountpoint of a rover in this state, if it keeps
 /// one.
 fn append_kept(run: &WarmRun, rover: RoverState, out: &mut Vec<u8>) -> Result<(), AllocError>
     ensures { (old : Histories) → WasClearedAt old run.now

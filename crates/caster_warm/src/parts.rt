@@ -35,7 +35,7 @@ fn sent_len(run: &WarmRun, number: u32) -> usize
     run.sent(number).len()
 }
 
-/// What it was sent behind the first so many bytes.
+/// What it was sent behind its first `before` bytes.
 fn sent_behind(
     alloc: Global,
     run: &WarmRun,

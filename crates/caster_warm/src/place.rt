@@ -37,7 +37,7 @@ impl GreetingPlace {
     }
 }
 
-/// From now on nobody joined at any of these places.
+/// Clears at each of these places whose greeting it holds.
 pub(crate) fn clear_all(places: &mut Vec<GreetingPlace>)
     ensures shape { map place_shape places.new.items ≡ map place_shape places.old.items }
     ensures seen { map place_seen places.new.items ≡ map place_seen places.old.items }

@@ -6,8 +6,8 @@ use Rattle.config_keys.specs.declared.fault.KeyFault.{KeyFault}
 use Rattle.config_keys.specs.declared.fault.KeyFault.TheVariants.{Missing, Wrong, Range, Twice, Unknown, Memory}
 
 -- the name of this number, counted from 1; nothing where there is none
-abbrev pub numbered : List (List ℕ) → ℕ → List ℕ
-numbered names n = if n == 0 then [] else slice_index_or names (n - 1) []
+abbrev pub name_at : List (List ℕ) → ℕ → List ℕ
+name_at names n = if n == 0 then [] else slice_index_or names (n - 1) []
 
 -- the top keys, in their order
 abbrev pub top_keys : List (List ℕ)
@@ -57,8 +57,8 @@ behind_space n text = if n == 0 then [] else 32 ∷ text
 -- the top key, the number of the entry and the entry's key, as far as there are such
 abbrev pub place_text : Key → List ℕ
 place_text key =
-    numbered top_keys key.list ++ behind_space key.entry (decimal key.entry)
-    ++ behind_space key.key (numbered (keys_of key.list) key.key)
+    name_at top_keys key.list ++ behind_space key.entry (decimal key.entry)
+    ++ behind_space key.key (name_at (keys_of key.list) key.key)
 
 -- the test that was failed, and the place
 abbrev pub fault_text : KeyFault → List ℕ

@@ -198,7 +198,7 @@ fn each_filter(alloc: Global, values: &[Value], key: Key) -> Result<Vec<FilterEn
     all
 }
 
-#[tactic(auto, using(crate::proofs::ListLemmas::item_count_is))]
+#[tactic(auto, using(crate::proofs::ListLemmas::count_is))]
 fn nothing_yet(alloc: Global, values: &[Value], key: Key) -> Result<Vec<FilterEntry>, KeyFault>
     ensures { GivesBy (λ v. v.items) result (at_most 64 key (items_view values.now)) }
 {

@@ -96,7 +96,7 @@ fn are_tables(values: &[Value]) -> bool
     true
 }
 
-#[tactic(auto, using(crate::proofs::ListLemmas::item_count_is), unfolding(crate::specs::Lists::tables))]
+#[tactic(auto, using(crate::proofs::ListLemmas::count_is), unfolding(crate::specs::Lists::tables))]
 fn tables_of(value: &Value, key: Key, least: usize, most: usize) -> Result<&[Value], KeyFault>
     ensures read { GivesBy (λ v. items_view v.now) result (tables least most key (view value.now)) }
     ensures some { IfOk result (λ v. least ≤ length v.now) }

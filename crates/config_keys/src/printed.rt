@@ -2,7 +2,7 @@
 
 ghost use Rattle.std.specs.Prelude.{◌≡◌, ◌++◌, List, ℕ, map, OnOk, OnErr};
 ghost use Rattle.std.specs.Fmt.{decimal};
-ghost use Rattle.config_keys.specs.Printed.{numbered, top_keys, keys_of, behind_space, place_text, fault_text};
+ghost use Rattle.config_keys.specs.Printed.{name_at, top_keys, keys_of, behind_space, place_text, fault_text};
 
 use crate::fault::KeyFault;
 use crate::key::Key;
@@ -10,8 +10,8 @@ use cast_text::push_decimal;
 use std::alloc::AllocError;
 
 /// The name of this number, counted from 1; nothing where there is none.
-fn numbered<'a>(names: &[&'a str], number: u32) -> &'a str
-    ensures { result.now ≡ numbered (map (λ t. t.now) names.now) number }
+fn name_at<'a>(names: &[&'a str], number: u32) -> &'a str
+    ensures { result.now ≡ name_at (map (λ t. t.now) names.now) number }
 {
     if number == 0 {
         return "";
@@ -25,7 +25,7 @@ fn numbered<'a>(names: &[&'a str], number: u32) -> &'a str
 }
 
 fn top_key(list: u32) -> &'static str
-    ensures { result.now ≡ numbered top_keys list }
+    ensures { result.now ≡ name_at top_keys list }
 {
     const NAMES: [&str; 10] = [
         "version",
@@ -39,14 +39,14 @@ fn top_key(list: u32) -> &'static str
         "relay",
         "anonymous",
     ];
-    numbered(&NAMES, list)
+    name_at(&NAMES, list)
 }
 
 fn key_in(list: u32, key: u32) -> &'static str
-    ensures { result.now ≡ numbered (keys_of list) key }
+    ensures { result.now ≡ name_at (keys_of list) key }
 {
     match list {
-        5 => numbered(
+        5 => name_at(
             &[
                 "name",
                 "password",
@@ -65,16 +65,16 @@ fn key_in(list: u32, key: u32) -> &'static str
             ],
             key,
         ),
-        6 => numbered(&["name", "bases"], key),
-        7 => numbered(&["name", "mounts", "types", "filter"], key),
-        8 => numbered(&["user", "password", "group", "cap"], key),
-        9 => numbered(
+        6 => name_at(&["name", "bases"], key),
+        7 => name_at(&["name", "mounts", "types", "filter"], key),
+        8 => name_at(&["user", "password", "group", "cap"], key),
+        9 => name_at(
             &[
                 "mount", "address", "upstream", "protocol", "user", "password",
             ],
             key,
         ),
-        10 => numbered(&["group", "cap"], key),
+        10 => name_at(&["group", "cap"], key),
         _ => "",
     }
 }
@@ -93,7 +93,7 @@ fn push_entry(entry: u32, out: &mut Vec<u8>) -> Result<(), AllocError>
 
 fn push_key(list: u32, key: u32, out: &mut Vec<u8>) -> Result<(), AllocError>
     ensures ok { OnOk result (out.new.items
-        ≡ out.old.items ++ behind_space key (numbered (keys_of list) key)) }
+        ≡ out.old.items ++ behind_space key (name_at (keys_of list) key)) }
     ensures begins { (more : List ℕ) × (out.new.items ≡ out.old.items ++ more) }
 {
     if key == 0 {

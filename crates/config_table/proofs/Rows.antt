@@ -5,7 +5,7 @@ use Rattle.std.specs.Prelude.{codes}
 use Rattle.std.specs.Fmt.{digits}
 use Rattle.sourcetable.specs.Table.{table_text}
 use Rattle.cast_config.specs.Bare.{bare}
-use Rattle.cast_config.proofs.Example.{example}
+use Rattle.cast_config.proofs.WorkedExample.{example}
 use Rattle.config_table.specs.Table.{table_records}
 
 of_example : table_text (table_records example)

@@ -1,5 +1,5 @@
 -- What the porter said.
-use Rattle.std.proofs.Common.{◌≡◌, ◌∙◌, ◌^◌, ◌<◌, ◌≤◌, ◌+◌, ◌++◌, ℕ, zero, suc, Bool, true, false, IsTrue, List, [], ◌∷◌, length, map, refl, sym, ap, subst, arith, append-nil, append_assoc, length-append}
+use Rattle.std.proofs.Common.{◌≡◌, ◌∙◌, ◌^◌, ◌≤◌, ◌+◌, ◌++◌, ℕ, suc, Bool, List, [], ◌∷◌, length, map, refl, sym, ap, subst, arith, append-nil, append_assoc, length-append}
 use Rattle.std.specs.Prelude.{Result, Ok, Err, OnErr, OnOk, is_ok}
 use Rattle.std.specs.List.{All, flat_map}
 use Rattle.std.proofs.lemmas.List.{map-append}
@@ -20,10 +20,9 @@ use Rattle.caster_press.specs.Places.{HasPut}
 use Rattle.keep_lines.specs.Puts.{HasBegun, HasTold}
 use Rattle.keep_lines.specs.Lines.{now_end_line, now_workers_line}
 use Rattle.keep_lines.proofs.PutLemmas.{begun_more, told_as, told_none, told_one, told_then}
-use Rattle.keep_porter.specs.declared.end.WaitEnd.{WaitEnd}
 use Rattle.keep_porter.specs.declared.end.WaitEnd.TheVariants as ends
 use Rattle.keep_porter.specs.declared.found.Found.{Found}
-use Rattle.keep_porter.specs.Porters.{Answer, AreAllSaid, AreFound, ArePut, IsFound, IsItsEnd, IsOfAll, LastIsCut, answer_lines, any_lacks, busy_of, last_lines, mount_line, mount_lines, steps_at, steps_from, steps_of}
+use Rattle.keep_porter.specs.Porters.{Answer, AreAllSaid, AreFound, ArePut, IsFound, IsItsEnd, IsOfAll, answer_lines, any_lacks, busy_of, last_lines, mount_line, mount_lines, steps_at, steps_from, steps_of}
 use Rattle.keep_porter.proofs.LookLemmas.{all_found_on, went_on_at}
 
 -- ---- one mountpoint more
@@ -180,18 +179,9 @@ GivenAt ring first now me before after c by sheet later =
     Given (map ring.shape first) (all_alone ring.alone first) (map ring.seen first) (map ring.seen now) me
     (any_lacks (map ring.may_lack now)) (map ring.worn now) before after c by sheet later
 
--- the console told the same
-pub given_still : {P : Type 0} (ring : AtRing P) (first now : List P) (me : ℕ) (before mid after : ConsoleTold)
-    (c : Config) (by : ℕ) (sheet later : History Line) → after.busy ≡ mid.busy
-    → GivenAt ring first now me before mid c by sheet later → GivenAt ring first now me before after c by sheet later
-given_still ring first now me before mid after c by sheet later same given = record {
-  given = given.given;
-  busy = same ∙ given.busy;
-  went = given.went;
-  all = given.all;
-  whole = given.whole;
-  told = given.told;
-}
+flat-snoc : {X Y : Type 0} (f : X → List Y) (xs : List X) (x : X) → flat_map f (xs ++ x ∷ []) ≡ flat_map f xs ++ f x
+flat-snoc f xs x =
+    flat_map-append f xs (x ∷ []) ∙ ap (λ (l : List _). flat_map f xs ++ l) (append-nil (f x))
 
 pub all_answers_on : (lacks later_lacks : Bool) (worn later : List ℕ) (given : List Answer) → later_lacks ≡ lacks
     → AllLater worn later → All (AreFound lacks worn) given → All (AreFound later_lacks later) given
@@ -200,10 +190,6 @@ all_answers_on lacks later_lacks worn later (one ∷ given) same rise all =
     All-cons (AreFound later_lacks later) one given
     (all_found_on lacks later_lacks worn later one.found same rise (All-head (AreFound lacks worn) one given all))
     (all_answers_on lacks later_lacks worn later given same rise (All-tail (AreFound lacks worn) one given all))
-
-flat-snoc : {X Y : Type 0} (f : X → List Y) (xs : List X) (x : X) → flat_map f (xs ++ x ∷ []) ≡ flat_map f xs ++ f x
-flat-snoc f xs x =
-    flat_map-append f xs (x ∷ []) ∙ ap (λ (l : List _). flat_map f xs ++ l) (append-nil (f x))
 
 module _ {P : Type 0} (ring : AtRing P) (first old now : List P) (me : ℕ) (before mid after : ConsoleTold) (c : Config)
     (by : ℕ) (one : Answer) (sheet between later : History Line) (from : StayAtRings ring first old)
@@ -283,26 +269,6 @@ pub told_busy : (before after : ConsoleTold) (wanted said : ℕ) → after.busy 
     → said ≡ wanted → after.busy ≡ before.busy ++ said ∷ []
 told_busy before after wanted said told same =
     told ∙ ap (λ (n : ℕ). before.busy ++ n ∷ []) (sym same)
-
--- nothing is wanted any more
-pub given_over : {P : Type 0} (ring : AtRing P) (first now : List P) (me : ℕ) (before mid after : ConsoleTold)
-    (c : Config) (by met : ℕ) (sheet later : History Line) → after.busy ≡ mid.busy → after.over ≡ true
-    → GivenAt ring first now me before mid c by sheet later
-    → (all : List Answer) × (texts : List (List ℕ)) × (after.busy ≡ before.busy ++ map busy_of all)
-    × Went (map ring.shape first) (all_alone ring.alone first) (map ring.seen first) (map ring.seen now) me
-    (flat_map steps_of all)
-    × All (AreFound (any_lacks (map ring.may_lack now)) (map ring.worn now)) all
-    × HasTold by texts sheet later × AreAllSaid ends.Over c all texts × IsItsEnd ends.Over after met
-given_over ring first now me before mid after c by met sheet later same over given = (
-  given.given,
-  flat_map (answer_lines c) given.given,
-  same ∙ given.busy,
-  given.went,
-  given.all,
-  given.told,
-  (given.whole, refl),
-  over,
-)
 
 -- ---- one answer
 

@@ -16,6 +16,6 @@ mod watch;
 
 pub use call::{Holder, RingAnswer, RingCall};
 pub use cursor::{Cursor, Lap, ReadReport};
-pub use outbox::{MAX_TAKEN, Outbox};
+pub use outbox::{MAX_BUDGET, Outbox};
 pub use ring::Ring;
 pub use shape::RingShape;

@@ -5,15 +5,15 @@ use rtcm_frame::Frame;
 use std::fmt;
 use std::marker::Model;
 
-/// The most frames that one read takes.
-pub const MAX_TAKEN: usize = 16;
+/// The largest budget of a read: the most frames that it takes.
+pub const MAX_BUDGET: u32 = 16;
 
 /// The frames that a read took, at most 16, held in the outbox itself: it takes no memory.
 ///
 /// Contracts see it as the list of its frames.
 #[derive(Drop)]
 pub struct Outbox {
-    frames: [Frame; MAX_TAKEN],
+    frames: [Frame; MAX_BUDGET as usize],
     len: usize,
 }
 
@@ -35,7 +35,7 @@ impl Outbox {
         ensures { result ≡ [] }
     {
         Outbox {
-            frames: [Frame::default(); MAX_TAKEN],
+            frames: [Frame::default(); MAX_BUDGET as usize],
             len: 0,
         }
     }

@@ -2,7 +2,7 @@ ghost use Rattle.std.specs.Prelude.{◌≡◌, ℕ, ◌+◌, ◌^◌, ◌<◌, �
 
 use crate::call::{Holder, RingAnswer, RingCall};
 use crate::cursor::{Cursor, ReadReport};
-use crate::outbox::{MAX_TAKEN, Outbox};
+use crate::outbox::{MAX_BUDGET, Outbox};
 use crate::reading::{ReadStart, take_frames};
 use crate::watch::{Watch, count_for_each};
 use circular_buffer::HeapCircularBuffer;
@@ -169,7 +169,7 @@ impl Ring {
         let kept_from = self.published - self.frames.len() as u64;
         let start = ReadStart::find(cursor, watch.dropped, kept_from, self.published);
         let from = (start.place - kept_from) as usize;
-        let budget = (budget as usize).min(MAX_TAKEN);
+        let budget = budget.min(MAX_BUDGET) as usize;
         let looked = take_frames(&self.frames, from, &watch.filter, budget, out) as u64;
         let taken = out.frames().len() as u32;
         ReadReport {

@@ -41,12 +41,6 @@ done_not_faulty (Accepted at false) bytes place done bad = bad
 done_not_faulty (Accepted at true) bytes place done bad = bad_not_ended _ place bad done
 done_not_faulty (Refused why) bytes place done bad = bad
 
-one_place : (answer : Answer) (bytes : List ℕ) (i j : ℕ) → IsFaulty answer bytes i → IsFaulty answer bytes j → i ≡ j
-one_place Open bytes i j x y = absurd x
-one_place (Accepted at false) bytes i j x y = absurd x
-one_place (Accepted at true) bytes i j x y = one_fault _ i j x y
-one_place (Refused why) bytes i j x y = absurd x
-
 refused_not_done : (answer : Answer) (bytes : List ℕ) (why : Refusal) → answer ≡ Refused why → IsDone answer bytes → ⊥
 refused_not_done answer bytes why is done = subst (λ a. IsDone a bytes) is done
 
@@ -63,6 +57,12 @@ refused_none : (most n : ℕ) (answer : Answer) (bytes : List ℕ) (why : Refusa
     → n ≡ length (take most (answered answer bytes)) → n ≡ 0
 refused_none most n answer bytes why is count =
     count ∙ ap (λ a. length (take most (answered a bytes))) is ∙ ap length (sym (take_none most))
+
+one_place : (answer : Answer) (bytes : List ℕ) (i j : ℕ) → IsFaulty answer bytes i → IsFaulty answer bytes j → i ≡ j
+one_place Open bytes i j x y = absurd x
+one_place (Accepted at false) bytes i j x y = absurd x
+one_place (Accepted at true) bytes i j x y = one_fault _ i j x y
+one_place (Refused why) bytes i j x y = absurd x
 
 module _ (most : ℕ) (before after : LinkTold) (taken : List Step) (answer : Answer) (n : ℕ) where
   pub by_done : (left : Left) → IsLeft most before after taken answer n left → n < most

@@ -56,7 +56,7 @@ fn link_run(
         answer,
         written,
         asked,
-        steps: link.taken().map(|taken| taken.len()),
+        steps: link.steps().map(|taken| taken.len()),
     })
 }
 
@@ -120,7 +120,7 @@ fn dials_of(alloc: Global, calls: &[Asked]) -> Result<Vec<u8>, AllocError> {
 /// How many links there are, and how many steps of the last of them were taken.
 fn last_steps(links: &[MemLink]) -> (usize, Option<usize>) {
     let steps = match links.last() {
-        Some(link) => link.taken().map(|taken| taken.len()),
+        Some(link) => link.steps().map(|taken| taken.len()),
         None => None,
     };
     (links.len(), steps)

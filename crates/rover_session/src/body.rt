@@ -5,7 +5,7 @@ ghost use Rattle.std.specs.Vec.{vec_capacity};
 ghost use Rattle.rover_session.specs.Body.{frame_sent, body_of};
 
 use chunk_body::chunk;
-use mount_ring::MAX_TAKEN;
+use mount_ring::MAX_BUDGET;
 use ntrip_head::Version;
 use rtcm_frame::Frame;
 use std::alloc::AllocError;
@@ -14,7 +14,7 @@ use std::alloc::AllocError;
 const MAX_CHUNK_BYTES: usize = 1_036;
 
 /// The most bytes of one turn: those of as many frames as one read takes.
-pub(crate) const MAX_TURN_BYTES: usize = MAX_TAKEN * MAX_CHUNK_BYTES;
+pub(crate) const MAX_TURN_BYTES: usize = MAX_BUDGET as usize * MAX_CHUNK_BYTES;
 
 /// Appends a frame as it is (RTCM 10410.0), or as one chunk (RFC 9112, section 7.1). No refusal
 /// comes where room for the largest frame was reserved.
@@ -32,8 +32,8 @@ fn push_frame(version: Version, frame: &Frame, out: &mut Vec<u8>) -> Result<(), 
     }
 }
 
-/// Appends the frames as they are, or one chunk each. No refusal comes where room for as many of the
-/// largest frames was reserved.
+/// Appends the frames as they are, or one chunk each. No refusal comes where room for as many of
+/// the largest frames was reserved.
 pub fn push_frames(version: Version, frames: &[Frame], out: &mut Vec<u8>) -> Result<(), AllocError>
     ensures ok { OnOk result (out.new.items ≡ out.old.items ++ body_of version frames.now) }
     ensures room { vec_len out.old + 1036 * length frames.now ≤ vec_capacity out.old

@@ -59,14 +59,14 @@ impl Frame {
         ensures { result ≡ (if is_frame bytes.now then Some bytes.now else None) }
     {
         if is_whole(bytes) {
-            Some(Frame::held(bytes))
+            Some(Frame::of_valid(bytes))
         } else {
             None
         }
     }
 
     // The frame of these bytes, which are known to be one.
-    pub(crate) fn held(bytes: &[u8]) -> Frame
+    pub(crate) fn of_valid(bytes: &[u8]) -> Frame
         requires { IsTrue (is_frame bytes.now) }
         ensures { result ≡ bytes.now }
     {

@@ -237,7 +237,7 @@ impl Cutter {
         ensures behind { self.new
             ≡ record { bytes = drop count self.old.bytes; junk = self.old.junk } }
     {
-        let frame = Frame::held(&self.uncut_bytes()[..count]);
+        let frame = Frame::of_valid(&self.uncut_bytes()[..count]);
         self.skip(count);
         frame
     }

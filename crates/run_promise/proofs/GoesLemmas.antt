@@ -190,16 +190,6 @@ publishing_keeps : (mount claim : ℕ) (frames : List (List ℕ)) → KeepsPlan 
 publishing_keeps mount claim [] = tt
 publishing_keeps mount claim (frame ∷ frames) = (refl, λ answer. publishing_keeps mount claim frames)
 
-claim_keeps : (mount : ℕ) (frames : List (List ℕ)) (answer : Answer) → KeepsPlan (after_claim mount frames answer)
-claim_keeps mount frames (of_ring (rings.Given claim)) = publishing_keeps mount claim frames
-claim_keeps mount frames (of_ring (rings.Taken caller claim)) = tt
-claim_keeps mount frames (of_ring rings.Released) = tt
-claim_keeps mount frames (of_ring (rings.At place)) = tt
-claim_keeps mount frames (of_ring (rings.Joined cursor)) = tt
-claim_keeps mount frames (of_ring (rings.Looked live)) = tt
-claim_keeps mount frames (of_ring (rings.Read report)) = tt
-claim_keeps mount frames (of_book answer) = tt
-
 from_owed : (steps : List Step) → KeepsSteps (owed_among steps) → KeepsSteps steps
 from_owed [] keeps = tt
 from_owed (at_ring mount Claim answer ∷ steps) keeps = (keeps.0, from_owed steps keeps.1)
@@ -262,6 +252,16 @@ received_front (step ∷ first) last one more are = refl
 second_false : (a b : Bool) → a ≡ true → (a && b) ≡ false → b ≡ false
 second_false true b is none = none
 second_false false b is none = absurd cc
+
+claim_keeps : (mount : ℕ) (frames : List (List ℕ)) (answer : Answer) → KeepsPlan (after_claim mount frames answer)
+claim_keeps mount frames (of_ring (rings.Given claim)) = publishing_keeps mount claim frames
+claim_keeps mount frames (of_ring (rings.Taken caller claim)) = tt
+claim_keeps mount frames (of_ring rings.Released) = tt
+claim_keeps mount frames (of_ring (rings.At place)) = tt
+claim_keeps mount frames (of_ring (rings.Joined cursor)) = tt
+claim_keeps mount frames (of_ring (rings.Looked live)) = tt
+claim_keeps mount frames (of_ring (rings.Read report)) = tt
+claim_keeps mount frames (of_book answer) = tt
 
 module _ (c : Config) (headings : ℕ → Heading) (list : List Event) (h : Histories) (d : Connected)
     (s : Stood c (headings d.number) h d) (k : IsKnown c headings list d) (g : GoesOn c headings list d.number) where

@@ -75,10 +75,6 @@ halt_same : (ended : Option Ending) (last : Last) (it : Came) → EndsAs ended (
 halt_same None last it ends = last_goes last it (unended_by None (ended_by it) ends refl)
 halt_same (Some end) last it ends = refl
 
-or_cases : (a b : Bool) → (a || b) ≡ true → (a ≡ true) ⊎ (b ≡ true)
-or_cases true b is = inl refl
-or_cases false b is = inr is
-
 uncalled_none : (steps : List Step) → is_uncalled steps ≡ true → steps ≡ []
 uncalled_none [] is = refl
 uncalled_none (step ∷ steps) is = absurd cc
@@ -167,6 +163,10 @@ whole_so c histories opening me j steps closed_by last receipt due is answered o
     (calls_split c j steps closed_by receipt.settled is)
     (was_same c histories (told_with c h d j) (told_as me receipt due) (opening_text c opening) []
     (without_reads (calls_of (steps ++ closers))) same j (was_so c h d j [] facts))
+
+or_cases : (a b : Bool) → (a || b) ≡ true → (a ≡ true) ⊎ (b ≡ true)
+or_cases true b is = inl refl
+or_cases false b is = inr is
 
 -- ---- the whole
 

@@ -73,7 +73,7 @@ impl Session {
     /// What its head asked, from when it was whole to the end of the session, without the
     /// password. Nothing where there is no head, where it was refused, and where memory was
     /// lacking to read it.
-    pub fn asked(&self) -> Option<&Asked>
+    pub fn asks(&self) -> Option<&Asked>
         ensures value { option_copied result ≡ self.now.asked }
         ensures heading { (opening : Opening) (heading : Heading) (text : List ℕ)
             → IsHeadingOf (Some opening) text heading → TellsAsked opening text self.now

@@ -25,7 +25,7 @@ use std::alloc::{AllocError, Global};
 use turn_log::Turns;
 
 impl Session {
-    /// A session that began so.
+    /// The session that began with this stage, or with this ending.
     fn of(alloc: Global, me: u32, begun: Begun) -> Session
         ensures { result ≡ record {
           alloc = alloc;

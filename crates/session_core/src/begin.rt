@@ -24,7 +24,7 @@ use source_session::{ClaimFault, SourceSession};
 use std::alloc::AllocError;
 use turn_log::Turns;
 
-/// A source whose claim was not given is told so, if another one holds the mountpoint.
+/// Tells a source whose claim was not given that another caller holds the mountpoint, if one does.
 fn begin_unclaimed(version: Option<Version>, fault: ClaimFault, out: &mut Vec<u8>) -> Begun
     requires room { vec_len out.old + 256 ≤ vec_capacity out.old }
     ensures stage { result.stage ≡ SessionStage.Over }

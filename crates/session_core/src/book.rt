@@ -15,7 +15,7 @@ use turn_log::{Played, TurnFault, Turns};
 pub enum EnterAnswer {
     /// The session is open.
     Entered,
-    /// So many sessions of the account are open, and no more may be.
+    /// The account is full: `busy` sessions of it are open, and `cap` is the most that may be.
     Full { busy: u32, cap: u32 },
 }
 

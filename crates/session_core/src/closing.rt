@@ -1,16 +1,17 @@
 //! What is told of a connection that is closed.
 
-ghost use Rattle.std.specs.Prelude.{◌≡◌, reverse, unwrap_or};
+ghost use Rattle.std.specs.Prelude.{◌≡◌, [], reverse, true, false, unwrap_or};
 ghost use Rattle.rover_session.specs.Made.{overrun_in, sent_in};
 ghost use Rattle.session_core.specs.Closing.{IsJunkAt, end_at, segments_at};
 ghost use Rattle.session_model.specs.Endings.{ended_last};
 ghost use Rattle.session_core.specs.Turned.{is_rover};
 
 use crate::session_stage::SessionStage;
+use rover_session::RoverSession;
 use session_model::{Ending, Last, Receipt, Segments};
 use std::alloc::Global;
 
-/// How a connection at this stage ends that came to its end.
+/// The ending of a connection whose peer ended it at this stage.
 fn ending_at_end(stage: &SessionStage) -> Ending
     ensures { result ≡ end_at stage.now }
 {
@@ -52,6 +53,52 @@ fn junk_at(stage: &SessionStage) -> u64
     }
 }
 
+/// What is told of a connection that was closed and is no rover.
+fn receipt_of_no_rover(alloc: Global, ending: Ending, junk: u64, settled: bool) -> Receipt
+    ensures { result ≡ record {
+      ending = ending;
+      segments = [];
+      sent = 0;
+      overrun = 0;
+      junk = junk;
+      entered = false;
+      settled = settled;
+    } }
+{
+    Receipt {
+        ending,
+        segments: Segments::new(Vec::new(alloc)),
+        sent: 0,
+        overrun: 0,
+        junk,
+        entered: false,
+        settled,
+    }
+}
+
+/// What is told of a rover that was closed.
+fn receipt_of_rover(session: RoverSession, ending: Ending, junk: u64, settled: bool) -> Receipt
+    ensures ending { result.ending ≡ ending }
+    ensures segments { result.segments ≡ reverse session.segments }
+    ensures sent { result.sent ≡ sent_in session.segments }
+    ensures overrun { result.overrun ≡ overrun_in session.segments }
+    ensures junk { result.junk ≡ junk }
+    ensures entered { result.entered ≡ true }
+    ensures settled { result.settled ≡ settled }
+{
+    let sent = session.sent();
+    let overrun = session.overrun();
+    Receipt {
+        ending,
+        segments: Segments::new(session.into_segments()),
+        sent,
+        overrun,
+        junk,
+        entered: true,
+        settled,
+    }
+}
+
 /// What is told of a connection that was closed at this stage.
 pub(crate) fn receipt_of(
     alloc: Global,
@@ -70,15 +117,7 @@ pub(crate) fn receipt_of(
 {
     let ending = ended.unwrap_or(ending_last(&stage, last));
     let junk = junk_at(&stage);
-    let told = Receipt {
-        ending,
-        segments: Segments::new(Vec::new(alloc)),
-        sent: 0,
-        overrun: 0,
-        junk,
-        entered: false,
-        settled,
-    };
+    let told = receipt_of_no_rover(alloc, ending, junk, settled);
     match stage {
         SessionStage::Head(head) => {
             drop(head);
@@ -98,17 +137,7 @@ pub(crate) fn receipt_of(
             session,
         } => {
             drop(told);
-            let sent = session.sent();
-            let overrun = session.overrun();
-            Receipt {
-                ending,
-                segments: Segments::new(session.into_segments()),
-                sent,
-                overrun,
-                junk,
-                entered: true,
-                settled,
-            }
+            receipt_of_rover(session, ending, junk, settled)
         }
     }
 }

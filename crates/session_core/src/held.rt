@@ -53,7 +53,7 @@ fn held_at(stage: &SessionStage) -> Held
 impl Session {
     /// What it holds: by the bytes that came in and the answers to its calls, exactly what its
     /// connection came to.
-    pub fn held(&self) -> Held
+    pub fn holds(&self) -> Held
         ensures value { result ≡ session_holding self.now }
         ensures came { (c : Config) (opening : Opening) (heading : Heading) (text : List ℕ)
             (steps : List Step) (histories : Histories) (sent : List ℕ)

@@ -137,7 +137,7 @@ pub(crate) fn halt_of<X: Copy>(answered: Result<X, SegFault>) -> Option<Ending>
     }
 }
 
-/// A rover whose account is full is told so.
+/// Replies to a rover that its account is full.
 fn turn_away(version: Option<Version>, busy: u32, cap: u32, out: &mut Vec<u8>) -> Begun
     requires room { vec_len out.old + 256 ≤ vec_capacity out.old }
     ensures stage { result.stage ≡ SessionStage.Over }
@@ -148,7 +148,7 @@ fn turn_away(version: Option<Version>, busy: u32, cap: u32, out: &mut Vec<u8>) -
     Begun::over(Ending::Full { busy, cap })
 }
 
-/// A rover that entered its account is told so, and joins.
+/// Replies to a rover that it entered its account, and joins.
 fn join<T: Turns<Ring>>(
     account: u32,
     mut session: RoverSession,

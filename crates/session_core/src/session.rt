@@ -129,10 +129,10 @@ impl Session {
         self.ended.is_some()
     }
 
-    /// Closes the connection, which came to its end or was broken so: a claim that it holds is
-    /// given back, or the account that it entered is left with what its segments count. One turn,
-    /// or none where nothing is held. Where the turn was refused, the receipt is not settled, which
-    /// comes only where a place may lack memory or is worn.
+    /// Closes the connection, for the reason `last`: a claim that it holds is given back, or the
+    /// account that it entered is left with what its segments count. One turn, or none where
+    /// nothing is held. Where the turn was refused, the receipt is not settled, which comes only
+    /// where a place may lack memory or is worn.
     pub fn close<T: Turns<Ring>, B: Turns<Book>>(
         self,
         last: Last,

@@ -25,7 +25,7 @@ use mount_ring::Ring;
 use session_model::Ending;
 use turn_log::Turns;
 
-/// Whether a session goes on that ended so, if it did.
+/// Whether a session goes on, by its ending, if it has one.
 pub(crate) fn flow_after(ended: Option<Ending>) -> Flow
     ensures { result ≡ flow_of ended }
 {

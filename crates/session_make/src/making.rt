@@ -8,7 +8,7 @@ ghost use Rattle.session_make.specs.Rounds.{round, after_round, opening, last_tu
 use crate::draws::Draws;
 use crate::framing::{draw_payload, frame_of};
 use cast_text::{MountName, Text};
-use session_script::Event;
+use session_script::{Event, MAX_BUDGET};
 use std::alloc::{AllocError, Global};
 
 /// The number of the connection that sends the frames.
@@ -16,9 +16,6 @@ const SOURCE: u32 = 1;
 
 /// The number of the first rover.
 const FIRST_ROVER: u32 = 2;
-
-/// The largest budget of a turn.
-const MAX_BUDGET: u32 = 16;
 
 /// The name of the only mountpoint, `A`.
 fn mountpoint(alloc: Global) -> Result<MountName, AllocError>

@@ -6,7 +6,7 @@ use Rattle.std.specs.List.{flat_map}
 use Rattle.hex.specs.Hex.{encode_lower}
 use Rattle.type_filter.specs.Permitted.{All, Listed}
 use Rattle.cast_config.specs.declared.config.Config.{Config}
-use Rattle.cast_config.proofs.Example.{example}
+use Rattle.cast_config.proofs.WorkedExample.{example}
 use Rattle.ntrip_head.specs.declared.request.Version.TheVariants.{One, Two}
 use Rattle.ntrip_head.specs.declared.request.Auth.TheVariants.{Basic}
 use Rattle.ntrip_head.specs.declared.request.Request.TheVariants.{Rover, Source}

@@ -1,5 +1,5 @@
 pub mod Example
-pub mod Runs
+pub mod WorkedRuns
 pub mod HeadingLemmas
 pub mod AnsweringLemmas
 pub mod GrowLemmas

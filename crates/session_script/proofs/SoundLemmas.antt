@@ -144,6 +144,11 @@ pub record IsSound (kind : ScriptKind) (event : Event) (size : ℕ) : Type 0 whe
 IsSound-at : (kind : ScriptKind) (size : ℕ) (a b : Event) → a ≡ b → IsSound kind a size → IsSound kind b size
 IsSound-at kind size a b e h = subst (λ (x : Event). IsSound kind x size) e h
 
+mount_sound : (value mount : List ℕ) → mount_of value ≡ Some mount → is_name mount ≡ true
+mount_sound value mount e =
+    let h = name_of-ok value mount (ok_is_some (name_of value) mount e) in
+    subst (λ (text : List ℕ). is_name text ≡ true) h.0 h.1
+
 short_sound : (kind : ScriptKind) (word : List ℕ) (k size : ℕ) (event : Event) → is_connection k ≡ true → 2 ≤ size
     → short_event kind word k ≡ Some event → IsSound kind event size
 short_sound kind word k size event number le e =
@@ -164,11 +169,6 @@ short_sound kind word k size event number le e =
             })
       ]
     ]
-
-mount_sound : (value mount : List ℕ) → mount_of value ≡ Some mount → is_name mount ≡ true
-mount_sound value mount e =
-    let h = name_of-ok value mount (ok_is_some (name_of value) mount e) in
-    subst (λ (text : List ℕ). is_name text ≡ true) h.0 h.1
 
 -- the lines of three parts
 module _ (kind : ScriptKind) (k size : ℕ) (value : List ℕ) (number : is_connection k ≡ true)

@@ -16,6 +16,7 @@ mod reading;
 mod writing;
 
 use cast_text::{MountName, Text};
+pub use line::MAX_BUDGET;
 pub use reading::parse;
 use std::alloc::{AllocError, AllocFailed};
 use thiserror::Error;

@@ -15,7 +15,7 @@ use std::alloc::{AllocError, Global};
 const MAX_CONNECTION: u32 = 9999;
 
 /// The largest budget of a turn.
-const MAX_BUDGET: u32 = 16;
+pub const MAX_BUDGET: u32 = 16;
 
 /// The most bytes of one `in` line.
 const MAX_INPUT_BYTES: usize = 4096;

@@ -236,7 +236,7 @@ fn play(
 type Row = (u32, u64, u64, u64, u64);
 
 /// The segments as they are printed.
-fn shown(alloc: Global, rover: &RoverSession) -> Result<Vec<Row>, Fail> {
+fn rows_of(alloc: Global, rover: &RoverSession) -> Result<Vec<Row>, Fail> {
     let mut rows = Vec::new(alloc);
     for s in rover.segments() {
         rows.push((s.mount, s.from, s.to, s.sent, s.overrun))?;
@@ -256,7 +256,7 @@ struct RoverOutcome {
 /// What became of a rover that was sent these bytes.
 fn told_of(alloc: Global, rover: RoverSession, body: Vec<u8>) -> Result<RoverOutcome, Fail> {
     let sums = (rover.sent(), rover.overrun());
-    let segments = shown(alloc, &rover)?;
+    let segments = rows_of(alloc, &rover)?;
     Ok(RoverOutcome {
         segments,
         sums,

@@ -57,15 +57,6 @@ short_on chunked cutter body more x = record {
   junk = x.junk;
 }
 
-pub halted_on : (halt : SourceHalt) (chunks : Option Reading) (cutter : Pending) (body more : List ℕ)
-    → StandsBy (Some halt) chunks cutter body → StandsBy (Some halt) chunks cutter (body ++ more)
-halted_on Done chunks cutter body more x =
-    (ends_on chunks body more x.0, cut_up_on chunks cutter body more (ended_same chunks body more x.0) x.1)
-halted_on (BadChunk place) chunks cutter body more x =
-    (breaks_on chunks body more place x.0, cut_up_on chunks cutter body more (bad_same chunks body more place x.0) x.1)
-halted_on (Worn turns) chunks cutter body more x = short_on (is_some chunks) cutter body more x
-halted_on Memory chunks cutter body more x = short_on (is_some chunks) cutter body more x
-
 -- ---- what was called until then
 
 -- frames of a part that comes in two parts
@@ -75,6 +66,15 @@ pub publishes_both : (claim : ℕ) (c : Bool) (a b d : List ℕ)
 publishes_both claim c a b d =
     ap (publishes claim) (completed_both c a b d)
     ∙ map-append (λ frame. Publish claim frame) (completed c a b) (completed c (a ++ b) d)
+
+pub halted_on : (halt : SourceHalt) (chunks : Option Reading) (cutter : Pending) (body more : List ℕ)
+    → StandsBy (Some halt) chunks cutter body → StandsBy (Some halt) chunks cutter (body ++ more)
+halted_on Done chunks cutter body more x =
+    (ends_on chunks body more x.0, cut_up_on chunks cutter body more (ended_same chunks body more x.0) x.1)
+halted_on (BadChunk place) chunks cutter body more x =
+    (breaks_on chunks body more place x.0, cut_up_on chunks cutter body more (bad_same chunks body more place x.0) x.1)
+halted_on (Worn turns) chunks cutter body more x = short_on (is_some chunks) cutter body more x
+halted_on Memory chunks cutter body more x = short_on (is_some chunks) cutter body more x
 
 module _ {A : Type 0} (alone : Bool) (said : History RingCall → ℕ → RingCall → A) (me claim : ℕ) where
   pub published_more : (halt : Option SourceHalt) (old mid now : History RingCall) (c : Bool) (a b d : List ℕ)

@@ -1,11 +1,10 @@
 -- Laws of what one caller's calls added to a history.
-use Rattle.std.proofs.Common.{fold, ◌≡◌, ◌≢◌, ℕ, Bool, true, false, IsTrue, cond, List, [], ◌∷◌, ◌++◌, refl, sym, ◌∙◌, ap, subst, eqb, eq-eqb, append_assoc}
-use Rattle.std.proofs.lemmas.Bool.{eqb-true, eqb-false}
+use Rattle.std.proofs.Common.{◌≡◌, ◌≢◌, ℕ, Bool, true, false, IsTrue, cond, List, [], ◌∷◌, ◌++◌, refl, sym, ◌∙◌, ap, subst, eqb, eq-eqb, append_assoc}
 use Rattle.std.proofs.lemmas.List.{append-nil, append_cancel_left, map-append}
-use Rattle.turn_log.specs.History.{History, IsLegal, IsLegalAfter, own, entries_of, GoesOn}
+use Rattle.turn_log.specs.History.{History, own, entries_of, GoesOn}
 use Rattle.turn_log.specs.Turn.{Turned}
 use Rattle.turn_log.specs.Heard.{told, calls_in, Heard, HeardFirst}
-use Rattle.turn_log.proofs.HistoryLaws.{own_else, legal_after, first_fits, rest_fits}
+use Rattle.turn_log.proofs.HistoryLaws.{own_else}
 
 -- the calls with their answers
 
@@ -203,49 +202,3 @@ pub first_refused : {C A : Type 0} {alone : Bool} {answer : History C → ℕ �
     → Heard alone answer old mid me pairs → now ≡ mid → HeardFirst alone answer old now me (calls_in pairs ++ unmade)
 first_refused {C} {A} {alone} {answer} {old} {mid} {now} {me} {pairs} unmade x same =
     subst (λ h. HeardFirst alone answer old h me (calls_in pairs ++ unmade)) (sym same) (first_some unmade x)
-
--- what a caller knows from its own answers
-
--- What a caller knows grows by each of its calls and its answer, and a fitting call of another
--- leaves it true. Then what it knew at one history and what it was told since is true later.
-pub known_told : {C A X : Type 0} {fits : History C → ℕ → C → Bool} (answer : History C → ℕ → C → A) (me : ℕ)
-    (knows : X → History C → Type 0) (learn : X → C × A → X)
-    → ((x : X) (h : History C) (call : C) → knows x h → IsTrue (fits h me call)
-    → knows (learn x (call, answer h me call)) (h ++ (me, call) ∷ []))
-    → ((x : X) (h : History C) (by : ℕ) (other : C) → knows x h → by ≢ me → IsTrue (fits h by other)
-    → knows x (h ++ (by, other) ∷ []))
-    → (x : X) (h more : History C) → knows x h → IsLegalAfter fits h more
-    → knows (fold learn x (told answer me h more)) (h ++ more)
-known_told answer me knows learn mine theirs x h [] known legal = subst (knows x) (sym (append-nil h)) known
-known_told {C} {A} {X} {fits} answer me knows learn mine theirs x h (e ∷ more) known legal =
-    let on : History C = h ++ e ∷ [] in
-    let pair : C × A = (e.1, answer h me e.1) in
-    let fitting = first_fits fits h e more legal in
-    let after : (y : X) → knows y on → knows (fold learn y (told answer me on more)) (h ++ e ∷ more) =
-    λ y now. subst (knows (fold learn y (told answer me on more))) (append_assoc h (e ∷ []) more)
-    (known_told {fits = fits} answer me knows learn mine theirs y on more now (rest_fits fits h e more legal)) in
-    let at = elim (eqb e.0 me) as (λ t. eqb e.0 me ≡ t
-    → knows (fold learn x (cond t (pair ∷ told answer me on more) (told answer me on more))) (h ++ e ∷ more)) [
-      | true ↦ λ is.
-          let same = eqb-true e.0 me is in
-          after (learn x pair)
-          (subst (λ by. knows (learn x pair) (h ++ (by, e.1) ∷ [])) (sym same)
-          (mine x h e.1 known (subst (λ by. IsTrue (fits h by e.1)) same fitting)))
-      | false ↦ λ is. after x (theirs x h e.0 e.1 known (eqb-false e.0 me is) fitting)
-    ]
-    in at refl
-
--- the same of what was heard, where the history is legal
-pub known_heard : {C A X : Type 0} {alone : Bool} {fits : History C → ℕ → C → Bool} {answer : History C → ℕ → C → A}
-    {old now : History C} {me : ℕ} {pairs : List (C × A)} (knows : X → History C → Type 0) (learn : X → C × A → X)
-    → ((x : X) (h : History C) (call : C) → knows x h → IsTrue (fits h me call)
-    → knows (learn x (call, answer h me call)) (h ++ (me, call) ∷ []))
-    → ((x : X) (h : History C) (by : ℕ) (other : C) → knows x h → by ≢ me → IsTrue (fits h by other)
-    → knows x (h ++ (by, other) ∷ []))
-    → (x : X) → knows x old → IsLegal fits now → Heard alone answer old now me pairs
-    → knows (fold learn x pairs) now
-known_heard {C} {A} {X} {alone} {fits} {answer} {old} {now} {me} {pairs} knows learn mine theirs x known legal heard =
-    let after = legal_after fits old heard.more (subst (IsLegal fits) heard.seen legal) in
-    let told_now = known_told {fits = fits} answer me knows learn mine theirs x old heard.more known after in
-    subst (λ h. knows (fold learn x pairs) h) (sym heard.seen)
-    (subst (λ l. knows (fold learn x l) (old ++ heard.more)) heard.mine told_now)

@@ -77,15 +77,6 @@ legal_snoc fits h me call legal fitting before by other after same =
     (λ found. legal before by other found.0 found.1)
     (last_or_before h (me, call) before (by, other) after same)
 
--- the same where history and shape are known by equations
-pub legal_next : {C S : Type 0} (fits : S → History C → ℕ → C → Bool) (s t : S) (h now : History C) (me : ℕ) (call : C)
-    → t ≡ s → now ≡ h ++ (me, call) ∷ [] → IsLegal (fits s) h → IsTrue (fits s h me call)
-    → IsLegal (fits t) now
-legal_next fits s t h now me call shape seen legal fitting =
-    subst (λ l. IsLegal (fits t) l) (sym seen)
-    (subst (λ z. IsLegal (fits z) (h ++ (me, call) ∷ [])) (sym shape)
-    (legal_snoc (fits s) h me call legal fitting))
-
 -- the beginning of a legal history is legal
 pub legal_front : {C : Type 0} (fits : History C → ℕ → C → Bool) (h rest : History C)
     → IsLegal fits (h ++ rest) → IsLegal fits h
@@ -110,6 +101,15 @@ pub rest_fits : {C : Type 0} (fits : History C → ℕ → C → Bool) (h : Hist
 rest_fits fits h e more legal before by call after same =
     subst (λ l. IsTrue (fits l by call)) (sym (append_assoc h (e ∷ []) before))
     (legal (e ∷ before) by call after (ap (λ l. e ∷ l) same))
+
+-- a fitting call leaves a history legal, where history and shape are known by equations
+pub legal_next : {C S : Type 0} (fits : S → History C → ℕ → C → Bool) (s t : S) (h now : History C) (me : ℕ) (call : C)
+    → t ≡ s → now ≡ h ++ (me, call) ∷ [] → IsLegal (fits s) h → IsTrue (fits s h me call)
+    → IsLegal (fits t) now
+legal_next fits s t h now me call shape seen legal fitting =
+    subst (λ l. IsLegal (fits t) l) (sym seen)
+    (subst (λ z. IsLegal (fits z) (h ++ (me, call) ∷ [])) (sym shape)
+    (legal_snoc (fits s) h me call legal fitting))
 
 -- what entries of others leave as it was
 

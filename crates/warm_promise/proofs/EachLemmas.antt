@@ -191,16 +191,16 @@ each_happens c headings number what h P Q (d ∷ ds) order all own others = elim
 
 -- ---- its own event
 
+abbrev IsSentMore : Config → Heading → Histories → Connected → List ℕ → List ℕ → Moved → Type 0
+IsSentMore c heading h d bytes extra m =
+    SentOf c heading m.histories m.connection
+    (with_more bytes (plain_of c heading h d) (plain_of c heading m.histories m.connection) extra)
+
 -- what an event sends more than without greetings
 abbrev pub IsExtra : Happening → List ℕ → List ℕ → Type 0
 IsExtra (arrives more) extra greeting = extra ≡ greeting
 IsExtra (takes_turn budget) extra greeting = extra ≡ []
 IsExtra (ends last) extra greeting = extra ≡ []
-
-abbrev IsSentMore : Config → Heading → Histories → Connected → List ℕ → List ℕ → Moved → Type 0
-IsSentMore c heading h d bytes extra m =
-    SentOf c heading m.histories m.connection
-    (with_more bytes (plain_of c heading h d) (plain_of c heading m.histories m.connection) extra)
 
 module _ (c : Config) (cap : ℕ) (heading : Heading) (h : Histories) (d : Connected) (bytes extra : List ℕ)
     (kept : KeepsRules cap c) (s : Stood c heading h d)

@@ -103,21 +103,6 @@ walk_closing c old m j before news walk =
     (never_plan c old m.histories me (closing j steps) before news (segments_after [] steps) (closing_good j steps)
     (closing_such IsNever (came_to j steps) (segments_after [] steps)) walk)
 
-pub came_if : (end : Option Ending) (c : Config) (h : Histories) (d now : Connected) (plan : Plan) (j : Judged) (m : Moved)
-    → Came c h d now plan m → Came c h d now plan (closed_if end c j m)
-came_if None c h d now plan j m came = came
-came_if (Some end) c h d now plan j m came =
-    let last = made c m.connection.number m.histories (closing j m.connection.steps) in
-    record {
-      opening = came.opening;
-      text = came.text;
-      closed = came.closed;
-      more = came.more ++ last;
-      steps = ap (λ (l : List Step). l ++ last) came.steps ∙ append_assoc now.steps came.more last;
-      walk = (came.walk.0, walk_closing c h m j (segments_of d) came.walk.0 came.walk.1);
-      quiet = λ never. walk_closing c h m j (segments_of d) [] (came.quiet never);
-    }
-
 module _ (c : Config) (h : Histories) (d now : Connected) (plan : Plan) (same : now.steps ≡ d.steps)
     (good : IsGood plan) (within : IsWithin (length h.rings) plan) where
   abbrev added : List Step
@@ -152,6 +137,21 @@ left_made : (plan : Plan) (steps : List Step) → IsMade plan steps → left pla
 left_made done steps made = refl
 left_made (asks ask next) [] made = absurd made
 left_made (asks ask next) (step ∷ steps) made = left_made (next (answer_of step)) steps made.1
+
+pub came_if : (end : Option Ending) (c : Config) (h : Histories) (d now : Connected) (plan : Plan) (j : Judged) (m : Moved)
+    → Came c h d now plan m → Came c h d now plan (closed_if end c j m)
+came_if None c h d now plan j m came = came
+came_if (Some end) c h d now plan j m came =
+    let last = made c m.connection.number m.histories (closing j m.connection.steps) in
+    record {
+      opening = came.opening;
+      text = came.text;
+      closed = came.closed;
+      more = came.more ++ last;
+      steps = ap (λ (l : List Step). l ++ last) came.steps ∙ append_assoc now.steps came.more last;
+      walk = (came.walk.0, walk_closing c h m j (segments_of d) came.walk.0 came.walk.1);
+      quiet = λ never. walk_closing c h m j (segments_of d) [] (came.quiet never);
+    }
 
 -- ---- of one that goes on
 

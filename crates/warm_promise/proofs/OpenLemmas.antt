@@ -87,6 +87,14 @@ near_never : (near : Bool) (terms : Terms) → near ≡ true → JoinsSuch IsNev
 near_never true terms is = tt
 near_never false terms is = absurd cc
 
+-- ---- one that opens
+
+back_if : (joins : Bool) (c : Config) (h : List (History RingCall)) (segments : List Segment)
+    → (joins ≡ true → segments ≡ []) → AreSentBack joins c h segments (kept_frames c h (reverse segments))
+back_if true c h segments none =
+    subst (λ (l : List Segment). AreSentBack true c h l (kept_frames c h (reverse l))) (sym (none refl)) refl
+back_if false c h segments none = refl
+
 rover_never : (c : Config) (r : Result Admission Denial) → near_of (rover_judged None None [] r) ≡ true
     → JoinsSuch IsNever (left (plan_of c (rover_judged None None [] r)) [])
 rover_never c (Ok a) is =
@@ -95,14 +103,6 @@ rover_never c (Err denials.NoMount) is = tt
 rover_never c (Err denials.NoAccount) is = tt
 rover_never c (Err (denials.Password account)) is = tt
 rover_never c (Err (denials.Group group)) is = tt
-
--- ---- one that opens
-
-back_if : (joins : Bool) (c : Config) (h : List (History RingCall)) (segments : List Segment)
-    → (joins ≡ true → segments ≡ []) → AreSentBack joins c h segments (kept_frames c h (reverse segments))
-back_if true c h segments none =
-    subst (λ (l : List Segment). AreSentBack true c h l (kept_frames c h (reverse l))) (sym (none refl)) refl
-back_if false c h segments none = refl
 
 module _ (c : Config) (cap : ℕ) (heading : Heading) (h : Histories) (number : ℕ) (o : Opening)
     (kept : KeepsRules cap c) (walked : Walked c h number [])

@@ -160,6 +160,14 @@ run_sent c cap kind headings first (event ∷ later) kept session are sent =
     (λ n. sent_all c headings first n ++ sent_by_event c headings w event n))
     (sym (after_one c headings first event)) next)))
 
+-- ---- one connection
+
+back_sent : (joins : Bool) (c : Config) (h : List (History RingCall)) (segments : List Segment)
+    (frames : List (List ℕ)) → AreSentBack joins c h segments frames
+    → AreSent joins c h (reverse segments) frames
+back_sent true c h segments frames back = greeted_all c h segments frames back
+back_sent false c h segments frames back = back
+
 world_sent : (c : Config) (cap : ℕ) (kind : ScriptKind) (headings : ℕ → Heading) (script : List Event)
     → KeepsRules cap c → IsSession kind script → AreHeadings script headings
     → AreSentIn c headings (world c headings script) (sent_all c headings script)
@@ -173,14 +181,6 @@ world_sent c cap kind headings script kept session are =
           (sent_all c headings [] d.number));
       none = λ n none. refl;
     }))
-
--- ---- one connection
-
-back_sent : (joins : Bool) (c : Config) (h : List (History RingCall)) (segments : List Segment)
-    (frames : List (List ℕ)) → AreSentBack joins c h segments frames
-    → AreSent joins c h (reverse segments) frames
-back_sent true c h segments frames back = greeted_all c h segments frames back
-back_sent false c h segments frames back = back
 
 module _ (c : Config) (headings : ℕ → Heading) (script : List Event) (h : Histories) (bytes : ℕ → List ℕ)
     (d : Connected) (all : AreFrames h.rings) (s : IsStood c headings h d) (is : IsRead c headings script d)

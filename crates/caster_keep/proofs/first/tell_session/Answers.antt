@@ -11,17 +11,17 @@ use Rattle.caster_keep.proofs.first.tell_session.Goals as goal
 use Rattle.keep_porter.specs.Porters.{ArePut}
 
 pub returns-clause-asked : goal.returns-clause-asked
-returns-clause-asked g c = c.is_some.ensures ∙ some_copied c.asked-asked.result ∙ ap is_some c.asked-asked.ensures.value
+returns-clause-asked g c = c.is_some.ensures ∙ some_copied c.asks-asked.result ∙ ap is_some c.asks-asked.ensures.value
 
 pub returns-clause-put : goal.returns-clause-put
 returns-clause-put g c = λ before first sheet was on holds still put.
     let told = c.args.told in
-    let is : option_copied c.asked-asked.result ≡ c.args.session.now.asked = c.asked-asked.ensures.value in
-    let same = c.held-held.ensures.value in
+    let is : option_copied c.asks-asked.result ≡ c.args.session.now.asked = c.asks-asked.ensures.value in
+    let same = c.holds-held.ensures.value in
     subst (λ (asked : Option Asked). ArePut (is_ok c.tell_entered.result) c.args.teller.by
-    (first ∷ told_lines c.args.config.now c.args.teller.number asked c.held-held.result) sheet
+    (first ∷ told_lines c.args.config.now c.args.teller.number asked c.holds-held.result) sheet
     (g.P.AtPress.told c.tell_entered.new.place).seen) is
-    (c.tell_entered.ensures.put (first ∷ asked_lines c.args.teller.number (option_copied c.asked-asked.result)) sheet
+    (c.tell_entered.ensures.put (first ∷ asked_lines c.args.teller.number (option_copied c.asks-asked.result)) sheet
     (subst (HoldsOn told.held) (sym same) holds)
     (c.tell_asked-so_far.ensures.put c.args.config.now before told.held first sheet was
     (subst (AsksOn before) (sym is) on) (λ holding. is ∙ still holding) put))

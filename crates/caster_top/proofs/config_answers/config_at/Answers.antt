@@ -7,6 +7,6 @@ use Rattle.caster_top.proofs.config_answers.config_at.Goals as goal
 pub returns-in-Err-clause-refused : goal.returns-in-Err-clause-refused
 returns-in-Err-clause-refused g c =
     let source = g.S.Source in
-    rw c.unread.ensures (unread_config _ (FileCame (source.store c.args.store.now).files (source.log c.args.store.now) (source.log c.read_file.new.store)) (Rose (source.faults c.args.store.now)
+    rw c.of_read_fault.ensures (unread_config _ (FileCame (source.store c.args.store.now).files (source.log c.args.store.now) (source.log c.read_file.new.store)) (Rose (source.faults c.args.store.now)
     (source.faults c.read_file.new.store)) c.in-Err.fault (λ e. c.in-Err.ensures.long (cc))
     (λ e. c.in-Err.ensures.failed (cc)))

@@ -16,7 +16,7 @@ returns-in-Ok-clause-answer g c =
 pub returns-in-Err-clause-answer : goal.returns-in-Err-clause-answer
 returns-in-Err-clause-answer g c =
     let source = g.I.Source in
-    rw c.unread.ensures (unread_input (InputCame (source.left c.args.input.now) (source.log c.args.input.now)
+    rw c.of_read_fault.ensures (unread_input (InputCame (source.left c.args.input.now) (source.log c.args.input.now)
     (source.log c.read_all.new.source)) _ (Rose (source.faults c.args.input.now)
     (source.faults c.read_all.new.source)) c.in-Err.fault (λ e. input_long _ _ _ _ (rw e at c.in-Err.ensures.lost))
     (λ e. c.in-Err.ensures.cause (cc)))

@@ -22,9 +22,9 @@ returns-clause-opened c = record {
 
 pub returns-in_default-clause-unopened : goal.returns-in_default-clause-unopened
 returns-in_default-clause-unopened c = record {
-  ending = c.not_opened.ensures.receipt.ending;
-  settled = c.not_opened.ensures.settled;
+  ending = c.receipt_without_session.ensures.receipt.ending;
+  settled = c.receipt_without_session.ensures.settled;
   closed = λ histories told. unopened _ _ _ histories told _
-      (subst (λ (b : Bool). IsSettled b (closing waiting []) []) (sym c.not_opened.ensures.settled) refl)
-      c.not_opened.ensures.receipt;
+      (subst (λ (b : Bool). IsSettled b (closing waiting []) []) (sym c.receipt_without_session.ensures.settled) refl)
+      c.receipt_without_session.ensures.receipt;
 }
