@@ -1,5 +1,5 @@
 //! Consoles in memory, at which is wanted what they are told to want.
-ghost use Rattle.std.specs.Prelude.{◌≡◌, ◌∷◌, ◌++◌, [], map, false};
+ghost use Rattle.std.specs.Prelude.{◌≡◌, [], map, false};
 ghost use Rattle.cast_console.specs.Fakes.{console_told};
 
 use crate::console::Console;

@@ -1,12 +1,12 @@
 -- What contracts see of the gates and the notes of a street in memory.
-use Rattle.std.specs.Prelude.{ℕ, ◌≡◌, ◌==◌, ◌||◌, ◌&&◌, ◌+◌, ◌↔◌, nat_lt, if◌then◌else◌, List, [], length, map, drop, Bool, Option, Some, is_some, option_map, Result, IsErr, IsErrOf, IsTrue}
+use Rattle.std.specs.Prelude.{ℕ, ◌≡◌, ◌==◌, ◌||◌, ◌&&◌, ◌+◌, ◌↔◌, nat_lt, if◌then◌else◌, List, [], length, map, drop, Bool, Option, Some, is_some, option_map, Result, IsErr, IsErrOf, IfOk, is_ok, take, IsTrue}
 use Rattle.cast_io.specs.declared.street.StreetFault.{StreetFault}
 use Rattle.cast_io.specs.declared.street.StreetFault.TheVariants.{Failed}
 use Rattle.cast_io.specs.declared.yard_asked.YardAsked.{YardAsked}
 use Rattle.cast_io.specs.Causes.{next_count}
 use Rattle.cast_io.specs.Fakes.{SinkState, fails_next}
 use Rattle.cast_io.specs.Yards.{NotesTold, YardTold}
-use Rattle.cast_io.specs.FakeGates.{GateState, gate_told}
+use Rattle.cast_io.specs.FakeGates.{GateState, gate_told, made_for}
 
 -- a yard in memory: the gates and the notes to come, what it was asked while that is told, the
 -- gates and the notes that came back while they are told, how many of each it gave that did not
@@ -72,12 +72,6 @@ HasCounted failed old new = is_some new.asked ≡ is_some old.asked
 abbrev pub notes_fail : YardState → Bool
 notes_fail yard = fails_next yard.calls yard.fails || nat_lt (length yard.notes) 1
 
--- A call of the yard fails where it is to fail, and a failure is counted.
-pub record IsYardCall {X : Type 0} (fails : Bool) (old new : YardState)
-    (result : Result X StreetFault) : Type 0 where
-  pub exact : IsErrOf result Failed ↔ IsTrue fails
-  pub counted : HasCounted fails old new
-
 -- A call of the yard fails where it is to fail and in no other way, and a failure is counted.
 pub record IsSureYardCall {X : Type 0} (fails : Bool) (old new : YardState)
     (result : Result X StreetFault) : Type 0 where
@@ -95,6 +89,15 @@ GaveGates ok count old new = new ≡ record old {
   calls = next_count old.calls;
   faults = new.faults;
 }
+
+-- A call for so many gates fails where it is to fail, and a failure is counted. Where it was
+-- answered, these gates were given: the next ones to come, each made for what was asked.
+pub record GivesGates {X : Type 0} (wanted : YardAsked) (count : ℕ) (gates : X → List GateState)
+    (old new : YardState) (result : Result X StreetFault) : Type 0 where
+  pub exact : IsErrOf result Failed ↔ IsTrue (gates_fail old count)
+  pub counted : HasCounted (gates_fail old count) old new
+  pub given : IfOk result (λ given. gates given ≡ map (made_for wanted) (take count old.gates))
+  pub gave : GaveGates (is_ok result) count old new
 
 -- one more call was counted, and what it asked; where it was answered, it gave the next notes;
 -- nothing else changed

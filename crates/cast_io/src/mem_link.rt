@@ -1,5 +1,5 @@
 //! A link in memory that takes its steps in order, and fails at the calls that it is told to.
-ghost use Rattle.std.specs.Prelude.{◌≡◌, ◌<◌, ◌≤◌, ◌+◌, ◌++◌, ◌↔◌, ◌⊎◌, [], ◌∷◌, length, Some, MatchOption, option_map, drop, false, IsTrue, IsSome, IsErr, IfOk};
+ghost use Rattle.std.specs.Prelude.{◌≡◌, ◌<◌, ◌≤◌, ◌+◌, ◌++◌, ◌⊎◌, [], ◌∷◌, length, Some, MatchOption, option_map, drop, IsTrue, IsSome, IfOk};
 ghost use Rattle.std.specs.List.{list_all};
 ghost use Rattle.cast_io.specs.Causes.{next_count, Rose};
 ghost use Rattle.cast_io.specs.Fakes.{fails_next};

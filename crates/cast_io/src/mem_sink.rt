@@ -1,5 +1,5 @@
 //! A sink in memory that fails at the calls that it is told to.
-ghost use Rattle.std.specs.Prelude.{◌≡◌, ◌≤◌, ◌+◌, ◌++◌, ◌↔◌, ◌⊎◌, [], length, Some, false, IsTrue, IsErr, OnOk, OnErr};
+ghost use Rattle.std.specs.Prelude.{◌≡◌, ◌≤◌, ◌+◌, ◌++◌, ◌⊎◌, [], length, Some, OnOk, OnErr};
 ghost use Rattle.cast_io.specs.Causes.{HasCause, Rose, next_count};
 ghost use Rattle.cast_io.specs.Pieces.{AppendsPrefix};
 ghost use Rattle.cast_io.specs.Fakes.{IsFakeWrite, sink_fails, sink_takes};

@@ -1,5 +1,5 @@
 //! A store of files in memory that fails at the calls that it is told to.
-ghost use Rattle.std.specs.Prelude.{◌≡◌, ◌<◌, ◌≤◌, ◌↔◌, [], ◌∷◌, length, min, Some, None, MatchOption, option_map, position, if◌then◌else◌, IsTrue, IsSome, IsErr, is_ok, IfOk, OnOk};
+ghost use Rattle.std.specs.Prelude.{◌≡◌, ◌<◌, ◌≤◌, ◌↔◌, [], ◌∷◌, length, Some, None, MatchOption, option_map, position, if◌then◌else◌, IsTrue, IsSome, IsErr, is_ok, IfOk, OnOk};
 ghost use Rattle.std.specs.Str.{bytes_eq};
 ghost use Rattle.std.specs.Io.{ReadsAtMost};
 ghost use Rattle.std.specs.Io.KnownBytes.{ReadConsumes};

@@ -1,6 +1,6 @@
 //! A street in memory that gives its doors and links in order, and fails at the calls that it is
 //! told to. Its gates and notes stand in a yard of their own.
-ghost use Rattle.std.specs.Prelude.{◌≡◌, ◌≤◌, ◌<◌, ◌+◌, ◌-◌, ◌↔◌, [], ◌∷◌, length, map, take, drop, vec_len, Some, if◌then◌else◌, is_ok, is_some, option_map, IsTrue, IsSome, IsErr, IsErrOf, IfOk};
+ghost use Rattle.std.specs.Prelude.{◌≡◌, ◌≤◌, ◌<◌, ◌+◌, ◌-◌, ◌↔◌, [], ◌∷◌, length, take, drop, vec_len, Some, if◌then◌else◌, is_ok, option_map, IsTrue, IsSome, IsErr, IsErrOf, IfOk};
 ghost use Rattle.std.specs.List.{All, list_all};
 ghost use Rattle.cast_io.specs.Causes.{Rose, next_count};
 ghost use Rattle.cast_io.specs.Fakes.{fails_next};
@@ -346,8 +346,8 @@ impl Street for MemStreet {
 impl Yard for MemStreet {
     ghost use Rattle.cast_io.specs.Doors.{IsNewDoor};
     ghost use Rattle.cast_io.specs.Yards.{AreNewNotes, HasAnswered, HasBeenAsked, HasShutGate, HasTakenNotes};
-    ghost use Rattle.cast_io.specs.FakeGates.{gate_told, made_for};
-    ghost use Rattle.cast_io.specs.FakeYards.{GaveGates, GaveNotes, IsSureYardCall, IsYardCall, gates_fail, notes_fail, notes_told, yard_told};
+    ghost use Rattle.cast_io.specs.FakeGates.{gate_told};
+    ghost use Rattle.cast_io.specs.FakeYards.{GaveNotes, GivesGates, IsSureYardCall, notes_fail, notes_told, yard_told};
     ghost use Rattle.cast_io.specs.declared.yard_asked.YardAsked.TheVariants as asked;
 
     type Gate = MemGate;
@@ -371,11 +371,8 @@ impl Yard for MemStreet {
             ≡ asked.OpenGates addr.now gates quiet) given.items) }
         ensures answered { HasAnswered result
             (yard_told self.old.yard) (yard_told self.new.yard) }
-        ensures fake { IsYardCall (gates_fail self.old.yard gates) self.old.yard self.new.yard
-            result }
-        ensures given { IfOk result (λ given. given.items ≡ map
-            (made_for (asked.OpenGates addr.now gates quiet)) (take gates self.old.yard.gates)) }
-        ensures gave { GaveGates (is_ok result) gates self.old.yard self.new.yard }
+        ensures fake { GivesGates (asked.OpenGates addr.now gates quiet) gates
+            (λ given. given.items) self.old.yard self.new.yard result }
         ensures same { self.new ≡ record self.old { yard = self.new.yard } }
     {
         self.yard.open_gates(addr, gates, quiet)
@@ -388,11 +385,9 @@ impl Yard for MemStreet {
         ensures made { IfOk result (λ gate. gate.origin ≡ asked.Reach addr.now quiet) }
         ensures answered { HasAnswered result
             (yard_told self.old.yard) (yard_told self.new.yard) }
-        ensures fake { IsSureYardCall (gates_fail self.old.yard 1) self.old.yard self.new.yard
-            result }
-        ensures given { IfOk result (λ gate. gate ∷ []
-            ≡ map (made_for (asked.Reach addr.now quiet)) (take 1 self.old.yard.gates)) }
-        ensures gave { GaveGates (is_ok result) 1 self.old.yard self.new.yard }
+        ensures err { IsErr result → IsErrOf result StreetFault.Failed }
+        ensures fake { GivesGates (asked.Reach addr.now quiet) 1 (λ gate. gate ∷ [])
+            self.old.yard self.new.yard result }
         ensures same { self.new ≡ record self.old { yard = self.new.yard } }
     {
         self.yard.reach(addr, quiet)

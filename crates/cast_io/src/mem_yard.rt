@@ -141,7 +141,7 @@ impl MemYard {
     ghost use Rattle.cast_io.specs.Told.{Grew};
     ghost use Rattle.cast_io.specs.Yards.{AreNewNotes, HasAnswered, HasBeenAsked};
     ghost use Rattle.cast_io.specs.FakeGates.{is_new_gate};
-    ghost use Rattle.cast_io.specs.FakeYards.{GaveGates, GaveNotes, HasCounted, IsSureYardCall, IsYardCall, are_new_notes, gates_fail, notes_fail, notes_told, yard_told};
+    ghost use Rattle.cast_io.specs.FakeYards.{GaveNotes, GivesGates, IsSureYardCall, are_new_notes, notes_fail, notes_told, yard_told};
     ghost use Rattle.cast_io.specs.declared.yard_asked.YardAsked.{YardAsked};
 
     // Adds to what was asked. Where that is told no longer since, that is a fault.
@@ -262,10 +262,8 @@ impl MemYard {
         ensures made { IfOk result (λ given. All (λ gate. gate.origin
             ≡ asked.OpenGates addr.now gates quiet) given.items) }
         ensures answered { HasAnswered result (yard_told self.old) (yard_told self.new) }
-        ensures fake { IsYardCall (gates_fail self.old gates) self.old self.new result }
-        ensures given { IfOk result (λ given. given.items
-            ≡ map (made_for (asked.OpenGates addr.now gates quiet)) (take gates self.old.gates)) }
-        ensures gave { GaveGates (is_ok result) gates self.old self.new }
+        ensures fake { GivesGates (asked.OpenGates addr.now gates quiet) gates
+            (λ given. given.items) self.old self.new result }
     {
         self.note(an_open(self.alloc, addr, gates, quiet));
         if self.fails_call() {
@@ -283,10 +281,9 @@ impl MemYard {
         ensures each { IfOk result (λ gate. IsNewDoor (door_told gate.door)) }
         ensures made { IfOk result (λ gate. gate.origin ≡ asked.Reach addr.now quiet) }
         ensures answered { HasAnswered result (yard_told self.old) (yard_told self.new) }
-        ensures fake { IsSureYardCall (gates_fail self.old 1) self.old self.new result }
-        ensures given { IfOk result (λ gate. gate ∷ []
-            ≡ map (made_for (asked.Reach addr.now quiet)) (take 1 self.old.gates)) }
-        ensures gave { GaveGates (is_ok result) 1 self.old self.new }
+        ensures err { IsErr result → IsErrOf result StreetFault.Failed }
+        ensures fake { GivesGates (asked.Reach addr.now quiet) 1 (λ gate. gate ∷ [])
+            self.old self.new result }
     {
         self.note(a_reach(self.alloc, addr, quiet));
         if self.fails_call() {

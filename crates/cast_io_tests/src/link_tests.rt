@@ -1,5 +1,5 @@
 //! Runs of a link in memory: each kind of step, calls that fail by number, torn writes.
-ghost use Rattle.std.specs.Prelude.{◌≡◌, IfOk, IsTrue};
+ghost use Rattle.std.specs.Prelude.{IfOk, IsTrue};
 ghost use Rattle.std.specs.List.{list_all};
 ghost use Rattle.cast_io.specs.FakeLinks.{has_bytes};
 

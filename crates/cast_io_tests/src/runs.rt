@@ -1,6 +1,5 @@
 //! Calls of links, sources and sinks, as words, and what they answer, as words. A number is a read
 //! of so many bytes, at most eight; any other word is a write of it.
-ghost use Rattle.std.specs.Prelude.{◌≡◌, ◌≤◌, length};
 
 use cast_io::{Failed, Got, Link, Sink, Source};
 use std::alloc::{AllocError, Global};

@@ -1,5 +1,5 @@
 //! A caller over any link, for the tests: what it says is proved over the clauses of the trait.
-ghost use Rattle.std.specs.Prelude.{◌≡◌, ◌++◌, [], ◌∷◌, List, OnOk, OnErr};
+ghost use Rattle.std.specs.Prelude.{◌++◌, [], ◌∷◌, List, OnOk, OnErr};
 ghost use Rattle.cast_io.specs.Causes.{Rose};
 ghost use Rattle.cast_io_tests.specs.Copying.{Copied, Exchanged, IsDone, IsBroken, bytes_given};
 ghost use Rattle.cast_io.specs.declared.steps.Step.{Step};

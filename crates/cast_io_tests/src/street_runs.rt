@@ -1,8 +1,8 @@
 //! Doors and streets in memory, and runs of them: calls as words, and what they answer as words.
-ghost use Rattle.std.specs.Prelude.{◌≡◌, IfOk, IsTrue};
+ghost use Rattle.std.specs.Prelude.{IfOk, IsTrue};
 ghost use Rattle.std.specs.List.{list_all};
 ghost use Rattle.cast_io.specs.FakeLinks.{is_new_link};
-ghost use Rattle.cast_io.specs.FakeDoors.{is_new_arrival, is_new_door};
+ghost use Rattle.cast_io.specs.FakeDoors.{is_new_door};
 
 use crate::runs::{read_link, say, say_taken};
 use cast_io::{Arrived, Door, Link, MemDoor, MemLink, MemStreet, Street, StreetFault};

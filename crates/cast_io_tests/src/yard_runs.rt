@@ -1,5 +1,5 @@
 //! Gates and yards in memory, and runs of them: calls as words, and what they answer as words.
-ghost use Rattle.std.specs.Prelude.{◌≡◌, IfOk, IsTrue};
+ghost use Rattle.std.specs.Prelude.{IfOk, IsTrue};
 ghost use Rattle.std.specs.List.{list_all};
 ghost use Rattle.cast_io.specs.FakeGates.{is_new_gate};
 ghost use Rattle.cast_io.specs.FakeYards.{are_new_notes};

@@ -1,6 +1,6 @@
 -- What a yard is asked, and what comes back to it.
 use Rattle.std.proofs.Common.{◌≡◌, ◌⊎◌, Ok, Err, suc, take, replicate, length, append-nil, append_assoc, ◌∙◌, ◌++◌, ◌+◌, ℕ, List, [], ◌∷◌, map, IsTrue, inl, inr, refl, sym, ap, subst, arith}
-use Rattle.std.specs.Prelude.{Result, OnOk, nat_lt, Bool, true}
+use Rattle.std.specs.Prelude.{Result, OnOk, nat_lt, false, true}
 use Rattle.std.specs.List.{All, list_any}
 use Rattle.std.proofs.lemmas.Bool.{ltb-true}
 use Rattle.std.proofs.lemmas.List.{map-append, take-map, length-map}
@@ -17,7 +17,7 @@ use Rattle.cast_io.specs.Yards.{GateTold, YardTold, HasBeenAsked, HasShutGate}
 use Rattle.cast_io.proofs.ToldLemmas.{grew_both, grew_none}
 use Rattle.caster_link.specs.declared.role.Role.TheVariants as roles
 use Rattle.caster_keep.specs.declared.keeper.Keeper.{Keeper}
-use Rattle.caster_keep.specs.Gates.{HasAsked, HasTakenBack, gate_failed, gate_told, gates_asked, gates_of, made_of, reach_of, relays_from, roles_of}
+use Rattle.caster_keep.specs.Gates.{HasAsked, HasTakenBack, gate_failed, gates_asked, made_of, reach_of, relays_from, roles_of}
 use Rattle.caster_keep.specs.Stations.{new_keeper}
 use Rattle.caster_keep.specs.Together.{IsNewKeeper, role_at}
 use Rattle.caster_serve.proofs.StreetLemmas.{or_split}
@@ -47,6 +47,17 @@ any_last xs x h = from (or_split _ _ (sym (list_any-append gate_failed xs (x ∷
         → IsTrue (list_any gate_failed xs) ⊎ IsTrue (gate_failed x)
     from (inl so) = inl so
     from (inr so) = inr (one (or_split _ _ so))
+
+-- no gate came back so far
+pub back_none : (a : YardTold) → HasTakenBack [] a a
+back_none a = record {
+  asked = refl;
+  gates = grew_none a.gates;
+  notes = refl;
+  later = omega arith;
+  rose = λ never. absurd (let clash : false ≡ true = never in cc);
+  note_faults = refl;
+}
 
 -- a gate more was shut
 pub back_gate : (a b c : YardTold) (xs : List GateTold) (gate : GateTold) → HasTakenBack xs a b
@@ -126,13 +137,6 @@ all_asked c quiet n (Err fault) same all = tt
 -- ---- what is given
 
 -- the last of these gates stands behind the others
-pub gates_last : {G : Type 0} (told : G → DoorTold) (over : G → Bool) (front all : List (Keeper G)) (last : Keeper G)
-    → all ≡ front ++ last ∷ []
-    → gates_of told over all ≡ gates_of told over front ++ gate_told told over last.gate ∷ []
-gates_last {G} told over front all last is =
-    ap (gates_of told over) is
-    ∙ map-append (λ (keeper : Keeper G). gate_told told over keeper.gate) front (last ∷ [])
-
 module _ {G : Type 0} (origin : G → YardAsked) where
   -- what the gates of these were made for
   abbrev pub made_for : List (Keeper G) → List YardAsked

@@ -35,10 +35,9 @@ use Rattle.caster_link.specs.Stepped.{HasClosed}
 use Rattle.caster_link.specs.Wear.{Wear, IsRefusedBy}
 use Rattle.caster_link.proofs.WornLemmas.{WearsOn, refused_on}
 use Rattle.caster_places.specs.Leaves.{Leaves}
-use Rattle.caster_serve.specs.Visits.{HasCome}
 use Rattle.caster_serve.specs.Works.{Record, tallied, receipts_of}
 use Rattle.caster_serve.proofs.LeaveLemmas.{leaves_both, leaves_none}
-use Rattle.caster_serve.proofs.WorkLemmas.{link_come, link_counted, none_come, record_goes}
+use Rattle.caster_serve.proofs.WorkLemmas.{fault_come, link_come, link_counted, none_come, record_goes}
 use Rattle.caster_keep.specs.declared.stop.Stop.{Stop}
 use Rattle.caster_keep.specs.declared.stop.Stop.TheVariants as stops
 use Rattle.caster_keep.specs.Links.{Follow, Kept, KeptGoes, LinkKept, asked_line, asked_lines, entered_lines, entered_of, first_line, lines_from, lines_of, lines_of_entered, link_lines, number_of, records_of, told_lines, whose}
@@ -379,18 +378,6 @@ links-snoc [] turn = append-nil (kept_at turn.kept)
 links-snoc (first ∷ turns) turn =
     ap (λ (l : List Kept). kept_at first.kept ++ l) (links-snoc turns turn)
     ∙ sym (append_assoc (kept_at first.kept) (links_in turns) (kept_at turn.kept))
-
--- links are seen through what they tell
-fault_come : {L : Type 0} (told : L → LinkTold) (old new : DoorTold) → HasAccepted told old new arrived.Failed
-    → HasCome arrived.Failed old new
-fault_come told old new is = record {
-  left = is.left;
-  fresh = is.fresh;
-  back = is.back;
-  later = is.later;
-  failed = is.failed;
-  unharmed = is.unharmed;
-}
 
 -- ---- between two turns
 

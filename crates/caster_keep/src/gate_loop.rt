@@ -1,6 +1,6 @@
 //! A keeper serves the links that its gate gives until it stops.
 
-ghost use Rattle.std.specs.Prelude.{◌≡◌, ◌^◌, ◌≤◌, ℕ, IsTrue, List, Some};
+ghost use Rattle.std.specs.Prelude.{◌≡◌, ℕ, IsTrue, List};
 ghost use Rattle.session_core.specs.Setups.{IsSetUp};
 ghost use Rattle.caster_accounts.specs.Sums.{nothing};
 ghost use Rattle.caster_places.specs.Known.{Fit, StayKnown};

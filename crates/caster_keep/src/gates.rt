@@ -96,22 +96,21 @@ pub(crate) fn ask_gates<Y: Yard>(
 }
 
 /// Gives the gates of all of these back to the yard that they came from, in order.
-pub(crate) fn give_back<Y: Yard>(yard: &mut Y, mut keepers: Vec<Keeper<Y::Gate>>)
+pub(crate) fn give_back<Y: Yard>(yard: &mut Y, keepers: Vec<Keeper<Y::Gate>>)
     ensures back { HasTakenBack (gates_of Y.Gate.told Y.Gate.over keepers.items) (Y.kept yard.old)
         (Y.kept yard.new) }
     ensures street { Y.told yard.new ≡ Y.told yard.old }
 {
-    let Some(last) = keepers.pop() else {
-        keepers.destroy_empty();
-        return;
-    };
-    give_back(yard, keepers);
-    let Keeper {
-        gate,
-        role: _,
-        tally: _,
-        count: _,
-        stop: _,
-    } = last;
-    yard.shut_gate(gate);
+    let mut keepers = keepers.into_iter();
+    while let Some(keeper) = keepers.next() {
+        let Keeper {
+            gate,
+            role: _,
+            tally: _,
+            count: _,
+            stop: _,
+        } = keeper;
+        yard.shut_gate(gate);
+    }
+    keepers.destroy_empty();
 }

@@ -1,13 +1,12 @@
 //! All keepers serve side by side at the locks of a caster, and the porter waits beside them. Their
 //! lines go to one output, and they leave the locks.
 
-ghost use Rattle.std.specs.Prelude.{◌≡◌, ◌<◌, ◌≤◌, ◌+◌, ◌^◌, ℕ, [], length, map, IfOk, OnErr};
+ghost use Rattle.std.specs.Prelude.{◌≡◌, ◌<◌, ◌+◌, ◌^◌, ℕ, [], length, map, IfOk, OnErr};
 ghost use Rattle.std.specs.List.{All};
 ghost use mathlib.Core.Option.{some};
 ghost use lib.ListN.{get_elem?};
 ghost use Rattle.cast_console.specs.Consoles.{IsNewConsole};
 ghost use Rattle.cast_io.specs.Doors.{IsNewDoor};
-ghost use Rattle.caster_link.specs.Wear.{lacks_in};
 ghost use Rattle.caster_places.specs.Rows.{ArePiles, HaveRoom};
 ghost use Rattle.caster_seats.specs.Seated.{IsSeated};
 ghost use Rattle.caster_seats.specs.Sharing.{AreNewPasses, IsReady};

@@ -160,9 +160,11 @@ pub(crate) fn keep_link<T: Turns<Ring>, B: Turns<Book>, G: Gate, P: AtPress, R: 
         (⟦<Places<T, B> as AllPlaces>⟧.known places.new)
         (⟦<Places<T, B> as AllPlaces>⟧.worn places.old)
         (⟦<Places<T, B> as AllPlaces>⟧.worn places.new) }
-    ensures role { keeper.new.role ≡ keeper.old.role }
-    ensures stop { keeper.new.stop ≡ keeper.old.stop }
-    ensures count { keeper.new.count ≡ keeper.old.count + 1 }
+    ensures one_more { keeper.new ≡ record keeper.old {
+      count = keeper.old.count + 1;
+      tally = keeper.new.tally;
+      gate = keeper.new.gate;
+    } }
     ensures within { IsWithin keeper.new.tally }
     ensures same { IsSamePlace (P.told place.old) (P.told place.new) }
     ensures worn { OnErr result (2 ^ 62 ≤ (P.told place.new).worn) }

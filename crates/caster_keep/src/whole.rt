@@ -1,6 +1,6 @@
 //! A whole caster that keeps serving, from the opening of its gates to its totals.
 
-ghost use Rattle.std.specs.Prelude.{◌≡◌, ◌<◌, ◌≤◌, ◌+◌, ◌^◌, ℕ, [], ◌∷◌, length, map, vec_capacity, IfOk};
+ghost use Rattle.std.specs.Prelude.{◌≡◌, ◌<◌, ◌≤◌, ◌+◌, ◌^◌, ℕ, [], ◌∷◌, length, map, IfOk};
 ghost use Rattle.std.specs.List.{All};
 ghost use Rattle.cast_config.specs.Kept.{KeepsRules};
 ghost use Rattle.cast_io.specs.Doors.{IsNewDoor};

@@ -1,6 +1,6 @@
 //! The caster that is tried, the gates that it serves, and what came of it.
 
-ghost use Rattle.std.specs.Prelude.{◌≡◌, IfOk, IsTrue};
+ghost use Rattle.std.specs.Prelude.{IfOk, IsTrue};
 ghost use Rattle.std.specs.List.{list_all};
 ghost use Rattle.cast_config.specs.Kept.{KeepsRules};
 ghost use Rattle.cast_io.specs.FakeDoors.{is_new_arrival};
@@ -57,7 +57,7 @@ pub(crate) const SOURCE: &[u8] = b"SOURCE sesame ALPHA\r\nSource-Agent: NTRIP te
 pub(crate) type Pieces<'a> = &'a [&'a [u8]];
 
 /// The configuration that is tried.
-fn config_of(alloc: Global) -> Result<Config, Fail>
+pub(crate) fn config_of(alloc: Global) -> Result<Config, Fail>
     ensures { IfOk result (KeepsRules 1000000) }
 {
     Ok(read_config(alloc, FILE)?)

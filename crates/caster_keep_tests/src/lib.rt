@@ -14,6 +14,8 @@ mod full_tests;
 #[cfg(test)]
 mod keep_tests;
 #[cfg(test)]
+mod line_tests;
+#[cfg(test)]
 mod now_tests;
 #[cfg(test)]
 mod sum_tests;

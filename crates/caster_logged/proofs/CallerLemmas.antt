@@ -1,11 +1,11 @@
 -- Callers whose doors and links are told are those of logs, where the street logs these.
-use Rattle.std.proofs.Common.{◌≡◌, ℕ, ◌+◌, ◌<◌, ◌&&◌, IsTrue, List, [], ◌∷◌, ◌++◌, length, map, fold, Option, Some, Ok, refl, ap, sym, subst, ◌∙◌}
+use Rattle.std.proofs.Common.{◌≡◌, ℕ, ◌+◌, ◌<◌, ◌&&◌, IsTrue, List, [], ◌∷◌, ◌++◌, length, map, fold, Ok, refl, ap, sym, subst, ◌∙◌}
 use Rattle.std.proofs.lemmas.List.{length-map}
 use Rattle.std.specs.List.{All, list_all}
 use Rattle.cast_io.specs.declared.steps.Step.{Step}
 use Rattle.cast_io.specs.Logged.{LinkLog, DoorLog, StreetLog, link_logged, door_logged, street_logged}
 use Rattle.cast_io.specs.Links.{bytes_in}
-use Rattle.cast_io.specs.Told.{LinkTold, DoorTold, StreetTold}
+use Rattle.cast_io.specs.Told.{LinkTold}
 use Rattle.turn_log.specs.History.{History}
 use Rattle.mount_ring.specs.declared.call.RingCall.{RingCall}
 use Rattle.session_calls.specs.Rings.{history_at}
@@ -17,10 +17,10 @@ use Rattle.session_model.specs.declared.report.Receipt.{Receipt}
 use Rattle.session_model.specs.Judged.{Opening}
 use Rattle.session_model.specs.Reports.{added}
 use Rattle.session_model.specs.Run.{Histories, nothing_called}
-use Rattle.caster_serve.specs.Endpoints.{EndpointTold, at_door, over_link, kind_of, kinds, doors_in, links_in}
+use Rattle.caster_serve.specs.Endpoints.{EndpointTold, at_door, over_link, kind_of, doors_in, links_in}
 use Rattle.caster_serve.specs.Callers.{Caller, ends_of as told_ends, is_whole}
 use Rattle.caster_serve.specs.Caster.{HasServed}
-use Rattle.caster_serve.specs.Works.{Record, IsTold, links_of, receipts_of, tallied}
+use Rattle.caster_serve.specs.Works.{Record, links_of, receipts_of, tallied}
 use Rattle.serve_promise.specs.Links.{IsLinkKept}
 use Rattle.serve_promise.specs.Callers as told
 use Rattle.serve_promise.proofs.CallerLemmas.{all_promised}

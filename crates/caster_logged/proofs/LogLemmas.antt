@@ -1,6 +1,5 @@
 -- What a list is that is told before and after, where both are logs.
 use Rattle.std.proofs.Common.{◌≡◌, ℕ, List, [], ◌∷◌, ◌++◌, map, Option, Some, unwrap_or, refl, ap, sym, ◌∙◌}
-use Rattle.std.proofs.lemmas.List.{append_cancel_left, map-append}
 use Rattle.cast_io.specs.declared.steps.SourceStep.TheVariants as steps
 use Rattle.cast_io.specs.Logged.{LinkLog, DoorLog, link_logged, door_logged}
 use Rattle.cast_io.specs.Logs.{GaveAll, GaveFile, pieces_given}

@@ -1,5 +1,5 @@
 -- What status 0 says of each command where output and street log what they took.
-use Rattle.std.proofs.Common.{◌≡◌, ◌++◌, ℕ, List, Option, Some, Ok, codes}
+use Rattle.std.proofs.Common.{◌≡◌, ◌++◌, ℕ, List, Some, Ok, codes, refl}
 use Rattle.session_script.specs.declared.Event.{Event}
 use Rattle.session_script.specs.declared.ScriptKind.TheVariants.{Bare}
 use Rattle.session_script.specs.Script.{script_of}
@@ -12,13 +12,15 @@ use Rattle.cast_config.specs.Bare as settings
 use Rattle.config_table.specs.Table.{table_records}
 use Rattle.session_model.specs.declared.report.Closed.{Closed}
 use Rattle.session_model.specs.Text.{closed_text}
-use Rattle.run_texts.specs.Texts.{IsRunText, IsWarmText, bare_report_text}
+use Rattle.run_texts.specs.Texts.{bare_report_text}
+use Rattle.caster_top.specs.declared.command.ConfigCommand.{ConfigCommand}
 use Rattle.caster_top.specs.declared.command.ConfigCommand.TheVariants.{Check, Migrate, Table}
+use Rattle.caster_top.specs.declared.command.RoverStart.{RoverStart}
 use Rattle.caster_top.specs.declared.command.RoverStart.TheVariants.{Cold, Warm}
-use Rattle.caster_top.specs.Command.{AreBare, AreOver, AreRecord, AreReplay, AreServe, AreWarm}
+use Rattle.caster_top.specs.Command.{AreBare, AreOver, ArePlayed, AreRecord, AreServe}
 use Rattle.caster_top.specs.Done.{WasDone}
-use Rattle.caster_top.specs.Outcome.{IsDocumentOf, one_line}
-use Rattle.caster_top.specs.Promised.{IsGreetedText, IsPromisedText}
+use Rattle.caster_top.specs.Outcome.{IsReportText, IsTextOver, one_line}
+use Rattle.caster_top.specs.Promised.{IsPromisedReport, IsPromisedText}
 use Rattle.caster_top.specs.Told.{Files, Input, IsConfigFrom, IsSessionFrom}
 use Rattle.caster_top.proofs.PromiseLemmas.{bare_promised, record_promised, replay_promised, warm_promised}
 use Rattle.caster_logged.specs.Callers.{HasServedAll}
@@ -42,23 +44,17 @@ module _ {words : List (List ℕ)} {input : Input} {files : Files} {before after
         is.5,
       )
 
-  pub over_checked : (path : List ℕ) → AreOver Check words path
-      → (c : Config) × IsConfigFrom files path c × (new ≡ old ++ one_line (codes "ok"))
-  over_checked path are = done.checked path are
+  pub over_config : (task : ConfigCommand) (path : List ℕ) → AreOver task words path
+      → (c : Config) × (text : List ℕ) × IsConfigFrom files path c × IsTextOver task c text × (new ≡ old ++ text)
+  over_config Check path are = let is = done.checked path are in (is.0, one_line (codes "ok"), is.1, refl, is.2)
+  over_config Table path are = let is = done.tabled path are in (is.0, table_text (table_records is.0), is.1, refl, is.2)
+  over_config Migrate path are = done.migrated path are
 
-  pub over_tabled : (path : List ℕ) → AreOver Table words path
-      → (c : Config) × IsConfigFrom files path c × (new ≡ old ++ table_text (table_records c))
-  over_tabled path are = done.tabled path are
-
-  pub over_migrated : (path : List ℕ) → AreOver Migrate words path
-      → (c : Config) × (text : List ℕ) × IsConfigFrom files path c × IsDocumentOf c text × (new ≡ old ++ text)
-  over_migrated path are = done.migrated path are
-
-  pub over_replayed : (config session : List ℕ) → AreReplay words config session
+  pub over_played : (start : RoverStart) (config session : List ℕ) → ArePlayed start words config session
       → (c : Config) × (events : List Event) × (text : List ℕ) × IsConfigFrom files config c
-      × IsSessionFrom files session c events × IsRunText c events text × IsPromisedText c events text
-      × (new ≡ old ++ text)
-  over_replayed config session are =
+      × IsSessionFrom files session c events × IsReportText start c events text
+      × IsPromisedReport start c events text × (new ≡ old ++ text)
+  over_played Cold config session are =
       let is = done.played Cold config session are in (
         is.0,
         is.1,
@@ -69,12 +65,7 @@ module _ {words : List (List ℕ)} {input : Input} {files : Files} {before after
         replay_promised files config session is.0 is.1 is.2 is.3 is.4 is.5,
         is.6,
       )
-
-  pub over_warmed : (config session : List ℕ) → AreWarm words config session
-      → (c : Config) × (events : List Event) × (text : List ℕ) × IsConfigFrom files config c
-      × IsSessionFrom files session c events × IsWarmText c events text × IsGreetedText c events text
-      × (new ≡ old ++ text)
-  over_warmed config session are =
+  over_played Warm config session are =
       let is = done.played Warm config session are in (
         is.0,
         is.1,

@@ -1,11 +1,11 @@
 -- Tries over links that are told are tries over the links that a street logs.
-use Rattle.std.proofs.Common.{◌≡◌, ◌≢◌, ◌≤◌, ◌-◌, ℕ, List, [], ◌∷◌, ◌++◌, length, map, take, Option, None, Some, option_map, refl, ap, sym, subst, ◌∙◌, append-nil, append_assoc, arith}
+use Rattle.std.proofs.Common.{◌≡◌, ◌-◌, ℕ, List, [], ◌∷◌, ◌++◌, length, map, take, Option, None, Some, option_map, refl, ap, sym, subst, ◌∙◌, append-nil, append_assoc}
 use Rattle.std.specs.List.{concat, flat_map}
 use Rattle.std.proofs.lemmas.List.{length-map}
 use Rattle.cast_io.specs.declared.steps.Step.{Step}
 use Rattle.cast_io.specs.Causes.{Rose}
 use Rattle.cast_io.specs.Links.{IsNewLink, bytes_in}
-use Rattle.cast_io.specs.Logged.{LinkLog, DoorLog, StreetLog, link_logged, door_logged, street_logged}
+use Rattle.cast_io.specs.Logged.{LinkLog, StreetLog, link_logged, door_logged, street_logged}
 use Rattle.cast_io.specs.Told.{LinkTold, StreetTold, Grew}
 use Rattle.ntrip_client.specs.declared.answer.Answer.{Answer}
 use Rattle.ntrip_client.specs.Answer.{IsAnswer}
@@ -18,7 +18,7 @@ use Rattle.ntrip_fetch.specs.Fetched.{Fetched, IsLeft}
 use Rattle.ntrip_fetch.specs.Request.{target_request}
 use Rattle.ntrip_fetch.specs.Steps.{AreNeeded, IsSent}
 use Rattle.ntrip_fetch.specs.Tries as told
-use Rattle.ntrip_fetch.specs.Tries.{AreRuns, Run, HasDialled, IsRun, Went, dial_of, frames_of_all, none_left, enough, another, tries_of}
+use Rattle.ntrip_fetch.specs.Tries.{AreRuns, Run, IsRun, Went, dial_of, frames_of_all, none_left, enough, another, tries_of}
 use Rattle.caster_top.specs.Fetching.{TriedEnd, HasFetched as HasFetchedOver}
 use Rattle.caster_logged.specs.Runs.{RunLog, HasFetched, HasTried, AreTried, HasFetchedAll, links_of, unused}
 use Rattle.caster_logged.proofs.LogLemmas.{cons_head, door_back, door_is, grew_by, grew_from, link_back, link_is, map_parts, map_same, some_is}

@@ -1,5 +1,5 @@
 -- Frames that were fetched from targets, by the logs of the links that were dialled.
-use Rattle.std.specs.Prelude.{◌≡◌, ◌≢◌, ◌<◌, ◌-◌, ℕ, ⊤, List, [], ◌∷◌, ◌++◌, length, map, take, Option, None, Some}
+use Rattle.std.specs.Prelude.{◌≡◌, ◌≢◌, ◌-◌, ℕ, ⊤, List, [], ◌∷◌, ◌++◌, length, map, take, Option, None, Some}
 use Rattle.std.specs.List.{concat, flat_map}
 use Rattle.cast_io.specs.Links.{bytes_in}
 use Rattle.cast_io.specs.Logged.{LinkLog, StreetLog, link_logged}

@@ -1,24 +1,23 @@
 //! The call of the program over what it is shipped with.
-ghost use Rattle.std.specs.Prelude.{◌≡◌, ◌++◌, ◌⊎◌, ℕ, List, Ok, Some, codes};
+ghost use Rattle.std.specs.Prelude.{◌≡◌, ◌++◌, ◌⊎◌, ℕ, List, Ok, Some};
 ghost use Rattle.session_script.specs.declared.Event.{Event};
 ghost use Rattle.session_script.specs.declared.ScriptKind.TheVariants.{Bare};
 ghost use Rattle.session_script.specs.Script.{script_of};
 ghost use Rattle.session_script.specs.Writing.{script_text};
-ghost use Rattle.sourcetable.specs.Table.{table_text};
 ghost use Rattle.cast_config.specs.declared.config.Config.{Config};
 ghost use Rattle.cast_config.specs.Bare.{bare};
-ghost use Rattle.config_table.specs.Table.{table_records};
-ghost use Rattle.run_texts.specs.Texts.{IsRunText, IsWarmText, made_text, bare_report_text};
+ghost use Rattle.run_texts.specs.Texts.{made_text, bare_report_text};
 ghost use Rattle.session_model.specs.declared.report.Closed.{Closed};
 ghost use Rattle.session_model.specs.Text.{closed_text};
 ghost use Rattle.ntrip_fetch.specs.declared.target.Target.{Target};
-ghost use Rattle.caster_top.specs.declared.command.ConfigCommand.TheVariants.{Check, Migrate, Table};
-ghost use Rattle.caster_top.specs.Command.{AreBare, AreFetch, AreMake, AreOver, AreRecord, AreReplay, AreServe, AreWarm, texts};
+ghost use Rattle.caster_top.specs.declared.command.ConfigCommand.{ConfigCommand};
+ghost use Rattle.caster_top.specs.declared.command.RoverStart.{RoverStart};
+ghost use Rattle.caster_top.specs.Command.{AreBare, AreFetch, AreMake, AreOver, ArePlayed, AreRecord, AreServe, texts};
 ghost use Rattle.cast_io.specs.Logged.{street_logged};
 ghost use Rattle.caster_top.specs.Done.{WasDone};
 ghost use Rattle.caster_top.specs.Fetching.{HasFetched};
-ghost use Rattle.caster_top.specs.Outcome.{IsDocumentOf, one_line};
-ghost use Rattle.caster_top.specs.Promised.{IsGreetedText, IsPromisedText};
+ghost use Rattle.caster_top.specs.Outcome.{IsReportText, IsTextOver};
+ghost use Rattle.caster_top.specs.Promised.{IsPromisedReport, IsPromisedText};
 ghost use Rattle.caster_top.specs.Told.{IsConfigFrom, IsSessionFrom};
 ghost use Rattle.caster_logged.specs.Inputs.{HasRead, HasReadFile};
 ghost use Rattle.caster_logged.specs.Callers.{HasServedAll};
@@ -55,32 +54,20 @@ pub fn caster_over<R: Threads + Wait + Sync>(
 
     // What is done with the configuration that the reads of the file CONFIG gave, from its opening
     // to its end.
-    ensures checked { result ≡ 0 → (path : List ℕ) → AreOver Check (texts words.now) path
-        → (c : Config) × IsConfigFrom (HasReadFile store.old.log store.new.log) path c
-        × (out.new.taken ≡ out.old.taken ++ one_line (codes "ok")) }
-    ensures tabled { result ≡ 0 → (path : List ℕ) → AreOver Table (texts words.now) path
-        → (c : Config) × IsConfigFrom (HasReadFile store.old.log store.new.log) path c
-        × (out.new.taken ≡ out.old.taken ++ table_text (table_records c)) }
-    ensures migrated { result ≡ 0 → (path : List ℕ) → AreOver Migrate (texts words.now) path
+    ensures over_config { result ≡ 0 → (task : ConfigCommand) (path : List ℕ)
+        → AreOver task (texts words.now) path
         → (c : Config) × (text : List ℕ)
-        × IsConfigFrom (HasReadFile store.old.log store.new.log) path c × IsDocumentOf c text
-        × (out.new.taken ≡ out.old.taken ++ text) }
+        × IsConfigFrom (HasReadFile store.old.log store.new.log) path c
+        × IsTextOver task c text × (out.new.taken ≡ out.old.taken ++ text) }
 
     // The report is that of the session that the reads of the file SESSION gave, over that
-    // configuration, and it keeps the promise of recorded sessions.
-    ensures replayed { result ≡ 0 → (config session : List ℕ)
-        → AreReplay (texts words.now) config session
+    // configuration, with greetings where rovers start warm, and it keeps the promise of its kind.
+    ensures played { result ≡ 0 → (start : RoverStart) (config session : List ℕ)
+        → ArePlayed start (texts words.now) config session
         → (c : Config) × (events : List Event) × (text : List ℕ)
         × IsConfigFrom (HasReadFile store.old.log store.new.log) config c
         × IsSessionFrom (HasReadFile store.old.log store.new.log) session c events
-        × IsRunText c events text × IsPromisedText c events text
-        × (out.new.taken ≡ out.old.taken ++ text) }
-    ensures warmed { result ≡ 0 → (config session : List ℕ)
-        → AreWarm (texts words.now) config session
-        → (c : Config) × (events : List Event) × (text : List ℕ)
-        × IsConfigFrom (HasReadFile store.old.log store.new.log) config c
-        × IsSessionFrom (HasReadFile store.old.log store.new.log) session c events
-        × IsWarmText c events text × IsGreetedText c events text
+        × IsReportText start c events text × IsPromisedReport start c events text
         × (out.new.taken ≡ out.old.taken ++ text) }
     ensures made { result ≡ 0 → (seed frames rovers : ℕ)
         → AreMake (texts words.now) seed frames rovers

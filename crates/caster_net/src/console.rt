@@ -1,5 +1,5 @@
 //! Where it is asked how a caster stands that keeps serving: the input by which it is stopped.
-ghost use Rattle.std.specs.Prelude.{◌≡◌, ◌∷◌, ◌++◌, [], false};
+ghost use Rattle.std.specs.Prelude.{◌≡◌, [], false};
 ghost use Rattle.cast_console.specs.Consoles.{HasHeard};
 
 use crate::halt::Halt;

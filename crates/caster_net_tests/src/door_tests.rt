@@ -1,6 +1,7 @@
 //! Doors at a loopback address, and what their rests end with.
+use crate::streets::with_street;
 use cast_io::{Arrived, Door, Got, Link, Street, StreetFault};
-use caster_net::{Bells, Halt, TcpDoor, TcpLink, TcpStreet};
+use caster_net::{TcpDoor, TcpLink, TcpStreet};
 use std::io::{ErrorKind, Read, Write};
 use std::net::{TcpListener, TcpStream};
 use std::test::Fail;
@@ -84,12 +85,10 @@ fn life_of<R: Threads>(
 fn lives_of<R: Threads>(
     rt: &R,
     host: &HostRuntime,
+    street: &mut TcpStreet<'_>,
     place: &str,
 ) -> Result<(([bool; 3], usize), (usize, bool, bool)), Fail> {
-    let bells = Bells::new(host);
-    let halt = Halt::new(host);
-    let mut street = TcpStreet::new(host, &bells, &halt);
-    let (mut doors, is_taken) = two_doors(host, &mut street, place);
+    let (mut doors, is_taken) = two_doors(host, street, place);
     let Some(mut door) = doors.pop() else {
         return Err(Fail::from("no doors"));
     };
@@ -104,7 +103,7 @@ fn lives_of<R: Threads>(
 #[test]
 fn a_door_gives_each_link_once_until_its_bell_is_rung(rt: HostRuntime) -> Result<(), Fail> {
     let place = free_place(&rt)?;
-    let (arrivals, doors) = lives_of(&rt, &rt, &place)?;
+    let (arrivals, doors) = with_street(&rt, |street| lives_of(&rt, &rt, street, &place))?;
     assert_eq!(rt; doors, (1, true, true));
     assert_eq!(rt; arrivals, ([true, true, true], 0));
     Ok(())
@@ -177,10 +176,11 @@ fn rests_alone(rt: &HostRuntime, door: &mut TcpDoor<'_>, place: &str) -> io::Res
 }
 
 // The same of a street's one door, which is shut then.
-fn rests_of_one(rt: &HostRuntime, place: &str) -> Result<[u128; 3], Fail> {
-    let bells = Bells::new(rt);
-    let halt = Halt::new(rt);
-    let mut street = TcpStreet::new(rt, &bells, &halt);
+fn rests_of_one(
+    rt: &HostRuntime,
+    street: &mut TcpStreet<'_>,
+    place: &str,
+) -> Result<[u128; 3], Fail> {
     let Ok(mut doors) = street.open(place, 1) else {
         return Err(Fail::from("no doors"));
     };
@@ -195,7 +195,7 @@ fn rests_of_one(rt: &HostRuntime, place: &str) -> Result<[u128; 3], Fail> {
 #[test]
 fn a_rest_of_one_door_ends_with_a_client_and_with_bytes(rt: HostRuntime) -> Result<(), Fail> {
     let place = free_place(&rt)?;
-    let [quiet, came, sent] = rests_of_one(&rt, &place)?;
+    let [quiet, came, sent] = with_street(&rt, |street| rests_of_one(&rt, street, &place))?;
     assert!(rt; came < quiet);
     assert!(rt; sent < quiet);
     Ok(())

@@ -16,4 +16,6 @@ pub mod records;
 #[cfg(test)]
 mod size_tests;
 #[cfg(test)]
+mod streets;
+#[cfg(test)]
 mod wire_tests;

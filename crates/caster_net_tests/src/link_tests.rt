@@ -1,6 +1,7 @@
 //! Links over loopback connections, and what their rests end with.
+use crate::streets::with_street;
 use cast_io::{Got, Link, Street};
-use caster_net::{Bells, Halt, TcpLink, TcpStreet};
+use caster_net::{TcpLink, TcpStreet};
 use std::io;
 use std::io::{Read, Write};
 use std::net::{TcpListener, TcpStream};
@@ -45,11 +46,11 @@ fn traffic_of(
 }
 
 // The same of a link that was dialled, which is hung up then.
-fn traffic(rt: &HostRuntime) -> Result<([Got; 3], [u8; 2], bool), Fail> {
-    let bells = Bells::new(rt);
-    let halt = Halt::new(rt);
-    let mut street = TcpStreet::new(rt, &bells, &halt);
-    let (mut link, peer) = pair(rt, &mut street)?;
+fn traffic(
+    rt: &HostRuntime,
+    street: &mut TcpStreet<'_>,
+) -> Result<([Got; 3], [u8; 2], bool), Fail> {
+    let (mut link, peer) = pair(rt, street)?;
     let traffic = traffic_of(&mut link, peer);
     street.hang_up(link);
     Ok(traffic?)
@@ -57,7 +58,7 @@ fn traffic(rt: &HostRuntime) -> Result<([Got; 3], [u8; 2], bool), Fail> {
 
 #[test]
 fn a_link_reads_what_comes_and_writes_at_once(rt: HostRuntime) -> Result<(), Fail> {
-    let (got, came, fails) = traffic(&rt)?;
+    let (got, came, fails) = with_street(&rt, |street| traffic(&rt, street))?;
     assert_eq!(rt; got, [Got::Idle, Got::Bytes(3), Got::End]);
     assert_eq!(rt; (came, fails), (*b"de", true));
     Ok(())
@@ -117,11 +118,8 @@ fn rests_at_one(rt: &HostRuntime, two: &mut Pairs<'_>) -> io::Result<[bool; 4]> 
 }
 
 // The same of two links that were dialled, which are hung up then.
-fn rests_of(rt: &HostRuntime) -> Result<[bool; 4], Fail> {
-    let bells = Bells::new(rt);
-    let halt = Halt::new(rt);
-    let mut street = TcpStreet::new(rt, &bells, &halt);
-    let mut two = dial_twice(rt, &mut street)?;
+fn rests_of(rt: &HostRuntime, street: &mut TcpStreet<'_>) -> Result<[bool; 4], Fail> {
+    let mut two = dial_twice(rt, street)?;
     let rests = rests_at_one(rt, &mut two);
     street.hang_up(two.rover);
     street.hang_up(two.source);
@@ -130,7 +128,7 @@ fn rests_of(rt: &HostRuntime) -> Result<[bool; 4], Fail> {
 
 #[test]
 fn a_rest_ends_with_the_peer_or_the_bell(rt: HostRuntime) -> Result<(), Fail> {
-    let got = rests_of(&rt)?;
+    let got = with_street(&rt, |street| rests_of(&rt, street))?;
     assert_eq!(rt; got, [true, false, true, true]);
     Ok(())
 }
@@ -151,11 +149,8 @@ fn rests_at_two(rt: &HostRuntime, two: &mut Pairs<'_>) -> io::Result<[bool; 4]> 
 }
 
 // The same of two links that were dialled, which are hung up then.
-fn rests_apart(rt: &HostRuntime) -> Result<[bool; 4], Fail> {
-    let bells = Bells::new(rt);
-    let halt = Halt::new(rt);
-    let mut street = TcpStreet::new(rt, &bells, &halt);
-    let mut two = dial_twice(rt, &mut street)?;
+fn rests_apart(rt: &HostRuntime, street: &mut TcpStreet<'_>) -> Result<[bool; 4], Fail> {
+    let mut two = dial_twice(rt, street)?;
     let rests = rests_at_two(rt, &mut two);
     street.hang_up(two.rover);
     street.hang_up(two.source);
@@ -164,7 +159,7 @@ fn rests_apart(rt: &HostRuntime) -> Result<[bool; 4], Fail> {
 
 #[test]
 fn each_mountpoint_has_a_bell(rt: HostRuntime) -> Result<(), Fail> {
-    let got = rests_apart(&rt)?;
+    let got = with_street(&rt, |street| rests_apart(&rt, street))?;
     assert_eq!(rt; got, [false, true, false, true]);
     Ok(())
 }
@@ -181,11 +176,8 @@ fn rest_beside(rt: &HostRuntime, two: &mut Pairs<'_>) -> io::Result<bool> {
 
 // The same of links that were dialled, and whether one that gave a frame rings for it as it is hung
 // up.
-fn rests_untold(rt: &HostRuntime) -> Result<[bool; 2], Fail> {
-    let bells = Bells::new(rt);
-    let halt = Halt::new(rt);
-    let mut street = TcpStreet::new(rt, &bells, &halt);
-    let mut two = dial_twice(rt, &mut street)?;
+fn rests_untold(rt: &HostRuntime, street: &mut TcpStreet<'_>) -> Result<[bool; 2], Fail> {
+    let mut two = dial_twice(rt, street)?;
     let untold = rest_beside(rt, &mut two);
     street.hang_up(two.source);
     let rung = is_short(rt, &mut two.rover);
@@ -195,17 +187,14 @@ fn rests_untold(rt: &HostRuntime) -> Result<[bool; 2], Fail> {
 
 #[test]
 fn a_link_without_a_mountpoint_rings_at_its_end(rt: HostRuntime) -> Result<(), Fail> {
-    let got = rests_untold(&rt)?;
+    let got = with_street(&rt, |street| rests_untold(&rt, street))?;
     assert_eq!(rt; got, [false, true]);
     Ok(())
 }
 
 // Whether a link that was dialled sends small pieces at once.
-fn is_prompt(rt: &HostRuntime) -> Result<bool, Fail> {
-    let bells = Bells::new(rt);
-    let halt = Halt::new(rt);
-    let mut street = TcpStreet::new(rt, &bells, &halt);
-    let (link, _peer) = pair(rt, &mut street)?;
+fn is_prompt(rt: &HostRuntime, street: &mut TcpStreet<'_>) -> Result<bool, Fail> {
+    let (link, _peer) = pair(rt, street)?;
     let is_prompt = link.is_prompt();
     street.hang_up(link);
     Ok(is_prompt?)
@@ -213,7 +202,7 @@ fn is_prompt(rt: &HostRuntime) -> Result<bool, Fail> {
 
 #[test]
 fn small_pieces_are_sent_at_once(rt: HostRuntime) -> Result<(), Fail> {
-    let is_prompt = is_prompt(&rt)?;
+    let is_prompt = with_street(&rt, |street| is_prompt(&rt, street))?;
     assert!(rt; is_prompt);
     Ok(())
 }

@@ -2,6 +2,7 @@
 //! go through `records`, where contracts say what the record is, and each test looks at what was
 //! opened.
 use crate::records::{dial_link, open_doors, opened_at, read_on};
+use crate::streets::with_street;
 use cast_io::{Arrived, Door, Failed, Street};
 use caster_net::{Bells, FileStore, Halt, TcpDoor, TcpStreet};
 use std::net::{TcpListener, TcpStream};
@@ -108,12 +109,9 @@ fn is_reached(door: &mut TcpDoor<'_>) -> bool {
 
 // Whether a link comes to the first and to the second of two doors where a client comes to the
 // address of the second.
-fn are_reached(rt: &HostRuntime) -> Result<[bool; 2], Fail> {
-    let bells = Bells::new(rt);
-    let halt = Halt::new(rt);
-    let mut street = TcpStreet::new(rt, &bells, &halt);
-    let (one, _) = door_of(rt, &mut street)?;
-    let (two, place) = door_of(rt, &mut street)?;
+fn are_reached(rt: &HostRuntime, street: &mut TcpStreet<'_>) -> Result<[bool; 2], Fail> {
+    let (one, _) = door_of(rt, street)?;
+    let (two, place) = door_of(rt, street)?;
     let (Some(mut one), Some(mut two)) = (one, two) else {
         return Err(Fail::from("no doors"));
     };
@@ -127,7 +125,7 @@ fn are_reached(rt: &HostRuntime) -> Result<[bool; 2], Fail> {
 
 #[test]
 fn a_street_opens_the_address_that_it_records(rt: HostRuntime) -> Result<(), Fail> {
-    let reached = are_reached(&rt)?;
+    let reached = with_street(&rt, |street| are_reached(&rt, street))?;
     assert_eq!(rt; reached, [false, true]);
     Ok(())
 }

@@ -1,5 +1,5 @@
 -- Lists that go together, from their ends and by index.
-use Rattle.std.proofs.Common.{◌≡◌, ◌∙◌, ◌<◌, ℕ, zero, suc, List, [], ◌∷◌, ◌++◌, length, map, refl, sym, ap, subst, arith, All}
+use Rattle.std.proofs.Common.{◌≡◌, ◌∙◌, ◌<◌, ℕ, zero, suc, List, [], ◌∷◌, ◌++◌, length, map, refl, sym, ap, subst, append_assoc, arith, All}
 use Rattle.std.proofs.lemmas.List.Elements.{All-nil, All-cons, All-head, All-tail}
 use mathlib.Core.Option.{some, some-injective, some-ne-none}
 use lib.ListN.{get_elem?}
@@ -21,16 +21,20 @@ matched-snoc Fits [] (z ∷ ys) x y m fits = absurd m
 matched-snoc Fits (w ∷ xs) [] x y m fits = absurd m
 matched-snoc Fits (w ∷ xs) (z ∷ ys) x y m fits = (m.0, matched-snoc Fits xs ys x y m.1 fits)
 
--- the last ones go together, and so do those before them
-pub matched-ends : {X Y : Type 0} (Fits : X → Y → Type 0) (xs : List X) (ys : List Y) (x : X) (y : Y)
-    → AreMatched Fits (xs ++ x ∷ []) (ys ++ y ∷ []) → AreMatched Fits xs ys × Fits x y
-matched-ends Fits [] [] x y m = (tt, m.0)
-matched-ends Fits [] (z ∷ []) x y m = absurd m.1
-matched-ends Fits [] (z ∷ w ∷ ys) x y m = absurd m.1
-matched-ends Fits (w ∷ []) [] x y m = absurd m.1
-matched-ends Fits (w ∷ v ∷ xs) [] x y m = absurd m.1
-matched-ends Fits (w ∷ xs) (z ∷ ys) x y m =
-    let rest = matched-ends Fits xs ys x y m.1 in ((m.0, rest.0), rest.1)
+-- the first ones go together, and so do those behind them
+pub matched_next : {X Y : Type 0} (Fits : X → Y → Type 0) (xs more : List X) (ys later : List Y) (x : X) (y : Y)
+    → xs ≡ x ∷ more → ys ≡ y ∷ later → AreMatched Fits xs ys → Fits x y × AreMatched Fits more later
+matched_next Fits xs more ys later x y is is_too all =
+    subst (λ l. AreMatched Fits l (y ∷ later)) is (subst (AreMatched Fits xs) is_too all)
+
+-- where all go together with these and any that go with the rest, they do so with one more of these
+pub matched_behind : {X Y : Type 0} (Fits : X → Y → Type 0) (all xs more : List X) (front : List Y) (x : X) (y : Y)
+    → xs ≡ x ∷ more → Fits x y
+    → ((rest : List Y) → AreMatched Fits xs rest → AreMatched Fits all (front ++ rest))
+    → (rest : List Y) → AreMatched Fits more rest → AreMatched Fits all ((front ++ y ∷ []) ++ rest)
+matched_behind Fits all xs more front x y is fits behind rest m =
+    subst (AreMatched Fits all) (sym (append_assoc front (y ∷ []) rest))
+    (behind (y ∷ rest) (subst (λ l. AreMatched Fits l (y ∷ rest)) (sym is) (fits, m)))
 
 -- what goes with the item at this place
 pub matched_at : {X Y : Type 0} (Fits : X → Y → Type 0) (xs : List X) (ys : List Y) (i : ℕ) (y : Y)

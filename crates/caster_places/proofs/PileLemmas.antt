@@ -13,7 +13,7 @@ use Rattle.turn_log.specs.Lock.{turn_passes, turn_value, turn_home, pass_number,
 use Rattle.turn_log.proofs.LockLists.{at_or}
 use Rattle.session_calls.specs.Rings.{AllLater}
 use Rattle.caster_places.specs.Piles.{AreMatched, AreThree, AreWithin, IsGivenBack, IsLeft, IsPileFrom, IsPile, AreAllOf, HasAllOf, IsWhole, HasRoom}
-use Rattle.caster_places.proofs.ListLemmas.{at_back, at_front, matched-ends, matched-snoc, three_at, map_at, same_at, all_at, all_front, all_last}
+use Rattle.caster_places.proofs.ListLemmas.{at_back, at_front, matched_behind, matched_next, three_at, map_at, same_at, all_at, all_front, all_last}
 
 -- the last pile took one more, and those before it had room left
 pub room_more : {X : Type 0} (n : ℕ) (olds rest news left : List (Vec X Global)) (old new : Vec X Global)
@@ -193,12 +193,12 @@ module _ {V C A R S : Type 0} {g : Ghosts V C A R S} where
   AllClosed piles wholes = AreMatched (λ (pile : Vec (Pass V C A R S g) Global) (whole : History C).
       HasAllOf pile.items whole) piles wholes
 
-  pub closing_ends : (piles rest : List (Vec (Pass V C A R S g) Global)) (pile : Vec (Pass V C A R S g) Global)
-      (locks front : List (Turn V C A R S)) (lock : Turn V C A R S) → piles ≡ rest ++ pile ∷ []
-      → locks ≡ front ++ lock ∷ [] → AllClosing piles locks → AllClosing rest front × AreAllOf pile.items lock
-  closing_ends piles rest pile locks front lock is is_too all =
-      matched-ends (λ (p : Vec (Pass V C A R S g) Global) (l : Turn V C A R S). AreAllOf p.items l) rest front pile lock
-      (subst (λ ps. AllClosing ps (front ++ lock ∷ [])) is (subst (λ ls. AllClosing piles ls) is_too all))
+  pub closing_next : (piles rest : List (Vec (Pass V C A R S g) Global)) (pile : Vec (Pass V C A R S g) Global)
+      (locks later : List (Turn V C A R S)) (lock : Turn V C A R S) → piles ≡ pile ∷ rest → locks ≡ lock ∷ later
+      → AllClosing piles locks → AreAllOf pile.items lock × AllClosing rest later
+  closing_next piles rest pile locks later lock is is_too all =
+      matched_next (λ (p : Vec (Pass V C A R S g) Global) (l : Turn V C A R S). AreAllOf p.items l) piles rest locks later
+      pile lock is is_too all
 
   pub closed_none : (piles : List (Vec (Pass V C A R S g) Global)) (locks : List (Turn V C A R S)) → length locks ≡ 0
       → AllClosing piles locks → AllClosed piles []
@@ -207,13 +207,13 @@ module _ {V C A R S : Type 0} {g : Ghosts V C A R S} where
   closed_none (pile ∷ piles) [] none all = absurd all
   closed_none (pile ∷ piles) (lock ∷ locks) none all = absurd (omega (arith, none))
 
-  pub closed_more : (piles rest : List (Vec (Pass V C A R S g) Global)) (pile : Vec (Pass V C A R S g) Global)
-      (wholes : List (History C)) (whole : History C) → piles ≡ rest ++ pile ∷ [] → AllClosed rest wholes
-      → HasAllOf pile.items whole → AllClosed piles (wholes ++ whole ∷ [])
-  closed_more piles rest pile wholes whole is all has =
-      subst (λ ps. AllClosed ps (wholes ++ whole ∷ [])) (sym is)
-      (matched-snoc (λ (p : Vec (Pass V C A R S g) Global) (w : History C). HasAllOf p.items w) rest wholes pile whole
-      all has)
+  pub closed_behind : (all piles rest : List (Vec (Pass V C A R S g) Global)) (pile : Vec (Pass V C A R S g) Global)
+      (wholes : List (History C)) (whole : History C) → piles ≡ pile ∷ rest → HasAllOf pile.items whole
+      → ((more : List (History C)) → AllClosed piles more → AllClosed all (wholes ++ more))
+      → (more : List (History C)) → AllClosed rest more → AllClosed all ((wholes ++ whole ∷ []) ++ more)
+  closed_behind all piles rest pile wholes whole is has behind =
+      matched_behind (λ (p : Vec (Pass V C A R S g) Global) (w : History C). HasAllOf p.items w) all piles rest wholes
+      pile whole is has behind
 
   -- what a lock was closed with has all of these passes, if they were as many as the lock has
   pub has_all : (passes : List (Pass V C A R S g)) (lock : Turn V C A R S) (whole : History C)

@@ -39,11 +39,7 @@ fn close_ring(lock: Turn<Ring>, pile: Vec<Pass<Ring>>) -> MountTotal
 }
 
 /// Closes the locks of the rings, and gives the totals of each mountpoint, in their order.
-fn close_rings(
-    mut locks: Vec<Turn<Ring>>,
-    mut piles: Vec<Vec<Pass<Ring>>>,
-    totals: &mut Vec<MountTotal>,
-)
+fn close_rings(locks: Vec<Turn<Ring>>, piles: Vec<Vec<Pass<Ring>>>, totals: &mut Vec<MountTotal>)
     requires all { AreMatched (λ pile lock. AreAllOf pile.items lock) piles.items locks.items }
     requires room { vec_len totals.old + length locks.items ≤ vec_capacity totals.old }
     ensures closed { (wholes : List (History RingCall))
@@ -52,14 +48,16 @@ fn close_rings(
     ensures space { (vec_capacity totals.old ≤ vec_capacity totals.new)
         × (vec_len totals.new ≡ vec_len totals.old + length locks.items) }
 {
-    let Some(lock) = locks.pop() else {
-        return;
-    };
-    let Some(pile) = piles.pop() else {
-        unreachable!()
-    };
-    close_rings(locks, piles, totals);
-    totals.push_reserved(close_ring(lock, pile));
+    let mut locks = locks.into_iter();
+    let mut piles = piles.into_iter();
+    while let Some(lock) = locks.next() {
+        let Some(pile) = piles.next() else {
+            unreachable!()
+        };
+        totals.push_reserved(close_ring(lock, pile));
+    }
+    locks.destroy_empty();
+    piles.destroy_empty();
 }
 
 /// The totals of the named accounts, which are numbered from 1.

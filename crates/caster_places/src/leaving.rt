@@ -1,9 +1,7 @@
 //! Callers leave their places, and their passes come to those of the callers before them.
 
-ghost use Rattle.std.specs.Prelude.{◌≡◌, ℕ, ◌+◌, ◌≤◌, ◌++◌, List, [], ◌∷◌, length, map, vec_len, vec_capacity};
+ghost use Rattle.std.specs.Prelude.{◌≡◌, ℕ, ◌+◌, ◌≤◌, ◌++◌, List, [], ◌∷◌, length, vec_len, vec_capacity};
 ghost use Rattle.std.specs.List.{All};
-ghost use mathlib.Core.Option.{some};
-ghost use lib.ListN.{get_elem?};
 ghost use Rattle.turn_log.specs.History.{IsLegal};
 ghost use Rattle.caster_accounts.specs.History.{fits};
 ghost use Rattle.session_calls.specs.Rings.{AllLater};

@@ -1,5 +1,5 @@
 //! Callers sit down at a press and leave it, and it is closed with the passes of all of them.
-ghost use Rattle.std.specs.Prelude.{◌≡◌, ◌≤◌, ◌+◌, ◌<◌, ◌++◌, ◌∷◌, ℕ, [], List, length, vec_len, vec_capacity};
+ghost use Rattle.std.specs.Prelude.{◌≡◌, ◌≤◌, ◌+◌, ◌<◌, ◌++◌, ◌∷◌, [], List, length, vec_len, vec_capacity};
 ghost use Rattle.turn_log.specs.History.{History};
 ghost use Rattle.turn_log.specs.Lock.{IsPassOf, pass_number, pass_seen, pass_worn, turn_passes, turn_value};
 ghost use Rattle.caster_press.specs.declared.line.Line.{Line as LineValue};

@@ -1,4 +1,4 @@
-ghost use Rattle.std.specs.Prelude.{◌≡◌, ◌≤◌, ◌++◌, true, take};
+ghost use Rattle.std.specs.Prelude.{◌≡◌, ◌≤◌, true, take};
 ghost use Rattle.caster_press.specs.Texts.{is_line};
 
 /// How many bytes a line has at most, with the newline at its end.

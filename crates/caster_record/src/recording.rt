@@ -295,15 +295,14 @@ fn session<D: Door, R: Wait>(
 }
 
 /// Hangs all of these links up at the door that gave them, in order.
-pub fn hang_up_all<D: Door>(door: &mut D, mut links: Vec<D::Link>)
+pub fn hang_up_all<D: Door>(door: &mut D, links: Vec<D::Link>)
     ensures { HasTakenBack (map D.Link.told links.items) (D.told door.old) (D.told door.new) }
 {
-    let Some(last) = links.pop() else {
-        links.destroy_empty();
-        return;
-    };
-    hang_up_all(door, links);
-    door.hang_up(last);
+    let mut links = links.into_iter();
+    while let Some(link) = links.next() {
+        door.hang_up(link);
+    }
+    links.destroy_empty();
 }
 
 /// Serves the links that come to the door, at most `limit` of them, 1 to 256, and records what

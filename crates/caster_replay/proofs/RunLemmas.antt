@@ -8,7 +8,6 @@ use Rattle.mount_ring.specs.declared.call.RingCall.{RingCall}
 use Rattle.session_script.specs.declared.Event.{Event}
 use Rattle.cast_config.specs.declared.config.Config.{Config}
 use Rattle.session_core.specs.declared.rover_state.RoverState.{RoverState}
-use Rattle.session_model.specs.Run.{nothing_called}
 use Rattle.caster_replay.specs.declared.run_connection.RunConnection.{RunConnection}
 use Rattle.caster_replay.specs.declared.run_connection.State.{State}
 use Rattle.caster_replay.specs.declared.run_connection.State.TheVariants.{Open, Closed}
@@ -17,14 +16,12 @@ use Rattle.caster_replay.specs.RunConnections.{IsFoundAt, IsMissing, IsRoverIn, 
 use Rattle.caster_replay.specs.Going.{GoesOn, IsBehind, IsRover, MaySpeak}
 use Rattle.caster_replay.specs.Kept.{StandsFor, MayCome, lives_of}
 use Rattle.caster_replay.specs.Lives.{Live, live_in, lives_in, live_of, place_of}
-use Rattle.caster_replay.specs.Runs.{Runs}
 use Rattle.caster_replay.specs.Scripts.{IsScriptFor, Plays}
 use Rattle.caster_replay.specs.Sends.{sent_in}
 use Rattle.caster_replay.proofs.WorldRunnerLemmas.{IsAbsent, headings_now}
 use Rattle.caster_replay.proofs.EntryLemmas.{no_live, within_lives, here_at, absent_at}
 use Rattle.caster_replay.proofs.GoingLemmas.{going_missing, behind_missing, going_found, behind_found, found_speaks}
 use Rattle.caster_replay.proofs.LivesLemmas.{in_order}
-use Rattle.caster_replay.proofs.PlayLemmas.{runs_of}
 use Rattle.caster_replay.proofs.ReplayLemmas.{split_at}
 use Rattle.caster_replay.proofs.RoverLemmas.{rover_missing, rover_found}
 use Rattle.caster_replay.proofs.SendsLemmas.{sent_here, sent_absent}

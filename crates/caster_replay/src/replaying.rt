@@ -1,6 +1,6 @@
 //! The report of a recorded run.
 
-ghost use Rattle.std.specs.Prelude.{◌≡◌, ℕ, IfOk};
+ghost use Rattle.std.specs.Prelude.{ℕ, IfOk};
 ghost use Rattle.cast_config.specs.Kept.{KeepsRules};
 ghost use Rattle.session_model.specs.Reports.{IsReport};
 ghost use Rattle.caster_replay.specs.Kept.{StandsFor};

@@ -1,7 +1,6 @@
 //! What the mountpoints and accounts of a run came to.
 
-ghost use Rattle.std.specs.Prelude.{◌≡◌, ℕ, ◌^◌, ◌<◌, length, IfOk};
-ghost use Rattle.cast_config.specs.Kept.{KeepsRules};
+ghost use Rattle.std.specs.Prelude.{◌≡◌, ◌^◌, ◌<◌, length, IfOk};
 ghost use Rattle.cast_config.specs.declared.config.Config.{Config as ConfigValue};
 ghost use Rattle.session_model.specs.Reports.{closed_of, sums_from};
 ghost use Rattle.session_model.specs.Run.{Histories};

@@ -1,5 +1,5 @@
 -- What a street is asked, and what comes back to it.
-use Rattle.std.proofs.Common.{◌≡◌, ◌⊎◌, Ok, Err, suc, take, replicate, length, ◌∙◌, ◌++◌, ℕ, List, [], ◌∷◌, map, IsTrue, inl, inr, refl, sym, ap, subst, arith, append-nil}
+use Rattle.std.proofs.Common.{◌≡◌, ◌⊎◌, Ok, Err, suc, take, replicate, length, ◌∙◌, ◌++◌, ℕ, List, [], ◌∷◌, map, IsTrue, inl, inr, refl, sym, ap, subst, arith, append-nil, append_assoc}
 use Rattle.std.specs.Prelude.{Result, OnOk, nat_lt, Bool, true, false, ◌||◌}
 use Rattle.std.specs.List.{All, list_any}
 use Rattle.std.specs.Str.{is_utf8}
@@ -21,7 +21,7 @@ use Rattle.caster_serve.specs.declared.caller_task.Endpoint.{Endpoint}
 use Rattle.caster_serve.specs.declared.caller_task.CallerTask.{CallerTask}
 use Rattle.cast_io.specs.Streets as streets
 use Rattle.cast_io.specs.Streets.{HasLeft, HasShut}
-use Rattle.cast_io.proofs.ToldLemmas.{grew_both}
+use Rattle.cast_io.proofs.ToldLemmas.{grew_both, grew_none}
 use Rattle.caster_serve.specs.Endpoints.{EndpointTold, at_door, over_link, HasAsked, HasTakenBack, IsUnserved, IsUnused, a_worker, asked_of, at_new_door, dial_of, end_told, kind_of, kinds, relays_from, doors_in, links_in, door_failed, unserved}
 
 pub address_utf8 : (mounts : ℕ) (relay : Relay) → KeepsRelay mounts relay → IsTrue (is_utf8 relay.address)
@@ -56,6 +56,16 @@ any_last xs x h = from (or_split _ _ (sym (list_any-append door_failed xs (x ∷
         → IsTrue (list_any door_failed xs) ⊎ IsTrue (door_failed x)
     from (inl so) = inl so
     from (inr so) = inr (one (or_split _ _ so))
+
+-- nothing came back so far
+pub back_none : (a : StreetTold) → HasTakenBack [] a a
+back_none a = record {
+  asked = refl;
+  doors = grew_none a.doors;
+  links = grew_none a.links;
+  later = omega arith;
+  rose = λ never. absurd (let clash : false ≡ true = never in cc);
+}
 
 -- a door more was shut
 pub back_door : (a b c : StreetTold) (xs : List EndpointTold) (door : DoorTold) → HasTakenBack xs a b
@@ -149,10 +159,13 @@ doors_unused f g (door ∷ doors) fresh =
     (All-head (λ door. IsNewDoor (f door)) door doors fresh)
     (doors_unused f g doors (All-tail (λ door. IsNewDoor (f door)) door doors fresh))
 
--- the list as it is told, with its last item apart
-pub told_snoc : {D L : Type 0} (f : D → DoorTold) (g : L → LinkTold) (all front : List (CallerTask D L)) (last : CallerTask D L)
-    → all ≡ front ++ last ∷ [] → map (end_told f g) all ≡ map (end_told f g) front ++ end_told f g last ∷ []
-told_snoc f g all front last is = ap (map (end_told f g)) is ∙ map-append (end_told f g) front (last ∷ [])
+-- of all as they are told, the next of those that are left is one more of those before
+pub told_next : {D L : Type 0} (f : D → DoorTold) (g : L → LinkTold) (all : List EndpointTold) (before : List EndpointTold)
+    (left later : List (CallerTask D L)) (task : CallerTask D L) → all ≡ before ++ map (end_told f g) left
+    → left ≡ task ∷ later → all ≡ (before ++ end_told f g task ∷ []) ++ map (end_told f g) later
+told_next f g all before left later task all_are is =
+    all_are ∙ ap (λ l. before ++ map (end_told f g) l) is
+    ∙ sym (append_assoc before (end_told f g task ∷ []) (map (end_told f g) later))
 
 -- where the rest was dialled, all were
 pub counted : {T E : Type 0} (relay : Relay) (later relays : List Relay) (result : Result T E) (n : ℕ)

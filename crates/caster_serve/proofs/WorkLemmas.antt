@@ -268,7 +268,7 @@ none_come told old new is =
       unharmed = is.unharmed;
     }
 
-fault_come : {L : Type 0} (told : L → LinkTold) (old new : DoorTold) → HasAccepted told old new arrived.Failed
+pub fault_come : {L : Type 0} (told : L → LinkTold) (old new : DoorTold) → HasAccepted told old new arrived.Failed
     → HasCome arrived.Failed old new
 fault_come told old new is =
     record {

@@ -41,7 +41,7 @@ fn serve_hands<'a, L: Link + Send, D: Door<Link = L> + Send, R: Threads + Wait +
     serve_all(rt, alloc, config, table, hands.as_mut_slice(), limit);
 }
 
-/// Whether each of these served `limit` links.
+/// Whether each of these served as many links as it was to: `limit` at a door, one of a relay.
 fn are_whole<'a, L: Link + Send, D: Door<Link = L> + Send, R: Wait + Sync>(
     hands: &[SeatedCaller<'a, CallerTask<D, L>, R>],
     limit: u64,

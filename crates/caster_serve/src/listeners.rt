@@ -1,12 +1,11 @@
 //! Doors are opened for all workers, and the peer of each relay is dialled; all that was given goes
 //! back to the street.
 
-ghost use Rattle.std.specs.Prelude.{◌≡◌, ◌≤◌, ◌+◌, ◌<◌, ◌^◌, ℕ, ◌++◌, [], ◌∷◌, List, length, map, take, replicate, vec_len, vec_capacity, IfOk, IsErrOf, OnOk};
+ghost use Rattle.std.specs.Prelude.{◌≡◌, ◌≤◌, ◌+◌, ◌<◌, ◌^◌, ℕ, ◌++◌, [], List, length, map, take, vec_len, vec_capacity, IsErrOf, OnOk};
 ghost use Rattle.std.specs.List.{All};
 ghost use Rattle.cast_config.specs.Kept.{KeepsRelay, KeepsRules};
 ghost use Rattle.cast_io.specs.Causes.{Rose};
-ghost use Rattle.cast_io.specs.Told.{Grew};
-ghost use Rattle.caster_serve.specs.Endpoints.{HasAsked, HasTakenBack, IsUnserved, IsUnused, a_worker, asked_of, at_new_door, dial_of, end_told, kind_of, kinds, relays_from};
+ghost use Rattle.caster_serve.specs.Endpoints.{HasAsked, HasTakenBack, IsUnserved, IsUnused, asked_of, at_new_door, dial_of, end_told, kind_of, kinds, relays_from};
 
 use crate::caller_task::{CallerTask, Endpoint};
 use cast_config::{Config, Relay};
@@ -97,22 +96,21 @@ pub fn ask_all<N: Street>(
 
 /// Gives the ends of all of these back to the street that they came from, in order: each door is
 /// shut, and each link is hung up.
-pub fn give_back<N: Street>(street: &mut N, mut tasks: Vec<CallerTask<N::Door, N::Link>>)
+pub fn give_back<N: Street>(street: &mut N, tasks: Vec<CallerTask<N::Door, N::Link>>)
     ensures { HasTakenBack (map (end_told N.Door.told N.Link.told) tasks.items) (N.told street.old)
         (N.told street.new) }
 {
-    let Some(last) = tasks.pop() else {
-        tasks.destroy_empty();
-        return;
-    };
-    give_back(street, tasks);
-    let CallerTask {
-        end,
-        tally: _,
-        served: _,
-    } = last;
-    match end {
-        Endpoint::Door(door) => street.shut(door),
-        Endpoint::Link(_, link) => street.hang_up(link),
+    let mut tasks = tasks.into_iter();
+    while let Some(task) = tasks.next() {
+        let CallerTask {
+            end,
+            tally: _,
+            served: _,
+        } = task;
+        match end {
+            Endpoint::Door(door) => street.shut(door),
+            Endpoint::Link(_, link) => street.hang_up(link),
+        }
     }
+    tasks.destroy_empty();
 }

@@ -65,7 +65,7 @@ pub(crate) trait Serves: Send {
         requires { MayServe config.now table.now limit (told self.old) }
         ensures { CallerServed config.now limit (told self.old) (told self.new) };
 
-    /// It served `limit` links.
+    /// Whether it served as many links as it was to: `limit` at a door, one of a relay.
     fn is_whole(&self, limit: u64) -> bool
         ensures { result ≡ is_whole limit (caller_of (told self.now)) };
 }
@@ -99,7 +99,7 @@ impl<'a, L: Link + Send, D: Door<Link = L> + Send, R: Wait + Sync> Serves
     }
 }
 
-/// Runs each of these workers, in a thread of its own where one can be made.
+/// Runs each of these callers, in a thread of its own where one can be made.
 pub(crate) fn serve_all<H: Serves, R: Threads + Wait + Sync>(
     rt: &R,
     alloc: Global,

@@ -1,9 +1,9 @@
 //! Links, doors and streets in memory.
 
-ghost use Rattle.std.specs.Prelude.{◌≡◌, IfOk, IsTrue};
+ghost use Rattle.std.specs.Prelude.{IfOk, IsTrue};
 ghost use Rattle.std.specs.List.{list_all};
 ghost use Rattle.cast_io.specs.FakeLinks.{is_new_link};
-ghost use Rattle.cast_io.specs.FakeDoors.{is_new_arrival, is_new_door};
+ghost use Rattle.cast_io.specs.FakeDoors.{is_new_door};
 
 use cast_io::{MemDoor, MemLink, MemStreet};
 use std::alloc::{AllocError, Global};

@@ -10,6 +10,7 @@ use crate::setting::{config_of, is_there};
 use crate::telling::{Ended, ended_at, ended_of};
 use cast_io::{Door, Link, MemDoor, MemLink};
 use caster_accounts::Book;
+use caster_link::serve_places;
 use caster_places::AllPlaces;
 use caster_seats::{Passes, Shared};
 use caster_serve::{Role, Tally, Worker, serve_link, work};
@@ -47,7 +48,8 @@ pub(crate) fn sit_down<'a, R: Wait + Sync>(
     Ok((me, places))
 }
 
-/// What a connection over this link came to that is served so at the last of these passes.
+/// What a connection over this link came to that is served so at the last of these passes: a
+/// client's by `serve_link`, and a relay's by `caster_link` alone.
 fn serve_at<L: Link, R: Wait + Sync>(
     rt: &R,
     alloc: Global,
@@ -64,7 +66,10 @@ fn serve_at<L: Link, R: Wait + Sync>(
         → number < length shared.now.config.now.relay }
 {
     let (me, mut places) = sit_down(rt, alloc, shared, list)?;
-    Ok(serve_link(rt, alloc, shared, me, &mut places, role, link))
+    Ok(match role {
+        Role::Caller => serve_link(rt, alloc, shared, me, &mut places, role, link),
+        Role::Relay(_) => serve_places(rt, &shared.setup(alloc, me), &mut places, role, link),
+    })
 }
 
 /// What a connection over this link came to that is served so. The configuration has this behind

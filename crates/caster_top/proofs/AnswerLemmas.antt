@@ -1,17 +1,13 @@
 -- An answer stands on the words and on the bytes that came.
-use Rattle.std.proofs.Common.{◌≡◌, ℕ, ◌<◌, ◌≤◌, true, false, nat_lt, List, [], ◌++◌, length, Option, None, Some, Result, Ok, Err, refl, ap, sym, subst, ◌∙◌, arith, length-append}
+use Rattle.std.proofs.Common.{◌≡◌, ℕ, ◌<◌, ◌≤◌, true, false, nat_lt, List, [], length, Option, None, Some, Result, Ok, Err, refl, ap, sym, subst, ◌∙◌, arith}
 use Rattle.std.specs.Prelude.{⊤}
 use Rattle.std.proofs.lemmas.Bool.Decides.{nat_tests}
-use Rattle.std.proofs.lemmas.List.{append-nil}
-use Rattle.std.specs.Io.KnownBytes.{Consumes, IsAtEnd}
 use Rattle.session_script.specs.declared.Event.{Event}
 use Rattle.session_script.specs.declared.ScriptKind.{ScriptKind}
 use Rattle.session_script.specs.declared.ScriptKind.TheVariants.{Bare, Replay}
 use Rattle.session_script.specs.declared.ScriptFault.{ScriptFault}
 use Rattle.session_script.specs.declared.ScriptFault.TheVariants as faults
 use Rattle.session_script.specs.Script.{script_of}
-use Rattle.cast_io.specs.Pieces.{Loses}
-use Rattle.cast_io.specs.Stores.{IsOpen}
 use Rattle.cast_io.specs.declared.reading.ReadAllFault.{ReadAllFault}
 use Rattle.cast_io.specs.declared.reading.ReadAllFault.TheVariants as causes
 use Rattle.cast_config.specs.declared.config.Config.{Config}

@@ -1,18 +1,11 @@
 -- What was asked for.
-use Rattle.std.proofs.Common.{◌≡◌, ℕ, List, [], ◌∷◌, ◌++◌, Option, Some, refl, ap, sym, subst, ◌∙◌, append_assoc, inl, inr}
+use Rattle.std.proofs.Common.{◌≡◌, ℕ, List, [], ◌∷◌, Option, Some, refl, sym, subst, inl, inr}
 use Rattle.cast_io.specs.Told.{Grew}
+use Rattle.cast_io.proofs.ToldLemmas.{grew_both}
 use Rattle.cast_config.specs.declared.config.Config.{Config}
 use Rattle.caster_top.specs.declared.command.RoverStart.{RoverStart}
 use Rattle.caster_top.specs.Command.{Form, replay, form_of}
 use Rattle.caster_top.specs.Told.{FilesTold, IsConfigAt, IsAsked}
-
--- first these, and then those
-pub grew_both : (a b c : Option (List (List ℕ))) (xs ys : List (List ℕ)) → Grew a b xs → Grew b c ys
-    → Grew a c (xs ++ ys)
-grew_both a b c xs ys first second now e =
-    let two = second now e in
-    let one = first two.0 two.1 in
-    (one.0, one.1, two.2 ∙ ap (λ l. l ++ ys) one.2 ∙ append_assoc one.0 xs ys)
 
 -- for words that are read so
 pub asked_so : (words : List (List ℕ)) (read : Option Form) (files : FilesTold) (old new : Option (List (List ℕ)))

@@ -3,7 +3,6 @@ use Rattle.std.proofs.Common.{◌≡◌, ℕ, ◌<◌, ◌≤◌, List, [], ◌�
 use Rattle.std.proofs.lemmas.List.{append-nil}
 use Rattle.std.specs.List.{concat}
 use Rattle.std.specs.Io.KnownBytes.{Consumes, IsAtEnd}
-use Rattle.cast_io.specs.declared.steps.SourceStep.{SourceStep}
 use Rattle.cast_io.specs.declared.steps.SourceStep.TheVariants as steps
 use Rattle.cast_io.specs.Logs.{Log, GaveFirst, GoesOn, pieces_given}
 use Rattle.cast_io.specs.ReadAll.{HasLost, IsReadWhole}

@@ -10,10 +10,8 @@ use Rattle.caster_keep.specs.declared.stop.Stop.TheVariants as stops
 use Rattle.caster_keep.specs.declared.whole.Outcome.{Outcome}
 use Rattle.caster_keep.specs.declared.whole.KeepFault.{KeepFault}
 use Rattle.caster_keep.specs.declared.whole.KeepFault.TheVariants as faults
-use Rattle.caster_top.specs.Command.{Form, bare, over, replay, made, casting, keeping, fetching, AreBare, AreKeep, AreMake, AreOf, AreOver, ArePlayed, KeepNothing, files_of, form_of}
-use Rattle.caster_top.specs.declared.command.ConfigCommand.{ConfigCommand}
-use Rattle.caster_top.specs.declared.command.RoverStart.{RoverStart}
-use Rattle.caster_top.specs.Outcome.{Came, ExitRule, EndsSo, Exit, ending_of_bytes, ending_of_keeping, exactly, memory_exit, network_exit, read_fault_exit, usage_exit, whole_exit}
+use Rattle.caster_top.specs.Command.{Form, keeping, AreKeep, AreOf, KeepNothing, files_of, form_of}
+use Rattle.caster_top.specs.Outcome.{Exit, ending_of_bytes, ending_of_keeping, exactly, memory_exit, network_exit, read_fault_exit, usage_exit, whole_exit}
 use Rattle.caster_top.specs.Told.{Files, FilesTold, Input, EndsWith, FollowsOutcome, HaveFault, IsAsked, IsConfigFrom, IsOutcome}
 use Rattle.caster_top.specs.Answers.{IsRefused, IsRefusedAt, Writes}
 use Rattle.caster_top.specs.Casting.{RefusedEnd}

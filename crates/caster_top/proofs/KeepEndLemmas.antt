@@ -25,7 +25,7 @@ use Rattle.keep_porter.specs.Porters.{AreAllSaid, IsItsEnd}
 use Rattle.caster_keep.specs.Keeping.{AreKeepers, HasKept, IsKeeper, IsPorter, KeeperTold, PorterTold, first_stop, start_of, stop_of, stop_of_end}
 use Rattle.caster_top.specs.Command.{keeping, AreKeep}
 use Rattle.caster_top.specs.Reading.{config_in}
-use Rattle.caster_top.specs.Outcome.{ExitRule, EndsSo, Exit, ending_of_bytes, ending_of_keeping, ending_of_read, exactly, long_exit, memory_exit, network_exit, usage_exit, whole_exit}
+use Rattle.caster_top.specs.Outcome.{ExitRule, EndsSo, Exit, ending_of_keeping, ending_of_read, exactly, long_exit, memory_exit, network_exit, usage_exit, whole_exit}
 use Rattle.caster_top.specs.Told.{Files, Input, IsConfigFrom, IsOutcome, WritesPart}
 use Rattle.caster_top.specs.Answers.{IsRefused, Writes}
 use Rattle.caster_top.specs.Casting.{RefusedEnd}

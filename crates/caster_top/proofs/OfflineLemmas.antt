@@ -1,5 +1,5 @@
 -- What words say that are read as a command which files and input decide alone.
-use Rattle.std.proofs.Common.{◌≡◌, ℕ, List, Option, Some}
+use Rattle.std.proofs.Common.{◌≡◌, ℕ, List, Some}
 use Rattle.caster_top.specs.declared.answers.Answer.{Answer}
 use Rattle.caster_top.specs.declared.command.Offline.{Offline}
 use Rattle.caster_top.specs.declared.command.Offline.TheVariants as offline

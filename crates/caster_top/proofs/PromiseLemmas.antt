@@ -1,22 +1,16 @@
 -- The recorded sessions that a command reports or writes keep the promise.
-use Rattle.std.proofs.Common.{◌≡◌, ℕ, List, [], ◌∷◌, length, map, Option, Ok, refl, sym, ◌∙◌, ap}
-use Rattle.std.specs.Io.KnownBytes.{Appends}
+use Rattle.std.proofs.Common.{◌≡◌, ℕ, List, [], length, Ok}
 use Rattle.cast_io.specs.Told.{StreetTold}
 use Rattle.session_script.specs.declared.Event.{Event}
 use Rattle.session_script.specs.declared.ScriptKind.{ScriptKind}
 use Rattle.session_script.specs.declared.ScriptKind.TheVariants.{Bare, Replay}
 use Rattle.session_script.specs.Script.{IsSession, script_of}
-use Rattle.session_script.specs.Writing.{script_text}
 use Rattle.session_script.proofs.SessionLemmas.{script_read}
 use Rattle.cast_config.specs.declared.config.Config.{Config}
 use Rattle.cast_config.specs.Bare as settings
 use Rattle.cast_config.specs.Kept.{KeepsRules}
 use Rattle.cast_config.proofs.KeptLemmas.{bare_keeps_rules, keeps_rules}
-use Rattle.session_model.specs.declared.report.Connection.{Connection}
-use Rattle.session_model.specs.declared.report.Receipt.{Receipt}
-use Rattle.session_model.specs.declared.report.Report.{Report}
 use Rattle.session_model.specs.Reports as reports
-use Rattle.caster_warm.specs.Warm.{told_with, warm_report}
 use Rattle.run_promise.specs.Promised.{IsPromised}
 use Rattle.run_promise.proofs.PromiseLemmas.{promised}
 use Rattle.warm_promise.proofs.PromiseLemmas.{greeted}

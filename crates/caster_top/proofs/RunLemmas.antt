@@ -6,6 +6,7 @@ use Rattle.session_script.specs.Writing.{script_text}
 use Rattle.session_model.specs.declared.report.Closed.{Closed}
 use Rattle.session_model.specs.Text.{closed_text}
 use Rattle.cast_io.specs.Causes.{Rose}
+use Rattle.cast_io.specs.Logs.{Log}
 use Rattle.cast_io.specs.Pieces.{AppendsPrefix}
 use Rattle.cast_io.specs.Told.{StreetTold}
 use Rattle.cast_io.specs.Yards.{YardTold}
@@ -24,6 +25,7 @@ use Rattle.caster_top.specs.Command.{casting, fetching, keeping, AreCasting, Are
 use Rattle.caster_top.specs.Outcome.{memory_exit, network_exit, read_fault_exit}
 use Rattle.caster_top.specs.Told.{Files, FilesTold, Holds, Input, EndsWith, FollowsOutcome, HaveFault, IsConfigFrom, Tells, WritesPart}
 use Rattle.caster_top.specs.Answers.{exit_of, IsAnswer, Writes}
+use Rattle.caster_top.specs.Given.{FileCame, InputCame}
 use Rattle.caster_top.specs.Casting.{HasCast, HasCasting, IsUnserved, no_network}
 use Rattle.caster_top.specs.Recording.{HasRecorded}
 use Rattle.caster_top.specs.Fetching.{HasFetched, HasFetching}
@@ -337,7 +339,7 @@ module _ {kept : Keeps} {words : List (List ℕ)} {input : Input} {files : Files
 -- ---- over what may have come from more
 
 -- a run over what came from less is one over what came from more
-pub run_more : (kept : Keeps) (words : List (List ℕ)) (input more_input : Input) (files more_files : Files) (of_input of_store : Type 0)
+run_more : (kept : Keeps) (words : List (List ℕ)) (input more_input : Input) (files more_files : Files) (of_input of_store : Type 0)
     (was is : YardTold) (before after : StreetTold) (old new : Option (List ℕ)) (first now status : ℕ)
     → ((bytes : List ℕ) → input bytes → more_input bytes)
     → ((path bytes : List ℕ) → files path bytes → more_files path bytes)
@@ -385,3 +387,13 @@ HasRun-promised kept words left files of_input of_store was is before after old 
       served = was.served;
       recorded = was.recorded;
     }
+
+-- of what came, where input and files tell their bytes it is these
+pub run_told : {kept : Keeps} {words : List (List ℕ)} (left : Option (List ℕ)) (first_read last_read : Log)
+    (files : FilesTold) (opened closed : Log) {of_input of_store : Type 0} {was is : YardTold} {before after : StreetTold}
+    {old new : Option (List ℕ)} {first now status : ℕ}
+    → HasRun kept words (InputCame left first_read last_read) (FileCame files opened closed) of_input of_store was is
+    before after old new first now status
+    → HasRun kept words (Tells left) (Holds files) of_input of_store was is before after old new first now status
+run_told left first_read last_read files opened closed run =
+    run_more _ _ _ _ _ _ _ _ _ _ _ _ _ _ _ _ _ (λ bytes came. came.0) (λ path bytes came. came.0) run

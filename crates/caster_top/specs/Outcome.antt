@@ -53,9 +53,19 @@ pub data ExitRule : Type 0 where
   -- with status 9 and fewer
   fewer_than : ℕ → ExitRule
 
+-- words as one line
+abbrev pub one_line : List ℕ → List ℕ
+one_line words = words ++ 10 ∷ []
+
 -- the text is a document of version 2 that is read as this configuration
 abbrev pub IsDocumentOf : Config → List ℕ → Type 0
 IsDocumentOf c text = IsRead text (Ok c) × HasVersion 2 text
+
+-- the text is what is written of a configuration that is checked, tabled or migrated
+abbrev pub IsTextOver : ConfigCommand → Config → List ℕ → Type 0
+IsTextOver Check c text = text ≡ one_line (codes "ok")
+IsTextOver Table c text = text ≡ table_text (table_records c)
+IsTextOver Migrate c text = IsDocumentOf c text
 
 -- the text is that of the report of a run of these events whose rovers start so
 abbrev pub IsReportText : RoverStart → Config → List Event → List ℕ → Type 0
@@ -82,10 +92,6 @@ EndsSo (enough_of most) end = (end.status ≡ 0)
     × (frames : List (List ℕ)) × (end.text ≡ concat frames) × (length frames ≡ most)
 EndsSo (fewer_than most) end = (end.status ≡ 9)
     × (frames : List (List ℕ)) × (end.text ≡ concat frames) × (length frames < most)
-
--- words as one line
-abbrev pub one_line : List ℕ → List ℕ
-one_line words = words ++ 10 ∷ []
 
 abbrev pub whole_exit : List ℕ → Exit
 whole_exit text = record { status = 0; text = text }

@@ -1,5 +1,5 @@
 -- What is promised of the recorded sessions that a command reports or writes.
-use Rattle.std.specs.Prelude.{◌≡◌, ℕ, List, map, Option, Some, Ok}
+use Rattle.std.specs.Prelude.{◌≡◌, ℕ, List, Option, Some, Ok}
 use Rattle.std.specs.Io.KnownBytes.{Appends}
 use Rattle.cast_io.specs.Told.{StreetTold}
 use Rattle.session_script.specs.declared.Event.{Event}
@@ -8,13 +8,14 @@ use Rattle.session_script.specs.Script.{script_of}
 use Rattle.session_script.specs.Writing.{script_text}
 use Rattle.cast_config.specs.declared.config.Config.{Config}
 use Rattle.cast_config.specs.Bare as settings
-use Rattle.session_model.specs.declared.report.Connection.{Connection}
 use Rattle.session_model.specs.declared.report.Report.{Report}
 use Rattle.session_model.specs.Text.{closed_text, report_text}
 use Rattle.session_model.specs.declared.report.Closed.{Closed}
 use Rattle.run_promise.specs.Promised.{IsPromised}
 use Rattle.warm_promise.specs.Greeted.{IsGreeted}
 use Rattle.serve_promise.specs.Callers.{AllPromised}
+use Rattle.caster_top.specs.declared.command.RoverStart.{RoverStart}
+use Rattle.caster_top.specs.declared.command.RoverStart.TheVariants.{Cold, Warm}
 use Rattle.caster_top.specs.Command.{AreBare, AreReplay, AreRecord, AreServe, AreWarm}
 use Rattle.caster_top.specs.Told.{Files, FilesTold, Input, IsConfigAt, IsConfigFrom, IsSessionAt, IsSessionFrom}
 use Rattle.caster_top.specs.Recording.{HasRecorded}
@@ -31,6 +32,11 @@ pub record IsGreetedText (c : Config) (events : List Event) (text : List ℕ) : 
   pub report : Report
   pub greeted : IsGreeted c events report
   pub text_is : text ≡ report_text c report
+
+-- of a report whose rovers start so, the text keeps the promise of its kind
+abbrev pub IsPromisedReport : RoverStart → Config → List Event → List ℕ → Type 0
+IsPromisedReport Cold c events text = IsPromisedText c events text
+IsPromisedReport Warm c events text = IsGreetedText c events text
 
 -- What these words came to keeps the promise: the report of a bare session, that of a session over
 -- a configuration, with greetings or without, the one that a replay of a recorded session's script

@@ -1,5 +1,5 @@
 //! What is decided by the configuration in a file.
-ghost use Rattle.std.specs.Prelude.{◌≤◌, ◌<◌, ◌∷◌, [], ℕ, List, Ok, length, vec_len, IfErr, IfOk, IsErrOf, ⊤};
+ghost use Rattle.std.specs.Prelude.{◌≤◌, ◌<◌, ◌∷◌, [], ℕ, List, Ok, length, IfErr, IfOk, IsErrOf, ⊤};
 ghost use Rattle.cast_io.specs.Causes.{Rose};
 ghost use Rattle.cast_io.specs.Logs.{GoesOn};
 ghost use Rattle.cast_io.specs.Told.{Grew};

@@ -1,5 +1,5 @@
 //! The words that ask for a fetch.
-ghost use Rattle.std.specs.Prelude.{◌≡◌, ℕ, List, IfSome, IfNone, IsTrue, option_map};
+ghost use Rattle.std.specs.Prelude.{◌≡◌, IfSome, IfNone, IsTrue, option_map};
 ghost use Rattle.std.specs.List.{list_all};
 ghost use Rattle.caster_top.specs.Command.{AreFetch, FetchNothing, are_few_targets, are_targets, fetch_form, fetching_form, form_of_more, is_address, is_line_byte, is_password, is_password_byte, is_target, targets_of, texts};
 

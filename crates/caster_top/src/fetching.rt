@@ -1,5 +1,5 @@
 //! What is done by a fetch: frames of other casters are written as they come.
-ghost use Rattle.std.specs.Prelude.{◌≡◌, ◌≢◌, ◌≤◌, ◌++◌, IfOk, IsErr, IsTrue, OnErr, OnOk};
+ghost use Rattle.std.specs.Prelude.{◌≡◌, ◌≢◌, ◌≤◌, ◌++◌, IfOk, IsTrue, OnOk};
 ghost use Rattle.std.specs.List.{All};
 ghost use Rattle.cast_text.specs.Name.{is_name};
 ghost use Rattle.ntrip_fetch.specs.Tries.{CanBeTried};

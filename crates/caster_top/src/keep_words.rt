@@ -1,5 +1,5 @@
 //! The words that ask for a caster that keeps serving.
-ghost use Rattle.std.specs.Prelude.{◌≡◌, ℕ, List, IfNone, IfSome, option_map};
+ghost use Rattle.std.specs.Prelude.{◌≡◌, IfNone, IfSome, option_map};
 ghost use Rattle.caster_top.specs.Command.{AreKeep, KeepNothing, keep_form, keep_of, keep_of_four, texts, up_to};
 
 use crate::command::{are_paths, number_within};

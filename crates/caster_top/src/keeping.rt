@@ -1,5 +1,5 @@
 //! A caster that keeps serving: it is told by lines that are written as they are known.
-ghost use Rattle.std.specs.Prelude.{◌≡◌, ◌≤◌, ◌∷◌, [], Result};
+ghost use Rattle.std.specs.Prelude.{◌≡◌, ◌∷◌, [], Result};
 ghost use Rattle.cast_io.specs.Causes.{Rose};
 ghost use Rattle.cast_io.specs.Told.{Grew};
 ghost use Rattle.cast_config.specs.Kept.{KeepsRules};

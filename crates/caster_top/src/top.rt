@@ -298,14 +298,6 @@ where
         (Rose (S.faults store.old) (S.faults store.new))
         (N.kept street.old) (N.kept street.new) (N.told street.old) (N.told street.new)
         (O.taken out.old) (O.taken out.new) (O.faults out.old) (O.faults out.new) result }
-    ensures told { HasRun
-        (HasKept N.Gate.told N.Gate.over N.Gate.peer N.Gate.origin N.Notes.taken N.Notes.faults
-        (Z.back lodge.old) (Z.back lodge.new))
-        (texts words.now) (Tells (I.left input.old)) (Holds (S.store store.old).files)
-        (Rose (I.faults input.old) (I.faults input.new))
-        (Rose (S.faults store.old) (S.faults store.new))
-        (N.kept street.old) (N.kept street.new) (N.told street.old) (N.told street.new)
-        (O.taken out.old) (O.taken out.new) (O.faults out.old) (O.faults out.new) result }
     ensures asked { IsAsked (form_of (texts words.now)) (S.store store.old).files
         (S.store store.old).asked (S.store store.new).asked }
     ensures kept_input { LeavesInput I.left I.faults I.reads (texts words.now) input.old input.new }

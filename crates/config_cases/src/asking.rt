@@ -5,6 +5,7 @@ ghost use Rattle.cast_config.specs.Kept.{KeepsRules};
 ghost use Rattle.cast_config.specs.Served.{GivesItsFilters};
 
 use crate::admissions::{push_bare_rover, push_rover, push_source};
+use crate::keys::push_keys;
 use crate::values::{push_part, push_types};
 use cast_config::{Config, read_config};
 use cast_text::push_decimal;
@@ -124,6 +125,7 @@ pub(crate) fn ask(
         "again" => write_again(alloc, document),
         "lines" => push_some_lines(out, document),
         "bare-table" => push_bare_table(alloc, out),
+        "keys" => push_keys(alloc, out, document),
         asked => match asked.strip_prefix("bare-rover ") {
             Some(words) => push_bare_rover(alloc, out, words),
             None => push_asked(alloc, out, document, asked),

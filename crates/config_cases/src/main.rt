@@ -14,6 +14,7 @@
 
 mod admissions;
 mod asking;
+mod keys;
 mod values;
 
 use asking::{ask, push_asked};

@@ -1,6 +1,6 @@
 //! From the head of an answer to its body.
 
-ghost use Rattle.std.specs.Prelude.{◌≡◌, ◌≤◌, ◌<◌, ◌+◌, ◌^◌, ℕ, List, [], ◌++◌, length, Option, OnErr, IfOk};
+ghost use Rattle.std.specs.Prelude.{◌≡◌, ◌<◌, ◌+◌, ◌^◌, ℕ, List, [], ◌++◌, length, Option, OnErr, IfOk};
 ghost use Rattle.ntrip_client.specs.Answer.{IsAnswer};
 ghost use Rattle.ntrip_fetch.specs.Sinks.{Counts};
 ghost use Rattle.ntrip_fetch.specs.Writing.{HasWritten};

@@ -1,8 +1,7 @@
 //! One target is tried after the other.
 
-ghost use Rattle.std.specs.Prelude.{◌≡◌, ◌≢◌, true, false, ◌≤◌, ◌+◌, ◌⊎◌, ◌++◌, ℕ, List, [], length, map, take, sum_by, vec_len, vec_capacity, IfOk, IfErr, IsTrue, OnOk};
+ghost use Rattle.std.specs.Prelude.{◌≡◌, ◌≢◌, true, false, ◌≤◌, ◌+◌, ◌⊎◌, ◌++◌, ℕ, List, [], length, map, take, sum_by, vec_len, vec_capacity, IfOk, IfErr, OnOk};
 ghost use Rattle.std.specs.List.{All};
-ghost use Rattle.std.specs.Str.{is_utf8};
 ghost use Rattle.cast_io.specs.Told.{Grew};
 ghost use Rattle.ntrip_fetch.specs.Sinks.{CountsFor};
 ghost use Rattle.ntrip_fetch.specs.Tries.{CanBeTried, HasStopped, HasTried, dial_of};

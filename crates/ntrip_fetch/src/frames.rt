@@ -1,6 +1,6 @@
 //! Writing the frames of a body as its bytes come.
 
-ghost use Rattle.std.specs.Prelude.{◌≡◌, ◌<◌, ◌≤◌, ◌+◌, ◌^◌, ℕ, List, ◌++◌, length, Option, OnOk, OnErr};
+ghost use Rattle.std.specs.Prelude.{◌<◌, ◌≤◌, ◌+◌, ◌^◌, ℕ, List, ◌++◌, length, Option, OnOk, OnErr};
 ghost use Rattle.rtcm_frame.specs.Cut.{IsWaiting};
 ghost use Rattle.ntrip_fetch.specs.Sinks.{Counts};
 ghost use Rattle.ntrip_fetch.specs.Writing.{IsWriting, HasWritten, IsTorn, wanted};

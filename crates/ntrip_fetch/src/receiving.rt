@@ -4,7 +4,7 @@ ghost use Rattle.std.specs.Prelude.{◌≡◌, ◌+◌, ◌^◌, ◌<◌, ◌≤
 ghost use Rattle.cast_io.specs.Told.{LinkTold};
 ghost use Rattle.ntrip_client.specs.Answer.{IsAnswer};
 ghost use Rattle.ntrip_fetch.specs.Sinks.{Counts, CountsFor};
-ghost use Rattle.ntrip_fetch.specs.Request.{IsSpoken, target_request};
+ghost use Rattle.ntrip_fetch.specs.Request.{IsSpoken};
 ghost use Rattle.ntrip_fetch.specs.Fetched.{LinkBroken, LinkFetched, HasReceived, HeardIs, Receiving, ReceivingBroken};
 
 use crate::fetch_stage::{FetchStage, take};

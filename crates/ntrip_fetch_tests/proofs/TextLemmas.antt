@@ -1,7 +1,6 @@
 -- What a text is that was made of bytes.
 use Rattle.std.proofs.Common.{◌≡◌, ℕ, Bool, true, false, if◌then◌else◌, List, length}
-use Rattle.std.specs.Prelude.{nat_lt, Result, Ok, Err}
-use Rattle.cast_text.specs.declared.TextFault.{TextFault}
+use Rattle.std.specs.Prelude.{nat_lt, Ok, Err}
 use Rattle.cast_text.specs.declared.TextFault.TheVariants.{Long}
 use Rattle.cast_text.specs.Text.{text_of}
 

@@ -1,7 +1,5 @@
 //! Fetches, and all that came of them in one value.
 
-ghost use Rattle.std.specs.Prelude.{◌≤◌};
-
 use crate::fakes::{target_of, three_targets, two_targets};
 use cast_io::{Asked, Link, MemLink, MemSink, MemStreet};
 use ntrip_fetch::{FetchFault, Try, fetch, fetch_link};

@@ -7,7 +7,7 @@
 //! with `*N ` the rest of it comes N times.
 #![tactic(auto)]
 
-ghost use Rattle.std.specs.Prelude.{◌≡◌, ◌≤◌, ℕ, IfOk};
+ghost use Rattle.std.specs.Prelude.{ℕ};
 ghost use Rattle.cast_config.specs.Kept.{KeepsRules};
 
 use cast_config::{Config, read_config};

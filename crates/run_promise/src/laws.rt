@@ -1,7 +1,7 @@
 //! The law of recorded runs, and what it says of a segment's beginning: each the contract of a
 //! function that does nothing.
 
-ghost use Rattle.std.specs.Prelude.{◌≡◌, ℕ, List, []};
+ghost use Rattle.std.specs.Prelude.{ℕ, List, []};
 ghost use Rattle.std.specs.List.{All};
 ghost use Rattle.turn_log.specs.History.{History};
 ghost use Rattle.mount_ring.specs.declared.call.RingCall.{RingCall};

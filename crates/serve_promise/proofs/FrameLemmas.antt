@@ -1,7 +1,6 @@
 -- What the segments of a link were sent, by histories that went on: frames, each counted.
-use Rattle.std.proofs.Common.{◌≡◌, ◌∙◌, ◌++◌, ℕ, ◌-◌, IsTrue, List, [], ◌∷◌, reverse, All, refl, ap}
-use Rattle.std.specs.List.{filter}
-use Rattle.std.proofs.lemmas.List.Elements.{All-append, All-nil, All-head, All-tail}
+use Rattle.std.proofs.Common.{◌∙◌, ℕ, IsTrue, List, [], ◌∷◌, reverse, All, ap}
+use Rattle.std.proofs.lemmas.List.Elements.{All-append, All-nil}
 use Rattle.rtcm_frame.specs.Transport.{is_frame}
 use Rattle.rtcm_frame.specs.Cut.{cut}
 use Rattle.rtcm_frame.proofs.CutLemmas.{cut-frames-joined}
@@ -12,15 +11,13 @@ use Rattle.mount_ring.proofs.HistoryLemmas.{published-append, published_by}
 use Rattle.rover_cursor.specs.declared.segment.Segment.{Segment}
 use Rattle.rover_cursor.specs.Sound.{outside}
 use Rattle.rover_cursor.specs.Told.{published_in}
-use Rattle.rover_cursor.proofs.SoundLemmas.{kept-append}
-use Rattle.session_calls.specs.Rings.{history_at, shape_at}
+use Rattle.session_calls.specs.Rings.{history_at}
 use Rattle.rover_session.specs.Made.{segments_after}
 use Rattle.rover_session.proofs.LawLemmas.{body_plain}
 use Rattle.cast_config.specs.declared.config.Config.{Config}
-use Rattle.session_model.specs.Setting.{shapes}
 use Rattle.session_model.specs.Replies.{kept_of, kept_frames}
 use Rattle.session_model.specs.Run.{Connected}
-use Rattle.session_model.specs.Promises.{permits_of, published_at, IsSoundIn, sent_frames, Keeps}
+use Rattle.session_model.specs.Promises.{permits_of, published_at, sent_frames, Keeps}
 use Rattle.session_model.proofs.KeepLemmas.{Later, AllSound}
 use Rattle.serve_promise.specs.Links.{AllFrames, GoOnTo}
 use Rattle.session_model.proofs.PromiseLemmas.{outside_frames, filter_frames, all_count}
@@ -57,16 +54,3 @@ pub later_so : (now histories : List (History RingCall)) → GoOnTo now historie
 later_so now histories goes mount =
     let on = goes mount in
     (published_by on.0, ap published_in on.1 ∙ published-append (history_at now mount) on.0)
-
-pub frames_later : (c : Config) (old now : List (History RingCall)) (segments : List Segment) → Later old now
-    → AllSound c old segments → kept_frames c now segments ≡ kept_frames c old segments
-frames_later c old now [] later all = refl
-frames_later c old now (segment ∷ more) later all =
-    let on = later segment.mount in
-    ap (λ (frames : List (List ℕ)). filter (permits_of c segment) (outside segment.from segment.laps segment.to frames)
-    ++ kept_frames c now more) on.1
-    ∙ ap (λ (frames : List (List ℕ)). frames ++ kept_frames c now more)
-    (kept-append (permits_of c segment) (shape_at (shapes c) segment.mount).capacity (published_at old segment) on.0
-    segment (All-head (IsSoundIn c old) segment more all))
-    ∙ ap (λ (frames : List (List ℕ)). kept_of c old segment ++ frames)
-    (frames_later c old now more later (All-tail (IsSoundIn c old) segment more all))

@@ -41,6 +41,8 @@ use Rattle.caster_link.specs.Served.{LinkGoes}
 use Rattle.session_core.proofs.ClosingLemmas.{free_out, uncalled_free}
 use Rattle.session_core.proofs.ReceiptLemmas.{unended_by}
 use Rattle.caster_link.proofs.CalledLemmas.{called_both}
+use Rattle.caster_replay.proofs.WorldLaterLemmas.{kept_later}
+use Rattle.caster_serve.proofs.StreetLemmas.{or_split}
 use Rattle.run_promise.specs.Begun.{IsBegun as IsSegmentBegun}
 use Rattle.run_promise.specs.Calls.{Call, is_no_read, without_reads, segments_of, ReadOn}
 use Rattle.run_promise.specs.Promised.{Was}
@@ -53,7 +55,7 @@ use Rattle.serve_promise.specs.Links.{AllFrames, GoOnTo, AreCallsBetween, IsJudg
 use Rattle.serve_promise.proofs.StepLemmas.{given_is, called_answered, good_owed, ran_on}
 use Rattle.serve_promise.proofs.ClosesLemmas.{Closes, closes_so, closing_closers, closers_front, closers_still, unasked_none}
 use Rattle.serve_promise.proofs.SameLemmas.{Same, was_same}
-use Rattle.serve_promise.proofs.FrameLemmas.{keeps_so, later_so, frames_later}
+use Rattle.serve_promise.proofs.FrameLemmas.{keeps_so, later_so}
 use Rattle.session_model.proofs.PromiseLemmas.{all_count}
 use Rattle.serve_promise.proofs.FirstLemmas.{first_so}
 
@@ -164,10 +166,6 @@ whole_so c histories opening me j steps closed_by last receipt due is answered o
     (was_same c histories (told_with c h d j) (told_as me receipt due) (opening_text c opening) []
     (without_reads (calls_of (steps ++ closers))) same j (was_so c h d j [] facts))
 
-or_cases : (a b : Bool) → (a || b) ≡ true → (a ≡ true) ⊎ (b ≡ true)
-or_cases true b is = inl refl
-or_cases false b is = inr is
-
 -- ---- the whole
 
 module _ (c : Config) (opening : Opening) (me : ℕ) (start now : Histories) (took : List LinkStep)
@@ -209,7 +207,7 @@ module _ (c : Config) (opening : Opening) (me : ℕ) (start now : Histories) (to
   due_now : sent_by c now.rings opening (came_to goes.j steps) (reverse segments) ≡ due
   due_now = ap (λ (f : List (List ℕ)). opening_text c opening ++ reply_of c (came_to goes.j steps)
       ++ body_of (version_of (came_to goes.j steps)) f)
-      (sym (frames_later c now.rings histories (reverse segments) (later_so now.rings histories on_to) sound_back))
+      (sym (kept_later c now.rings histories (reverse segments) (later_so now.rings histories on_to) sound_back))
 
   halt_is : is_halted goes.ended ≡ is_halt receipt.ending
   halt_is = halt_same goes.ended last (came_to goes.j steps) goes.ends ∙ ap is_halt (sym goes.receipt_is.ending)
@@ -260,7 +258,7 @@ module _ (c : Config) (opening : Opening) (me : ℕ) (start now : Histories) (to
       → (is_torn last ≡ true)
       ⊎ ((is_halt receipt.ending ≡ true) × (receipt.entered ≡ false)
       × (calls_of (steps ++ goes.closed_by) ≡ []))
-  why_cut is = elim (or_cases (is_halted_uncalled goes.ended steps) (is_torn last) is) [
+  why_cut is = elim (or_split (is_halted_uncalled goes.ended steps) (is_torn last) is) [
     | inl uncalled ↦
         let both = and_parts (is_halted goes.ended) (is_uncalled steps) uncalled in
         let none : steps ≡ [] = uncalled_none steps both.1 in

@@ -1,6 +1,6 @@
 //! The laws of links that were served: each the contract of a function that does nothing.
 
-ghost use Rattle.std.specs.Prelude.{◌≡◌, ℕ, List, Ok};
+ghost use Rattle.std.specs.Prelude.{ℕ, List, Ok};
 ghost use Rattle.cast_io.specs.declared.steps.Step.{Step};
 ghost use Rattle.cast_io.specs.Links.{bytes_in};
 ghost use Rattle.cast_io.specs.Told.{StreetTold};

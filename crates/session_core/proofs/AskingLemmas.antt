@@ -19,9 +19,9 @@ use Rattle.session_core.specs.declared.held.Held.TheVariants as holds
 use Rattle.session_core.specs.declared.session.Session.{Session}
 use Rattle.session_core.specs.declared.session_stage.SessionStage.{SessionStage}
 use Rattle.session_core.specs.declared.session_stage.SessionStage.TheVariants.{Head, Over, Source, Relay, Rover}
-use Rattle.session_core.specs.Asking.{AsksOn, IsAsking, TellsAsked, TellsAt, TellsBehind, asked_by, asked_in}
+use Rattle.session_core.specs.Asking.{AsksOn, AsksStill, IsAsking, StaysItself, TellsAsked, TellsAt, TellsBehind, asked_by, asked_in}
 use Rattle.session_core.specs.Feeding.{HasBegunFor, IsBehindHead}
-use Rattle.session_core.specs.Holding.{HoldsOn}
+use Rattle.session_core.specs.Holding.{HoldsOn, IsHolding}
 use Rattle.session_core.specs.Standing.{IsAtStage, IsNewRelay, StandsFor}
 use Rattle.session_core.specs.Beginnings.{bare_opening}
 use Rattle.session_core.specs.declared.ending.Bare.{Bare}
@@ -72,6 +72,60 @@ same_on (Some asked) later same = same
 pub asks_both : (first second third : Option Asked) → AsksOn first second → AsksOn second third → AsksOn first third
 asks_both None second third told on = tt
 asks_both (Some asked) second third told on = subst (λ (x : Option Asked). AsksOn x third) told on
+
+-- ---- over a call
+
+pub asks_same : (stage : SessionStage) (told later : Option Asked) → later ≡ told → AsksStill stage told later
+asks_same (Head head) told later same = tt
+asks_same Over told later same = same
+asks_same (Source mount inner) told later same = same
+asks_same (Relay mount inner) told later same = same
+asks_same (Rover account inner) told later same = same
+
+-- while its head is awaited a session holds nothing and told nothing
+pub awaited_stays : (was now : Session) (head : List ℕ) → was.stage ≡ Head head → now.me ≡ was.me
+    → StaysItself was now
+awaited_stays was now head is same = record {
+  me = same;
+  holds = subst (λ (stage : SessionStage). HoldsOn (holding_at stage) (holding_at now.stage)) (sym is) tt;
+  asks = subst (λ (stage : SessionStage). AsksStill stage was.asked now.asked) (sym is) tt;
+}
+
+-- what was told is told on
+pub asks_on : (opening : Opening) (text : List ℕ) (was now : Session) → StaysItself was now
+    → TellsAsked opening text was → AsksOn was.asked now.asked
+asks_on opening text was now same tells = by was.stage same.asks tells where
+  by : (stage : SessionStage) → AsksStill stage was.asked now.asked
+      → TellsAt opening text was.asked was.ended stage → AsksOn was.asked now.asked
+  by (Head head) still at = subst (λ (told : Option Asked). AsksOn told now.asked) (sym at.3) tt
+  by Over still at = same_on was.asked now.asked still
+  by (Source mount inner) still at = same_on was.asked now.asked still
+  by (Relay mount inner) still at = same_on was.asked now.asked still
+  by (Rover account inner) still at = same_on was.asked now.asked still
+
+-- of a session that holds something
+pub asks_held : (was now : Session) → StaysItself was now → IsHolding (holding_at was.stage)
+    → now.asked ≡ was.asked
+asks_held was now same = by was.stage same.asks where
+  by : (stage : SessionStage) → AsksStill stage was.asked now.asked → IsHolding (holding_at stage)
+      → now.asked ≡ was.asked
+  by (Head head) still is = absurd is
+  by Over still is = absurd is
+  by (Source mount inner) still is = still
+  by (Relay mount inner) still is = still
+  by (Rover account inner) still is = still
+
+-- of a session that stayed as it was where it is no rover's
+pub asks_turned : (was now : Session) → StaysItself was now → (is_rover was.stage ≡ false → now ≡ was)
+    → now.asked ≡ was.asked
+asks_turned was now same = by was.stage same.asks where
+  by : (stage : SessionStage) → AsksStill stage was.asked now.asked → (is_rover stage ≡ false → now ≡ was)
+      → now.asked ≡ was.asked
+  by (Head head) told still = ap (λ (s : Session). s.asked) (still refl)
+  by Over told still = told
+  by (Source mount inner) told still = told
+  by (Relay mount inner) told still = told
+  by (Rover account inner) told still = told
 
 -- ---- behind the head
 
@@ -129,13 +183,13 @@ turned_at opening text told ended (Source mount inner) later on still tells =
 turned_at opening text told ended (Relay mount inner) later on still tells =
     still_at opening text told ended (Relay mount inner) later (still refl) tells
 
-pub tells_turned : (was : Session) (opening : Opening) (text : List ℕ) (ended : Option Ending) (later : SessionStage)
-    → was.ended ≡ None → HoldsOn (holding_at was.stage) (holding_at later)
-    → (is_rover was.stage ≡ false → (ended ≡ None) × (later ≡ was.stage)) → TellsAsked opening text was
-    → TellsAt opening text was.asked ended later
-tells_turned was opening text ended later unended on still tells =
-    turned_at opening text was.asked ended was.stage later on still
-    (subst (λ (e : Option Ending). TellsAt opening text was.asked e was.stage) unended tells)
+pub tells_turned : (was now : Session) (opening : Opening) (text : List ℕ) → was.ended ≡ None → StaysItself was now
+    → (is_rover was.stage ≡ false → now ≡ was) → TellsAsked opening text was → TellsAsked opening text now
+tells_turned was now opening text unended same still tells =
+    subst (λ (told : Option Asked). TellsAt opening text told now.ended now.stage) (sym (asks_turned was now same still))
+    (turned_at opening text was.asked now.ended was.stage now.stage same.holds
+    (λ apart. (ap (λ (s : Session). s.ended) (still apart) ∙ unended, ap (λ (s : Session). s.stage) (still apart)))
+    (subst (λ (e : Option Ending). TellsAt opening text was.asked e was.stage) unended tells))
 
 -- ---- as it opens
 

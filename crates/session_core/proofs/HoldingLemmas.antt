@@ -23,8 +23,7 @@ use Rattle.session_core.specs.declared.session.Session.{Session}
 use Rattle.session_core.specs.declared.session_stage.SessionStage.{SessionStage}
 use Rattle.session_core.specs.declared.session_stage.SessionStage.TheVariants.{Head, Over, Source, Relay, Rover}
 use Rattle.session_core.specs.Standing.{IsAtStage, IsFree, StandsFor}
-use Rattle.session_core.specs.Feeding.{IsBehindHead}
-use Rattle.session_core.specs.Holding.{HoldsAs, HoldsClaimIf, HoldsOn, IsHolding}
+use Rattle.session_core.specs.Holding.{HoldsAs, HoldsClaimIf, HoldsOn}
 use Rattle.session_core.specs.States.{holding_at, session_holding}
 use Rattle.session_core.proofs.ClosingLemmas.{IsCameBy, IsFreeWith, claimed_received, halted_free, none_made, uncalled_free}
 use Rattle.session_core.proofs.FeedSourceLemmas.{received_more}
@@ -127,13 +126,3 @@ relay_on session mount me later inner fed text bytes steps more is stands on =
       kept (relays.Body body) x =
           given_here mount later body.claim fed.stage bytes (steps ++ more)
           (received_more steps more _ (claimed_received mount body.claim steps x.at_stage.claimed)) on
-
--- ---- and its head
-
--- the head of a session that holds something is behind it
-pub holding_behind : (stage : SessionStage) → IsHolding (holding_at stage) → IsBehindHead stage
-holding_behind (Head head) is = absurd is
-holding_behind Over is = absurd is
-holding_behind (Source mount session) is = tt
-holding_behind (Relay mount session) is = tt
-holding_behind (Rover account session) is = tt

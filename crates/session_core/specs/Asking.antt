@@ -1,5 +1,5 @@
 -- What a connection asked, by what its head is.
-use Rattle.std.specs.Prelude.{◌≡◌, ◌⊎◌, ℕ, List, ◌++◌, Option, None, Some, IfSome, Result, Ok, Err}
+use Rattle.std.specs.Prelude.{◌≡◌, ◌⊎◌, ℕ, ⊤, List, ◌++◌, Option, None, Some, IfSome, Result, Ok, Err}
 use Rattle.ntrip_head.specs.declared.fault.HeadFault.{HeadFault}
 use Rattle.ntrip_head.specs.declared.request.Auth.{Auth}
 use Rattle.ntrip_head.specs.declared.request.Auth.TheVariants as auths
@@ -16,6 +16,8 @@ use Rattle.session_core.specs.declared.asked.Asked.TheVariants.{Table, Rover, So
 use Rattle.session_core.specs.declared.session.Session.{Session}
 use Rattle.session_core.specs.declared.session_stage.SessionStage.{SessionStage}
 use Rattle.session_core.specs.declared.session_stage.SessionStage.TheVariants.{Head}
+use Rattle.session_core.specs.Holding.{HoldsOn}
+use Rattle.session_core.specs.States.{session_holding}
 
 -- ---- by the head
 
@@ -66,3 +68,17 @@ TellsAsked opening text session = TellsAt opening text session.asked session.end
 -- what is told is told to the end
 abbrev pub AsksOn : Option Asked → Option Asked → Type 0
 AsksOn told later = IfSome told (λ asked. later ≡ Some asked)
+
+-- ---- over a call
+
+-- what a session told of what its head asked stays once the head is behind it
+abbrev pub AsksStill : SessionStage → Option Asked → Option Asked → Type 0
+AsksStill (Head head) told later = ⊤
+AsksStill _ told later = later ≡ told
+
+-- What stays of a session over a call: its caller, an account or a claim that it holds, and what it
+-- told of what its head asked.
+pub record StaysItself (old new : Session) : Type 0 where
+  pub me : new.me ≡ old.me
+  pub holds : HoldsOn (session_holding old) (session_holding new)
+  pub asks : AsksStill old.stage old.asked new.asked

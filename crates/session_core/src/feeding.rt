@@ -15,9 +15,7 @@ ghost use Rattle.session_model.specs.Run.{Histories};
 ghost use Rattle.session_model.specs.Setting.{caps, shapes};
 ghost use Rattle.session_model.specs.Setting as setting;
 ghost use Rattle.session_core.specs.Turned.{flow_of};
-ghost use Rattle.session_core.specs.States.{session_holding};
-ghost use Rattle.session_core.specs.Holding.{HoldsOn};
-ghost use Rattle.session_core.specs.Asking.{AsksOn, TellsAsked, TellsBehind};
+ghost use Rattle.session_core.specs.Asking.{StaysItself, TellsAsked, TellsBehind};
 ghost use Rattle.session_core.specs.Standing.{Fed, Follows, Stands, StandsFor};
 ghost use Rattle.session_core.specs.Setups.{IsSetUp};
 ghost use Rattle.session_core.specs.Places.{Stay, seen_in, alone_in, worn_in};
@@ -144,11 +142,9 @@ impl Session {
             × (map T.shape places.old.rings.items ≡ shapes c)
             × Follows c self.old (seen_in T.Turns B.Turns places.old) (length bytes.now) }
         ensures stay { Stay T.Turns B.Turns places.old places.new }
-        ensures me { self.new.me ≡ self.old.me }
-        ensures holds { HoldsOn (session_holding self.old) (session_holding self.new) }
+        ensures itself { StaysItself self.old self.new }
         ensures asks { (opening : Opening) (text : List ℕ) → TellsAsked opening text self.old
             → TellsAsked opening (text ++ bytes.now) self.new }
-        ensures asks_still { self.new.asked ≡ self.old.asked }
         ensures fed { (c : ConfigValue) (opening : Opening) (text : List ℕ) (steps : List Step)
             (histories : Histories) (sent : List ℕ) → map T.shape places.old.rings.items ≡ shapes c
             → Stands c self.old opening text steps histories sent
@@ -202,13 +198,9 @@ impl Session {
         requires follows { Follows config.now self.old (seen_in T.Turns B.Turns places.old)
             (length bytes.now) }
         ensures stay { Stay T.Turns B.Turns places.old places.new }
-        ensures me { self.new.me ≡ self.old.me }
-        ensures holds { HoldsOn (session_holding self.old) (session_holding self.new) }
+        ensures itself { StaysItself self.old self.new }
         ensures asks { (opening : Opening) (text : List ℕ) → TellsAsked opening text self.old
             → TellsAsked opening (text ++ bytes.now) self.new }
-        ensures asks_on { (opening : Opening) (text : List ℕ) → TellsAsked opening text self.old
-            → AsksOn self.old.asked self.new.asked }
-        ensures asks_still { IsBehindHead self.old.stage → self.new.asked ≡ self.old.asked }
         ensures flow { result ≡ flow_of self.new.ended }
         ensures fed { (opening : Opening) (text : List ℕ) (steps : List Step)
             (histories : Histories) (sent : List ℕ)

@@ -10,9 +10,9 @@ ghost use Rattle.session_model.specs.Run.{Histories};
 ghost use Rattle.session_model.specs.Setting.{caps, shapes};
 ghost use Rattle.session_core.specs.Standing.{Follows, StandsFor};
 ghost use Rattle.session_core.specs.Turned.{HaltedUnread, IsReadBy, Turned, TurnedAt, flow_of, is_rover};
-ghost use Rattle.session_core.specs.States.{holding_at, session_holding};
+ghost use Rattle.session_core.specs.States.{holding_at};
 ghost use Rattle.session_core.specs.Holding.{HoldsOn};
-ghost use Rattle.session_core.specs.Asking.{TellsAsked};
+ghost use Rattle.session_core.specs.Asking.{StaysItself};
 ghost use Rattle.session_core.specs.Places.{Stay, StayAtRings, seen_in, alone_in, worn_in};
 
 use crate::ending::Flow;
@@ -83,11 +83,7 @@ impl Session {
         requires follows { (c : ConfigValue) × (map T.shape places.old.rings.items ≡ shapes c)
             × (B.shape places.old.book ≡ caps c)
             × Follows c self.old (seen_in T.Turns B.Turns places.old) 0 }
-        ensures me { self.new.me ≡ self.old.me }
-        ensures holds { HoldsOn (session_holding self.old) (session_holding self.new) }
-        ensures asks { (opening : Opening) (text : List ℕ) → TellsAsked opening text self.old
-            → TellsAsked opening text self.new }
-        ensures asks_still { self.new.asked ≡ self.old.asked }
+        ensures itself { StaysItself self.old self.new }
         ensures stay { Stay T.Turns B.Turns places.old places.new }
         ensures flow { result ≡ flow_of self.new.ended }
         ensures halted { IfSome self.new.ended (HaltedUnread (seen_in T.Turns B.Turns places.old)

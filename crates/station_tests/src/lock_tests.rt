@@ -1,5 +1,5 @@
 //! A station at a lock: two threads take turns on it.
-ghost use Rattle.std.specs.Prelude.{◌≡◌, ◌==◌, ◌<◌, true, IsTrue, IfOk, length};
+ghost use Rattle.std.specs.Prelude.{◌≡◌, ◌==◌, ◌<◌, true, IfOk, length};
 ghost use Rattle.turn_log.specs.Lock.{turn_value, pass_number, IsPassOf};
 ghost use Rattle.mount_ring.specs.Kept.{ring_shape};
 ghost use Rattle.last_frames.specs.LockTests.{IsHanded};

@@ -1,5 +1,5 @@
 //! Worked sessions with greetings.
-ghost use Rattle.std.specs.Prelude.{ℕ, ◌<◌, ◌^◌, IfOk, sum_by};
+ghost use Rattle.std.specs.Prelude.{◌<◌, ◌^◌, IfOk, sum_by};
 ghost use Rattle.session_script.specs.declared.ScriptKind.TheVariants.{Replay};
 ghost use Rattle.session_script.specs.Script.{IsSession, input_length};
 

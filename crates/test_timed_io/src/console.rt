@@ -1,6 +1,6 @@
 //! A console whose calls set a flag, and wait for one.
 
-ghost use Rattle.std.specs.Prelude.{◌≡◌, ◌∷◌, ◌++◌, [], false, map};
+ghost use Rattle.std.specs.Prelude.{[], false, map};
 ghost use Rattle.cast_console.specs.Consoles.{HasHeard};
 ghost use Rattle.test_timed_io.specs.Untold.{console_told};
 

@@ -1,5 +1,5 @@
 -- What a rover was sent with its greetings are frames.
-use Rattle.std.proofs.Common.{◌∙◌, ◌-◌, ◌++◌, ℕ, Bool, true, false, cond, List, [], ◌∷◌, take, reverse, All, IsTrue, Some, inl, inr, sym, ap, subst, option_to_list}
+use Rattle.std.proofs.Common.{◌∙◌, ◌++◌, ℕ, Bool, true, false, cond, List, [], ◌∷◌, take, reverse, All, IsTrue, Some, inl, inr, sym, ap, subst, option_to_list}
 use Rattle.std.specs.Prelude.{find}
 use Rattle.std.specs.List.{flat_map}
 use Rattle.std.proofs.lemmas.List.Elements.{All-append, All-take, All-cons, All-nil, All-head, All-tail}

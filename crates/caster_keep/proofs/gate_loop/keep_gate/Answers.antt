@@ -39,17 +39,18 @@ loop-preserved-in-Ok-1 g c =
     let kept = c.loop.invariant in
     let one = c.keep_link.ensures in
     let stay = one.stay in
+    let count = ap (λ keeper. keeper.count) one.one_more in
     let few = one_more _ _ _ _ _ _ _ _ _ one.kept.served in record {
       can = tt;
       finite = tt;
       stay = stay_both _ _ _ _ _ _ kept.stay stay;
-      role = one.role ∙ kept.role;
+      role = ap (λ keeper. keeper.role) one.one_more ∙ kept.role;
       same = same_then _ _ _ kept.same one.same;
-      few = omega (arith, one.count, kept.few, c.if-keeper-ge-MAX_LINKS.false);
-      room = omega (arith, one.count, few, kept.room);
+      few = omega (arith, count, kept.few, c.if-keeper-ge-MAX_LINKS.false);
+      room = omega (arith, count, few, kept.room);
       within = one.within;
       keeping = keeping_more g.G.Door.told g.G.Gate.over g.G.Gate.peer g.G.Link.Link.told c.in-Link.link _ _ _ _ _ _ _ _ _ _
-          _ _ _ _ _ _ _ _ _ _ _ _ (record { same = ap lacks_in stay.known; later = stay.later }) one.count kept.keeping
+          _ _ _ _ _ _ _ _ _ _ _ _ (record { same = ap lacks_in stay.known; later = stay.later }) count kept.keeping
           c.is_over.ensures.same (sym c.is_over.ensures.over ∙ c.if-is_over.false) c.in-Link.ensures.accepted
           (in_role _ _ kept.role (when_ok c.keep_link.result _ c.in-Ok.is one.kept));
     }
@@ -78,6 +79,6 @@ returns-in_default-clause-kept g c =
     let one = c.keep_link.ensures in
     let stay = one.stay in
     kept_worn g.G.Door.told g.G.Gate.over g.G.Gate.peer g.G.Link.Link.told c.in-Link.link _ _ _ _ _ _ _ _ _ _ _ _ _ _ _ _ _
-    _ _ _ _ _ _ (record { same = ap lacks_in stay.known; later = stay.later }) one.count kept.keeping c.is_over.ensures.same
-    (sym c.is_over.ensures.over ∙ c.if-is_over.false) c.in-Link.ensures.accepted
+    _ _ _ _ _ _ (record { same = ap lacks_in stay.known; later = stay.later })
+    (ap (λ keeper. keeper.count) one.one_more) kept.keeping c.is_over.ensures.same (sym c.is_over.ensures.over ∙ c.if-is_over.false) c.in-Link.ensures.accepted
     (in_role _ _ kept.role (when_err c.keep_link.result _ c.in_default.is one.kept)) c.in_default.ensures.worn

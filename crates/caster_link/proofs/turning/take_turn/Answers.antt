@@ -2,6 +2,7 @@
 use Rattle.std.proofs.Common.{◌∙◌, ap}
 use Rattle.session_model.specs.Called.{alone_at, seen_at}
 use Rattle.session_model.specs.Courses.{steps_of, text_of}
+use Rattle.session_core.proofs.AskingLemmas.{asks_turned, tells_turned}
 use Rattle.caster_link.proofs.CalledLemmas.{others_none}
 use Rattle.caster_link.proofs.PlaceLemmas.{speak_by}
 use Rattle.caster_link.proofs.ReachLemmas.{turned_arrived}
@@ -16,6 +17,13 @@ pub turn-requires-clause-follows : goal.turn-requires-clause-follows
 turn-requires-clause-follows g c =
     let ready = c.requires.ready in (ready.0, ready.1.shapes_fit, ready.1.caps_fit, ready.2)
 
+pub returns-clause-holds : goal.returns-clause-holds
+returns-clause-holds g c = c.turn.ensures.itself.holds
+
+pub returns-clause-asks_still : goal.returns-clause-asks_still
+returns-clause-asks_still g c =
+    asks_turned _ _ c.turn.ensures.itself (λ apart. (c.turn.ensures.bystander apart).0)
+
 pub returns-clause-stay : goal.returns-clause-stay
 returns-clause-stay g c =
     stay_known g.T.Turns g.B.Turns c.args.places.now c.turn.new.places c.turn.ensures.stay
@@ -29,8 +37,9 @@ returns-clause-turned g c = λ config opening me start sent whats fit reached.
     let now = seen_at t.seen b.seen items book in
     turned_arrived config opening me (alone_at t.alone b.alone items book) start now
     (seen_at t.seen b.seen new.rings.items new.book) c.args.session.now c.turn.new.self sent
-    c.args.out.now.items c.turn.new.out.items whats reached c.requires.goes_on c.turn.ensures.me
-    (c.turn.ensures.asks opening (text_of whats) reached.asks)
+    c.args.out.now.items c.turn.new.out.items whats reached c.requires.goes_on c.turn.ensures.itself.me
+    (tells_turned _ _ opening (text_of whats) c.requires.goes_on c.turn.ensures.itself
+    (λ apart. (c.turn.ensures.bystander apart).0) reached.asks)
     (λ apart. let s = c.turn.ensures.bystander apart in (
       s.0,
       ap (λ l. seen_at t.seen b.seen l new.book) s.1 ∙ ap (λ k. seen_at t.seen b.seen items k) s.2,

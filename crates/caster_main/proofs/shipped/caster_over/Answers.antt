@@ -1,25 +1,16 @@
 -- What was done, said of each command.
-use Rattle.caster_logged.proofs.OverLemmas.{over_report, over_checked, over_tabled, over_migrated, over_replayed, over_warmed, over_served, over_recorded}
+use Rattle.caster_logged.proofs.OverLemmas.{over_report, over_config, over_played, over_served, over_recorded}
 use Rattle.caster_logged.proofs.RunLemmas.{fetched_logged}
 use Rattle.caster_main.proofs.shipped.caster_over.Goals as goal
 
 pub returns-clause-report : goal.returns-clause-report
 returns-clause-report g c zero = over_report (c.run_logged.ensures.done zero)
 
-pub returns-clause-checked : goal.returns-clause-checked
-returns-clause-checked g c zero = over_checked (c.run_logged.ensures.done zero)
+pub returns-clause-over_config : goal.returns-clause-over_config
+returns-clause-over_config g c zero = over_config (c.run_logged.ensures.done zero)
 
-pub returns-clause-tabled : goal.returns-clause-tabled
-returns-clause-tabled g c zero = over_tabled (c.run_logged.ensures.done zero)
-
-pub returns-clause-migrated : goal.returns-clause-migrated
-returns-clause-migrated g c zero = over_migrated (c.run_logged.ensures.done zero)
-
-pub returns-clause-replayed : goal.returns-clause-replayed
-returns-clause-replayed g c zero = over_replayed (c.run_logged.ensures.done zero)
-
-pub returns-clause-warmed : goal.returns-clause-warmed
-returns-clause-warmed g c zero = over_warmed (c.run_logged.ensures.done zero)
+pub returns-clause-played : goal.returns-clause-played
+returns-clause-played g c zero = over_played (c.run_logged.ensures.done zero)
 
 pub returns-clause-served : goal.returns-clause-served
 returns-clause-served g c zero =

@@ -1,21 +1,10 @@
 -- The run ended as a fetch, or as it does for words that ask for none.
 use Rattle.std.proofs.Common.{inl, inr}
 use Rattle.caster_top.proofs.FetchClauseLemmas.{fetch_asked, fetch_unserved}
-use Rattle.caster_top.proofs.RunLemmas.{run_more}
 use Rattle.caster_top.proofs.top.run_words.Goals as goal
 
 pub returns-in-Some-clause-run : goal.returns-in-Some-clause-run
 returns-in-Some-clause-run g c = record {
-  ends = inr (inl (record {
-    frames = c.in-Some.fetch.frames;
-    targets = _;
-    are = c.in-Some.ensures.fetch;
-    fetching = c.fetch_frames.ensures.fetching;
-  }));
-}
-
-pub returns-in-Some-clause-told : goal.returns-in-Some-clause-told
-returns-in-Some-clause-told g c = record {
   ends = inr (inl (record {
     frames = c.in-Some.fetch.frames;
     targets = _;
@@ -33,8 +22,3 @@ returns-in-Some-clause-kept_street g c = record {
   unserved = λ is. fetch_unserved _ _ _ _ _ _ _ _ _ c.fetch_frames.ensures.fetching is;
   faults = c.fetch_frames.ensures.street_faults;
 }
-
-pub returns-in-None-clause-told : goal.returns-in-None-clause-told
-returns-in-None-clause-told g c =
-    run_more _ _ _ _ _ _ _ _ _ _ _ _ _ _ _ _ _ (λ bytes came. came.0) (λ path bytes came. came.0)
-    c.keep_or_answer.ensures.run

@@ -1,7 +1,6 @@
 -- One turn, and then the other.
-use Rattle.std.proofs.Common.{map}
 use Rattle.session_calls.proofs.PlaceLemmas.{speak_same}
-use Rattle.keep_porter.proofs.LookLemmas.{shut_on, went_on_at}
+use Rattle.keep_porter.proofs.LookLemmas.{went_on_at}
 use Rattle.keep_porter.specs.Porters.{joins_at, looks_at}
 use Rattle.keep_porter.proofs.looks.find.Goals as goal
 

@@ -1,8 +1,7 @@
 -- The place at which is joined changes as a turn changes it, and the others do not change.
-use Rattle.std.proofs.Common.{◌<◌, Bool, ◌∷◌, [], length, get_or, sym, subst}
+use Rattle.std.proofs.Common.{Bool, ◌∷◌, [], get_or, sym, subst}
 use Rattle.mount_ring.specs.declared.call.RingCall.TheVariants.{Join}
 use Rattle.mount_ring.specs.declared.call.RingAnswer.TheVariants.{Joined}
-use Rattle.mount_ring.specs.declared.shape.RingShape.{RingShape}
 use Rattle.turn_log.specs.Heard.{Heard}
 use Rattle.turn_log.specs.Faults.{IsFault}
 use Rattle.turn_log.proofs.HeardLaws.{heard_turn}

@@ -1,4 +1,4 @@
-use Rattle.std.proofs.Common.{◌≡◌, ◌∙◌, ◌<◌, List, length, get_or, ap, subst, arith}
+use Rattle.std.proofs.Common.{◌≡◌, ◌<◌, List, length, get_or, ap, subst, arith}
 use Rattle.turn_log.specs.Desks.{desk_shape}
 use Rattle.cast_config.specs.declared.config.Mount.{Mount}
 use Rattle.session_core_tests.specs.Refusing.{tired_shape}

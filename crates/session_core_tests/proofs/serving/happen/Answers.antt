@@ -25,7 +25,7 @@ returns-in-In-clause-others g c = λ by apart.
     fed_others c.args.config.now (alone_at t.alone b.alone old.rings.items old.book) c.args.served.now.session
     c.feed-flow.new.self (seen_at t.seen b.seen old.rings.items old.book)
     (seen_at t.seen b.seen new.rings.items new.book) (take c.min.result c.in-In.bytes.now)
-    c.args.served.now.sent.items c.feed-flow.new.out.items c.args.room by c.requires.alone c.feed-flow.ensures.me apart
+    c.args.served.now.sent.items c.feed-flow.new.out.items c.args.room by c.requires.alone c.feed-flow.ensures.itself.me apart
     c.requires.follows c.feed-flow.ensures.fed
 
 pub returns-in-Turn-clause-follows : goal.returns-in-Turn-clause-follows
@@ -55,7 +55,7 @@ returns-in-Turn-clause-others g c = λ by apart.
     turned_others c.args.config.now (alone_at t.alone b.alone old.rings.items old.book) c.args.served.now.session
     c.turn-flow.new.self (seen_at t.seen b.seen old.rings.items old.book)
     (seen_at t.seen b.seen new.rings.items new.book) c.in-Turn.budget c.args.served.now.sent.items
-    c.turn-flow.new.out.items c.args.room by c.requires.alone c.turn-flow.ensures.me apart c.requires.follows
+    c.turn-flow.new.out.items c.args.room by c.requires.alone c.turn-flow.ensures.itself.me apart c.requires.follows
     (λ is. (
       (c.turn-flow.ensures.bystander is).0,
       ap (λ rings. seen_at t.seen b.seen rings new.book) (c.turn-flow.ensures.bystander is).1

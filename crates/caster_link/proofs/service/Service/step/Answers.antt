@@ -5,8 +5,8 @@ use Rattle.cast_io.specs.declared.link.Got.TheVariants as got
 use Rattle.cast_io.specs.declared.steps.Step.TheVariants as took
 use Rattle.session_model.specs.Called.{alone_at, seen_at}
 use Rattle.session_model.specs.Courses.{steps_of, text_of}
-use Rattle.session_core.proofs.AskingLemmas.{asks_both, same_on}
-use Rattle.session_core.proofs.HoldingLemmas.{holding_behind, holds_both}
+use Rattle.session_core.proofs.AskingLemmas.{asks_both, asks_held, asks_on, same_on}
+use Rattle.session_core.proofs.HoldingLemmas.{holds_both}
 use Rattle.caster_link.proofs.CalledLemmas.{others_none}
 use Rattle.caster_link.proofs.LinkLemmas.{link_step}
 use Rattle.caster_link.proofs.PlaceLemmas.{fit_kept, speak_by}
@@ -88,15 +88,15 @@ returns-in-Ended-clause-goes_on g c =
       no_end = refl;
       link = link_step _ _ _ [] _ (got.Bytes count) buf c.in-Ok.ensures.ok c.in-Bytes.ensures.read;
       rests = refl;
-      holds = c.feed.ensures.holds;
+      holds = c.feed.ensures.itself.holds;
       asks = λ opening me start before so_far.
-          c.feed.ensures.asks_on opening (text_of so_far.serving.whats) so_far.serving.reached.asks;
-      asks_still = λ is. c.feed.ensures.asks_still (holding_behind _ is);
+          asks_on opening (text_of so_far.serving.whats) _ _ c.feed.ensures.itself so_far.serving.reached.asks;
+      asks_still = λ is. asks_held _ _ c.feed.ensures.itself is;
       served = λ opening me start before so_far.
           let s = sent_on _ _ _ _ _ _ _ _ _ _ _ so_far.serving c.in-Ok.ensures.ok in
           record {
             serving = served_ended _ _ _ _ _ now _ _ _ _ _ _ _ count buf _ _ s going c.in-Bytes.ensures.read
-                c.in-Ok.ensures.empty long c.feed.ensures.me
+                c.in-Ok.ensures.empty long c.feed.ensures.itself.me
                 (ended_flow c.feed.new.self.ended c.in-Ended.ensures.flow)
                 (c.feed.ensures.fed opening (text_of s.whats) (steps_of s.reached.events) now (s.written ++ [])
                 s.reached.stands (others_none now c.args.self.now.session.me))
@@ -114,7 +114,7 @@ take_turn-requires-clause-ready g c =
     let new = c.feed.new.places in
     let so_far = c.requires.served.4 in (
       c.args.setup.now.config.now,
-      fit_kept _ _ _ _ _ c.feed.ensures.me (stay_known t b c.args.places.now new c.feed.ensures.stay).known
+      fit_kept _ _ _ _ _ c.feed.ensures.itself.me (stay_known t b c.args.places.now new c.feed.ensures.stay).known
           c.requires.fit,
       follows_fed c.args.setup.now.config.now (alone_at t.alone b.alone items book) (seen_at t.seen b.seen items book)
           (seen_at t.seen b.seen new.rings.items new.book) c.args.self.now.session c.feed.new.self _ _
@@ -152,19 +152,19 @@ returns-in-Open-clause-goes_on g c =
       no_end = refl;
       link = link_step _ _ _ [] _ (got.Bytes count) buf c.in-Ok.ensures.ok c.in-Bytes.ensures.read;
       rests = refl;
-      holds = holds_both _ _ _ c.feed.ensures.holds c.take_turn.ensures.holds;
+      holds = holds_both _ _ _ c.feed.ensures.itself.holds c.take_turn.ensures.holds;
       asks = λ opening me start before so_far.
           asks_both _ _ _
-          (c.feed.ensures.asks_on opening (text_of so_far.serving.whats) so_far.serving.reached.asks)
+          (asks_on opening (text_of so_far.serving.whats) _ _ c.feed.ensures.itself so_far.serving.reached.asks)
           (same_on _ _ c.take_turn.ensures.asks_still);
-      asks_still = λ is. c.take_turn.ensures.asks_still ∙ c.feed.ensures.asks_still (holding_behind _ is);
+      asks_still = λ is. c.take_turn.ensures.asks_still ∙ asks_held _ _ c.feed.ensures.itself is;
       served = λ opening me start before so_far.
           let s = sent_on _ _ _ _ _ _ _ _ _ _ _ so_far.serving c.in-Ok.ensures.ok in
           let fit = fit_kept config c.args.self.now.session.me me _ _ (sym s.reached.caller)
           (stay_known t b c.args.places.now new c.feed.ensures.stay).known c.requires.fit in
           record {
             serving = served_turned _ _ _ _ _ now _ _ _ _ _ _ _ _ _ count buf _ _ _ s going c.in-Bytes.ensures.read
-                c.in-Ok.ensures.empty long c.feed.ensures.me
+                c.in-Ok.ensures.empty long c.feed.ensures.itself.me
                 (c.feed.ensures.fed opening (text_of s.whats) (steps_of s.reached.events) now (s.written ++ [])
                 s.reached.stands (others_none now c.args.self.now.session.me))
                 (c.feed.ensures.asks opening (text_of s.whats) s.reached.asks)

@@ -12,17 +12,14 @@ use Rattle.session_core.specs.Feeding.{FedOn}
 use Rattle.session_core.specs.Places.{alone_in, seen_in}
 use Rattle.session_core.specs.Standing.{Follows}
 use Rattle.session_core.proofs.FeedHeadLemmas.{alone_as, begun_as, begun_behind, begun_follows, ended_front, fed_behind, fed_ended, fed_on, fed_open, is_awaited, none_of, rest_of, some_of}
-use Rattle.session_core.proofs.AskingLemmas.{same_on, tells_begun, tells_ended, tells_rest}
+use Rattle.session_core.proofs.AskingLemmas.{awaited_stays, tells_begun, tells_ended, tells_rest}
 use Rattle.session_core.proofs.session.Session.feed.Goals as goal
 
 pub returns-in_default : goal.returns-in_default
 returns-in_default g c = record {
   stay = c.feed_behind.ensures.stay;
-  me = c.feed_behind.ensures.me;
-  holds = c.feed_behind.ensures.holds;
+  itself = c.feed_behind.ensures.itself;
   asks = c.feed_behind.ensures.asks;
-  asks_on = λ opening text tells. same_on _ _ c.feed_behind.ensures.asks_still;
-  asks_still = λ behind. c.feed_behind.ensures.asks_still;
   flow = c.flow_after.ensures;
   fed = λ opening text steps histories sent stands others.
       fed_on c.args.config.now (alone_in g.T.Turns g.B.Turns c.args.places.now)
@@ -173,7 +170,7 @@ returns-clause-fed g c = λ opening text steps histories sent stands others.
     (is_awaited config was opening text steps histories sent c.in-Head.head c.in-Head.is c.requires.goes_on stands)
     refl
     (none_of session.ended (sym c.is_some.ensures ∙ c.if-is_some.false))
-    c.feed_behind-2.ensures.me
+    c.feed_behind-2.ensures.itself.me
     (begun_as config alone old mid was.me front begun.result.0 session.stage
     c.args.out.now.items begun.new.out.items c.replace.ensures.after
     (begun.ensures.begun front ended))
@@ -183,6 +180,18 @@ returns-clause-fed g c = λ opening text steps histories sent stands others.
     (subst (λ a. FedOn config a mid now c.feed_behind-2.new.self o
     (before ++ take (length bytes - count) (drop count bytes)) ss so_far) same
     (c.feed_behind-2.ensures.fed config o before ss h so_far (stay.at_rings.same.0 ∙ c.requires.shapes) s between)))
+
+-- ---- what stays
+
+pub returns-in_default-end-clause-itself : goal.returns-in_default-end-clause-itself
+returns-in_default-end-clause-itself g c = awaited_stays c.args.self.now _ c.in-Head.head c.in-Head.is refl
+
+pub returns-then-is_some-clause-itself : goal.returns-then-is_some-clause-itself
+returns-then-is_some-clause-itself g c = awaited_stays c.args.self.now _ c.in-Head.head c.in-Head.is refl
+
+pub returns-clause-itself : goal.returns-clause-itself
+returns-clause-itself g c =
+    awaited_stays c.args.self.now _ c.in-Head.head c.in-Head.is c.feed_behind-2.ensures.itself.me
 
 -- ---- what it asked
 

@@ -29,7 +29,7 @@ use Rattle.session_core.specs.declared.session_stage.SessionStage.TheVariants as
 use Rattle.session_core.specs.Beginnings.{ended_joining, histories_of}
 use Rattle.session_core.specs.Feeding.{FedOn, end_of_relay, end_of_source}
 use Rattle.session_core.specs.Places.{alone_in, seen_in}
-use Rattle.session_core.proofs.AskingLemmas.{tells_on}
+use Rattle.session_core.proofs.AskingLemmas.{asks_same, tells_on}
 use Rattle.session_core.proofs.EnteredLemmas.{back_whole, cause_joined, entered_back, worn_back}
 use Rattle.session_core.proofs.FeedBodyLemmas.{as_many_places, ended_as, published_as, relay_fed_as, resumes_as, sent_as, told_by, within_places}
 use Rattle.session_core.proofs.FeedRelayLemmas.{relay_fed_on}
@@ -91,10 +91,13 @@ pub returns-in-Source-clause-asks : goal.returns-in-Source-clause-asks
 returns-in-Source-clause-asks g c = λ opening text tells.
     tells_on c.args.self.now opening text c.args.bytes.now _ c.requires.goes_on c.requires.behind tells
 
-pub returns-in-Source-clause-holds : goal.returns-in-Source-clause-holds
-returns-in-Source-clause-holds g c =
-    source_on c.args.self.now c.in-Source.mount c.in-Source.session c.feed-fed.new.self c.in-Source.is
-    c.feed-fed.ensures.source.1
+pub returns-in-Source-clause-itself : goal.returns-in-Source-clause-itself
+returns-in-Source-clause-itself g c = record {
+  me = refl;
+  holds = source_on c.args.self.now c.in-Source.mount c.in-Source.session c.feed-fed.new.self c.in-Source.is
+      c.feed-fed.ensures.source.1;
+  asks = asks_same c.args.self.now.stage _ _ refl;
+}
 
 pub returns-in-Source-clause-fed : goal.returns-in-Source-clause-fed
 returns-in-Source-clause-fed g c = λ config opening text steps histories sent same stands others.
@@ -194,15 +197,19 @@ pub returns-in-Relay-clause-asks : goal.returns-in-Relay-clause-asks
 returns-in-Relay-clause-asks g c = λ opening text tells.
     tells_on c.args.self.now opening text c.args.bytes.now _ c.requires.goes_on c.requires.behind tells
 
-pub returns-in-Relay-clause-holds : goal.returns-in-Relay-clause-holds
-returns-in-Relay-clause-holds g c =
+pub returns-in-Relay-clause-itself : goal.returns-in-Relay-clause-itself
+returns-in-Relay-clause-itself g c =
     let follows = c.requires.follows in
     let inner = c.in-Relay.session in
     let few = (relay_ready follows.0 c.args.self.now (seen_in g.T.Turns g.B.Turns c.args.places.now)
     (length c.args.bytes.now) c.in-Relay.mount inner c.in-Relay.is c.requires.goes_on follows.3).few in
-    let more = c.feed-fed-in-Relay.ensures.adds c.in-Relay.mount few.0 few.1 few.2 in
-    relay_on c.args.self.now c.in-Relay.mount inner.me c.feed-fed-in-Relay.new.self.me inner
-    c.feed-fed-in-Relay.new.self few.0 (few.0 ++ c.args.bytes.now) few.1 more.0 c.in-Relay.is few.2 more.2
+    let more = c.feed-fed-in-Relay.ensures.adds c.in-Relay.mount few.0 few.1 few.2 in record {
+      me = refl;
+      holds = relay_on c.args.self.now c.in-Relay.mount inner.me c.feed-fed-in-Relay.new.self.me inner
+          c.feed-fed-in-Relay.new.self few.0 (few.0 ++ c.args.bytes.now) few.1 more.0 c.in-Relay.is few.2
+          more.2;
+      asks = asks_same c.args.self.now.stage _ _ refl;
+    }
 
 pub returns-in-Relay-clause-fed : goal.returns-in-Relay-clause-fed
 returns-in-Relay-clause-fed g c = λ config opening text steps histories sent same stands others.
@@ -284,9 +291,12 @@ pub returns-in-Rover-clause-asks : goal.returns-in-Rover-clause-asks
 returns-in-Rover-clause-asks g c = λ opening text tells.
     tells_on c.args.self.now opening text c.args.bytes.now _ c.requires.goes_on c.requires.behind tells
 
-pub returns-in-Rover-clause-holds : goal.returns-in-Rover-clause-holds
-returns-in-Rover-clause-holds g c =
-    rover_on c.args.self.now.stage c.in-Rover.account c.in-Rover.session c.feed.new.self c.in-Rover.is
+pub returns-in-Rover-clause-itself : goal.returns-in-Rover-clause-itself
+returns-in-Rover-clause-itself g c = record {
+  me = refl;
+  holds = rover_on c.args.self.now.stage c.in-Rover.account c.in-Rover.session c.feed.new.self c.in-Rover.is;
+  asks = asks_same c.args.self.now.stage _ _ refl;
+}
 
 pub returns-in-Rover-clause-fed : goal.returns-in-Rover-clause-fed
 returns-in-Rover-clause-fed g c = λ config opening text steps histories sent same stands others.

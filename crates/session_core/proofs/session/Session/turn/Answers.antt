@@ -5,7 +5,7 @@ use Rattle.session_calls.specs.Rings.{all_alone}
 use Rattle.session_calls.proofs.PlaceLemmas.{length_same}
 use Rattle.session_model.specs.Called.{seen_at}
 use Rattle.session_core.specs.Turned.{TurnedAt}
-use Rattle.session_core.proofs.AskingLemmas.{tells_turned}
+use Rattle.session_core.proofs.AskingLemmas.{asks_same}
 use Rattle.session_core.proofs.EnteredLemmas.{back_whole, cause_left, worn_back}
 use Rattle.session_core.proofs.TurningLemmas.{halted_back, halts_in, readable_by, turned_by, same_session}
 use Rattle.session_core.proofs.session.Session.turn.Goals as goal
@@ -37,11 +37,12 @@ returns-clause-turned g c = λ is config opening text steps histories sent shape
     c.args.out.now.items c.turn_at-ended.new.out.items) there turned.turned)
     (halts_in _ _ _ _ c.turn_at-ended.result turned.halted))
 
-pub returns-clause-asks : goal.returns-clause-asks
-returns-clause-asks g c = λ opening text tells.
-    let turned = c.turn_at-ended.ensures in
-    tells_turned c.args.self.now opening text c.turn_at-ended.result c.turn_at-ended.new.stage c.requires.goes_on
-    turned.holds (λ apart. let still = turned.bystander apart in (still.0, still.1)) tells
+pub returns-clause-itself : goal.returns-clause-itself
+returns-clause-itself g c = record {
+  me = refl;
+  holds = c.turn_at-ended.ensures.holds;
+  asks = asks_same c.args.self.now.stage _ _ refl;
+}
 
 pub returns-clause-cause : goal.returns-clause-cause
 returns-clause-cause g c =

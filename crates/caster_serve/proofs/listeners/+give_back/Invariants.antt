@@ -1,5 +1,0 @@
-use Rattle.std.proofs.Common.{length}
-use Rattle.caster_serve.proofs.listeners.+give_back.Given as goal
-
-abbrev pub decreases-give_back : goal.decreases-give_back
-decreases-give_back g l = length l.tasks.items
