@@ -2,7 +2,7 @@
 
 ghost use Rattle.std.specs.Prelude.{◌≡◌, ◌≤◌, ◌+◌, length, filter, IfOk};
 ghost use Rattle.access_groups.specs.declared.admission.AdmissionError.TheVariants.{Denied, Memory};
-ghost use Rattle.access_groups.specs.Admission.{Gives, hears, is_near, bases_of, heard_bases, admission, admission_in, source_admission};
+ghost use Rattle.access_groups.specs.Admission.{Gives, hears, is_near, heard_bases, admission, admission_in, source_admission};
 
 use crate::numbers::Bases;
 use crate::party::{Party, party_of};

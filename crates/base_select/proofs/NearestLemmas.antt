@@ -1,12 +1,11 @@
 -- The nearest base as a function.
-use Rattle.std.proofs.Common.{◌≡◌, ◌↔◌, ℕ, ◌+◌, ◌<◌, ◌≤◌, List, [], ◌∷◌, length, get_or, drop, Option, Some, None, refl, sym, ap, subst, ◌∙◌, arith, inl, inr}
+use Rattle.std.proofs.Common.{◌≡◌, ◌↔◌, ℕ, ◌+◌, ◌<◌, ◌≤◌, List, [], ◌∷◌, length, get_or, drop, Option, Some, refl, sym, ap, subst, ◌∙◌, arith, inl, inr}
 use Rattle.std.specs.Prelude.{slice_index}
 use Rattle.std.proofs.Math.ListN.{drop_of_length-le}
 use Rattle.std.proofs.lemmas.Bool.{cases_lt, lt-ltb, le-ltb}
-use Rattle.std.proofs.lemmas.List.{drop_more, length-map}
+use Rattle.std.proofs.lemmas.List.{drop_more}
 use Rattle.gga_read.specs.declared.Position.{Position}
 use Rattle.base_select.specs.declared.Base.{Base}
-use Rattle.base_select.specs.Measure.{measure_of}
 use Rattle.base_select.specs.Choice.{measures, mounts, IsNearest, nearest_from, nearest_of, place_of, chosen, IsChoice, choice_of}
 use Rattle.base_select.proofs.ChoiceLemmas.{IsBest, best_of_one, best_keeps, best_takes, best_of_all}
 use Rattle.base_select.proofs.LawLemmas.{nearest_unique}

@@ -1,6 +1,6 @@
 //! The choice of a base.
 
-ghost use Rattle.std.specs.Prelude.{◌≡◌, ◌==◌, position, ◌<◌, ◌≤◌, List, [], length, All, slice_index, IfSome, IfNone};
+ghost use Rattle.std.specs.Prelude.{◌≡◌, ◌==◌, position, ◌<◌, ◌≤◌, [], length, All, slice_index, IfSome, IfNone};
 ghost use Rattle.base_select.specs.Measure.{IsOnEarth};
 ghost use Rattle.base_select.specs.Choice.{measures, mounts, IsNearest, place_of, chosen, IsChoice};
 

@@ -1,7 +1,7 @@
 //! The measure between two positions.
 
 ghost use Rattle.std.specs.Prelude.{◌≡◌, ◌+◌, ◌*◌, ◌≤◌, unsigned_abs};
-ghost use Rattle.base_select.specs.Measure.{IsOnEarth, cosine, cosine_at, north_apart, turn_apart, east_apart, measure_of};
+ghost use Rattle.base_select.specs.Measure.{IsOnEarth, cosine, north_apart, turn_apart, east_apart, measure_of};
 
 use gga_read::Position;
 

@@ -1,5 +1,5 @@
 //! A mountpoint with one source and one rover.
-ghost use Rattle.std.specs.Prelude.{◌≡◌, ℕ, IsTrue};
+ghost use Rattle.std.specs.Prelude.{IsTrue};
 ghost use Rattle.mount_ring.specs.History as history;
 ghost use Rattle.mount_ring.specs.Shapes.{shape_of};
 

@@ -12,7 +12,7 @@ use Rattle.config_keys.specs.declared.fault.KeyFault.TheVariants.{Twice, Unknown
 use Rattle.config_keys.specs.Answers.{given}
 use Rattle.config_keys.specs.Lists.{is_among, each_once}
 use Rattle.config_keys.specs.Texts.{name}
-use Rattle.config_keys.proofs.KeepLemmas.{done, value_is, taken, held, Keeps, name_keeps}
+use Rattle.config_keys.proofs.KeepLemmas.{done, value_is, taken, held, name_keeps}
 use Rattle.cast_config.specs.Names.{new_name, named, place_of, place_at}
 use Rattle.cast_config.specs.Kept.{once}
 

@@ -1,6 +1,6 @@
 -- A worked configuration: two mountpoints and a near one, two groups and two accounts, from the
 -- members of its document on.
-use Rattle.std.proofs.Common.{◌≡◌, ℕ, List, [], ◌∷◌, Option, None, Some, Ok, refl}
+use Rattle.std.proofs.Common.{◌≡◌, ℕ, List, [], ◌∷◌, None, Ok, refl}
 use Rattle.std.specs.Prelude.{codes, pos}
 use Rattle.toml.specs.Data.{Data, string, integer, array, table, Items, no_items, item, Members, no_members, member}
 use Rattle.type_filter.specs.Permitted.{All, Listed}

@@ -1,7 +1,7 @@
 //! The entries of a configuration, each read from its table: one call a key, in the order in which
 //! the keys are tested.
 
-ghost use Rattle.std.specs.Prelude.{◌≡◌, ◌≤◌, List, ℕ, [], length, map, IfOk, IsTrue, None};
+ghost use Rattle.std.specs.Prelude.{◌≡◌, ◌≤◌, [], length, map, IfOk, IsTrue, None};
 ghost use Rattle.cast_text.specs.Name.{is_name};
 ghost use Rattle.config_keys.specs.Answers.{Gives, GivesBy};
 ghost use Rattle.config_keys.specs.Lists.{each_of};
@@ -9,7 +9,6 @@ ghost use Rattle.config_keys.specs.Rules.{required, optional, seen};
 ghost use Rattle.config_keys.specs.Texts.{name};
 ghost use Rattle.cast_config.specs.Names.{mount_names, heard_names, new_name, named, all_named, entries_once, filters_at, filter_at, some_of};
 ghost use Rattle.cast_config.specs.Entries.{place, near_of, hearing_of, given_of, group_of, credentials_of, membership_of, account_of, pull_of, relay_of, anonymous_in, anonymous_of, filters_by};
-ghost use Rattle.toml.specs.Data.{get_member};
 ghost use Rattle.toml.specs.View.{view, table_view};
 
 use crate::config::{Account, Anonymous, Group, GroupFilter, Mount, Near, Relay};

@@ -1,6 +1,6 @@
 //! Names among others.
 
-ghost use Rattle.std.specs.Prelude.{◌≡◌, ◌≤◌, ◌<◌, ◌+◌, List, ℕ, [], map, length, IfOk, IfSome};
+ghost use Rattle.std.specs.Prelude.{◌≡◌, ◌≤◌, ◌<◌, ◌+◌, List, ℕ, [], map, length, IfSome};
 ghost use Rattle.config_keys.specs.Answers.{GivesBy};
 ghost use Rattle.config_keys.specs.Lists.{is_among, each_once, each_of};
 ghost use Rattle.config_keys.specs.Rules.{required, seen};

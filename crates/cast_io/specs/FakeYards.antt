@@ -90,15 +90,6 @@ GaveGates ok count old new = new ≡ record old {
   faults = new.faults;
 }
 
--- A call for so many gates fails where it is to fail, and a failure is counted. Where it was
--- answered, these gates were given: the next ones to come, each made for what was asked.
-pub record GivesGates {X : Type 0} (wanted : YardAsked) (count : ℕ) (gates : X → List GateState)
-    (old new : YardState) (result : Result X StreetFault) : Type 0 where
-  pub exact : IsErrOf result Failed ↔ IsTrue (gates_fail old count)
-  pub counted : HasCounted (gates_fail old count) old new
-  pub given : IfOk result (λ given. gates given ≡ map (made_for wanted) (take count old.gates))
-  pub gave : GaveGates (is_ok result) count old new
-
 -- one more call was counted, and what it asked; where it was answered, it gave the next notes;
 -- nothing else changed
 abbrev pub GaveNotes : (ok : Bool) → YardState → YardState → Type 0
@@ -109,3 +100,12 @@ GaveNotes ok old new = new ≡ record old {
   calls = next_count old.calls;
   faults = new.faults;
 }
+
+-- A call for so many gates fails where it is to fail, and a failure is counted. Where it was
+-- answered, these gates were given: the next ones to come, each made for what was asked.
+pub record GivesGates {X : Type 0} (wanted : YardAsked) (count : ℕ) (gates : X → List GateState)
+    (old new : YardState) (result : Result X StreetFault) : Type 0 where
+  pub exact : IsErrOf result Failed ↔ IsTrue (gates_fail old count)
+  pub counted : HasCounted (gates_fail old count) old new
+  pub given : IfOk result (λ given. gates given ≡ map (made_for wanted) (take count old.gates))
+  pub gave : GaveGates (is_ok result) count old new

@@ -193,6 +193,14 @@ fn call_links(
     Ok(())
 }
 
+// Whether an accept at the last of these doors fails.
+fn is_failed(doors: &mut Vec<MemDoor>) -> bool {
+    match doors.last_mut() {
+        Some(door) => matches!(door.accept(), Arrived::Failed),
+        None => false,
+    }
+}
+
 // One call of a street about its doors: an `accept` at the last one, its coming back, or that of
 // one that never was there, or an `open`.
 fn call_doors(
@@ -203,13 +211,14 @@ fn call_doors(
     out: &mut Vec<u8>,
 ) -> Result<(), Fail> {
     match call {
-        "fail" => {
-            let failed = match doors.last_mut() {
-                Some(door) => matches!(door.accept(), Arrived::Failed),
-                None => false,
-            };
-            say(out, if failed { b"failed" } else { b"other" })?;
-        }
+        "fail" => say(
+            out,
+            if is_failed(doors) {
+                b"failed"
+            } else {
+                b"other"
+            },
+        )?,
         "shut" => street.shut(doors.pop().ok_or("no door")?),
         "stray-door" => street.shut(door_of(alloc, &[])?),
         "doors" => say_doors(out, street.doors_back())?,

@@ -1,6 +1,6 @@
 //! The lines of a stream of bytes.
 
-ghost use Rattle.std.specs.Prelude.{◌≡◌, ℕ, ◌+◌, ◌<◌, ◌≤◌, ◌==◌, ◌&&◌, ◌||◌, not, true, nat_le, nat_lt, List, [], ◌∷◌, ◌++◌, length, IfOk, IsTrue, if◌then◌else◌};
+ghost use Rattle.std.specs.Prelude.{◌≡◌, ℕ, ◌+◌, ◌<◌, ◌≤◌, ◌==◌, ◌&&◌, not, true, nat_le, List, [], ◌∷◌, ◌++◌, length, IfOk, IsTrue, if◌then◌else◌};
 
 use std::alloc::{AllocError, Global};
 use std::marker::Model;
@@ -23,7 +23,6 @@ impl Model for Lines {
 
     ghost Value = { LineState };
 
-    ghost use Rattle.std.specs.Vec.{vec_capacity};
     ghost use Rattle.cast_text.specs.LinesFields.{state_of, IsWithin};
 
     ghost view = { state_of };

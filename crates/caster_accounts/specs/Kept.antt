@@ -6,7 +6,6 @@ use Rattle.caster_accounts.specs.declared.call.BookCall.{BookCall}
 use Rattle.caster_accounts.specs.History.{inside}
 use Rattle.caster_accounts.specs.declared.account.Sum.{Sum}
 use Rattle.caster_accounts.specs.Sums.{added, total, total_of_all}
-pub use Rattle.caster_accounts.specs.History.{entry_answer}
 
 -- an account where one more asked to enter
 abbrev pub entered : Account → Account

@@ -1,5 +1,6 @@
 ghost use Rattle.std.specs.Prelude.{◌≡◌, ◌^◌, ◌<◌, ◌≤◌, ◌+◌};
-ghost use Rattle.caster_accounts.specs.Kept.{entered, entry_answer, left};
+ghost use Rattle.caster_accounts.specs.History.{entry_answer};
+ghost use Rattle.caster_accounts.specs.Kept.{entered, left};
 ghost use Rattle.caster_accounts.specs.Sums.{added};
 
 use crate::call::BookAnswer;

@@ -285,39 +285,6 @@ link_kept c role me count wear start now before after peer door hung old new hel
       put = put;
     }
 
--- ---- what was found out of it
-
--- the role is the same by another name
-pub in_role : (role now : Role) {c : Config} {me count : ℕ} {wear : Wear} {start later : Histories} {given : LinkTold}
-    {peer : List ℕ} {before after : DoorTold} {old new : Sum} {by : ℕ} {sheet next : History Line} {whole : Bool}
-    → now ≡ role → LinkKept c now me count wear start later given peer before after old new by sheet next whole
-    → LinkKept c role me count wear start later given peer before after old new by sheet next whole
-in_role role now {c} {me} {count} {wear} {start} {later} {given} {peer} {before} {after} {old} {new} {by} {sheet} {next}
-    {whole} same kept =
-    subst (λ (r : Role). LinkKept c r me count wear start later given peer before after old new by sheet next whole)
-    same kept
-
--- all lines were put, or not
-pub when_ok : {T E : Type 0} (r : Result T E) (x : T) {c : Config} {role : Role} {me count : ℕ} {wear : Wear}
-    {start later : Histories} {given : LinkTold} {peer : List ℕ} {before after : DoorTold} {old new : Sum} {by : ℕ}
-    {sheet next : History Line} → r ≡ Ok x
-    → LinkKept c role me count wear start later given peer before after old new by sheet next (is_ok r)
-    → LinkKept c role me count wear start later given peer before after old new by sheet next true
-when_ok r x {c} {role} {me} {count} {wear} {start} {later} {given} {peer} {before} {after} {old} {new} {by} {sheet}
-    {next} is kept =
-    subst (λ (b : Bool). LinkKept c role me count wear start later given peer before after old new by sheet next b)
-    (ap is_ok is) kept
-
-pub when_err : {T E : Type 0} (r : Result T E) (e : E) {c : Config} {role : Role} {me count : ℕ} {wear : Wear}
-    {start later : Histories} {given : LinkTold} {peer : List ℕ} {before after : DoorTold} {old new : Sum} {by : ℕ}
-    {sheet next : History Line} → r ≡ Err e
-    → LinkKept c role me count wear start later given peer before after old new by sheet next (is_ok r)
-    → LinkKept c role me count wear start later given peer before after old new by sheet next false
-when_err r e {c} {role} {me} {count} {wear} {start} {later} {given} {peer} {before} {after} {old} {new} {by} {sheet}
-    {next} is kept =
-    subst (λ (b : Bool). LinkKept c role me count wear start later given peer before after old new by sheet next b)
-    (ap is_ok is) kept
-
 -- ---- histories
 
 -- what was refused by the places as they were worn then, was by the same places as they are now
@@ -378,6 +345,39 @@ links-snoc [] turn = append-nil (kept_at turn.kept)
 links-snoc (first ∷ turns) turn =
     ap (λ (l : List Kept). kept_at first.kept ++ l) (links-snoc turns turn)
     ∙ sym (append_assoc (kept_at first.kept) (links_in turns) (kept_at turn.kept))
+
+-- ---- what was found out of it
+
+-- the role is the same by another name
+pub in_role : (role now : Role) {c : Config} {me count : ℕ} {wear : Wear} {start later : Histories} {given : LinkTold}
+    {peer : List ℕ} {before after : DoorTold} {old new : Sum} {by : ℕ} {sheet next : History Line} {whole : Bool}
+    → now ≡ role → LinkKept c now me count wear start later given peer before after old new by sheet next whole
+    → LinkKept c role me count wear start later given peer before after old new by sheet next whole
+in_role role now {c} {me} {count} {wear} {start} {later} {given} {peer} {before} {after} {old} {new} {by} {sheet} {next}
+    {whole} same kept =
+    subst (λ (r : Role). LinkKept c r me count wear start later given peer before after old new by sheet next whole)
+    same kept
+
+-- all lines were put, or not
+pub when_ok : {T E : Type 0} (r : Result T E) (x : T) {c : Config} {role : Role} {me count : ℕ} {wear : Wear}
+    {start later : Histories} {given : LinkTold} {peer : List ℕ} {before after : DoorTold} {old new : Sum} {by : ℕ}
+    {sheet next : History Line} → r ≡ Ok x
+    → LinkKept c role me count wear start later given peer before after old new by sheet next (is_ok r)
+    → LinkKept c role me count wear start later given peer before after old new by sheet next true
+when_ok r x {c} {role} {me} {count} {wear} {start} {later} {given} {peer} {before} {after} {old} {new} {by} {sheet}
+    {next} is kept =
+    subst (λ (b : Bool). LinkKept c role me count wear start later given peer before after old new by sheet next b)
+    (ap is_ok is) kept
+
+pub when_err : {T E : Type 0} (r : Result T E) (e : E) {c : Config} {role : Role} {me count : ℕ} {wear : Wear}
+    {start later : Histories} {given : LinkTold} {peer : List ℕ} {before after : DoorTold} {old new : Sum} {by : ℕ}
+    {sheet next : History Line} → r ≡ Err e
+    → LinkKept c role me count wear start later given peer before after old new by sheet next (is_ok r)
+    → LinkKept c role me count wear start later given peer before after old new by sheet next false
+when_err r e {c} {role} {me} {count} {wear} {start} {later} {given} {peer} {before} {after} {old} {new} {by} {sheet}
+    {next} is kept =
+    subst (λ (b : Bool). LinkKept c role me count wear start later given peer before after old new by sheet next b)
+    (ap is_ok is) kept
 
 -- ---- between two turns
 

@@ -1,10 +1,8 @@
 //! It is wanted how things stand while a worker serves a source.
 
 use crate::fakes::SOURCE;
-use crate::full_tests::{lines_from, two_workers};
-use caster_keep::{Stop, keep};
+use crate::full_tests::parts_over;
 use std::alloc::Global;
-use std::str;
 use std::sync::Wait;
 use std::sync::atomic::AtomicBool;
 use std::test::Fail;
@@ -62,34 +60,24 @@ fn yard_of<'a, R: Clock>(
     Ok(TimedYard::new(alloc, source, late))
 }
 
-/// The lines of a caster of these two: of the source, and of no link.
+/// The lines of a caster of these two: of the source, of the other link, and of no link.
 fn keep_busy<R: Clock + Threads + Wait + Sync>(
     rt: &R,
     alloc: Global,
-) -> Result<[Vec<u8>; 2], Fail> {
+) -> Result<[Vec<u8>; 3], Fail> {
     let flags = [AtomicBool::new(false), AtomicBool::new(false)];
     let mut yard = yard_of(rt, alloc, &flags)?;
     let stops = [pause(1, NONE, 0), pause(2, 1, NONE)];
     let mut lodge = TimedLodge::new(rt, &flags, stops, 1);
-    let config = two_workers(alloc)?;
-    let addr = "127.0.0.1:0";
-    let outcome = keep(rt, alloc, &config, addr, 300, &mut yard, &mut lodge);
-    if !matches!(outcome.map(|outcome| outcome.stop), Ok(Stop::Over)) {
-        return Err("it did not stop since its gates were over".into());
-    }
-    let text = str::from_utf8(yard.text()).or(Err("the text is not UTF-8"))?;
-    Ok([
-        lines_from(alloc, text, Some("0."))?,
-        lines_from(alloc, text, None)?,
-    ])
+    parts_over(rt, alloc, &mut yard, &mut lodge)
 }
 
 // It is wanted once the source has sent its frames, and the source ends only once it was said.
 #[test]
 fn what_a_source_did_is_said_while_it_is_there(rt: HostRuntime) -> Result<(), Fail> {
     let lines = keep_busy(&rt, rt.alloc())?;
-    for (lines, wanted) in lines.iter().zip([LINES, SAID]) {
-        assert!(rt; lines.as_slice() == wanted);
+    for (part, wanted) in [(0, LINES), (2, SAID)] {
+        assert!(rt; lines[part].as_slice() == wanted);
     }
     Ok(())
 }

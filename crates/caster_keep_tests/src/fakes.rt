@@ -107,11 +107,13 @@ fn street_of(
     Ok(street.with_yard(yard))
 }
 
-/// What came of a caster: why it stopped and whether a write failed, or that it did not begin; what
-/// was written; and how many gates came back.
+/// Why a caster stopped and whether a write failed, or that it did not begin.
+type Ended = Result<(Stop, bool), KeepFault>;
+
+/// What came of a caster: how it ended, what was written, and how many gates came back.
 #[derive(Drop)]
 pub(crate) struct Ran {
-    ended: Result<(Stop, bool), KeepFault>,
+    ended: Ended,
     text: Vec<u8>,
     gates: usize,
 }
@@ -149,6 +151,22 @@ fn gates_of(street: &MemStreet) -> usize {
     }
 }
 
+/// How a caster over this street ended, at whose console these are wanted.
+fn keep_over<R: Threads + Wait + Sync>(
+    rt: &R,
+    alloc: Global,
+    street: &mut MemStreet,
+    wanted: &[Wanted],
+) -> Result<Ended, Fail> {
+    let config = config_of(alloc)?;
+    let mut lodge = MemLodge::new(alloc, wanted.to_vec(alloc)?);
+    let kept = keep(rt, alloc, &config, "127.0.0.1:0", 300, street, &mut lodge);
+    Ok(match kept {
+        Ok(outcome) => Ok((outcome.stop, outcome.is_torn)),
+        Err(fault) => Err(fault),
+    })
+}
+
 /// What comes of a caster over this street, at whose console these are wanted.
 fn ran_over<R: Threads + Wait + Sync>(
     rt: &R,
@@ -156,25 +174,26 @@ fn ran_over<R: Threads + Wait + Sync>(
     mut street: MemStreet,
     wanted: &[Wanted],
 ) -> Result<Ran, Fail> {
-    let config = config_of(alloc)?;
-    let mut lodge = MemLodge::new(alloc, wanted.to_vec(alloc)?);
-    let ended = match keep(
-        rt,
-        alloc,
-        &config,
-        "127.0.0.1:0",
-        300,
-        &mut street,
-        &mut lodge,
-    ) {
-        Ok(outcome) => Ok((outcome.stop, outcome.is_torn)),
-        Err(fault) => Err(fault),
-    };
+    let ended = keep_over(rt, alloc, &mut street, wanted)?;
     Ok(Ran {
         ended,
         text: text_of(&street).to_vec(alloc)?,
         gates: gates_of(&street),
     })
+}
+
+/// The gates of a worker and of a relay, at which links arrive that send these. Each is over when
+/// all have come.
+pub(crate) fn used_up(
+    alloc: Global,
+    worker: &[Pieces],
+    relay: &[Pieces],
+) -> Result<[MemGate; 2], Fail>
+    ensures { IfOk result (λ gates. IsTrue (list_all is_new_gate gates)) }
+{
+    let worker = gate_of(alloc, worker, GateEnd::UsedUp, &[])?;
+    let relay = gate_of(alloc, relay, GateEnd::UsedUp, &[])?;
+    Ok([worker, relay])
 }
 
 /// What comes of a caster with these gates of its worker and of its relay, over these notes. The
@@ -201,10 +220,8 @@ pub(crate) fn ask<R: Threads + Wait + Sync>(
 ) -> Result<Ran, Fail>
     requires notes { IsTrue (are_new_notes notes) }
 {
-    let worker = gate_of(alloc, &[], GateEnd::UsedUp, &[])?;
-    let relay = gate_of(alloc, &[], GateEnd::UsedUp, &[])?;
-    let street = street_of(alloc, [worker, relay], notes, &[])?;
-    ran_over(rt, alloc, street, wanted)
+    let gates = used_up(alloc, &[], &[])?;
+    ran_over(rt, alloc, street_of(alloc, gates, notes, &[])?, wanted)
 }
 
 /// What comes of a caster whose worker and whose relay serve links that send these, one after the
@@ -215,8 +232,6 @@ pub(crate) fn serve_both<R: Threads + Wait + Sync>(
     worker: &[Pieces],
     relay: &[Pieces],
 ) -> Result<Ran, Fail> {
-    let worker = gate_of(alloc, worker, GateEnd::UsedUp, &[])?;
-    let relay = gate_of(alloc, relay, GateEnd::UsedUp, &[])?;
-    let notes = MemSink::new(alloc, Vec::new(alloc));
-    run(rt, alloc, [worker, relay], notes, &[])
+    let gates = used_up(alloc, worker, relay)?;
+    run(rt, alloc, gates, MemSink::new(alloc, Vec::new(alloc)), &[])
 }

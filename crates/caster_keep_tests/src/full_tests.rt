@@ -6,7 +6,7 @@ ghost use Rattle.cast_config.specs.Kept.{KeepsRules};
 
 use crate::fakes::ROVER;
 use cast_config::{Config, read_config};
-use cast_console::MemLodge;
+use cast_console::{Lodge, MemLodge};
 use caster_keep::{Stop, keep};
 use std::alloc::Global;
 use std::str;
@@ -62,7 +62,7 @@ total 1 0 0
 ";
 
 /// The configuration that is tried.
-pub(crate) fn two_workers(alloc: Global) -> Result<Config, Fail>
+fn two_workers(alloc: Global) -> Result<Config, Fail>
     ensures { IfOk result (KeepsRules 1000000) }
 {
     Ok(read_config(alloc, FILE)?)
@@ -108,7 +108,7 @@ fn yard_of<'a, R: Clock>(
 }
 
 /// The lines of this text that begin so, or all that begin with no digit.
-pub(crate) fn lines_from(alloc: Global, text: &str, front: Option<&str>) -> Result<Vec<u8>, Fail> {
+fn lines_from(alloc: Global, text: &str, front: Option<&str>) -> Result<Vec<u8>, Fail> {
     let mut lines = Vec::new(alloc);
     for line in text.lines() {
         let is_meant = match front {
@@ -123,6 +123,48 @@ pub(crate) fn lines_from(alloc: Global, text: &str, front: Option<&str>) -> Resu
     Ok(lines)
 }
 
+/// Lets a caster keep serving over this yard until its gates are over.
+fn keep_over<R: Clock + Threads + Wait + Sync, Z: Lodge>(
+    rt: &R,
+    alloc: Global,
+    yard: &mut TimedYard<'_, R>,
+    lodge: &mut Z,
+) -> Result<(), Fail>
+where
+    Z::Console: Send,
+{
+    let config = two_workers(alloc)?;
+    let kept = keep(rt, alloc, &config, "127.0.0.1:0", 300, yard, lodge);
+    match kept.map(|outcome| (outcome.stop, outcome.is_torn)) {
+        Ok((Stop::Over, false)) => Ok(()),
+        _ => Err("it did not stop since its gates were over".into()),
+    }
+}
+
+/// The lines of this text of the first worker, of the second, and of no link.
+fn parts_of(alloc: Global, text: &[u8]) -> Result<[Vec<u8>; 3], Fail> {
+    let text = str::from_utf8(text).or(Err("the text is not UTF-8"))?;
+    Ok([
+        lines_from(alloc, text, Some("0."))?,
+        lines_from(alloc, text, Some("1."))?,
+        lines_from(alloc, text, None)?,
+    ])
+}
+
+/// The lines of a caster over this yard.
+pub(crate) fn parts_over<R: Clock + Threads + Wait + Sync, Z: Lodge>(
+    rt: &R,
+    alloc: Global,
+    yard: &mut TimedYard<'_, R>,
+    lodge: &mut Z,
+) -> Result<[Vec<u8>; 3], Fail>
+where
+    Z::Console: Send,
+{
+    keep_over(rt, alloc, yard, lodge)?;
+    parts_of(alloc, yard.text())
+}
+
 /// The lines of a caster of these rovers: of each of them, and of no link.
 fn keep_full<R: Clock + Threads + Wait + Sync>(
     rt: &R,
@@ -130,29 +172,8 @@ fn keep_full<R: Clock + Threads + Wait + Sync>(
 ) -> Result<[Vec<u8>; 3], Fail> {
     let flags = [AtomicBool::new(false), AtomicBool::new(false)];
     let mut yard = yard_of(rt, alloc, &flags)?;
-    let config = two_workers(alloc)?;
     let mut lodge = MemLodge::new(alloc, Vec::new(alloc));
-    let outcome = keep(
-        rt,
-        alloc,
-        &config,
-        "127.0.0.1:0",
-        300,
-        &mut yard,
-        &mut lodge,
-    );
-    if !matches!(
-        outcome.map(|outcome| (outcome.stop, outcome.is_torn)),
-        Ok((Stop::Over, false))
-    ) {
-        return Err("it did not stop since its gates were over".into());
-    }
-    let text = str::from_utf8(yard.text()).or(Err("the text is not UTF-8"))?;
-    Ok([
-        lines_from(alloc, text, Some("0."))?,
-        lines_from(alloc, text, Some("1."))?,
-        lines_from(alloc, text, None)?,
-    ])
+    parts_over(rt, alloc, &mut yard, &mut lodge)
 }
 
 // The lines of the two rovers may alternate, and those of each stand in order.

@@ -1,6 +1,6 @@
 //! Whole casters that keep serving: their text, why they stopped, and what came back.
 
-use crate::fakes::{ROVER, Ran, SOURCE, TABLE, gate_of, run, serve_both};
+use crate::fakes::{ROVER, Ran, SOURCE, TABLE, gate_of, run, serve_both, used_up};
 use cast_io::{GateEnd, MemSink};
 use caster_keep::Stop;
 use std::alloc::Global;
@@ -200,10 +200,9 @@ fn a_gate_fails(rt: HostRuntime) -> Result<(), Fail> {
 
 /// What comes of a caster over a yard whose call of this number fails.
 fn refused_at<R: Threads + Wait + Sync>(rt: &R, alloc: Global, call: u64) -> Result<Ran, Fail> {
-    let worker = gate_of(alloc, &[&[TABLE]], GateEnd::UsedUp, &[])?;
-    let relay = gate_of(alloc, &[], GateEnd::UsedUp, &[])?;
+    let gates = used_up(alloc, &[&[TABLE]], &[])?;
     let notes = MemSink::new(alloc, Vec::new(alloc));
-    run(rt, alloc, [worker, relay], notes, &[call])
+    run(rt, alloc, gates, notes, &[call])
 }
 
 // The calls are that for the worker's gate, that for the relay's, and that for the notes.

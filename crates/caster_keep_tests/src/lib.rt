@@ -18,6 +18,8 @@ mod line_tests;
 #[cfg(test)]
 mod now_tests;
 #[cfg(test)]
+mod porter_tests;
+#[cfg(test)]
 mod sum_tests;
 #[cfg(test)]
 mod torn_tests;

@@ -1,7 +1,7 @@
 //! Casters that keep serving whose output fails at one of its writes.
 
-use crate::fakes::{ROVER, Ran, gate_of, run};
-use cast_io::{GateEnd, MemSink};
+use crate::fakes::{ROVER, Ran, run, used_up};
+use cast_io::MemSink;
 use caster_keep::Stop;
 use std::alloc::Global;
 use std::sync::Wait;
@@ -38,11 +38,10 @@ fn torn_behind<R: Threads + Wait + Sync>(
     pieces: usize,
     most: usize,
 ) -> Result<Ran, Fail> {
-    let worker = gate_of(alloc, &[&[ROVER]], GateEnd::UsedUp, &[])?;
-    let relay = gate_of(alloc, &[], GateEnd::UsedUp, &[])?;
     let write = (pieces as u64).saturating_add(1);
-    let notes = MemSink::torn(alloc, vec![in alloc; (write, most as u64)]?);
-    run(rt, alloc, [worker, relay], notes, &[])
+    let fails = vec![in alloc; (write, most as u64)]?;
+    let gates = used_up(alloc, &[&[ROVER]], &[])?;
+    run(rt, alloc, gates, MemSink::torn(alloc, fails), &[])
 }
 
 /// Whether it was so: nothing is written behind what the failed write took, and that is told; where

@@ -1,4 +1,6 @@
 //! The bells that end the rests of links, as frames may have been published.
+ghost use Rattle.std.specs.Prelude.{◌≤◌, vec_len};
+
 use std::io::{ErrorKind, Read, Write};
 use std::os::fd::{AsRawFd, RawFd};
 use std::os::unix::net::UnixStream;
@@ -34,7 +36,9 @@ struct Bell {
 
 impl Bells {
     /// Bells of which none was made yet.
-    pub fn new(rt: &HostRuntime) -> Bells {
+    pub fn new(rt: &HostRuntime) -> Bells
+        ensures most { vec_len result.bells ≤ BELLS }
+    {
         let mut bells = Vec::new(rt.alloc());
         for _ in 0..BELLS {
             let _ = bells.push(OnceLock::new());

@@ -1,6 +1,9 @@
 //! A listener as a door.
-ghost use Rattle.std.specs.Prelude.{◌≡◌, IfOk};
+ghost use Rattle.std.specs.Prelude.{◌≡◌, ◌<◌, ◌↔◌, IfErr, IfOk, IsTrue, Some, pos};
+ghost use Rattle.std.specs.Arc.{arc_value};
+ghost use Rattle.std.specs.IoError.{raw_os_error};
 ghost use Rattle.cast_io.specs.Logged.{door_logged};
+ghost use Rattle.caster_net.specs.Dead.{IsDead};
 ghost use Rattle.caster_net.specs.Told.{new_door, new_wire};
 
 use crate::bells::Bells;
@@ -40,7 +43,10 @@ pub(crate) struct Porch {
 
 impl Porch {
     /// The place of so many doors at this listener.
-    pub(crate) fn over(listener: TcpListener, doors: u32) -> io::Result<Porch> {
+    pub(crate) fn over(listener: TcpListener, doors: u32) -> io::Result<Porch>
+        ensures place { IfOk result (λ porch. porch.listener ≡ listener) }
+        ensures waits { IfOk result (λ porch. IsTrue porch.waits ↔ (1 < doors)) }
+    {
         let waits = doors > 1;
         listener.set_nonblocking(!waits)?;
         Ok(Porch {
@@ -52,7 +58,10 @@ impl Porch {
 
     /// The place of gates at this listener, each of which waits for a connection for so many
     /// milliseconds at most. Of several the system wakes one for each.
-    pub(crate) fn of_gates(listener: TcpListener, limit: u64) -> io::Result<Porch> {
+    pub(crate) fn of_gates(listener: TcpListener, limit: u64) -> io::Result<Porch>
+        ensures place { IfOk result (λ porch. porch.listener ≡ listener) }
+        ensures waits { IfOk result (λ porch. IsTrue porch.waits) }
+    {
         limit_accepts(listener.as_raw_fd(), limit)?;
         Ok(Porch {
             listener,
@@ -82,10 +91,10 @@ impl Porch {
 }
 
 /// This place, for all of its doors.
-pub(crate) fn share_porch(
-    rt: &HostRuntime,
-    porch: Porch,
-) -> Result<Arc<Porch, Global>, StreetFault> {
+pub(crate) fn share_porch(rt: &HostRuntime, porch: Porch) -> Result<Arc<Porch, Global>, StreetFault>
+    ensures shared { IfOk result (λ shared. arc_value shared ≡ porch) }
+    ensures memory { IfErr result (λ fault. fault ≡ StreetFault.Memory) }
+{
     match Arc::new(rt.alloc(), porch) {
         Ok(porch) => Ok(porch),
         Err(_) => Err(StreetFault::Memory),
@@ -267,7 +276,9 @@ fn alone_at(rt: &HostRuntime, porch: &Porch) -> Option<Watch> {
 }
 
 /// The listener is no listener any more.
-pub(crate) fn is_dead(fault: &io::Error) -> bool {
+pub(crate) fn is_dead(fault: &io::Error) -> bool
+    ensures dead { IsTrue result ↔ IsDead (raw_os_error fault.now) }
+{
     matches!(
         fault.raw_os_error(),
         Some(libc::EBADF | libc::EINVAL | libc::ENOTSOCK)
@@ -275,6 +286,8 @@ pub(crate) fn is_dead(fault: &io::Error) -> bool {
 }
 
 // No descriptor is left for a connection.
-fn is_short(fault: &io::Error) -> bool {
+fn is_short(fault: &io::Error) -> bool
+    ensures short { IsTrue result ↔ (raw_os_error fault.now ≡ Some (pos 24)) }
+{
     matches!(fault.raw_os_error(), Some(libc::EMFILE))
 }

@@ -1,4 +1,8 @@
 //! The stop of a caster that serves until it is told to, and what else its input asks.
+ghost use Rattle.std.specs.Prelude.{◌≡◌, count_by};
+ghost use Rattle.std.specs.List.{list_any};
+ghost use Rattle.caster_net.specs.Words.{is_status, is_stop, line_behind_all, words_in};
+
 use crate::words::{Line, Word};
 use libc::net::{POLLHUP, POLLIN, POLLNVAL, poll};
 use libc::types::pollfd;
@@ -161,22 +165,14 @@ impl Input {
 
     // Takes what is there, and answers which words its lines are.
     fn take_words(&mut self) -> Came {
-        let mut came = Came {
-            stop: false,
-            statuses: 0,
-        };
         let mut taken = [0u8; MAX_READ_BYTES];
-        let Some(bytes) = self.take(&mut taken) else {
-            return came;
-        };
-        for byte in bytes {
-            match self.line.hear(*byte) {
-                Some(Word::Stop) => came.stop = true,
-                Some(Word::Status) => came.statuses = came.statuses.saturating_add(1),
-                None => {}
-            }
+        match self.take(&mut taken) {
+            Some(bytes) => words_in(&mut self.line, bytes),
+            None => Came {
+                stop: false,
+                statuses: 0,
+            },
         }
-        came
     }
 
     // Takes what is there, without a wait. At the end of the input, behind which more may come of a
@@ -192,6 +188,26 @@ impl Input {
         }
         taken.get(..count)
     }
+}
+
+// Which words the lines are that end within these bytes, the next ones of this line.
+fn words_in(line: &mut Line, bytes: &[u8]) -> Came
+    ensures stop { result.stop ≡ list_any is_stop (words_in line.old bytes.now) }
+    ensures statuses { result.statuses ≡ count_by is_status (words_in line.old bytes.now) }
+    ensures line { line.new ≡ line_behind_all line.old bytes.now }
+{
+    let mut came = Came {
+        stop: false,
+        statuses: 0,
+    };
+    for byte in bytes {
+        match line.hear(*byte) {
+            Some(Word::Stop) => came.stop = true,
+            Some(Word::Status) => came.statuses = came.statuses.saturating_add(1),
+            None => {}
+        }
+    }
+    came
 }
 
 // What is ready at this descriptor now.

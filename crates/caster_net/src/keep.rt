@@ -1,7 +1,11 @@
 //! What a link of a gate heeds.
+ghost use Rattle.std.specs.Prelude.{◌≡◌, Some, option_map, IfOk, IfSome, IsSome, IsTrue};
+ghost use Rattle.caster_net.specs.Silence.{but_found, given, quiet_for, taken};
+
 use crate::halt::Halt;
 use crate::quiet::Quiet;
 use std::io;
+use std::marker::Model;
 
 /// Why a link is read no more.
 #[derive(Clone, Copy, Debug, PartialEq, Eq)]
@@ -12,7 +16,8 @@ pub(crate) enum Cut {
     Quiet,
 }
 
-/// The stop, and for how long the link may be quiet.
+/// The stop, and for how long the link may be quiet. Contracts see the second, or none where it may
+/// be quiet for ever.
 #[derive(Drop)]
 pub(crate) struct Keep<'a> {
     rt: &'a HostRuntime,
@@ -21,9 +26,20 @@ pub(crate) struct Keep<'a> {
     quiet: Option<Quiet>,
 }
 
+impl<'a> Model for Keep<'a> {
+    ghost use Rattle.std.specs.Prelude.{Option};
+    ghost use Rattle.caster_net.specs.Silence.{QuietState};
+
+    ghost Value = { Option QuietState };
+
+    ghost view = { λ k. k.quiet };
+}
+
 impl<'a> Keep<'a> {
     /// That of a link that begins now and may be quiet for so many seconds: 0 is for ever.
-    pub(crate) fn from_now(rt: &'a HostRuntime, halt: &'a Halt, quiet: u32) -> io::Result<Self> {
+    pub(crate) fn from_now(rt: &'a HostRuntime, halt: &'a Halt, quiet: u32) -> io::Result<Self>
+        ensures quiet { IfOk result (λ keep. keep ≡ quiet_for quiet) }
+    {
         let quiet = if quiet == 0 {
             None
         } else {
@@ -33,7 +49,10 @@ impl<'a> Keep<'a> {
     }
 
     /// Whether the link is read no more, and why.
-    pub(crate) fn cut(&self) -> Option<Cut> {
+    pub(crate) fn cut(&self) -> Option<Cut>
+        ensures quiet { result ≡ Some Cut.Quiet → IsSome self.now }
+        ensures found { IfSome self.now (λ quiet. IsTrue quiet.is_found → IsSome result) }
+    {
         self.halt.look(self.rt);
         if self.halt.is_asked() {
             return Some(Cut::Stopped);
@@ -45,21 +64,27 @@ impl<'a> Keep<'a> {
     }
 
     /// The link gave bytes.
-    pub(crate) fn give(&mut self) {
+    pub(crate) fn give(&mut self)
+        ensures given { self.new ≡ option_map given self.old }
+    {
         if let Some(quiet) = &mut self.quiet {
             quiet.give(self.rt);
         }
     }
 
     /// The link took bytes.
-    pub(crate) fn take(&mut self) {
+    pub(crate) fn take(&mut self)
+        ensures taken { self.new ≡ option_map taken self.old }
+    {
         if let Some(quiet) = &mut self.quiet {
             quiet.take(self.rt);
         }
     }
 
     /// A read gave nothing.
-    pub(crate) fn find_nothing(&mut self) {
+    pub(crate) fn find_nothing(&mut self)
+        ensures rest { option_map but_found self.new ≡ option_map but_found self.old }
+    {
         if let Some(quiet) = &mut self.quiet {
             quiet.find_nothing(self.rt);
         }

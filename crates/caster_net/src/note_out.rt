@@ -1,4 +1,6 @@
 //! Standard output as lines go there while others are served.
+ghost use Rattle.std.specs.Prelude.{◌≡◌, pos};
+
 use libc::write;
 use std::io;
 use std::io::Write;
@@ -13,12 +15,16 @@ pub struct NoteOut {
 
 impl NoteOut {
     /// Standard output.
-    pub fn new(rt: &HostRuntime) -> NoteOut {
+    pub fn new(rt: &HostRuntime) -> NoteOut
+        ensures standard { result.fd ≡ pos 1 }
+    {
         NoteOut::over(rt.stdout().as_raw_fd())
     }
 
     /// What is open there. It is to stay open.
-    pub fn over(fd: RawFd) -> NoteOut {
+    pub fn over(fd: RawFd) -> NoteOut
+        ensures place { result.fd ≡ fd }
+    {
         NoteOut { fd }
     }
 }

@@ -1,8 +1,11 @@
 //! What the rest of one link, or of one door, ends with.
+ghost use Rattle.std.specs.Prelude.{◌≡◌, None, IfOk, OnErr, OnOk};
+
 use mio::unix::SourceFd;
 use mio::{Events, Interest, Poll, Token};
 use std::io;
 use std::io::ErrorKind;
+use std::marker::Model;
 use std::os::fd::RawFd;
 use std::time::Duration;
 
@@ -22,7 +25,8 @@ pub(crate) enum Woken {
 }
 
 /// Waits for what comes to sockets, and for a bell. It has a descriptor of its own. What comes
-/// while nobody waits ends the next wait.
+/// while nobody waits ends the next wait. Contracts see the descriptor at which it hears the bell,
+/// if it does.
 #[derive(Drop)]
 pub(crate) struct Watch {
     poll: Poll,
@@ -31,9 +35,19 @@ pub(crate) struct Watch {
     ear: Option<RawFd>,
 }
 
+impl Model for Watch {
+    ghost use Rattle.std.specs.Prelude.{ℤ, Option};
+
+    ghost Value = { Option ℤ };
+
+    ghost view = { λ w. w.ear };
+}
+
 impl Watch {
     /// A watch over this socket.
-    pub(crate) fn over(rt: &HostRuntime, socket: RawFd) -> io::Result<Watch> {
+    pub(crate) fn over(rt: &HostRuntime, socket: RawFd) -> io::Result<Watch>
+        ensures deaf { IfOk result (λ watch. watch ≡ None) }
+    {
         let poll = Poll::new(rt)?;
         let Ok(events) = Events::with_capacity(rt.alloc(), 2) else {
             return Err(io::Error::from(ErrorKind::OutOfMemory));
@@ -54,8 +68,11 @@ impl Watch {
     }
 
     /// From now on waits for the bell that is heard here, and for no other. One that was rung
-    /// before ends the next wait.
-    pub(crate) fn hear(&mut self, ear: Option<RawFd>) -> io::Result<()> {
+    /// before ends the next wait. After a failure it waits for none.
+    pub(crate) fn hear(&mut self, ear: Option<RawFd>) -> io::Result<()>
+        ensures heard { OnOk result (self.new ≡ ear) }
+        ensures deaf { OnErr result (self.new ≡ None) }
+    {
         if ear == self.ear {
             return Ok(());
         }
@@ -71,7 +88,9 @@ impl Watch {
     }
 
     /// Waits so long at most.
-    pub(crate) fn wait(&mut self, limit: Duration) -> io::Result<Woken> {
+    pub(crate) fn wait(&mut self, limit: Duration) -> io::Result<Woken>
+        ensures ear { self.new ≡ self.old }
+    {
         self.poll.poll(&mut self.events, Some(limit))?;
         if self.events.iter().any(|event| event.token() == PEER) {
             Ok(Woken::Peer)

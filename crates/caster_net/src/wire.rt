@@ -76,7 +76,9 @@ impl<S> Wire<S> {
 
 impl<S: AsRawFd> Wire<S> {
     /// The descriptor of the stream.
-    pub(crate) fn fd(&self) -> RawFd {
+    pub(crate) fn fd(&self) -> RawFd
+        ensures number { IfSome (S.raw_fd self.now.stream) (λ fd. result ≡ fd) }
+    {
         self.stream.as_raw_fd()
     }
 }

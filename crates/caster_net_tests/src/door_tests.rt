@@ -32,6 +32,18 @@ fn two_doors<'a>(
     (doors, is_taken)
 }
 
+// Whether a door finds a link from which nothing is to be read yet. The link is hung up then.
+fn finds_idle_link(door: &mut TcpDoor<'_>) -> bool {
+    match door.accept() {
+        Arrived::Link(mut link) => {
+            let got = link.read(&mut [0u8; 1]);
+            door.hang_up(link);
+            got == Got::Idle
+        }
+        _ => false,
+    }
+}
+
 // Whether a door finds nothing before a peer dials, one link that does not wait behind it, and
 // nothing behind that; and how many bytes the peer reads when the link was hung up.
 fn arrivals_of(
@@ -42,14 +54,7 @@ fn arrivals_of(
     let before = matches!(door.accept(), Arrived::Idle);
     let mut peer = TcpStream::connect(rt, place)?;
     door.rest();
-    let is_idle = match door.accept() {
-        Arrived::Link(mut link) => {
-            let got = link.read(&mut [0u8; 1]);
-            door.hang_up(link);
-            got == Got::Idle
-        }
-        _ => false,
-    };
+    let is_idle = finds_idle_link(door);
     let behind = matches!(door.accept(), Arrived::Idle);
     Ok(([before, is_idle, behind], peer.read(&mut [0u8; 1])?))
 }

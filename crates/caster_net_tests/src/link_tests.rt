@@ -8,15 +8,19 @@ use std::net::{TcpListener, TcpStream};
 use std::test::Fail;
 use std::time::Instant;
 
+// The address that a listener has.
+fn place_of(rt: &HostRuntime, listener: &TcpListener) -> Result<String, Fail> {
+    let addr = listener.local_addr()?;
+    Ok(format!(in rt.alloc(); "{addr}")?)
+}
+
 // A link that was dialled, and its peer.
 pub(crate) fn pair<'a>(
     rt: &HostRuntime,
     street: &mut TcpStreet<'a>,
 ) -> Result<(TcpLink<'a>, TcpStream), Fail> {
     let listener = TcpListener::bind(rt, "127.0.0.1:0")?;
-    let addr = listener.local_addr()?;
-    let place = format!(in rt.alloc(); "{addr}")?;
-    let link = street.dial(&place)?;
+    let link = street.dial(&place_of(rt, &listener)?)?;
     let (peer, _) = listener.accept()?;
     Ok((link, peer))
 }

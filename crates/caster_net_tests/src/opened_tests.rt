@@ -107,6 +107,19 @@ fn is_reached(door: &mut TcpDoor<'_>) -> bool {
     }
 }
 
+// Whether a link comes to each of these doors where a client comes to this address.
+fn reached_at(
+    rt: &HostRuntime,
+    one: &mut TcpDoor<'_>,
+    two: &mut TcpDoor<'_>,
+    place: &str,
+) -> io::Result<[bool; 2]> {
+    let peer = TcpStream::connect(rt, place)?;
+    let reached = [is_reached(one), is_reached(two)];
+    drop(peer);
+    Ok(reached)
+}
+
 // Whether a link comes to the first and to the second of two doors where a client comes to the
 // address of the second.
 fn are_reached(rt: &HostRuntime, street: &mut TcpStreet<'_>) -> Result<[bool; 2], Fail> {
@@ -115,12 +128,10 @@ fn are_reached(rt: &HostRuntime, street: &mut TcpStreet<'_>) -> Result<[bool; 2]
     let (Some(mut one), Some(mut two)) = (one, two) else {
         return Err(Fail::from("no doors"));
     };
-    let peer = TcpStream::connect(rt, &place)?;
-    let reached = [is_reached(&mut one), is_reached(&mut two)];
-    drop(peer);
+    let reached = reached_at(rt, &mut one, &mut two, &place);
     street.shut(one);
     street.shut(two);
-    Ok(reached)
+    Ok(reached?)
 }
 
 #[test]

@@ -42,6 +42,14 @@ fn totals_of(closed: &Closed) -> Option<Totals> {
     Some(([*alpha, *bravo], [*first, *second], closed.total))
 }
 
+/// What a caster came to, whose totals are of two mountpoints and two accounts.
+fn answer_of(served: Result<Closed, ServeFault>) -> Result<Answer, Fail> {
+    match served {
+        Ok(closed) => Ok(Ok(totals_of(&closed).ok_or("totals of others")?)),
+        Err(fault) => Ok(Err(fault)),
+    }
+}
+
 /// What a caster came to over this street that serves so many links at each door. Its configuration
 /// has this behind it.
 pub(crate) fn cast<N: Street, R: Threads + Wait + Sync>(
@@ -56,10 +64,8 @@ where
     N::Link: Send,
 {
     let config = config_of(alloc, more)?;
-    match serve(rt, alloc, &config, ADDRESS, limit, street) {
-        Ok(closed) => Ok(Ok(totals_of(&closed).ok_or("totals of others")?)),
-        Err(fault) => Ok(Err(fault)),
-    }
+    let served = serve(rt, alloc, &config, ADDRESS, limit, street);
+    answer_of(served)
 }
 
 /// What a caster came to over this street in memory, and what came back to it.

@@ -3,11 +3,13 @@
 ghost use Rattle.std.specs.Prelude.{◌≡◌, ◌<◌, ◌≤◌, ◌^◌, ℕ, length, IfOk, OnOk};
 ghost use mathlib.Core.Option.{some};
 ghost use lib.ListN.{get_elem?};
+ghost use Rattle.cast_config.specs.Kept.{KeepsRules};
 ghost use Rattle.caster_places.specs.Known.{Fit};
 ghost use Rattle.caster_seats.specs.Sharing.{AreNewPasses, IsReady};
 
 use crate::setting::{config_of, is_there};
 use crate::telling::{Ended, ended_at, ended_of};
+use cast_config::Config;
 use cast_io::{Door, Link, MemDoor, MemLink};
 use caster_accounts::Book;
 use caster_link::serve_places;
@@ -72,6 +74,21 @@ fn serve_at<L: Link, R: Wait + Sync>(
     })
 }
 
+/// What a connection over this link came to that the caster of this configuration serves so.
+fn serve_over<L: Link, R: Wait + Sync>(
+    rt: &R,
+    alloc: Global,
+    config: &Config,
+    role: Role,
+    link: &mut L,
+) -> Result<Receipt, Fail>
+    requires kept { KeepsRules 1000000 config.now }
+    requires relay { (number : ℕ) → role ≡ Role.Relay number → number < length config.now.relay }
+{
+    let (shared, mut list) = Shared::new(alloc, config, 1)?;
+    serve_at(rt, alloc, &shared, &mut list, role, link)
+}
+
 /// What a connection over this link came to that is served so. The configuration has this behind
 /// it.
 pub(crate) fn serve_as<L: Link, R: Wait + Sync>(
@@ -85,8 +102,7 @@ pub(crate) fn serve_as<L: Link, R: Wait + Sync>(
     if !is_there(&config, role) {
         return Err(Fail::from("no such relay"));
     }
-    let (shared, mut list) = Shared::new(alloc, &config, 1)?;
-    serve_at(rt, alloc, &shared, &mut list, role, link)
+    serve_over(rt, alloc, &config, role, link)
 }
 
 /// This door after a worker with the last of these passes served so many of its links, and what the
@@ -113,7 +129,23 @@ fn run_worker<D: Door + Drop, R: Wait + Sync>(
     Ok((door, tally))
 }
 
-/// This door after a worker served so many of its links, and what the worker counted.
+/// This door after a worker of this configuration's caster served so many of its links, and what
+/// the worker counted.
+fn work_over<D: Door + Drop, R: Wait + Sync>(
+    rt: &R,
+    alloc: Global,
+    config: &Config,
+    door: D,
+    limit: u64,
+) -> Result<(D, Tally), Fail>
+    requires kept { KeepsRules 1000000 config.now }
+    requires limit { limit < 2 ^ 63 }
+{
+    let (shared, mut list) = Shared::new(alloc, config, 1)?;
+    run_worker(rt, alloc, &shared, &mut list, door, limit)
+}
+
+/// The same of the caster that is tried.
 pub(crate) fn work_at<D: Door + Drop, R: Wait + Sync>(
     rt: &R,
     alloc: Global,
@@ -123,8 +155,7 @@ pub(crate) fn work_at<D: Door + Drop, R: Wait + Sync>(
     requires { limit < 2 ^ 63 }
 {
     let config = config_of(alloc, b"")?;
-    let (shared, mut list) = Shared::new(alloc, &config, 1)?;
-    run_worker(rt, alloc, &shared, &mut list, door, limit)
+    work_over(rt, alloc, &config, door, limit)
 }
 
 /// What was told of a connection: how it ended, how much junk came, and what its link came to.

@@ -1,15 +1,17 @@
 //! Two callers at the seats of a caster: one reads back what it published, and the other joins
 //! behind it.
 
-ghost use Rattle.std.specs.Prelude.{◌<◌, IsTrue, length};
+ghost use Rattle.std.specs.Prelude.{◌≡◌, ◌<◌, ◌^◌, ℕ, IsTrue, length};
+ghost use mathlib.Core.Option.{some};
+ghost use lib.ListN.{get_elem?};
 ghost use Rattle.caster_places.specs.Known.{Fit};
-ghost use Rattle.caster_seats.specs.Sharing.{IsReady};
+ghost use Rattle.caster_seats.specs.Sharing.{AreNewPasses, IsReady};
 
 use crate::one_caller::sit_down;
 use crate::setting::config_of;
 use caster_accounts::Book;
 use caster_places::AllPlaces;
-use caster_seats::Shared;
+use caster_seats::{Passes, Shared};
 use mount_ring::{Cursor, Outbox, ReadReport, Ring, RingAnswer, RingCall};
 use rtcm_frame::Frame;
 use session_core::Places;
@@ -89,7 +91,27 @@ fn join_at<T: Turns<Ring> + Drop, B: Turns<Book> + Drop>(
     join(&mut place, me, out)
 }
 
-/// The first of two callers reads back the frame that it publishes, and the second joins.
+/// The last of these callers reads back the frame that it publishes, and the one before it joins.
+fn tell_at<R: Wait + Sync>(
+    rt: &R,
+    alloc: Global,
+    shared: &Shared,
+    mut list: Vec<Passes>,
+    frame: Frame,
+    out: &mut Outbox,
+) -> Result<(ReadReport, Cursor), Fail>
+    requires ready { IsReady shared.now }
+    requires each { (number : ℕ) (passes : _) → get_elem? list.items number ≡ some passes
+        → AreNewPasses number passes shared.now }
+    requires few { length list.items < 2 ^ 32 }
+{
+    let (me, places) = sit_down(rt, alloc, shared, &mut list)?;
+    let report = read_at(shared, places, me, frame, out)?;
+    let (other, places) = sit_down(rt, alloc, shared, &mut list)?;
+    Ok((report, join_at(shared, places, other, out)?))
+}
+
+/// The same of the two callers of a caster.
 fn tell<R: Wait + Sync>(
     rt: &R,
     alloc: Global,
@@ -97,11 +119,8 @@ fn tell<R: Wait + Sync>(
     out: &mut Outbox,
 ) -> Result<(ReadReport, Cursor), Fail> {
     let config = config_of(alloc, b"")?;
-    let (shared, mut list) = Shared::new(alloc, &config, 2)?;
-    let (me, places) = sit_down(rt, alloc, &shared, &mut list)?;
-    let report = read_at(&shared, places, me, frame, out)?;
-    let (other, places) = sit_down(rt, alloc, &shared, &mut list)?;
-    Ok((report, join_at(&shared, places, other, out)?))
+    let (shared, list) = Shared::new(alloc, &config, 2)?;
+    tell_at(rt, alloc, &shared, list, frame, out)
 }
 
 #[test]

@@ -21,3 +21,4 @@ pub mod OutcomeLemmas
 pub mod RunLemmas
 pub mod DoneLemmas
 pub mod CallLemmas
+pub mod ContractLemmas

@@ -1,7 +1,8 @@
--- What is told of a call of `caster` that has ended, and three of its clauses as one word each, on
--- which laws stand.
+-- What is told of a call of `caster` that has ended, and three facts of its contract as one word
+-- each, on which laws stand.
 use Rattle.std.specs.Prelude.{◌≡◌, ◌≢◌, ℕ, ◌≤◌, List, length, Option, Some, Ok}
 use Rattle.cast_io.specs.Causes.{Rose}
+use Rattle.cast_io.specs.Logs.{Log}
 use Rattle.cast_io.specs.Stores.{content_of}
 use Rattle.cast_io.specs.Told.{StreetTold}
 use Rattle.session_script.specs.declared.Event.{Event}
@@ -25,13 +26,27 @@ HasRisen count = Rose count.before count.now
 abbrev pub IsCalm : FaultCount → Type 0
 IsCalm count = ¬ HasRisen count
 
+-- the steps that something had taken before the call, and has taken after it
+pub record LogTold : Type 0 where
+  pub before : Log
+  pub now : Log
+
+-- the files that a store had been asked for before the call, and has been asked for after it
+pub record AskedTold : Type 0 where
+  pub before : Option (List (List ℕ))
+  pub now : Option (List (List ℕ))
+
 -- A call of `caster`: its words; the bytes that the input had left before it, and the files, where
--- they are told; what the street told before it and after it; what the output held, where it tells
--- that; the counts of faults of input, store and output; and its status.
+-- they are told; the steps of input and store; what the store was asked for; what the street told
+-- before it and after it; what the output held, where it tells that; the counts of faults of input,
+-- store and output; and its status.
 pub record CallTold : Type 0 where
   pub words : List (List ℕ)
   pub left : Option (List ℕ)
   pub files : FilesTold
+  pub input_log : LogTold
+  pub store_log : LogTold
+  pub asked : AskedTold
   pub before : StreetTold
   pub after : StreetTold
   pub old : Option (List ℕ)
@@ -41,24 +56,24 @@ pub record CallTold : Type 0 where
   pub output_faults : FaultCount
   pub status : ℕ
 
--- ---- three clauses of the call
+-- ---- three facts of its contract
 
 -- status and written bytes are the outcome of words, input and files
 abbrev pub Follows : CallTold → Type 0
 Follows call =
     FollowsOutcome call.words (Tells call.left) (Holds call.files) call.status call.old call.new
 
--- the clause `outcome`
+-- `outcome`: of what is told
 abbrev pub MeetsOutcome : CallTold → Type 0
 MeetsOutcome call = call.status ≢ 4 → call.status ≢ 5 → call.status ≢ 7 → Follows call
 
--- the clause `undisturbed`
+-- `undisturbed`: where no count rose
 abbrev pub MeetsUndisturbed : CallTold → Type 0
 MeetsUndisturbed call = KeepNothing call.words
     → ¬ HaveFault call.words (HasRisen call.input_faults) (HasRisen call.store_faults)
     → IsCalm call.output_faults → call.status ≢ 7 → Follows call
 
--- the clause `casting`
+-- `casting`: all of what a caster does that serves or records
 abbrev pub MeetsCasting : CallTold → Type 0
 MeetsCasting call = (task : CasterMode) (config addr : List ℕ) (limit : ℕ)
     → AreCasting task call.words config addr limit

@@ -13,3 +13,4 @@ pub mod Keeping
 pub mod Done
 pub mod Running
 pub mod Promised
+pub mod Contract

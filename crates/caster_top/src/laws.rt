@@ -1,6 +1,6 @@
 //! What follows from the clauses of `caster`: contracts of functions that do nothing. What was done
 //! with what came is what is said where input and files tell their bytes; and of a call that has
-//! ended, what its clauses `outcome`, `undisturbed` and `casting` say more.
+//! ended, what its facts `outcome`, `undisturbed` and `casting` say more.
 
 ghost use Rattle.std.specs.Prelude.{◌≡◌, ◌⊎◌, ℕ, List, Option, Some, Ok, codes};
 ghost use Rattle.std.specs.Io.KnownBytes.{Appends};
@@ -51,7 +51,7 @@ pub fn what_was_done_is_what_is_told()
         → IsSessionAt files path c events }
 {}
 
-/// What the outcome says of every call that meets the clause `outcome` of `caster`: the status is
+/// What the outcome says of every call that meets the fact `outcome` of `caster`: the status is
 /// one of 0 to 9. With 0 the words are of a form, and what came for them is whole: a script, or a
 /// configuration, or both. A file that was to be checked, tabled or migrated holds a configuration,
 /// and what was written is `ok`, its sourcetable, or a document of version 2 that is read as it.
@@ -73,7 +73,7 @@ pub fn outcome_says()
         × IsRead text (Ok c) × HasVersion 2 text × Appends call.old call.new text }
 {}
 
-/// Every call that meets the clause `undisturbed` of `caster` is complete: where what it reads is
+/// Every call that meets the fact `undisturbed` of `caster` is complete: where what it reads is
 /// told and whole, and no count of faults rose of what it uses, the status is 7, or 0 with exactly
 /// what is to be written.
 pub fn undisturbed_says()
@@ -109,7 +109,7 @@ pub fn undisturbed_says()
         × Appends call.old call.new (made_text seed frames rovers)) }
 {}
 
-/// What a caster's whole outcome says of every call that meets the clause `casting` of `caster`:
+/// What a caster's whole outcome says of every call that meets the fact `casting` of `caster`:
 /// with 0 it served to its end, or recorded a session, over the configuration in its file, and
 /// exactly its totals, or its script, was written. Where that file is told and a configuration, and
 /// no count of faults rose, the status is 7 or 0.

@@ -1,31 +1,18 @@
 //! The call that the program makes.
-ghost use Rattle.std.specs.Prelude.{◌≡◌, ◌≢◌, ◌≤◌, ◌<◌, ◌⊎◌, ℕ, List, Some, Ok, Result, OnOk, OnErr};
+ghost use Rattle.std.specs.Prelude.{◌≡◌, ◌≤◌, ◌<◌, ℕ, List, Some, Ok, Result, OnOk, OnErr};
 ghost use Rattle.std.specs.Io.KnownBytes.{Appends};
-ghost use Rattle.session_script.specs.declared.Event.{Event};
-ghost use Rattle.session_script.specs.declared.ScriptKind.TheVariants.{Bare};
-ghost use Rattle.session_script.specs.Script.{script_of};
-ghost use Rattle.run_texts.specs.Texts.{IsRunText, IsWarmText, made_text, bare_report_text};
 ghost use Rattle.cast_io.specs.Causes.{Rose, HasCause};
 ghost use Rattle.cast_io.specs.Pieces.{AppendsPrefix};
-ghost use Rattle.cast_config.specs.declared.config.Config.{Config};
-ghost use Rattle.cast_config.specs.Bare.{bare};
-ghost use Rattle.caster_top.specs.declared.command.CasterMode.{CasterMode};
-ghost use Rattle.caster_top.specs.Command.{AreBare, AreCasting, AreFetch, AreKeep, AreMake, AreOfNoForm, AreReplay, AreWarm, CastNothing, FetchNothing, KeepNothing, WriteAtEnd, form_of, texts};
-ghost use Rattle.caster_top.specs.Outcome.{memory_exit, network_exit, read_fault_exit};
-ghost use Rattle.caster_top.specs.Told.{FollowsOutcome, HaveCome, HaveFault, Holds, IsAsked, IsConfigAt, IsFaultyConfig, IsFaultyScript, IsSessionAt, IsTooLong, Tells, WritesPart};
+ghost use Rattle.caster_top.specs.Contract.{MeetsContract};
+ghost use Rattle.caster_top.specs.Command.{AreKeep, CastNothing, FetchNothing, KeepNothing, form_of, texts};
+ghost use Rattle.caster_top.specs.Outcome.{memory_exit};
+ghost use Rattle.caster_top.specs.Told.{IsAsked};
 ghost use Rattle.caster_top.specs.Answers.{exit_of, Writes};
-ghost use Rattle.caster_top.specs.Casting.{HasCast, HasCasting, no_network};
-ghost use Rattle.caster_top.specs.Done.{WasDone};
-ghost use Rattle.caster_top.specs.Given.{FileCame, FileGave, InputCame, InputGave};
+ghost use Rattle.caster_top.specs.Given.{FileCame, FileGave, InputCame};
 ghost use Rattle.caster_keep.specs.Keeping.{HasKept};
 ghost use Rattle.caster_top.specs.Keeping.{HasKeeping, KeptToItsEnd};
 ghost use Rattle.caster_top.specs.Kept.{LeavesInput, LeavesOutput, LeavesStore, LeavesStreet};
-ghost use Rattle.caster_top.specs.Promised.{KeepPromise, WasPromised};
-ghost use Rattle.caster_top.specs.Fetching.{HasFetched, HasFetching};
 ghost use Rattle.caster_top.specs.Running.{EndsByAnswer, HasRun};
-ghost use Rattle.ntrip_fetch.specs.Tries.{HasStopped};
-ghost use Rattle.ntrip_fetch.specs.declared.left.FetchFault.TheVariants as faults;
-ghost use Rattle.ntrip_fetch.specs.declared.target.Target.{Target};
 
 use crate::answers::{Answer, answer_to};
 use crate::fetch_words::fetch_in;
@@ -93,8 +80,9 @@ const MAX_WRITE_BYTES: usize = 65_536;
 /// ended. Among its lines are those that say how things stand, each time that this is wanted at the
 /// console of the lodge; no other command takes one.
 ///
-/// What follows from the clauses `outcome`, `undisturbed` and `casting` alone is said by the laws
-/// `outcome_says`, `undisturbed_says` and `casting_says` (`src/laws.rt`).
+/// The facts of the clause `call` have names (`specs/Contract.antt`). What follows from three of
+/// them alone, `outcome`, `undisturbed` and `casting`, is said by the laws `outcome_says`,
+/// `undisturbed_says` and `casting_says` (`src/laws.rt`).
 pub fn caster<R: Threads + Wait + Sync, S: Store, I: Source, O: Sink, N: Yard, Z: Lodge>(
     rt: &R,
     alloc: Global,
@@ -111,100 +99,27 @@ where
     N::Gate: Send,
     N::Notes: Drop + Send,
     Z::Console: Send,
-    ensures report { result ≡ 0 → (capacity : ℕ) (bytes : List ℕ) (events : List Event)
-        → AreBare (texts words.now) capacity
-        → I.left input.old ≡ Some bytes → script_of Bare bytes ≡ Ok events
-        → Appends (O.taken out.old) (O.taken out.new) (bare_report_text (bare capacity) events) }
+    // Fact by fact: what is done and written, of whatever words, and when each status comes.
+    ensures call { MeetsContract (record {
+      words = texts words.now;
+      left = I.left input.old;
+      files = (S.store store.old).files;
+      input_log = record { before = I.log input.old; now = I.log input.new };
+      store_log = record { before = S.log store.old; now = S.log store.new };
+      asked = record { before = (S.store store.old).asked; now = (S.store store.new).asked };
+      before = N.told street.old;
+      after = N.told street.new;
+      old = O.taken out.old;
+      new = O.taken out.new;
+      input_faults = record { before = I.faults input.old; now = I.faults input.new };
+      store_faults = record { before = S.faults store.old; now = S.faults store.new };
+      output_faults = record { before = O.faults out.old; now = O.faults out.new };
+      status = result;
+    }) }
 
-    // What is done with a session over a configuration.
-    ensures replayed { result ≡ 0 → (config session : List ℕ)
-        → AreReplay (texts words.now) config session
-        → (c : Config) × (events : List Event) × (text : List ℕ)
-        × IsConfigAt (S.store store.old).files config c
-        × IsSessionAt (S.store store.old).files session c events
-        × IsRunText c events text × Appends (O.taken out.old) (O.taken out.new) text }
-
-    // And what is done with it where rovers are greeted.
-    ensures warmed { result ≡ 0 → (config session : List ℕ)
-        → AreWarm (texts words.now) config session
-        → (c : Config) × (events : List Event) × (text : List ℕ)
-        × IsConfigAt (S.store store.old).files config c
-        × IsSessionAt (S.store store.old).files session c events
-        × IsWarmText c events text × Appends (O.taken out.old) (O.taken out.new) text }
-
-    // What is done with a number.
-    ensures made { result ≡ 0 → (seed frames rovers : ℕ)
-        → AreMake (texts words.now) seed frames rovers
-        → Appends (O.taken out.old) (O.taken out.new) (made_text seed frames rovers) }
-
-    // What a caster does that serves, or that records: the whole of it.
-    ensures casting { (task : CasterMode) (config addr : List ℕ) (limit : ℕ)
-        → AreCasting task (texts words.now) config addr limit
-        → HasCasting task (Holds (S.store store.old).files) config addr limit
-        (N.told street.old) (N.told street.new) (Rose (S.faults store.old) (S.faults store.new))
-        (O.taken out.old) (O.taken out.new) (O.faults out.old) (O.faults out.new) result }
-
-    // And what the sessions promise that were reported, or recorded.
-    ensures promised { result ≡ 0 → KeepPromise (texts words.now) (I.left input.old)
-        (S.store store.old).files (N.told street.old) (N.told street.new)
-        (O.taken out.old) (O.taken out.new) }
-
-    // What was done, promised and written, by what was read: by the bytes that reads of the input
-    // gave in this call up to its end, and those that a file gave from its opening to its end.
-    ensures done { result ≡ 0 → WasDone (texts words.now)
-        (InputGave (I.left input.old) (I.log input.old) (I.log input.new))
-        (FileGave (S.store store.old).files (S.log store.old) (S.log store.new))
-        (N.told street.old) (N.told street.new) (O.taken out.old) (O.taken out.new) }
-    ensures done_promised { result ≡ 0 → WasPromised (texts words.now)
-        (InputGave (I.left input.old) (I.log input.old) (I.log input.new))
-        (FileGave (S.store store.old).files (S.log store.old) (S.log store.new))
-        (N.told street.old) (N.told street.new) (O.taken out.old) (O.taken out.new) }
-    ensures done_outcome { result ≢ 4 → result ≢ 5 → result ≢ 7 → FollowsOutcome (texts words.now)
-        (InputCame (I.left input.old) (I.log input.old) (I.log input.new))
-        (FileCame (S.store store.old).files (S.log store.old) (S.log store.new))
-        result (O.taken out.old) (O.taken out.new) }
-
-    // Where the network failed a caster.
-    ensures network_fault { result ≡ 6 → KeepNothing (texts words.now)
-        → (task : CasterMode) × (config addr : List ℕ) × (limit : ℕ)
-        × (c : Config) × AreCasting task (texts words.now) config addr limit
-        × IsConfigAt (S.store store.old).files config c
-        × HasCast task c addr limit (N.told street.old) (N.told street.new) no_network
-        × Rose (N.told street.old).faults (N.told street.new).faults
-        × Appends (O.taken out.old) (O.taken out.new) network_exit.text }
-
-    // What a fetch does: the whole of it, what that says with 0 and 9, and what there is to write
-    // where the sink or memory failed.
-    ensures fetching { (frames : ℕ) (targets : List Target)
-        → AreFetch (texts words.now) frames targets
-        → HasFetching frames targets (N.told street.old) (N.told street.new)
-        (O.taken out.old) (O.taken out.new) (O.faults out.old) (O.faults out.new) result }
-    ensures fetched { (result ≡ 0) ⊎ (result ≡ 9) → (frames : ℕ) (targets : List Target)
-        → AreFetch (texts words.now) frames targets
-        → HasFetched frames targets (N.told street.old) (N.told street.new)
-        (O.taken out.old) (O.taken out.new) result }
-    ensures fetch_torn { result ≡ 5 → (frames : ℕ) (targets : List Target)
-        → AreFetch (texts words.now) frames targets
-        → HasStopped frames targets (N.told street.old) (N.told street.new)
-        (O.taken out.old) (O.taken out.new) faults.Sink }
-    ensures fetch_memory { result ≡ 7 → (frames : ℕ) (targets : List Target)
-        → AreFetch (texts words.now) frames targets
-        → HasStopped frames targets (N.told street.old) (N.told street.new)
-        (O.taken out.old) (O.taken out.new) faults.Memory }
-    ensures too_few { result ≡ 9 → (frames : ℕ) × (targets : List Target)
-        × AreFetch (texts words.now) frames targets }
-
-    // What a caster does that keeps serving: the whole of it, the same over what was read, and what
-    // that says with 0.
+    // What a caster does that keeps serving: the whole of it, over the configuration that came from
+    // the file, and what that says with 0.
     ensures keeping { (config addr : List ℕ) (quiet : ℕ)
-        → AreKeep (texts words.now) config addr quiet
-        → HasKeeping (HasKept N.Gate.told N.Gate.over N.Gate.peer N.Gate.origin
-        N.Notes.taken N.Notes.faults
-        (Z.back lodge.old) (Z.back lodge.new))
-        (Holds (S.store store.old).files) config addr quiet (N.kept street.old) (N.kept street.new)
-        (Rose (S.faults store.old) (S.faults store.new))
-        (O.taken out.old) (O.taken out.new) (O.faults out.old) (O.faults out.new) result }
-    ensures done_keeping { (config addr : List ℕ) (quiet : ℕ)
         → AreKeep (texts words.now) config addr quiet
         → HasKeeping (HasKept N.Gate.told N.Gate.over N.Gate.peer N.Gate.origin
         N.Notes.taken N.Notes.faults
@@ -220,53 +135,12 @@ where
         (FileGave (S.store store.old).files (S.log store.old) (S.log store.new)) config addr quiet
         (N.kept street.old) (N.kept street.new) (O.taken out.old) (O.taken out.new) }
 
-    // When each status comes.
-    ensures usage { result ≡ 1 → AreOfNoForm (texts words.now) }
-    ensures no_form { AreOfNoForm (texts words.now) → (result ≡ 1) ⊎ (result ≡ 5) }
-    ensures no_config { result ≡ 2 → HaveCome IsFaultyConfig
-        (texts words.now) (Tells (I.left input.old)) (Holds (S.store store.old).files) }
-    ensures no_session { result ≡ 3 → HaveCome IsFaultyScript
-        (texts words.now) (Tells (I.left input.old)) (Holds (S.store store.old).files) }
-    ensures read_fault { result ≡ 4 → HaveFault (texts words.now)
-        (Rose (I.faults input.old) (I.faults input.new))
-        (Rose (S.faults store.old) (S.faults store.new)) }
-    ensures write_fault { result ≡ 5 → KeepNothing (texts words.now)
-        → Rose (O.faults out.old) (O.faults out.new) }
-    ensures too_long { result ≡ 8 → HaveCome IsTooLong
-        (texts words.now) (Tells (I.left input.old)) (Holds (S.store store.old).files) }
-
-    // What the store is asked for: the named files, each once, in their order, and no other. A
-    // session is asked for only where its configuration is one.
-    ensures asked { IsAsked (form_of (texts words.now)) (S.store store.old).files
-        (S.store store.old).asked (S.store store.new).asked }
-
     // What is not touched.
     ensures kept_input { LeavesInput I.left I.faults I.reads (texts words.now) input.old input.new }
     ensures kept_store { LeavesStore S.store S.faults S.reads (texts words.now)
         store.old store.new }
     ensures kept_street { LeavesStreet N.told (texts words.now) result street.old street.new }
     ensures kept_lodge { KeepNothing (texts words.now) → Z.back lodge.new ≡ Z.back lodge.old }
-    ensures kept_output { LeavesOutput (O.faults out.old) (O.faults out.new) result }
-
-    // What is written.
-    ensures outcome { result ≢ 4 → result ≢ 5 → result ≢ 7
-        → FollowsOutcome (texts words.now) (Tells (I.left input.old))
-        (Holds (S.store store.old).files) result (O.taken out.old) (O.taken out.new) }
-    ensures undisturbed { KeepNothing (texts words.now) → ¬ HaveFault (texts words.now)
-        (Rose (I.faults input.old) (I.faults input.new))
-        (Rose (S.faults store.old) (S.faults store.new))
-        → ¬ Rose (O.faults out.old) (O.faults out.new) → result ≢ 7
-        → FollowsOutcome (texts words.now) (Tells (I.left input.old))
-        (Holds (S.store store.old).files) result (O.taken out.old) (O.taken out.new) }
-    ensures fault_line { result ≡ 4
-        → Appends (O.taken out.old) (O.taken out.new) read_fault_exit.text }
-    ensures memory_line { WriteAtEnd (texts words.now) → result ≡ 7
-        → Appends (O.taken out.old) (O.taken out.new) memory_exit.text }
-    ensures torn { WriteAtEnd (texts words.now) → result ≡ 5 → WritesPart (texts words.now)
-        (Tells (I.left input.old)) (Holds (S.store store.old).files)
-        (Rose (I.faults input.old) (I.faults input.new))
-        (Rose (S.faults store.old) (S.faults store.new))
-        (O.taken out.old) (O.taken out.new) }
 {
     run_words(rt, alloc, words, store, input, out, street, lodge)
 }

@@ -56,7 +56,7 @@ impl Default for Dechunk {
 impl Dechunk {
     ghost use Rattle.chunk_body.specs.Machine.{Reading, read, after};
     ghost use Rattle.chunk_body.specs.Answer.{answer, given_by, goes_on, plain_of};
-    ghost use Rattle.chunk_body.specs.Text.{BodyText, IsOpen, HasEnded, IsBadAt, IsPlain};
+    ghost use Rattle.chunk_body.specs.Text.{IsOpen, HasEnded, IsBadAt, IsPlain};
     ghost use Rattle.chunk_body.specs.declared.dechunk.Step.TheVariants as steps;
 
     /// Before the first byte.

@@ -4,7 +4,7 @@ ghost use Rattle.std.specs.Prelude.{◌≡◌, ◌≤◌, length, map, IfOk};
 ghost use Rattle.std.specs.List.{list_all};
 ghost use Rattle.cast_text.specs.Name.{is_name};
 ghost use Rattle.config_keys.specs.Answers.{GivesBy};
-ghost use Rattle.config_keys.specs.Lists.{texts, integers, tables, each_once, is_among, are_tables, item_count};
+ghost use Rattle.config_keys.specs.Lists.{texts, integers, tables, each_once, is_among, are_tables};
 ghost use Rattle.config_keys.specs.Rules.{required, optional, seen};
 ghost use Rattle.toml.specs.Data.{no_items};
 ghost use Rattle.toml.specs.View.{view, items_view};

@@ -1,6 +1,6 @@
 //! Whole numbers.
 
-ghost use Rattle.std.specs.Prelude.{◌≡◌, ◌≤◌, ◌<◌, ◌^◌};
+ghost use Rattle.std.specs.Prelude.{◌≡◌, ◌<◌};
 ghost use Rattle.config_keys.specs.Rules.{required, optional, count, whole, seen};
 ghost use Rattle.toml.specs.View.{view};
 

@@ -1,6 +1,6 @@
 //! What is printed where a key breaks its rule.
 
-ghost use Rattle.std.specs.Prelude.{◌≡◌, ◌++◌, List, ℕ, map, OnOk, OnErr};
+ghost use Rattle.std.specs.Prelude.{◌≡◌, ◌++◌, List, ℕ, map, OnOk};
 ghost use Rattle.std.specs.Fmt.{decimal};
 ghost use Rattle.config_keys.specs.Printed.{name_at, top_keys, keys_of, behind_space, place_text, fault_text};
 

@@ -1,6 +1,6 @@
 //! Texts and names.
 
-ghost use Rattle.std.specs.Prelude.{◌≡◌, ◌≤◌, length, true, not, IsTrue, IfOk, Ok};
+ghost use Rattle.std.specs.Prelude.{◌≡◌, ◌≤◌, length, true, IsTrue, Ok};
 ghost use Rattle.std.specs.List.{list_all};
 ghost use Rattle.std.specs.Str.{is_utf8};
 ghost use Rattle.cast_text.specs.Name.{is_name};

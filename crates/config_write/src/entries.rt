@@ -6,7 +6,7 @@ ghost use Rattle.cast_config.specs.Names.{group_names, heard_names, mount_names}
 ghost use Rattle.cast_text.specs.Name.{is_name};
 ghost use Rattle.config_keys.specs.Texts.{is_fit};
 ghost use Rattle.config_keys.specs.declared.strings.TextKind.TheVariants.{Secret};
-ghost use Rattle.config_write.specs.Entries.{account_tree, anonymous_tree, credential_keys, member_keys, origin_keys, signal_keys, filter_tree, filters_keys, group_tree, heard_keys, mount_tree, name_at, near_tree, record_keys, relay_keys, relay_tree, station_keys, with_user};
+ghost use Rattle.config_write.specs.Entries.{account_tree, anonymous_tree, credential_keys, member_keys, origin_keys, signal_keys, filters_keys, group_tree, heard_keys, mount_tree, name_at, near_tree, record_keys, relay_keys, relay_tree, station_keys, with_user};
 ghost use Rattle.config_write.specs.Members.{put_keys};
 ghost use Rattle.toml.specs.View.{table_view};
 

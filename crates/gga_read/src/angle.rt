@@ -1,6 +1,6 @@
 //! Angles: degrees and minutes as digits, and a letter for the side.
 
-ghost use Rattle.std.specs.Prelude.{◌≡◌, ◌+◌, ◌-◌, ◌≤◌, ◌<◌, ◌^◌, ◌==◌, ◌&&◌, pos, ◌≤ℤ◌, negsuc, drop, slice_index, unsigned_abs, IfSome};
+ghost use Rattle.std.specs.Prelude.{◌≡◌, ◌+◌, ◌-◌, ◌≤◌, ◌<◌, ◌==◌, ◌&&◌, slice_index, unsigned_abs, IfSome};
 ghost use Rattle.std.specs.List.{list_all};
 ghost use Rattle.gga_read.specs.Angle.{is_digit, digit_at, ends_with_decimals, whole_minutes, decimals, has_minutes, magnitude, angle_within, latitude_size, longitude_size, is_letter, signed, latitude_of, longitude_of};
 

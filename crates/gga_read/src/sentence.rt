@@ -1,9 +1,7 @@
 //! GGA sentences: the frame, the checksum and the fields.
 
-ghost use Rattle.std.specs.Prelude.{unsigned_abs, ◌≤◌, ◌≡◌, ◌<◌, ◌+◌, ◌∷◌, ◌==◌, ◌&&◌, IsTrue, IfSome, IfNone, length, List, [], slice_index_or};
-ghost use Rattle.std.specs.List.{slice_split, position_or_len};
-ghost use Rattle.std.specs.Option.{option_map};
-ghost use Rattle.gga_read.specs.Sentence.{exclusive_or, is_hex_digit_of, inner, has_checksum, is_framed, fields, field, is_capital, is_gga_name, is_gga};
+ghost use Rattle.std.specs.Prelude.{unsigned_abs, ◌≤◌, ◌≡◌, ◌<◌, ◌+◌, ◌∷◌, ◌==◌, ◌&&◌, IfSome, IfNone, length, []};
+ghost use Rattle.gga_read.specs.Sentence.{exclusive_or, is_hex_digit_of, inner, is_framed, fields, field, is_gga_name, is_gga};
 ghost use Rattle.gga_read.specs.Report.{is_fix, fix_of, position_in};
 
 use crate::Position;

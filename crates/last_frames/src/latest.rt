@@ -1,5 +1,5 @@
 //! The last frame of one message.
-ghost use Rattle.std.specs.Prelude.{◌≡◌, List, [], map};
+ghost use Rattle.std.specs.Prelude.{◌≡◌, [], map};
 ghost use Rattle.std.specs.Option.{option_to_list};
 ghost use Rattle.type_filter.specs.Permitted.{permits};
 ghost use Rattle.last_frames.specs.Last.{has_number, if_permitted};

@@ -1,9 +1,9 @@
 //! Laws of reads and of histories, each the contract of a function that does nothing: what readers
 //! and sources may count on, for any filter, any capacity and any frames that were published.
-ghost use Rattle.std.specs.Prelude.{◌≡◌, ℕ, ◌+◌, ◌-◌, ◌<◌, ◌≤◌, ◌↔◌, min, List, [], ◌∷◌, ◌++◌, length, take, IsTrue, IfSome, slice_get};
+ghost use Rattle.std.specs.Prelude.{◌≡◌, ℕ, ◌+◌, ◌<◌, ◌≤◌, ◌↔◌, min, List, [], ◌∷◌, ◌++◌, length, take, IsTrue, IfSome, slice_get};
 ghost use Rattle.std.specs.List.{filter, count_by};
 ghost use Rattle.mount_ring.specs.Reads.{most_taken, read_report};
-ghost use Rattle.mount_ring.specs.History.{Shape, State, start, after, after_call, state_of, permits_at, is_holder, fits, is_readable, joined, answer, own_answers, answers_since, has_none_of};
+ghost use Rattle.mount_ring.specs.History.{Shape, State, start, after_call, state_of, permits_at, is_holder, fits, is_readable, joined, answer, own_answers, answers_since, has_none_of};
 ghost use Rattle.mount_ring.specs.Places.{between, Reading, reading_report, taken_by, begin_of, end_of, lap_overrun, published_by, claims_given, are_fit};
 
 use crate::call::{Holder, RingAnswer, RingCall};

@@ -1,4 +1,4 @@
-ghost use Rattle.std.specs.Prelude.{◌≡◌, ◌+◌, ◌++◌, [], ◌∷◌, map, Option};
+ghost use Rattle.std.specs.Prelude.{◌≡◌, ◌+◌, [], ◌∷◌, map, Option};
 ghost use Rattle.type_filter.specs.Permitted.{count};
 ghost use Rattle.mount_ring.specs.Watches.{counted, capped, unseen};
 

@@ -1,6 +1,6 @@
 //! Laws of answers, each the contract of a function that does nothing.
 
-ghost use Rattle.std.specs.Prelude.{◌≡◌, ◌≢◌, ◌≤◌, ◌<◌, ℕ, Bool, List, ◌++◌, length};
+ghost use Rattle.std.specs.Prelude.{◌≡◌, ◌≢◌, ◌≤◌, ℕ, Bool, List, ◌++◌, length};
 ghost use Rattle.ntrip_client.specs.Answer.{IsAnswer};
 
 use crate::answer::{Answer, Refusal};

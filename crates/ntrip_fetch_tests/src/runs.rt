@@ -143,7 +143,21 @@ fn outcome_of(
     })
 }
 
-/// A fetch of so many frames, 1 to 4, from two casters over this street.
+/// A fetch of so many frames, 1 to 4, from two casters over this street into this sink.
+fn try_two<R: Wait>(
+    rt: &R,
+    alloc: Global,
+    frames: u64,
+    street: &mut MemStreet,
+    out: &mut MemSink,
+) -> Result<StreetRun, Fail> {
+    let targets = two_targets(alloc)?;
+    let frames = frames.max(1).min(4);
+    let answer = fetch(rt, alloc, &targets, frames, street, out);
+    outcome_of(alloc, answer, street, out)
+}
+
+/// The same into a sink that takes all.
 pub(crate) fn tried_two<R: Wait>(
     rt: &R,
     alloc: Global,
@@ -151,10 +165,7 @@ pub(crate) fn tried_two<R: Wait>(
     mut street: MemStreet,
 ) -> Result<StreetRun, Fail> {
     let mut out = MemSink::new(alloc, Vec::new(alloc));
-    let targets = two_targets(alloc)?;
-    let frames = frames.max(1).min(4);
-    let answer = fetch(rt, alloc, &targets, frames, &mut street, &mut out);
-    outcome_of(alloc, answer, &street, &out)
+    try_two(rt, alloc, frames, &mut street, &mut out)
 }
 
 /// A fetch of three frames from three casters over this street into this sink.

@@ -4,7 +4,7 @@ ghost use Rattle.std.specs.Prelude.{◌≡◌, ◌≤◌, length, Ok};
 ghost use Rattle.std.specs.Option.{ForSome, option_map};
 ghost use Rattle.base64.specs.Engines.{standard};
 ghost use Rattle.base64.specs.GeneralPurpose.{decode_of};
-ghost use Rattle.ntrip_head.specs.Credentials.{is_basic, after_spaces, user_and_password, decoded_pair, credentials, auth_of, password_of};
+ghost use Rattle.ntrip_head.specs.Credentials.{is_basic, after_spaces, user_and_password, decoded_pair, auth_of, password_of};
 ghost use Rattle.ntrip_head.specs.Outcome.{Gives};
 
 use crate::fault::HeadError;

@@ -1,5 +1,5 @@
 //! Frames, and streams that are cut into frames.
-ghost use Rattle.std.specs.Prelude.{◌^◌, ◌<◌, ◌≤◌, length};
+ghost use Rattle.std.specs.Prelude.{◌<◌, ◌≤◌, length};
 
 use crate::printing::{put, say, say_digits, say_frames};
 use rtcm_frame::{Cutter, Frame, crc24q};

@@ -63,7 +63,7 @@ struct Newest {
 }
 
 impl Played for Newest {
-    ghost use Rattle.std.specs.Prelude.{◌≡◌, fold, is_some, None, refl, if◌then◌else◌};
+    ghost use Rattle.std.specs.Prelude.{◌≡◌, is_some, None, refl, if◌then◌else◌};
     ghost use Rattle.std.specs.Coded.{Coded-set, coded_ℕ, coded_option};
     ghost use Rattle.ring_tests.specs.Newest.{newest, fits_newest, newest_stays};
 

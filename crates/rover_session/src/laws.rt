@@ -1,7 +1,6 @@
 //! Laws of a rover, each a clause of a function that does nothing.
 
 ghost use Rattle.std.specs.Prelude.{◌≡◌, ℕ, ◌≤◌, IsTrue, true, false, List, [], ◌++◌, length, map, All, Option, None};
-ghost use Rattle.std.specs.List.{concat};
 ghost use Rattle.rtcm_frame.specs.Transport.{is_frame};
 ghost use Rattle.rtcm_frame.specs.Cut.{cut};
 ghost use Rattle.chunk_body.specs.Text.{IsOpen, IsPlain};
@@ -11,7 +10,6 @@ ghost use Rattle.gga_read.specs.Report.{reports};
 ghost use Rattle.turn_log.specs.History.{History};
 ghost use Rattle.session_calls.specs.Steps.{Step};
 ghost use Rattle.session_calls.specs.Plans.{left, IsMade, Begins};
-ghost use Rattle.session_calls.specs.Rings.{WentOn};
 ghost use Rattle.rover_cursor.specs.declared.segment.Segment.{Segment};
 ghost use Rattle.rover_session.specs.Owed.{Terms, rover_plan, heeds};
 ghost use Rattle.rover_session.specs.Made.{base_after, bases_joined, Changes};

@@ -1,5 +1,5 @@
 //! The buffer of a cutter: bytes that wait from a place on.
-ghost use Rattle.std.specs.Prelude.{◌≡◌, ℕ, ◌+◌, ◌-◌, ◌≤◌, ◌<◌, List, ◌++◌, length, take, drop};
+ghost use Rattle.std.specs.Prelude.{◌≡◌, ℕ, ◌+◌, ◌-◌, ◌≤◌, ◌<◌, List, length, take, drop};
 ghost use Rattle.rtcm_frame.specs.Sums.{Chained};
 
 // Where the bytes that wait begin, and how far the sums over the buffer reach.

@@ -5,7 +5,7 @@ ghost use Rattle.std.specs.Prelude.{IsTrue, slice_index, bit_xor, replicate};
 ghost use Rattle.rtcm_frame.specs.Crc.{crc24q_of, xor_each};
 ghost use Rattle.std.specs.List.{concat};
 ghost use Rattle.rtcm_frame.specs.Transport.{is_frame, framed, payload, number_of};
-ghost use Rattle.rtcm_frame.specs.Cut.{cut, only_rest, with_frame, with_junk, followed_by};
+ghost use Rattle.rtcm_frame.specs.Cut.{cut, with_frame, with_junk, followed_by};
 ghost use Rattle.rtcm_frame.specs.Order.{IsUnfinishedFrame, HasNoFrameInFront, StandIn};
 
 /// CRC-24Q starts at 0 and ends with no exclusive or, so it is linear: the checksum of two messages

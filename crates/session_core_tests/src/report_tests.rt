@@ -161,15 +161,25 @@ fn rover(alloc: Global) -> Result<Connection, Fail> {
     })
 }
 
-// The text of a report of these connections behind these bytes, of a caster of one mountpoint.
-fn text_of(alloc: Global, connections: Connections, before: &[u8]) -> Result<Vec<u8>, Fail> {
-    let config = Config::bare(alloc, 2)?;
-    let report = Report {
+// A report of these connections, of a caster of one mountpoint.
+fn report_of(alloc: Global, connections: Connections) -> Result<Report, Fail>
+    ensures mounts { IfOk result (λ report. length report.closed.mounts ≡ 1) }
+    ensures accounts { IfOk result (λ report. length report.closed.accounts ≡ 0) }
+{
+    Ok(Report {
         connections,
         closed: close_caster(alloc)?,
-    };
+    })
+}
+
+// The text of such a report behind these bytes.
+fn text_of(alloc: Global, report: &Report, before: &[u8]) -> Result<Vec<u8>, Fail>
+    requires mounts { length report.now.closed.mounts ≡ 1 }
+    requires accounts { length report.now.closed.accounts ≡ 0 }
+{
+    let config = Config::bare(alloc, 2)?;
     let mut text = Vec::from_slice(alloc, before)?;
-    report_text(&config, &report, &mut text)?;
+    report_text(&config, report, &mut text)?;
     Ok(text)
 }
 
@@ -179,7 +189,11 @@ fn long_text(alloc: Global) -> Result<Vec<u8>, Fail> {
     for _ in 0..100 {
         connections.push(rover(alloc)?)?;
     }
-    text_of(alloc, Connections::new(connections), b"")
+    text_of(
+        alloc,
+        &report_of(alloc, Connections::new(connections))?,
+        b"",
+    )
 }
 
 #[test]
@@ -195,7 +209,7 @@ fn long_reports_are_written_whole(rt: HostRuntime) -> Result<(), Fail> {
 
 // The text of a report of a source, a rover and one that was refused, behind a line.
 fn short_text(alloc: Global) -> Result<Vec<u8>, Fail> {
-    text_of(alloc, connections(alloc)?, b"x\n")
+    text_of(alloc, &report_of(alloc, connections(alloc)?)?, b"x\n")
 }
 
 #[test]

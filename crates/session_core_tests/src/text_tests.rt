@@ -146,16 +146,23 @@ fn largest(alloc: Global) -> Result<Closed, Fail>
     })
 }
 
+/// The text of these totals over this configuration, which has as many mountpoints and accounts.
+fn text_over(alloc: Global, config: &Config, closed: &Closed) -> Result<Vec<u8>, Fail>
+    requires mounts { length closed.now.mounts ≡ length config.now.mount }
+    requires accounts { length closed.now.accounts ≡ length config.now.account }
+{
+    let mut text = Vec::new(alloc);
+    closed_text(config, closed, &mut text)?;
+    Ok(text)
+}
+
 /// The text of the totals of a caster of the file.
 fn largest_text(alloc: Global) -> Result<Vec<u8>, Fail> {
     let config = read_config(alloc, FILE)?;
-    let closed = largest(alloc)?;
     if sizes(&config) != (2, 1) {
         return Err(Fail::from("another configuration"));
     }
-    let mut text = Vec::new(alloc);
-    closed_text(&config, &closed, &mut text)?;
-    Ok(text)
+    text_over(alloc, &config, &largest(alloc)?)
 }
 
 #[test]
@@ -166,31 +173,29 @@ fn each_mountpoint_and_each_account_has_its_line(rt: HostRuntime) -> Result<(), 
 
 const NAMES: &[u8] = b"ABCDEFGHIJKLMNOPQRSTUVWXYZ";
 
-// A configuration with a mountpoint and an account of each name.
-fn many(alloc: Global) -> Result<Config, Fail> {
-    let mut file = Vec::from_slice(alloc, b"version = 1\n")?;
+// Each name, with these bytes before it and these behind it.
+fn push_each(before: &[u8], behind: &[u8], out: &mut Vec<u8>) -> Result<(), Fail> {
     for name in NAMES {
-        file.extend_from_slice(b"[[mount]]\nname = '")?;
-        file.push(*name)?;
-        file.extend_from_slice(b"'\npassword = ''\nring = 4\nlatitude = 0\nlongitude = 0\n")?;
-    }
-    file.extend_from_slice(b"[[group]]\nname = 'field'\nmounts = ['A']\ntypes = 'all'\n")?;
-    for name in NAMES {
-        file.extend_from_slice(b"[[account]]\nuser = '")?;
-        file.push(*name)?;
-        file.extend_from_slice(b"'\npassword = 'secret'\ngroup = 'field'\ncap = 1\n")?;
-    }
-    Ok(read_config(alloc, &file)?)
-}
-
-// The lines of this kind and these numbers, one of each name.
-fn push_lines(kind: &[u8], numbers: &[u8], out: &mut Vec<u8>) -> Result<(), Fail> {
-    for name in NAMES {
-        out.extend_from_slice(kind)?;
+        out.extend_from_slice(before)?;
         out.push(*name)?;
-        out.extend_from_slice(numbers)?;
+        out.extend_from_slice(behind)?;
     }
     Ok(())
+}
+
+// The file of a configuration with a mountpoint and an account of each name.
+fn push_file(out: &mut Vec<u8>) -> Result<(), Fail> {
+    let mount = b"'\npassword = ''\nring = 4\nlatitude = 0\nlongitude = 0\n";
+    push_each(b"[[mount]]\nname = '", mount, out)?;
+    out.extend_from_slice(b"[[group]]\nname = 'field'\nmounts = ['A']\ntypes = 'all'\n")?;
+    let account = b"'\npassword = 'secret'\ngroup = 'field'\ncap = 1\n";
+    push_each(b"[[account]]\nuser = '", account, out)
+}
+
+fn many(alloc: Global) -> Result<Config, Fail> {
+    let mut file = Vec::from_slice(alloc, b"version = 1\n")?;
+    push_file(&mut file)?;
+    Ok(read_config(alloc, &file)?)
 }
 
 // What each of 26 mountpoints and as many accounts came to.
@@ -217,20 +222,17 @@ fn many_closed(alloc: Global) -> Result<Closed, Fail>
 // The text of their totals.
 fn many_text(alloc: Global) -> Result<Vec<u8>, Fail> {
     let config = many(alloc)?;
-    let closed = many_closed(alloc)?;
     if sizes(&config) != (26, 26) {
         return Err(Fail::from("another configuration"));
     }
-    let mut text = Vec::new(alloc);
-    closed_text(&config, &closed, &mut text)?;
-    Ok(text)
+    text_over(alloc, &config, &many_closed(alloc)?)
 }
 
 #[test]
 fn many_mountpoints_and_accounts_have_their_lines(rt: HostRuntime) -> Result<(), Fail> {
     let mut wanted = Vec::new(rt.alloc());
-    push_lines(b"mount ", b" 3 2\n", &mut wanted)?;
-    push_lines(b"account ", b" 7 1 5\n", &mut wanted)?;
+    push_each(b"mount ", b" 3 2\n", &mut wanted)?;
+    push_each(b"account ", b" 7 1 5\n", &mut wanted)?;
     wanted.extend_from_slice(b"total 7 1 5\n")?;
     assert_eq!(rt; many_text(rt.alloc())?.as_slice(), wanted.as_slice());
     Ok(())

@@ -26,7 +26,7 @@ impl Model for Connections {
 }
 
 impl Connections {
-    ghost use Rattle.session_script.specs.Numbers.{Numbers, no_numbers, may_open, may_speak, opening, closing};
+    ghost use Rattle.session_script.specs.Numbers.{Numbers, no_numbers, may_open, may_speak};
     ghost use Rattle.session_script.specs.Script.{may_follow, after_event};
 
     /// Nothing was opened yet.

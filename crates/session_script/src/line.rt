@@ -1,7 +1,6 @@
 //! The event of a line.
 
-ghost use Rattle.std.specs.Prelude.{◌≡◌, ◌-◌, ◌^◌, min, IfOk};
-ghost use Rattle.std.specs.Option.{option_map};
+ghost use Rattle.std.specs.Prelude.{◌≡◌, ◌-◌, min, IfOk};
 ghost use Rattle.session_script.specs.Line.{is_bare, is_replay, mount_of, input_of, relay_number, short_event, opening_event, long_event, event_of_line};
 
 use crate::number::{number_of, number_within};

@@ -1,6 +1,6 @@
 //! Reading a whole script.
 
-ghost use Rattle.std.specs.Prelude.{◌≡◌, ℕ, ◌+◌, ◌^◌, ◌<◌, ◌≤◌, List, [], ◌∷◌, length, IfOk, IfErr, OnOk, IsOk, Ok, if◌then◌else◌, sum_by};
+ghost use Rattle.std.specs.Prelude.{◌≡◌, ℕ, ◌+◌, ◌^◌, ◌<◌, ◌≤◌, List, [], ◌∷◌, length, IfOk, IfErr, OnOk, Ok, if◌then◌else◌, sum_by};
 ghost use Rattle.session_script.specs.Script.{Gives, IsSession, input_length, items_of, is_skipped, script_of};
 ghost use Rattle.session_script.specs.Reading.{line_read};
 

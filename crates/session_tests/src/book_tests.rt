@@ -1,5 +1,5 @@
 //! The book at a desk, by its public calls.
-ghost use Rattle.std.specs.Prelude.{◌≡◌, ◌≢◌, ℕ, ◌<◌, ◌≤◌, length, IsTrue, IfOk};
+ghost use Rattle.std.specs.Prelude.{◌≡◌, ◌≢◌, ℕ, ◌<◌, length, IsTrue, IfOk};
 ghost use Rattle.caster_accounts.specs.History.{may_leave};
 ghost use Rattle.caster_accounts.specs.declared.call.BookAnswer.TheVariants.{Entered};
 

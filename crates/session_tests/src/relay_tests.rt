@@ -1,6 +1,5 @@
 //! A relay at a desk, by the public calls.
-ghost use Rattle.std.specs.Prelude.{◌≡◌, ℕ, ◌^◌, ◌<◌, ◌≤◌, length, IfOk};
-ghost use Rattle.turn_log.specs.Desks.{desk_shape};
+ghost use Rattle.std.specs.Prelude.{◌≡◌, ◌^◌, ◌<◌, ◌≤◌, length, IfOk};
 
 use crate::desks::{frames_at, frames_of, ring_desk};
 use cast_config::Relay;

@@ -1,5 +1,5 @@
 //! A rover at a desk, by the public calls.
-ghost use Rattle.std.specs.Prelude.{◌≡◌, ℕ, ◌≤◌, IsTrue, [], ◌∷◌, OnOk, IfOk};
+ghost use Rattle.std.specs.Prelude.{◌≡◌, ◌≤◌, IsTrue, [], ◌∷◌, OnOk, IfOk};
 ghost use Rattle.turn_log.specs.History.{GoesOn};
 ghost use Rattle.mount_ring.specs.History as history;
 

@@ -1,6 +1,6 @@
 //! Laws of sourcetables, each the contract of a function that does nothing: what is written is read
 //! back, and what reading may answer is one answer.
-ghost use Rattle.std.specs.Prelude.{◌≡◌, ◌≢◌, ◌↔◌, ◌≤◌, ℕ, List, [], ◌∷◌, length, Result, Option};
+ghost use Rattle.std.specs.Prelude.{◌≡◌, ◌≢◌, ◌↔◌, ◌≤◌, ℕ, List, [], ◌∷◌, length, Result};
 ghost use Rattle.std.specs.List.{All};
 ghost use Rattle.sourcetable.specs.Record.{IsOneLine};
 ghost use Rattle.sourcetable.specs.Table.{fault_of, most_bytes, table_text, text_with};

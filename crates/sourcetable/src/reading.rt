@@ -1,5 +1,5 @@
 //! Reading a record from its line, and a table from its text.
-ghost use Rattle.std.specs.Prelude.{◌≡◌, List, IfOk};
+ghost use Rattle.std.specs.Prelude.{◌≡◌};
 ghost use Rattle.sourcetable.specs.Record.{field_count};
 ghost use Rattle.sourcetable.specs.Table.{kind_of};
 ghost use Rattle.sourcetable.specs.Reading.{Gives, record_read, IsRecordRead, IsLineRead, IsTableRead};

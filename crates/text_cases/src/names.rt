@@ -1,5 +1,4 @@
 //! Names, texts and lines.
-ghost use Rattle.std.specs.Prelude.{◌≤◌};
 
 use crate::printing::{put, say, say_kept, show};
 use crate::rows::count_at;

@@ -1,5 +1,5 @@
-ghost use Rattle.std.specs.Prelude.{◌≡◌, ℕ, ◌<◌, ◌≤◌, Bool, true, false, IsTrue, List, [], ◌∷◌, ◌++◌, length, IfOk, IfErr};
-ghost use Rattle.turn_log.specs.History.{History, IsLegal};
+ghost use Rattle.std.specs.Prelude.{◌≡◌, ◌<◌, ◌≤◌, true, false, IsTrue, [], ◌∷◌, ◌++◌, length, IfOk, IfErr};
+ghost use Rattle.turn_log.specs.History.{IsLegal};
 ghost use Rattle.turn_log.specs.Past.{so_far};
 
 use crate::object::Played;
@@ -47,7 +47,7 @@ impl<V: Played> Desk<V> {
 }
 
 impl<V: Played> Turns<V> for Desk<V> {
-    ghost use Rattle.std.specs.Prelude.{◌≡◌, ℕ, ◌≤◌, true, false, IsTrue, [], ◌∷◌, ◌++◌, length, IfOk, IfErr};
+    ghost use Rattle.std.specs.Prelude.{◌≡◌, ◌≤◌, true, false, IsTrue, [], ◌∷◌, ◌++◌, length, IfOk, IfErr};
     ghost use Rattle.turn_log.specs.Faults.{IsFault, IsWornAt, worn_of};
     ghost use Rattle.turn_log.specs.Past.{so_far};
     ghost use base.Stored.{gnil};

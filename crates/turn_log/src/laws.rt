@@ -1,4 +1,4 @@
-ghost use Rattle.std.specs.Prelude.{◌≡◌, ◌≢◌, ℕ, Bool, IsTrue, List, [], ◌∷◌, ◌++◌};
+ghost use Rattle.std.specs.Prelude.{◌≡◌, ◌≢◌, ℕ, Bool, IsTrue, [], ◌∷◌, ◌++◌};
 ghost use Rattle.turn_log.specs.History.{History, IsLegalAfter, own};
 
 use crate::object::Played;

@@ -1,4 +1,4 @@
-ghost use Rattle.std.specs.Prelude.{◌≡◌, ℕ, ◌^◌, ◌<◌, ◌≢◌, Bool, IsTrue, List, [], ◌∷◌, ◌++◌, length};
+ghost use Rattle.std.specs.Prelude.{◌≡◌, ℕ, ◌^◌, ◌<◌, ◌≢◌, Bool, IsTrue, [], ◌∷◌, ◌++◌, length};
 ghost use Rattle.turn_log.specs.History.{History};
 
 /// An object that callers take turns on, such as a ring or a book of accounts.

@@ -14,7 +14,7 @@ pub struct Entry<C> {
 }
 
 impl<C> Model for Entry<C> {
-    ghost use Rattle.std.specs.Prelude.{ℕ, [], ◌∷◌, ◌++◌, length};
+    ghost use Rattle.std.specs.Prelude.{[], ◌∷◌, ◌++◌, length};
     ghost use Rattle.turn_log.specs.History.{History};
     ghost use Rattle.turn_log.specs.Past.{so_far};
 

@@ -1,5 +1,5 @@
 //! From the head of an answer to its body.
-ghost use Rattle.std.specs.Prelude.{◌≡◌, ℕ, ◌+◌, ◌^◌, ◌<◌, IsTrue, List, [], ◌∷◌, ◌++◌, length, IfSome, IfNone, IfErr};
+ghost use Rattle.std.specs.Prelude.{◌≡◌, ℕ, ◌+◌, ◌^◌, ◌<◌, IsTrue, List, [], ◌++◌, length, IfSome, IfNone, IfErr};
 ghost use Rattle.std.specs.Result.{result_err};
 ghost use Rattle.session_calls.specs.Steps.{Step};
 ghost use Rattle.source_session.specs.Calls.{IsHolding, HeldSince};

@@ -1,5 +1,5 @@
 //! Laws of relays, each the contract of a function that does nothing.
-ghost use Rattle.std.specs.Prelude.{◌≡◌, ◌↔◌, ℕ, Bool, List, drop, Some, None};
+ghost use Rattle.std.specs.Prelude.{◌≡◌, ◌↔◌, ℕ, Bool, List, drop, Some};
 ghost use Rattle.chunk_body.specs.Text.{HasEnded, IsBadAt};
 ghost use Rattle.session_calls.specs.Steps.{Step};
 ghost use Rattle.ntrip_client.specs.Answer.{IsAnswer};

@@ -1,10 +1,10 @@
-ghost use Rattle.std.specs.Prelude.{◌≡◌, ℕ, ◌+◌, ◌^◌, ◌<◌, ◌≤◌, ◌⊎◌, IsTrue, Bool, List, [], ◌∷◌, ◌++◌, length, drop, Some, None, OnOk, OnErr, IfOk, IfErr, IfSome, IfNone};
+ghost use Rattle.std.specs.Prelude.{◌≡◌, ℕ, ◌+◌, ◌^◌, ◌<◌, ◌≤◌, IsTrue, List, [], ◌∷◌, ◌++◌, length, Some, None, OnOk, OnErr, IfOk, IfErr, IfSome, IfNone};
 ghost use Rattle.std.specs.Result.{result_err};
 ghost use Rattle.std.specs.Vec.{vec_capacity};
 ghost use Rattle.turn_log.specs.Faults.{IsFault};
 ghost use Rattle.mount_ring.specs.History.{state_of};
 ghost use Rattle.session_calls.specs.Steps.{Step};
-ghost use Rattle.source_session.specs.Calls.{IsHolding, HeldSince};
+ghost use Rattle.source_session.specs.Calls.{HeldSince};
 ghost use Rattle.source_session.specs.Places.{Stays, HeardAt};
 ghost use Rattle.upstream_relay.specs.Request.{relay_request};
 ghost use Rattle.upstream_relay.specs.Standing.{StandsFor, halt_at, claim_at};

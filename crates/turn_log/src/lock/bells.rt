@@ -1,6 +1,6 @@
 //! Words on which callers sleep until their tickets are served. They are no part of the lock's
 //! rule: a word that is wrong costs time, and no turn is given by it.
-ghost use Rattle.std.specs.Prelude.{◌<◌, length, vec_len};
+ghost use Rattle.std.specs.Prelude.{◌≡◌, ◌<◌, ◌%◌, IfOk, length, slice_index_or};
 
 use std::alloc::{AllocError, Global};
 use std::sync::Wait;
@@ -18,6 +18,7 @@ impl Bells {
     /// So many bells, none of which was rung.
     pub fn with_count(alloc: Global, count: u32) -> Result<Bells, AllocError>
         requires { 0 < count }
+        ensures { IfOk result (λ bells. length bells.words.items ≡ count) }
     {
         let mut words = Vec::with_capacity(alloc, count as usize)?;
         words.push_reserved(AtomicU64::new(0));
@@ -28,7 +29,10 @@ impl Bells {
     }
 
     /// The bell of a ticket.
-    pub fn of(&self, ticket: u64) -> &AtomicU64 {
+    pub fn of(&self, ticket: u64) -> &AtomicU64
+        ensures { (d : _) → result.now
+            ≡ slice_index_or self.now.words.items (ticket % length self.now.words.items) d }
+    {
         let count = self.words.len() as u64;
         &self.words[(ticket % count) as usize]
     }

@@ -1,5 +1,5 @@
 //! The steps of one turn, each at the lock's table.
-ghost use Rattle.std.specs.Prelude.{◌≡◌, ℕ, ◌^◌, ◌<◌, ◌≤◌, [], ◌∷◌, ◌++◌, length, IsTrue, IfOk, IfErr};
+ghost use Rattle.std.specs.Prelude.{◌≡◌, ◌^◌, ◌<◌, ◌≤◌, [], ◌∷◌, ◌++◌, length, IsTrue, IfOk, IfErr};
 ghost use Rattle.turn_log.specs.declared.lock.rule.SeatStage.TheVariants.{Idle, Waiting};
 ghost use Rattle.turn_log.specs.History.{History};
 ghost use Rattle.turn_log.specs.LockRule.{times};

@@ -1,4 +1,4 @@
-use Rattle.std.proofs.Common.{ℕ, ◌+◌, ◌≤◌, List, length}
+use Rattle.std.proofs.Common.{ℕ, ◌≤◌, List, length}
 use Rattle.rtcm_frame.specs.Cut.{cut}
 use Rattle.bench_cut.specs.Counted.{GaveSoMany, size}
 use Rattle.bench_cut.proofs.counting.take_ready.Given as goal

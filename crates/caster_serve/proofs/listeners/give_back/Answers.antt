@@ -1,5 +1,5 @@
 -- One more is given back.
-use Rattle.std.proofs.Common.{◌∙◌, [], ◌∷◌, ◌++◌, map, ap, sym, subst}
+use Rattle.std.proofs.Common.{[], ◌∷◌, ◌++◌, map, ap, sym, subst}
 use Rattle.caster_serve.specs.Endpoints.{HasTakenBack, end_of, end_told}
 use Rattle.caster_serve.proofs.StreetLemmas.{back_door, back_link, back_none, told_next}
 use Rattle.caster_serve.proofs.listeners.give_back.Goals as goal

@@ -1,4 +1,4 @@
-use Rattle.std.proofs.Common.{[], ◌++◌, arith, sym, ◌∙◌}
+use Rattle.std.proofs.Common.{[], arith, sym, ◌∙◌}
 use Rattle.turn_log.specs.Desks.{desk_seen}
 use Rattle.upstream_relay.proofs.HeldLemmas.{held_claim}
 use Rattle.session_tests.proofs.relay_tests.one_after_another.Goals as goal
