@@ -47,13 +47,14 @@
 mod gates;
 mod given;
 mod links;
+mod logged;
 mod numbers;
 mod parts;
 mod plain;
 mod telling;
 
-use caster_top::caster;
 use given::{Fails, Given, fails_of, given_of, words_of};
+use logged::logged_status;
 use parts::{Case, case_of};
 use plain::tell;
 use std::alloc::{AllocError, Global};
@@ -83,7 +84,7 @@ fn status_of<R: Threads + Wait + Sync>(
     words: &[String],
     given: &mut Given,
 ) -> u8 {
-    caster(
+    logged_status(
         rt,
         alloc,
         words,

@@ -31,3 +31,9 @@ but_found quiet = (quiet.limit, quiet.is_written)
 -- that of a new link of a gate with this QUIET: none at 0, as it may be quiet for ever
 abbrev pub quiet_for : ℕ → Option QuietState
 quiet_for seconds = if seconds == 0 then None else Some (new_quiet seconds)
+
+-- what a link of a gate heeds: for how long it may be quiet, or none where that is for ever; and
+-- which stop, by the name of the lock that is written once it is asked for
+pub record KeepState : Type 0 where
+  pub quiet : Option QuietState
+  pub stop : ℕ

@@ -1,13 +1,19 @@
-//! The bells that end the rests of links, as frames may have been published.
-ghost use Rattle.std.specs.Prelude.{◌≤◌, vec_len};
+//! The bells that end the rests of links, as frames may have been published, and what a link has to
+//! do with them.
+ghost use Rattle.std.specs.Prelude.{◌≡◌, ◌≤◌, ◌&&◌, false, not, is_none, is_some, vec_len, IfOk, Some};
+ghost use Rattle.caster_net.specs.Rests.{heard, silent, waits_for_bell};
 
 use std::io::{ErrorKind, Read, Write};
+use std::marker::Model;
 use std::os::fd::{AsRawFd, RawFd};
 use std::os::unix::net::UnixStream;
 use std::sync::OnceLock;
 use std::sync::atomic::{AtomicBool, Ordering};
 use std::time::Duration;
 use std::{io, thread};
+
+// The first byte of every frame, which no head and no report has.
+const PREAMBLE: u8 = 0xD3;
 
 // How many bells there are. Where there are more mountpoints, some share one.
 const BELLS: u32 = 64;
@@ -22,7 +28,7 @@ const LOOKS: u32 = 20;
 pub struct Bells {
     // Fewer where memory lacks.
     bells: Vec<OnceLock<Bell>>,
-    // A door had no descriptor for a connection.
+    // The last accept found no descriptor for a connection.
     is_short: AtomicBool,
 }
 
@@ -49,32 +55,40 @@ impl Bells {
         }
     }
 
-    /// Notes whether a door had no descriptor for a connection.
-    pub(crate) fn note_short(&self, is_short: bool) {
+    /// Notes, for links that wait, whether an accept that gave this found no descriptor for a
+    /// connection; and gives it.
+    pub(crate) fn note_accept<X>(&self, came: io::Result<X>) -> io::Result<X>
+        ensures same { result ≡ came }
+    {
+        let is_short = match &came {
+            Ok(_) => false,
+            Err(fault) => fault.raw_os_error() == Some(libc::EMFILE),
+        };
         self.is_short.store(is_short, Ordering::SeqCst);
+        came
     }
 
-    /// The last door that looked had no descriptor for a connection.
-    pub(crate) fn is_short(&self) -> bool {
-        self.is_short.load(Ordering::SeqCst)
+    // Where the bell of this mountpoint is.
+    fn place(&self, mount: u32) -> Option<&OnceLock<Bell>> {
+        self.bells.get((mount % BELLS) as usize)
     }
 
-    /// Ends the rests of all links that wait for the bell of this mountpoint.
-    pub(crate) fn ring(&self, mount: u32) {
+    // Ends the rests of all links that wait for the bell of this mountpoint.
+    fn ring(&self, mount: u32) {
         if let Some(place) = self.place(mount) {
             ring_at(place);
         }
     }
 
-    /// Ends the rests of all links that wait for a bell.
-    pub(crate) fn ring_all(&self) {
+    // Ends the rests of all links that wait for a bell.
+    fn ring_all(&self) {
         for place in &self.bells {
             ring_at(place);
         }
     }
 
-    /// The descriptor at which the bell of this mountpoint is heard.
-    pub(crate) fn ear(&self, rt: &HostRuntime, mount: u32) -> io::Result<RawFd> {
+    // The descriptor at which the bell of this mountpoint is heard.
+    fn ear(&self, rt: &HostRuntime, mount: u32) -> io::Result<RawFd> {
         let Some(place) = self.place(mount) else {
             return Err(io::Error::from(ErrorKind::OutOfMemory));
         };
@@ -83,11 +97,6 @@ impl Bells {
             let _ = place.try_set(Bell::new(rt)?);
         }
         ear_at(rt, place)
-    }
-
-    // Where the bell of this mountpoint is.
-    fn place(&self, mount: u32) -> Option<&OnceLock<Bell>> {
-        self.bells.get((mount % BELLS) as usize)
     }
 }
 
@@ -110,6 +119,101 @@ impl Bell {
             let mut ear = &self.ear;
             let _ = ear.read(&mut [0u8; 4096]);
             let _ = rope.write(&[1]);
+        }
+    }
+}
+
+/// What one link has to do with the bells.
+///
+/// A link that gave the first byte of a frame is a source: it waits for no bell at its rests, and
+/// rings that of its mountpoint where frames that it gave may have been published. Any other link
+/// waits for the bell of the mountpoint that it was told last, and while it was told none, for no
+/// bell.
+#[derive(Drop)]
+pub(crate) struct Ringer<'a> {
+    bells: &'a Bells,
+    is_source: bool,
+    // The mountpoint that the link was told last.
+    mount: Option<u32>,
+    // It gave bytes, and no bell was rung for them yet.
+    gave: bool,
+}
+
+impl<'a> Model for Ringer<'a> {
+    ghost use Rattle.caster_net.specs.Rests.{RingerState};
+
+    ghost Value = { RingerState };
+
+    ghost view = { λ r. record { is_source = r.is_source; mount = r.mount; gave = r.gave } };
+}
+
+impl<'a> Ringer<'a> {
+    /// That of a link that gave no byte yet.
+    pub(crate) fn over(bells: &'a Bells) -> Self
+        ensures { result ≡ silent }
+    {
+        Ringer {
+            bells,
+            is_source: false,
+            mount: None,
+            gave: false,
+        }
+    }
+
+    /// The link gave these bytes. Whether it is a source since then.
+    pub(crate) fn hear(&mut self, bytes: &[u8]) -> bool
+        ensures heard { self.new ≡ heard bytes.now self.old }
+        ensures began { result ≡ (self.new.is_source && not self.old.is_source) }
+    {
+        let begins = !self.is_source && bytes.contains(&PREAMBLE);
+        self.is_source = self.is_source || begins;
+        self.gave = self.is_source;
+        begins
+    }
+
+    /// The link was told this mountpoint.
+    pub(crate) fn set_mount(&mut self, mount: u32)
+        ensures { self.new ≡ record self.old { mount = Some mount } }
+    {
+        self.mount = Some(mount);
+    }
+
+    /// Rings the bell of its mountpoint where the link gave frames since it last did. Before it was
+    /// told one it has published none.
+    pub(crate) fn tell(&mut self)
+        ensures { self.new ≡ record self.old { gave = self.old.gave && is_none self.old.mount } }
+    {
+        if self.gave
+            && let Some(mount) = self.mount
+        {
+            self.gave = false;
+            self.bells.ring(mount);
+        }
+    }
+
+    /// Rings for what the link gave since it last did, as it ends. Where it was told no mountpoint,
+    /// as one that came to its end with its first bytes, it rings all bells.
+    pub(crate) fn tell_last(&mut self)
+        ensures { self.new ≡ record self.old { gave = false } }
+    {
+        self.tell();
+        if self.gave {
+            self.gave = false;
+            self.bells.ring_all();
+        }
+    }
+
+    /// Where the bell is heard that the link waits for, if it does for one. It fails where an
+    /// accept had no descriptor: the link is to need none then.
+    pub(crate) fn ear(&self, rt: &HostRuntime) -> io::Result<Option<RawFd>>
+        ensures { IfOk result (λ ear. is_some ear ≡ waits_for_bell self.now) }
+    {
+        if self.bells.is_short.load(Ordering::SeqCst) {
+            return Err(io::Error::from_raw_os_error(libc::EMFILE));
+        }
+        match self.mount {
+            Some(mount) if !self.is_source => Ok(Some(self.bells.ear(rt, mount)?)),
+            _ => Ok(None),
         }
     }
 }

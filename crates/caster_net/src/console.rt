@@ -7,6 +7,7 @@ use crate::waiting::MAX_KEPT_REST;
 use cast_console::{Console, Lodge, Wanted};
 use cast_io::Journal;
 use std::marker::Model;
+use std::sync::atomic::Ordering;
 use std::thread;
 use std::time::Duration;
 
@@ -54,7 +55,7 @@ impl<'a> InputConsole<'a> {
 
     // Whether the thread that waits here is needed at a gate.
     fn is_in_the_way(&self) -> bool {
-        self.rests > LONGEST_BEGIN / MAX_KEPT_REST && self.halt.has_unasked_gate()
+        self.rests > LONGEST_BEGIN / MAX_KEPT_REST && self.halt.unasked.load(Ordering::SeqCst) > 0
     }
 
     // One line more was heard, while so many workers are busy.
@@ -74,15 +75,14 @@ impl Console for InputConsole<'_> {
         ensures { HasHeard result self.old self.new }
     {
         let halt = self.halt;
-        halt.look(self.rt);
-        if halt.is_asked() || self.is_in_the_way() {
+        if halt.look(self.rt).is_some() || self.is_in_the_way() {
             self.is_over = true;
             return Wanted::Over;
         }
-        if halt.statuses() == self.heard {
+        if halt.statuses.load(Ordering::SeqCst) == self.heard {
             return Wanted::Nothing;
         }
-        self.tell(halt.busy())
+        self.tell(halt.busy.load(Ordering::SeqCst))
     }
 
     fn rest(&mut self)

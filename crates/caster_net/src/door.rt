@@ -1,5 +1,5 @@
 //! A listener as a door.
-ghost use Rattle.std.specs.Prelude.{◌≡◌, ◌<◌, ◌↔◌, IfErr, IfOk, IsTrue, Some, pos};
+ghost use Rattle.std.specs.Prelude.{◌≡◌, ◌<◌, ◌↔◌, IfErr, IfOk, IsTrue};
 ghost use Rattle.std.specs.Arc.{arc_value};
 ghost use Rattle.std.specs.IoError.{raw_os_error};
 ghost use Rattle.cast_io.specs.Logged.{door_logged};
@@ -8,20 +8,18 @@ ghost use Rattle.caster_net.specs.Told.{new_door, new_wire};
 
 use crate::bells::Bells;
 use crate::link::TcpLink;
-use crate::options::limit_accepts;
-use crate::waiting::{SHORT, count_fault, rest};
+use crate::options::LimitAccepts;
+use crate::waiting::{SHORT, count_fault};
 use crate::watch::Watch;
 use cast_io::{Arrived, Door, Journal, StreetFault};
-use libc::net::{SHUT_RD, shutdown};
-use std::alloc::{AllocError, Global};
-use std::io;
+use std::alloc::Global;
 use std::io::ErrorKind;
 use std::marker::Model;
-use std::net::{SocketAddr, TcpListener, TcpStream};
+use std::net::{TcpListener, TcpStream};
 use std::os::fd::AsRawFd;
 use std::sync::Arc;
-use std::sync::atomic::{AtomicBool, Ordering};
 use std::time::{Duration, Instant};
+use std::{io, thread};
 
 // How long the end of one connection may take, in milliseconds.
 pub(crate) const MAX_END: u64 = 500;
@@ -37,8 +35,6 @@ pub(crate) struct Porch {
     // A rest waits for a connection and nothing else: of several doors the system wakes one for
     // each. One door alone rests for a short while, since its worker may have more to do.
     waits: bool,
-    // No connection is taken any more.
-    is_shut: AtomicBool,
 }
 
 impl Porch {
@@ -49,11 +45,7 @@ impl Porch {
     {
         let waits = doors > 1;
         listener.set_nonblocking(!waits)?;
-        Ok(Porch {
-            listener,
-            waits,
-            is_shut: AtomicBool::new(false),
-        })
+        Ok(Porch { listener, waits })
     }
 
     /// The place of gates at this listener, each of which waits for a connection for so many
@@ -62,31 +54,11 @@ impl Porch {
         ensures place { IfOk result (λ porch. porch.listener ≡ listener) }
         ensures waits { IfOk result (λ porch. IsTrue porch.waits) }
     {
-        limit_accepts(listener.as_raw_fd(), limit)?;
+        listener.limit_accepts(limit)?;
         Ok(Porch {
             listener,
             waits: true,
-            is_shut: AtomicBool::new(false),
         })
-    }
-
-    /// The next connection at the listener, and its peer. While there is no descriptor for it, the
-    /// bells tell links.
-    pub(crate) fn take(&self, bells: &Bells) -> io::Result<(TcpStream, SocketAddr)> {
-        match self.listener.accept() {
-            Ok(came) => {
-                bells.note_short(false);
-                Ok(came)
-            }
-            Err(fault) => {
-                bells.note_short(is_short(&fault));
-                Err(fault)
-            }
-        }
-    }
-
-    fn is_shut(&self) -> bool {
-        self.is_shut.load(Ordering::SeqCst)
     }
 }
 
@@ -98,21 +70,6 @@ pub(crate) fn share_porch(rt: &HostRuntime, porch: Porch) -> Result<Arc<Porch, G
     match Arc::new(rt.alloc(), porch) {
         Ok(porch) => Ok(porch),
         Err(_) => Err(StreetFault::Memory),
-    }
-}
-
-/// Ends the rests of all doors at one address.
-#[derive(Drop)]
-pub struct DoorBell {
-    porch: Arc<Porch, Global>,
-}
-
-impl DoorBell {
-    /// From now on the doors find nothing any more, and their rests are short. Connections that no
-    /// door has taken are reset.
-    pub fn ring(&self) {
-        self.porch.is_shut.store(true, Ordering::SeqCst);
-        let _ = shutdown(self.porch.listener.as_raw_fd(), SHUT_RD);
     }
 }
 
@@ -166,23 +123,18 @@ impl<'a> TcpDoor<'a> {
         self.faults
     }
 
-    /// The bell of this door and all others at its address.
-    pub fn bell(&self) -> Result<DoorBell, AllocError> {
-        let porch = self.porch.clone()?;
-        Ok(DoorBell { porch })
-    }
-
     // The next connection at the listener.
     fn take(&self) -> io::Result<TcpStream> {
-        let (stream, _) = self.porch.take(self.bells)?;
+        let (stream, _) = self.bells.note_accept(self.porch.listener.accept())?;
         Ok(stream)
     }
 
     // A link over this connection, for whose bytes one door alone waits too.
-    fn welcome(&self, stream: TcpStream) -> io::Result<TcpLink<'a>>
-        ensures { IfOk result (λ link. link ≡ new_wire stream) }
+    fn welcome(&mut self, stream: TcpStream) -> io::Result<TcpLink<'a>>
+        ensures link { IfOk result (λ link. link ≡ new_wire stream) }
+        ensures same { self.new ≡ self.old }
     {
-        if let Some(watch) = &self.watch {
+        if let Some(watch) = &mut self.watch {
             let _ = watch.join(stream.as_raw_fd());
         }
         TcpLink::over(self.rt, self.bells, stream)
@@ -197,16 +149,13 @@ impl<'a> TcpDoor<'a> {
         {
             return;
         }
-        rest(self.rt);
+        thread::sleep(self.rt, Duration::from_millis(SHORT));
     }
 
     // What ended the last rest. Where rests are short, what is at the listener.
     fn next(&mut self) -> io::Result<TcpStream>
         ensures { self.new ≡ self.old }
     {
-        if self.porch.is_shut() {
-            return Err(io::Error::from(ErrorKind::WouldBlock));
-        }
         match self.came.take() {
             Some(came) => came,
             None if self.porch.waits => Err(io::Error::from(ErrorKind::WouldBlock)),
@@ -242,23 +191,22 @@ impl<'a> Door for TcpDoor<'a> {
     fn rest(&mut self)
         ensures { self.new ≡ self.old }
     {
-        if self.porch.is_shut() {
-            rest(self.rt);
-        } else if !self.porch.waits {
+        if !self.porch.waits {
             self.look();
         } else if self.came.is_none() {
             match self.take() {
-                Err(fault) if !is_dead(&fault) => rest(self.rt),
+                Err(fault) if !is_dead(&fault) => {
+                    thread::sleep(self.rt, Duration::from_millis(SHORT));
+                }
                 came => self.came = Some(came),
             }
         }
     }
 
     fn hang_up(&mut self, link: TcpLink<'a>) {
-        self.back.add(&link);
         let limit = self.patience.min(Duration::from_millis(MAX_END));
         let begun = Instant::now(self.rt);
-        link.close(limit);
+        link.come_back(&mut self.back, limit);
         let taken = match begun {
             Ok(begun) => begun.elapsed(self.rt).unwrap_or(limit),
             Err(_) => limit,
@@ -283,11 +231,4 @@ pub(crate) fn is_dead(fault: &io::Error) -> bool
         fault.raw_os_error(),
         Some(libc::EBADF | libc::EINVAL | libc::ENOTSOCK)
     )
-}
-
-// No descriptor is left for a connection.
-fn is_short(fault: &io::Error) -> bool
-    ensures short { IsTrue result ↔ (raw_os_error fault.now ≡ Some (pos 24)) }
-{
-    matches!(fault.raw_os_error(), Some(libc::EMFILE))
 }

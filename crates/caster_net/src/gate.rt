@@ -11,7 +11,7 @@ use crate::halt::Halt;
 use crate::keep::Keep;
 use crate::link::TcpLink;
 use crate::redial::Redial;
-use crate::waiting::{MAX_KEPT_REST, count_fault, rest, would_wait};
+use crate::waiting::{MAX_KEPT_REST, SHORT, count_fault, would_wait};
 use cast_io::{Arrived, Door, Gate, Journal, Origin, PeerAddr};
 use std::alloc::Global;
 use std::fmt::InlineText;
@@ -19,6 +19,7 @@ use std::io::ErrorKind;
 use std::marker::Model;
 use std::net::{SocketAddr, TcpStream};
 use std::sync::Arc;
+use std::sync::atomic::Ordering;
 use std::time::Duration;
 use std::{io, thread};
 
@@ -114,7 +115,7 @@ impl<'a> TcpGate<'a> {
         requires { seconds ≡ quiet_of origin }
         ensures { result ≡ new_gate origin }
     {
-        ground.halt.make_gate();
+        let _ = ground.halt.unasked.fetch_add(1, Ordering::SeqCst);
         TcpGate {
             ground,
             way,
@@ -168,14 +169,14 @@ impl<'a> TcpGate<'a> {
     {
         if !self.is_asked {
             self.is_asked = true;
-            self.ground.halt.begin_gate();
+            let _ = self.ground.halt.unasked.fetch_sub(1, Ordering::SeqCst);
         }
     }
 
     // A link came of a connection: where it came to the porch, a worker has it.
     fn begin(&self) {
         if let Way::Porch(_) = &self.way {
-            self.ground.halt.begin_link();
+            let _ = self.ground.halt.busy.fetch_add(1, Ordering::SeqCst);
         }
     }
 
@@ -231,10 +232,11 @@ impl<'a> Door for TcpGate<'a> {
             (door_logged self.old.door) (door_logged self.new.door) }
         ensures same { self.new ≡ record self.old { door = self.new.door } }
     {
-        self.back.add(&link);
-        link.close(Duration::from_millis(MAX_END));
+        link.come_back(&mut self.back, Duration::from_millis(MAX_END));
         match &mut self.way {
-            Way::Porch(_) => self.ground.halt.end_link(),
+            Way::Porch(_) => {
+                let _ = self.ground.halt.busy.fetch_sub(1, Ordering::SeqCst);
+            }
             Way::Peer(peer) => peer.end(self.ground.rt),
         }
     }
@@ -252,8 +254,7 @@ impl Gate for TcpGate<'_> {
         ensures same { self.new ≡ record self.old { over = self.new.over } }
     {
         self.begin_gate();
-        self.ground.halt.look(self.ground.rt);
-        self.is_over = self.ground.halt.is_asked();
+        self.is_over = self.ground.halt.look(self.ground.rt).is_some();
         self.is_over
     }
 
@@ -278,10 +279,10 @@ fn what_comes(ground: Ground<'_>, way: &Way) -> Option<io::Result<(TcpStream, So
 // What comes to the porch in a while, if anything does. An accept that failed for a while may do so
 // again at once: so it is tried again after a short rest.
 fn accept_at(ground: Ground<'_>, porch: &Porch) -> Option<io::Result<(TcpStream, SocketAddr)>> {
-    match porch.take(ground.bells) {
+    match ground.bells.note_accept(porch.listener.accept()) {
         Err(fault) if would_wait(fault.kind()) => None,
         Err(fault) if !is_dead(&fault) => {
-            rest(ground.rt);
+            thread::sleep(ground.rt, Duration::from_millis(SHORT));
             None
         }
         came => Some(came),

@@ -1,15 +1,15 @@
 //! The stop of a caster that serves until it is told to, and what else its input asks.
-ghost use Rattle.std.specs.Prelude.{◌≡◌, count_by};
+ghost use Rattle.std.specs.Prelude.{◌≡◌, count_by, IfSome, pos};
 ghost use Rattle.std.specs.List.{list_any};
 ghost use Rattle.caster_net.specs.Words.{is_status, is_stop, line_behind_all, words_in};
 
+use crate::waiting::asked_of;
 use crate::words::{Line, Word};
 use libc::net::{POLLHUP, POLLIN, POLLNVAL, poll};
-use libc::types::pollfd;
 use libc::{getpgrp, read, tcgetpgrp};
 use std::os::fd::{AsRawFd, RawFd};
-use std::sync::Mutex;
-use std::sync::atomic::{AtomicBool, AtomicU32, AtomicU64, Ordering};
+use std::sync::atomic::{AtomicU32, AtomicU64, Ordering};
+use std::sync::{Mutex, OnceLock, OnceToken};
 use std::time::{Duration, Instant};
 
 // How long the input is left alone after a look at it, in milliseconds.
@@ -17,6 +17,9 @@ const LOOK_EVERY: u64 = 100;
 
 // The most bytes that one read takes.
 const MAX_READ_BYTES: usize = 4096;
+
+/// What shows that a stop was asked for, and of which one.
+pub(crate) type Asked<'a> = OnceToken<'a, ()>;
 
 /// Whether all gates of a street are to be over and all links of these to end. It is asked for by
 /// the line `stop` of an input, and by who else finds a cause for it; then it stands for good.
@@ -29,14 +32,18 @@ const MAX_READ_BYTES: usize = 4096;
 /// does nothing.
 #[derive(Drop)]
 pub struct Halt {
-    is_asked: AtomicBool,
+    // Written once the stop is asked for.
+    pub(crate) asked: OnceLock<()>,
     // How many lines `status` came.
-    statuses: AtomicU64,
+    pub(crate) statuses: AtomicU64,
     // How many workers serve a link.
-    busy: AtomicU32,
-    // How many gates were made that nobody asked whether they are over.
-    unasked: AtomicU32,
-    input: Mutex<Input>,
+    pub(crate) busy: AtomicU32,
+    // How many gates were made at which nobody serves yet.
+    pub(crate) unasked: AtomicU32,
+    // The input, which may be a FIFO, a pipe, a terminal, a file or /dev/null. None where nothing
+    // is open there.
+    input: Option<RawFd>,
+    heard: Mutex<Heard>,
 }
 
 // What words came in one look.
@@ -46,12 +53,9 @@ struct Came {
     statuses: u64,
 }
 
-// The input, which may be a FIFO, a pipe, a terminal, a file or /dev/null, as far as it was looked
-// at.
+// The input as far as it was looked at.
 #[derive(Drop)]
-struct Input {
-    // None where nothing is open there.
-    fd: Option<RawFd>,
+struct Heard {
     line: Line,
     // The last look.
     looked: Option<Instant>,
@@ -60,95 +64,65 @@ struct Input {
 impl Halt {
     /// A stop that was not asked for yet, and is by the line `stop` of standard input. Where the
     /// program was started without one, no line asks for it.
-    pub fn new(rt: &HostRuntime) -> Halt {
+    pub fn new(rt: &HostRuntime) -> Halt
+        ensures reads { IfSome result.input (λ input. input ≡ pos 0) }
+    {
         Halt::over(rt.stdin().as_raw_fd())
     }
 
     /// A stop that the line `stop` from this descriptor asks for. The descriptor is to stay open.
-    pub fn over(fd: RawFd) -> Halt {
+    pub fn over(fd: RawFd) -> Halt
+        ensures reads { IfSome result.input (λ input. input ≡ fd) }
+    {
         Halt {
-            is_asked: AtomicBool::new(false),
+            asked: OnceLock::new(),
             statuses: AtomicU64::new(0),
             busy: AtomicU32::new(0),
             unasked: AtomicU32::new(0),
-            input: Mutex::new(Input {
-                fd: if is_open(fd) { Some(fd) } else { None },
+            input: if is_open(fd) { Some(fd) } else { None },
+            heard: Mutex::new(Heard {
                 line: Line::new(),
                 looked: None,
             }),
         }
     }
 
-    /// Asks for the stop.
-    pub fn ask(&self) {
-        self.is_asked.store(true, Ordering::SeqCst);
-    }
-
-    /// Whether the stop was asked for.
-    pub fn is_asked(&self) -> bool {
-        self.is_asked.load(Ordering::SeqCst)
-    }
-
-    /// How many lines `status` came so far.
-    pub(crate) fn statuses(&self) -> u64 {
-        self.statuses.load(Ordering::SeqCst)
-    }
-
-    /// How many workers serve a link now.
-    pub(crate) fn busy(&self) -> u32 {
-        self.busy.load(Ordering::SeqCst)
-    }
-
-    /// Whether nobody serves yet at some gate that was made.
-    pub(crate) fn has_unasked_gate(&self) -> bool {
-        self.unasked.load(Ordering::SeqCst) > 0
-    }
-
-    /// A gate was made.
-    pub(crate) fn make_gate(&self) {
-        let _ = self.unasked.fetch_add(1, Ordering::SeqCst);
-    }
-
-    /// And somebody serves there from now on.
-    pub(crate) fn begin_gate(&self) {
-        let _ = self.unasked.fetch_sub(1, Ordering::SeqCst);
-    }
-
-    /// A worker has a link from now on.
-    pub(crate) fn begin_link(&self) {
-        let _ = self.busy.fetch_add(1, Ordering::SeqCst);
-    }
-
-    /// And from now on it has none.
-    pub(crate) fn end_link(&self) {
-        let _ = self.busy.fetch_sub(1, Ordering::SeqCst);
-    }
-
     /// Has a look at the input, where the last one is a while ago, and heeds the words that came.
-    pub(crate) fn look(&self, rt: &HostRuntime) {
-        if self.is_asked() {
-            return;
+    /// What shows that the stop was asked for, if it was.
+    pub(crate) fn look(&self, rt: &HostRuntime) -> Option<Asked<'_>>
+        ensures of_this { IfSome result (λ asked. asked.of ≡ self.now.asked.id) }
+    {
+        if self.asked.get().is_none() {
+            self.hear(rt);
         }
-        let Some(mut input) = self.input.try_lock() else {
+        self.asked.witness()
+    }
+
+    // Heeds the words that came, where the last look at the input is a while ago.
+    fn hear(&self, rt: &HostRuntime) {
+        let Some(fd) = self.input else {
             return;
         };
-        if input.is_due(rt) {
-            self.heed(input.take_words());
+        let Some(mut heard) = self.heard.try_lock() else {
+            return;
+        };
+        if heard.is_due(rt) {
+            self.heed(heard.take_words(fd));
         }
     }
 
-    // Heeds the words that came.
+    // Heeds these words.
     fn heed(&self, came: Came) {
         if came.statuses > 0 {
             let _ = self.statuses.fetch_add(came.statuses, Ordering::SeqCst);
         }
         if came.stop {
-            self.ask();
+            let _ = self.asked.try_set(());
         }
     }
 }
 
-impl Input {
+impl Heard {
     // Whether the last look is a while ago. If so, this is the last one from now on.
     fn is_due(&mut self, rt: &HostRuntime) -> bool {
         let Ok(now) = Instant::now(rt) else {
@@ -164,9 +138,9 @@ impl Input {
     }
 
     // Takes what is there, and answers which words its lines are.
-    fn take_words(&mut self) -> Came {
+    fn take_words(&mut self, fd: RawFd) -> Came {
         let mut taken = [0u8; MAX_READ_BYTES];
-        match self.take(&mut taken) {
+        match self.take(fd, &mut taken) {
             Some(bytes) => words_in(&mut self.line, bytes),
             None => Came {
                 stop: false,
@@ -177,8 +151,7 @@ impl Input {
 
     // Takes what is there, without a wait. At the end of the input, behind which more may come of a
     // FIFO, the line that has not ended is none.
-    fn take<'b>(&mut self, taken: &'b mut [u8]) -> Option<&'b [u8]> {
-        let fd = self.fd?;
+    fn take<'b>(&mut self, fd: RawFd, taken: &'b mut [u8]) -> Option<&'b [u8]> {
         if !has_come(fd) || !is_ours(fd) {
             return None;
         }
@@ -212,11 +185,7 @@ fn words_in(line: &mut Line, bytes: &[u8]) -> Came
 
 // What is ready at this descriptor now.
 fn ready_at(fd: RawFd) -> i16 {
-    let mut asked = [pollfd {
-        fd,
-        events: POLLIN,
-        revents: 0,
-    }];
+    let mut asked = asked_of(fd, POLLIN);
     if poll(&mut asked, 0) > 0 {
         asked[0].revents
     } else {

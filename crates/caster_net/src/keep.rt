@@ -1,23 +1,24 @@
 //! What a link of a gate heeds.
 ghost use Rattle.std.specs.Prelude.{◌≡◌, Some, option_map, IfOk, IfSome, IsSome, IsTrue};
+ghost use Rattle.caster_net.specs.declared.keep.Cut.TheVariants as cuts;
 ghost use Rattle.caster_net.specs.Silence.{but_found, given, quiet_for, taken};
 
-use crate::halt::Halt;
+use crate::halt::{Asked, Halt};
 use crate::quiet::Quiet;
 use std::io;
 use std::marker::Model;
 
 /// Why a link is read no more.
-#[derive(Clone, Copy, Debug, PartialEq, Eq)]
-pub(crate) enum Cut {
-    /// The stop was asked for.
-    Stopped,
+#[derive(Drop)]
+pub(crate) enum Cut<'a> {
+    /// The stop was asked for, as this shows.
+    Stopped(Asked<'a>),
     /// It was quiet for too long.
     Quiet,
 }
 
-/// The stop, and for how long the link may be quiet. Contracts see the second, or none where it may
-/// be quiet for ever.
+/// The stop, and for how long the link may be quiet. Contracts see which stop it is, and how long
+/// the link may be quiet, or none where that is for ever.
 #[derive(Drop)]
 pub(crate) struct Keep<'a> {
     rt: &'a HostRuntime,
@@ -27,18 +28,18 @@ pub(crate) struct Keep<'a> {
 }
 
 impl<'a> Model for Keep<'a> {
-    ghost use Rattle.std.specs.Prelude.{Option};
-    ghost use Rattle.caster_net.specs.Silence.{QuietState};
+    ghost use Rattle.caster_net.specs.Silence.{KeepState};
 
-    ghost Value = { Option QuietState };
+    ghost Value = { KeepState };
 
-    ghost view = { λ k. k.quiet };
+    ghost view = { λ k. record { quiet = k.quiet; stop = k.halt.now.asked.id } };
 }
 
 impl<'a> Keep<'a> {
     /// That of a link that begins now and may be quiet for so many seconds: 0 is for ever.
     pub(crate) fn from_now(rt: &'a HostRuntime, halt: &'a Halt, quiet: u32) -> io::Result<Self>
-        ensures quiet { IfOk result (λ keep. keep ≡ quiet_for quiet) }
+        ensures new { IfOk result (λ keep.
+            keep ≡ record { quiet = quiet_for quiet; stop = halt.now.asked.id }) }
     {
         let quiet = if quiet == 0 {
             None
@@ -49,13 +50,14 @@ impl<'a> Keep<'a> {
     }
 
     /// Whether the link is read no more, and why.
-    pub(crate) fn cut(&self) -> Option<Cut>
-        ensures quiet { result ≡ Some Cut.Quiet → IsSome self.now }
-        ensures found { IfSome self.now (λ quiet. IsTrue quiet.is_found → IsSome result) }
+    pub(crate) fn cut(&self) -> Option<Cut<'a>>
+        ensures stopped { (asked : _) → result ≡ Some (cuts.Stopped asked)
+            → asked.of ≡ self.now.stop }
+        ensures quiet { result ≡ Some cuts.Quiet → IsSome self.now.quiet }
+        ensures found { IfSome self.now.quiet (λ quiet. IsTrue quiet.is_found → IsSome result) }
     {
-        self.halt.look(self.rt);
-        if self.halt.is_asked() {
-            return Some(Cut::Stopped);
+        if let Some(asked) = self.halt.look(self.rt) {
+            return Some(Cut::Stopped(asked));
         }
         match &self.quiet {
             Some(quiet) if quiet.is_too_long(self.rt) => Some(Cut::Quiet),
@@ -65,7 +67,7 @@ impl<'a> Keep<'a> {
 
     /// The link gave bytes.
     pub(crate) fn give(&mut self)
-        ensures given { self.new ≡ option_map given self.old }
+        ensures given { self.new ≡ record self.old { quiet = option_map given self.old.quiet } }
     {
         if let Some(quiet) = &mut self.quiet {
             quiet.give(self.rt);
@@ -74,7 +76,7 @@ impl<'a> Keep<'a> {
 
     /// The link took bytes.
     pub(crate) fn take(&mut self)
-        ensures taken { self.new ≡ option_map taken self.old }
+        ensures taken { self.new ≡ record self.old { quiet = option_map taken self.old.quiet } }
     {
         if let Some(quiet) = &mut self.quiet {
             quiet.take(self.rt);
@@ -83,7 +85,9 @@ impl<'a> Keep<'a> {
 
     /// A read gave nothing.
     pub(crate) fn find_nothing(&mut self)
-        ensures rest { option_map but_found self.new ≡ option_map but_found self.old }
+        ensures stop { self.new.stop ≡ self.old.stop }
+        ensures quiet { option_map but_found self.new.quiet
+            ≡ option_map but_found self.old.quiet }
     {
         if let Some(quiet) = &mut self.quiet {
             quiet.find_nothing(self.rt);

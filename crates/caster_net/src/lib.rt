@@ -8,7 +8,6 @@
 mod adapters;
 mod bells;
 mod console;
-mod dial;
 mod door;
 mod gate;
 mod halt;
@@ -30,7 +29,7 @@ mod yard;
 pub use adapters::{FileStore, ReaderSource, WriterSink};
 pub use bells::Bells;
 pub use console::{InputConsole, InputLodge};
-pub use door::{DoorBell, TcpDoor};
+pub use door::TcpDoor;
 pub use gate::TcpGate;
 pub use halt::Halt;
 pub use link::TcpLink;

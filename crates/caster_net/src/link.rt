@@ -1,24 +1,20 @@
 //! A TCP connection as a link.
-ghost use Rattle.std.specs.Prelude.{◌≡◌, IfOk};
+ghost use Rattle.std.specs.Prelude.{◌≡◌, [], ◌∷◌, ◌++◌, IfOk};
 ghost use Rattle.caster_net.specs.Told.{link_told, new_wire};
 
-use crate::bells::Bells;
+use crate::bells::{Bells, Ringer};
 use crate::keep::{Cut, Keep};
-use crate::options::keep_alive;
-use crate::waiting::{MAX_KEPT_REST, MAX_REST, SHORT, rest, wait_ready};
+use crate::options::KeepAlive;
+use crate::waiting::{MAX_KEPT_REST, MAX_REST, SHORT, asked_of, poll_millis};
 use crate::watch::{Watch, Woken};
 use crate::wire::Wire;
-use cast_io::{Failed, Got, Link};
-use libc::net::POLLIN;
+use cast_io::{Failed, Got, Journal, Link};
+use libc::net::{POLLIN, poll};
 use std::io::Read;
 use std::marker::Model;
 use std::net::{Shutdown, TcpStream};
-use std::os::fd::{AsRawFd, RawFd};
 use std::time::{Duration, Instant};
 use std::{io, thread};
-
-// The first byte of every frame, which no head and no report has.
-const PREAMBLE: u8 = 0xD3;
 
 // The longest pause before a rest, in milliseconds.
 const MAX_PAUSE: u64 = 16;
@@ -27,27 +23,18 @@ const MAX_PAUSE: u64 = 16;
 const MAX_DRAINED: usize = 64 * 1024;
 
 /// A TCP connection, and how often it failed. A read does not wait for the peer; a write waits
-/// while the peer takes nothing. Contracts see the wire below it: a rest leaves that as it was.
-///
-/// A link that gave the first byte of a frame is a source: it waits for no bell at its rests, and
-/// rings that of its mountpoint where frames that it gave may have been published. Any other link
-/// waits for the bell of the mountpoint that it was told last, and while it was told none, for its
-/// peer alone.
+/// while the peer takes nothing. Contracts see the wire below it: a rest leaves that as it was. Its
+/// rests end with its peer, and with the bell that its ringer names.
 #[derive(Drop)]
 pub struct TcpLink<'a> {
     rt: &'a HostRuntime,
-    bells: &'a Bells,
     wire: Wire<TcpStream>,
+    ringer: Ringer<'a>,
     // None before the first rest, and where descriptors lack.
     watch: Option<Watch>,
     has_rested: bool,
     // How long it sleeps before it waits, in milliseconds.
     pause: u64,
-    is_source: bool,
-    // The mountpoint that it was told last.
-    mount: Option<u32>,
-    // It gave bytes, and no bell was rung for them yet.
-    gave: bool,
     has_ended: bool,
     // What a link of a gate heeds.
     keep: Option<Keep<'a>>,
@@ -70,17 +57,14 @@ impl<'a> TcpLink<'a> {
     {
         stream.set_nonblocking(true)?;
         stream.set_nodelay(true)?;
-        keep_alive(stream.as_raw_fd());
+        stream.keep_alive();
         Ok(TcpLink {
             rt,
-            bells,
             wire: Wire::over(stream),
+            ringer: Ringer::over(bells),
             watch: None,
             has_rested: false,
             pause: 0,
-            is_source: false,
-            mount: None,
-            gave: false,
             has_ended: false,
             keep: None,
         })
@@ -101,9 +85,11 @@ impl<'a> TcpLink<'a> {
         Ok(link)
     }
 
-    /// Whether small pieces are sent at once.
-    pub fn is_prompt(&self) -> io::Result<bool> {
-        self.wire.is_prompt()
+    /// The connection itself.
+    pub fn stream(&self) -> &TcpStream
+        ensures { result.now ≡ self.now.stream }
+    {
+        self.wire.stream()
     }
 
     /// How often a read or a write failed.
@@ -113,48 +99,29 @@ impl<'a> TcpLink<'a> {
         self.wire.faults()
     }
 
-    /// Ends the connection: first what is sent, and where the peer has not ended and no call
-    /// failed, then what it still sends is taken for this long at most. A connection that is closed
-    /// with bytes unread is reset, and its peer may lose what it was sent last (RFC 9112, section
-    /// 9.6). What is taken here is no part of the record.
-    pub(crate) fn close(mut self, limit: Duration) {
+    /// Comes back, as it is in the record then, and ends the connection: first what is sent, and
+    /// where the peer has not ended and no call failed, then what it still sends is taken for this
+    /// long at most. A connection that is closed with bytes unread is reset, and its peer may lose
+    /// what it was sent last (RFC 9112, section 9.6). What is taken here is no part of the record.
+    pub(crate) fn come_back(mut self, back: &mut Journal<TcpLink<'a>>, limit: Duration)
+        ensures { back.new ≡ back.old ++ self.entry ∷ [] }
+    {
+        back.add(&self);
         self.tell_last();
         let is_over = self.has_ended || self.wire.faults() > 0;
         let TcpLink { rt, wire, .. } = self;
-        let mut stream = wire.into_stream();
-        let _ = stream.shutdown(Shutdown::Write);
-        if !is_over {
-            let _ = drain(rt, &mut stream, limit);
-        }
+        close(rt, wire.into_stream(), is_over, limit);
     }
 
-    /// Rings for what this link gave since it last did. Where it was told no mountpoint, as one
-    /// that came to its end with its first bytes, it rings all bells.
+    /// Rings for what this link gave since it last did.
     pub(crate) fn tell_last(&mut self)
         ensures { self.new ≡ self.old }
     {
-        self.tell();
-        if self.gave {
-            self.gave = false;
-            self.bells.ring_all();
-        }
-    }
-
-    // Rings the bell of its mountpoint where this link gave frames since it last did. Before it was
-    // told one it has published none.
-    fn tell(&mut self)
-        ensures { self.new ≡ self.old }
-    {
-        if self.gave
-            && let Some(mount) = self.mount
-        {
-            self.gave = false;
-            self.bells.ring(mount);
-        }
+        self.ringer.tell_last();
     }
 
     // Whether it is read no more, and why.
-    fn cut(&self) -> Option<Cut> {
+    fn cut(&self) -> Option<Cut<'a>> {
         self.keep.as_ref()?.cut()
     }
 
@@ -165,11 +132,9 @@ impl<'a> TcpLink<'a> {
         if let Some(keep) = &mut self.keep {
             keep.give();
         }
-        if !self.is_source && bytes.contains(&PREAMBLE) {
-            self.is_source = true;
+        if self.ringer.hear(bytes) {
             self.pause = 0;
         }
-        self.gave = self.is_source;
     }
 
     // Makes the watch at the first rest, if there is a descriptor for it. Where a door has none,
@@ -177,7 +142,7 @@ impl<'a> TcpLink<'a> {
     fn prepare(&mut self)
         ensures { self.new ≡ self.old }
     {
-        let may_watch = !self.bells.is_short() && (!self.has_rested || self.watch.is_some());
+        let may_watch = !self.has_rested || self.watch.is_some();
         self.has_rested = true;
         if !may_watch || self.tune().is_err() {
             self.watch = None;
@@ -188,21 +153,13 @@ impl<'a> TcpLink<'a> {
     fn tune(&mut self) -> io::Result<()>
         ensures { self.new ≡ self.old }
     {
-        let ear = self.ear()?;
+        let ear = self.ringer.ear(self.rt)?;
         if self.watch.is_none() {
             self.watch = Some(Watch::over(self.rt, self.wire.fd())?);
         }
         match &mut self.watch {
             Some(watch) => watch.hear(ear),
             None => Ok(()),
-        }
-    }
-
-    // Where the bell is heard that it waits for, if it does for one.
-    fn ear(&self) -> io::Result<Option<RawFd>> {
-        match self.mount {
-            Some(mount) if !self.is_source => Ok(Some(self.bells.ear(self.rt, mount)?)),
-            _ => Ok(None),
         }
     }
 
@@ -236,20 +193,17 @@ impl<'a> TcpLink<'a> {
     fn wait(&mut self) -> Woken
         ensures { self.new ≡ self.old }
     {
-        let longest = self.longest();
+        let (longest, short) = (self.longest(), Duration::from_millis(SHORT));
         match &mut self.watch {
             Some(watch) => {
                 if let Ok(woken) = watch.wait(longest) {
                     return woken;
                 }
-                rest(self.rt);
+                thread::sleep(self.rt, short);
             }
-            None => wait_ready(
-                self.rt,
-                self.wire.fd(),
-                POLLIN,
-                Duration::from_millis(SHORT),
-            ),
+            None => {
+                poll(&mut asked_of(self.wire.fd(), POLLIN), poll_millis(short));
+            }
         }
         Woken::Late
     }
@@ -259,7 +213,7 @@ impl Link for TcpLink<'_> {
     ghost told = { link_told };
 
     fn read(&mut self, buf: &mut [u8]) -> Got {
-        self.tell();
+        self.ringer.tell();
         let got = match self.cut() {
             Some(cut) => self.wire.cut(cut, buf),
             None => self.wire.read(buf),
@@ -302,7 +256,16 @@ impl Link for TcpLink<'_> {
     fn set_mount(&mut self, mount: u32)
         ensures { self.new ≡ self.old }
     {
-        self.mount = Some(mount);
+        self.ringer.set_mount(mount);
+    }
+}
+
+// Ends this connection; where it is not over, what the peer still sends is taken for this long at
+// most.
+fn close(rt: &HostRuntime, mut stream: TcpStream, is_over: bool, limit: Duration) {
+    let _ = stream.shutdown(Shutdown::Write);
+    if !is_over {
+        let _ = drain(rt, &mut stream, limit);
     }
 }
 

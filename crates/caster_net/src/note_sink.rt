@@ -67,7 +67,7 @@ impl<W: Write> Sink for NoteSink<'_, W> {
     {
         let answer = self.sink.write(piece);
         if answer.is_err() {
-            self.halt.ask();
+            let _ = self.halt.asked.try_set(());
         }
         answer
     }

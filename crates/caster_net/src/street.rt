@@ -6,7 +6,6 @@ ghost use Rattle.caster_net.specs.Gates.{new_net};
 ghost use Rattle.caster_net.specs.Told.{IsUnused, new_door};
 
 use crate::bells::Bells;
-use crate::dial::MAX_DIAL;
 use crate::door::{Porch, TcpDoor, share_porch};
 use crate::gate::{Ground, TcpGate};
 use crate::halt::Halt;
@@ -14,6 +13,7 @@ use crate::link::TcpLink;
 use crate::note_out::NoteOut;
 use crate::note_sink::NoteSink;
 use crate::notes::{AskedNote, CallNote};
+use crate::redial::MAX_DIAL;
 use crate::waiting::count_fault;
 use cast_io::{Journal, Street, StreetFault};
 use std::alloc::{AllocError, Global};
@@ -30,9 +30,8 @@ use std::time::{Duration, Instant};
 /// to it.
 #[derive(Drop)]
 pub struct TcpStreet<'a> {
-    rt: &'a HostRuntime,
-    bells: &'a Bells,
-    halt: &'a Halt,
+    // What its gates share.
+    pub(crate) ground: Ground<'a>,
     asked: Journal<AskedNote>,
     doors: Journal<TcpDoor<'a>>,
     links: Journal<TcpLink<'a>>,
@@ -79,9 +78,7 @@ impl<'a> TcpStreet<'a> {
         ensures { result ≡ new_net }
     {
         TcpStreet {
-            rt,
-            bells,
-            halt,
+            ground: Ground { rt, bells, halt },
             asked: Journal::new(),
             doors: Journal::new(),
             links: Journal::new(),
@@ -92,15 +89,6 @@ impl<'a> TcpStreet<'a> {
             notes: Journal::new(),
             yard_faults: 0,
             note_faults: 0,
-        }
-    }
-
-    /// What its gates share.
-    pub(crate) fn ground(&self) -> Ground<'a> {
-        Ground {
-            rt: self.rt,
-            bells: self.bells,
-            halt: self.halt,
         }
     }
 }
@@ -114,7 +102,7 @@ impl<'a> Street for TcpStreet<'a> {
 
     fn open(&mut self, addr: &str, doors: u32) -> Result<Vec<TcpDoor<'a>>, StreetFault> {
         self.asked.add(&AskedNote::Open(Journal::of_bytes(addr.as_bytes()), doors));
-        match opened_at(self.rt, self.bells, addr, doors) {
+        match opened_at(self.ground.rt, self.ground.bells, addr, doors) {
             Err(StreetFault::Failed) => count_fault(&mut self.faults, Err(StreetFault::Failed)),
             answer => answer,
         }
@@ -123,7 +111,7 @@ impl<'a> Street for TcpStreet<'a> {
     fn dial(&mut self, addr: &str) -> Result<TcpLink<'a>, StreetFault> {
         self.asked
             .add(&AskedNote::Dial(Journal::of_bytes(addr.as_bytes())));
-        match link_to(self.rt, self.bells, addr) {
+        match link_to(self.ground.rt, self.ground.bells, addr) {
             Ok(link) => Ok(link),
             Err(_) => count_fault(&mut self.faults, Err(StreetFault::Failed)),
         }

@@ -1,14 +1,13 @@
 //! What links, doors and streets have in common: the count of faults, the errors that say "nothing
 //! yet", and how they wait.
-ghost use Rattle.std.specs.Prelude.{◌≡◌, ◌≤◌, ◌↔◌, IsTrue};
+ghost use Rattle.std.specs.Prelude.{◌≡◌, ◌≤◌, ◌↔◌, ◌/◌, ◌-◌, ◌^◌, [], ◌∷◌, max, min, pos, IsTrue};
+ghost use Rattle.std.specs.Duration.{as_nanos};
 ghost use Rattle.cast_io.specs.Causes.{Rose};
 ghost use Rattle.caster_net.specs.Honest.{WouldWait};
 
-use libc::net::poll;
 use libc::types::pollfd;
 use std::io::ErrorKind;
 use std::os::fd::RawFd;
-use std::thread;
 use std::time::Duration;
 
 /// A short rest, in milliseconds.
@@ -38,20 +37,21 @@ pub(crate) fn would_wait(kind: ErrorKind) -> bool
     matches!(kind, ErrorKind::WouldBlock | ErrorKind::Interrupted)
 }
 
-/// Waits a short while.
-pub(crate) fn rest(rt: &HostRuntime) {
-    thread::sleep(rt, Duration::from_millis(SHORT));
-}
-
-/// Waits until the descriptor is ready for what is wanted, so long at most.
-pub(crate) fn wait_ready(rt: &HostRuntime, fd: RawFd, wanted: i16, limit: Duration) {
-    let mut asked = [pollfd {
+/// This descriptor, as `poll` is asked for it.
+pub(crate) fn asked_of(fd: RawFd, wanted: i16) -> [pollfd; 1]
+    ensures { result ≡ record { fd = fd; events = wanted; revents = pos 0 } ∷ [] }
+{
+    [pollfd {
         fd,
         events: wanted,
         revents: 0,
-    }];
-    let millis = i32::try_from(limit.as_millis()).unwrap_or(i32::MAX).max(1);
-    if poll(&mut asked, millis) < 0 {
-        rest(rt);
-    }
+    }]
+}
+
+/// So long as `poll` counts it, in milliseconds: it waits, and never for ever, as it would at a
+/// number below 0.
+pub(crate) fn poll_millis(limit: Duration) -> i32
+    ensures { result ≡ pos (max 1 (min (as_nanos limit / 1_000_000) (2 ^ 31 - 1))) }
+{
+    i32::try_from(limit.as_millis()).unwrap_or(i32::MAX).max(1)
 }

@@ -52,7 +52,7 @@ impl Watch {
         let Ok(events) = Events::with_capacity(rt.alloc(), 2) else {
             return Err(io::Error::from(ErrorKind::OutOfMemory));
         };
-        let watch = Watch {
+        let mut watch = Watch {
             poll,
             events,
             ear: None,
@@ -61,8 +61,10 @@ impl Watch {
         Ok(watch)
     }
 
-    /// From now on waits for this socket too, until it is closed.
-    pub(crate) fn join(&self, socket: RawFd) -> io::Result<()> {
+    /// From now on waits for this socket too, until it is closed. After a failure it does not.
+    pub(crate) fn join(&mut self, socket: RawFd) -> io::Result<()>
+        ensures ear { self.new ≡ self.old }
+    {
         let registry = self.poll.registry();
         registry.register(&mut SourceFd(&socket), PEER, Interest::READABLE)
     }

@@ -3,16 +3,16 @@ ghost use Rattle.std.specs.Prelude.{◌≡◌, ◌<◌, ◌≤◌, [], length, t
 ghost use Rattle.cast_io.specs.Links.{IsGot, HasRead, HasWritten};
 ghost use Rattle.caster_net.specs.Honest.{IsHonestRead, IsHonestWrite, Means};
 ghost use Rattle.caster_net.specs.Told.{link_told, new_wire};
+ghost use Rattle.caster_net.specs.declared.keep.Cut.TheVariants as cuts;
 
 use crate::keep::Cut;
 use crate::notes::{StepNote, step_of_read};
-use crate::waiting::{MAX_REST, count_fault, wait_ready, would_wait};
+use crate::waiting::{MAX_REST, asked_of, count_fault, poll_millis, would_wait};
 use cast_io::{Failed, Got, Journal};
-use libc::net::POLLOUT;
+use libc::net::{POLLOUT, poll};
 use std::io;
 use std::io::{Read, Write};
 use std::marker::Model;
-use std::net::TcpStream;
 use std::os::fd::{AsRawFd, RawFd};
 use std::time::{Duration, Instant};
 
@@ -58,6 +58,13 @@ impl<S> Wire<S> {
         }
     }
 
+    /// The stream.
+    pub(crate) fn stream(&self) -> &S
+        ensures { result.now ≡ self.now.stream }
+    {
+        &self.stream
+    }
+
     /// How often a read or a write failed.
     pub fn faults(&self) -> u64
         ensures { result ≡ self.now.faults }
@@ -83,13 +90,6 @@ impl<S: AsRawFd> Wire<S> {
     }
 }
 
-impl Wire<TcpStream> {
-    /// Whether small pieces are sent at once.
-    pub(crate) fn is_prompt(&self) -> io::Result<bool> {
-        self.stream.nodelay()
-    }
-}
-
 impl<S: Read> Wire<S> {
     /// Fills the front of a buffer, which is not empty, by one read of the stream.
     pub fn read(&mut self, buf: &mut [u8]) -> Got
@@ -108,14 +108,14 @@ impl<S: Read> Wire<S> {
 impl<S> Wire<S> {
     /// A read of a wire that is read no more: at a stop the end is answered, as if the peer had
     /// ended, and else a failure. The stream is left as it is.
-    pub(crate) fn cut(&mut self, cut: Cut, buf: &[u8]) -> Got
+    pub(crate) fn cut(&mut self, cut: Cut<'_>, buf: &[u8]) -> Got
         ensures read { HasRead (link_told self.old) (link_told self.new) result buf.now }
         ensures stream { self.new.stream ≡ self.old.stream }
-        ensures stopped { cut ≡ Cut.Stopped → result ≡ Got.End }
-        ensures quiet { cut ≡ Cut.Quiet → result ≡ Got.Failed }
+        ensures stopped { (asked : _) → cut.entry ≡ cuts.Stopped asked → result ≡ Got.End }
+        ensures quiet { cut.entry ≡ cuts.Quiet → result ≡ Got.Failed }
     {
         let got = match cut {
-            Cut::Stopped => Got::End,
+            Cut::Stopped(_) => Got::End,
             Cut::Quiet => Got::Failed,
         };
         self.note(got, buf);
@@ -176,7 +176,10 @@ impl<S: Write> Wire<S> {
     {
         let begun = Instant::now(rt).ok()?;
         for _ in 0..u64::MAX {
-            wait_ready(rt, fd, POLLOUT, pause_in(rt, &begun)?);
+            poll(
+                &mut asked_of(fd, POLLOUT),
+                poll_millis(pause_in(rt, &begun)?),
+            );
             match self.write_once(piece) {
                 Got::Bytes(count) => return Some(count),
                 Got::Idle => {}

@@ -32,7 +32,7 @@ impl<'a> Yard for TcpStreet<'a> {
         quiet: u32,
     ) -> Result<Vec<TcpGate<'a>>, StreetFault> {
         self.calls.add(&CallNote::Gates(Origin::of_open_gates(addr, gates, quiet)));
-        match opened_at(self.ground(), addr, gates, quiet) {
+        match opened_at(self.ground, addr, gates, quiet) {
             Err(StreetFault::Failed) => count_fault(
                 &mut self.yard_faults,
                 Err(StreetFault::Failed),
@@ -44,7 +44,7 @@ impl<'a> Yard for TcpStreet<'a> {
     fn reach(&mut self, addr: &str, quiet: u32) -> Result<TcpGate<'a>, StreetFault> {
         self.calls
             .add(&CallNote::Gates(Origin::of_reach(addr, quiet)));
-        let ground = self.ground();
+        let ground = self.ground;
         match String::from_str(ground.rt.alloc(), addr) {
             Ok(peer) => Ok(TcpGate::to_peer(ground, Redial::of(peer), addr, quiet)),
             Err(AllocError) => Err(StreetFault::Memory),
@@ -53,7 +53,7 @@ impl<'a> Yard for TcpStreet<'a> {
 
     fn notes(&mut self) -> Result<NoteSink<'a, NoteOut>, StreetFault> {
         self.calls.add(&CallNote::Notes);
-        let ground = self.ground();
+        let ground = self.ground;
         Ok(NoteSink::new(ground.halt, NoteOut::new(ground.rt)))
     }
 

@@ -2,12 +2,11 @@
 use crate::streets::with_street;
 use cast_io::{Arrived, Door, Got, Link, Street, StreetFault};
 use caster_net::{TcpDoor, TcpLink, TcpStreet};
+use std::io;
 use std::io::{ErrorKind, Read, Write};
 use std::net::{TcpListener, TcpStream};
 use std::test::Fail;
-use std::thread::Threads;
-use std::time::{Duration, Instant};
-use std::{io, thread};
+use std::time::Instant;
 
 // How often a rest is timed.
 const TIMES: u32 = 10;
@@ -59,57 +58,29 @@ fn arrivals_of(
     Ok(([before, is_idle, behind], peer.read(&mut [0u8; 1])?))
 }
 
-// Whether a door finds nothing once its bell has ended a rest of it.
-fn is_stopped<R: Threads>(
-    rt: &R,
-    host: &HostRuntime,
-    door: &mut TcpDoor<'_>,
-) -> Result<bool, Fail> {
-    let bell = door.bell()?;
-    let ring = || {
-        thread::sleep(host, Duration::from_millis(50));
-        bell.ring();
-    };
-    let ((), ()) = thread::join(rt, || door.rest(), ring);
-    Ok(matches!(door.accept(), Arrived::Idle))
-}
-
-// What arrives at a door, and whether it finds nothing once its bell is rung.
-fn life_of<R: Threads>(
-    rt: &R,
-    host: &HostRuntime,
-    door: &mut TcpDoor<'_>,
-    place: &str,
-) -> Result<(([bool; 3], usize), bool), Fail> {
-    let arrivals = arrivals_of(host, door, place)?;
-    Ok((arrivals, is_stopped(rt, host, door)?))
-}
-
 // The same of the last of two doors; how many others there were; and whether the place was taken
 // then.
-fn lives_of<R: Threads>(
-    rt: &R,
-    host: &HostRuntime,
+fn lives_of(
+    rt: &HostRuntime,
     street: &mut TcpStreet<'_>,
     place: &str,
-) -> Result<(([bool; 3], usize), (usize, bool, bool)), Fail> {
-    let (mut doors, is_taken) = two_doors(host, street, place);
+) -> Result<(([bool; 3], usize), (usize, bool)), Fail> {
+    let (mut doors, is_taken) = two_doors(rt, street, place);
     let Some(mut door) = doors.pop() else {
         return Err(Fail::from("no doors"));
     };
     let count = doors.len();
     drop(doors);
-    let life = life_of(rt, host, &mut door, place);
+    let arrivals = arrivals_of(rt, &mut door, place);
     street.shut(door);
-    let (arrivals, is_stopped) = life?;
-    Ok((arrivals, (count, is_taken, is_stopped)))
+    Ok((arrivals?, (count, is_taken)))
 }
 
 #[test]
-fn a_door_gives_each_link_once_until_its_bell_is_rung(rt: HostRuntime) -> Result<(), Fail> {
+fn a_door_gives_each_link_once(rt: HostRuntime) -> Result<(), Fail> {
     let place = free_place(&rt)?;
-    let (arrivals, doors) = with_street(&rt, |street| lives_of(&rt, &rt, street, &place))?;
-    assert_eq!(rt; doors, (1, true, true));
+    let (arrivals, doors) = with_street(&rt, |street| lives_of(&rt, street, &place))?;
+    assert_eq!(rt; doors, (1, true));
     assert_eq!(rt; arrivals, ([true, true, true], 0));
     Ok(())
 }

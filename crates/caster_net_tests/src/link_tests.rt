@@ -199,7 +199,7 @@ fn a_link_without_a_mountpoint_rings_at_its_end(rt: HostRuntime) -> Result<(), F
 // Whether a link that was dialled sends small pieces at once.
 fn is_prompt(rt: &HostRuntime, street: &mut TcpStreet<'_>) -> Result<bool, Fail> {
     let (link, _peer) = pair(rt, street)?;
-    let is_prompt = link.is_prompt();
+    let is_prompt = link.stream().nodelay();
     street.hang_up(link);
     Ok(is_prompt?)
 }

@@ -1,10 +1,11 @@
 //! Whole casters, and what is wanted of them.
 
+use crate::promised::promised_totals;
 use crate::setting::{ADDRESS, config_of};
 use crate::telling::{Back, Ended, back_to};
 use cast_io::{MemStreet, Street};
 use caster_accounts::Sum;
-use caster_serve::{ServeFault, serve};
+use caster_serve::ServeFault;
 use session_core::{Closed, MountTotal};
 use std::alloc::Global;
 use std::sync::Wait;
@@ -64,7 +65,7 @@ where
     N::Link: Send,
 {
     let config = config_of(alloc, more)?;
-    let served = serve(rt, alloc, &config, ADDRESS, limit, street);
+    let served = promised_totals(rt, alloc, &config, ADDRESS, limit, street);
     answer_of(served)
 }
 

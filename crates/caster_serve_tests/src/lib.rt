@@ -1,5 +1,5 @@
 //! Runs of casters over streets in memory, by the public calls of `caster_serve`, with links whose
-//! calls wait for one another.
+//! calls wait for one another, and by the law of `serve_promise` on what they came to.
 //!
 //! They stand in a crate of their own, so that the crate that they try is proved once.
 #![tactic(auto)]
@@ -18,6 +18,8 @@ mod link_tests;
 mod mount_tests;
 #[cfg(test)]
 mod one_caller;
+#[cfg(test)]
+mod promised;
 #[cfg(test)]
 mod relay_tests;
 #[cfg(test)]

@@ -3,9 +3,8 @@ ghost use Rattle.std.specs.Prelude.{◌<◌, ◌^◌, IfOk, sum_by};
 ghost use Rattle.session_script.specs.declared.ScriptKind.TheVariants.{Replay};
 ghost use Rattle.session_script.specs.Script.{IsSession, input_length};
 
+use crate::promised::{greeted_report, promised_report};
 use cast_config::read_config;
-use caster_replay::replay;
-use caster_warm::warm;
 use session_core::Report;
 use session_script::{Event, ScriptKind, parse};
 use std::alloc::{AllocError, Global};
@@ -128,14 +127,14 @@ fn heard_in(alloc: Global, report: &Report, place: usize) -> Result<Heard, Fail>
 fn plain_report(alloc: Global, lines: &str) -> Result<Report, Fail> {
     let config = read_config(alloc, CONFIG)?;
     let events = events_of(alloc, lines)?;
-    Ok(replay(alloc, &config, &events)?)
+    Ok(promised_report(alloc, &config, &events)?)
 }
 
 /// The report of a run with greetings of these lines.
 fn warm_report(alloc: Global, lines: &str) -> Result<Report, Fail> {
     let config = read_config(alloc, CONFIG)?;
     let events = events_of(alloc, lines)?;
-    Ok(warm(alloc, &config, &events)?)
+    Ok(greeted_report(alloc, &config, &events)?)
 }
 
 /// A rover was sent these bytes and ended with this segment.

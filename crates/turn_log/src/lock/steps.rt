@@ -5,7 +5,6 @@ ghost use Rattle.turn_log.specs.History.{History};
 ghost use Rattle.turn_log.specs.LockRule.{times};
 ghost use Rattle.turn_log.specs.LockSteps.{Took, TookTurn};
 
-use super::bells::{rings, sleep};
 use super::parts::{Token, Turn};
 use super::plays::{Advance, Clear, Draw, Look};
 use super::rule::Held;
@@ -47,8 +46,8 @@ impl<V: Played> Turn<V> {
     }
 
     /// Waits until the ticket is served, and then the object is lent to the token. After some looks
-    /// it sleeps between two of them: rings are counted before a look and not after it, so that a
-    /// bell that is rung in between ends the sleep at once.
+    /// it sleeps between two of them: a wake that comes between a look and the sleep ends that at
+    /// once.
     fn wait<R: Wait>(&self, rt: &R, token: &mut Token<V>, ticket: u64)
         requires here { token.old.table_id ≡ self.now.table.shared.table_id }
         requires waiting { token.old.me.0.stage ≡ Waiting ticket }
@@ -56,10 +55,9 @@ impl<V: Played> Turn<V> {
         ensures same { (token.new.table_id ≡ token.old.table_id) × (token.new.id ≡ token.old.id) }
         ensures took { Took V.stands V.shape V.fits ticket token.old.me token.new.me }
     {
-        let bell = self.bells.of(ticket);
+        let parker = self.bells.of(ticket);
         let mut looks: u32 = 0;
         for _ in rt.forever() {
-            let rung = rings(bell);
             let serving = self.table.shared.load::<Look<V>>(token, SERVING);
             if serving == ticket {
                 return;
@@ -68,7 +66,7 @@ impl<V: Played> Turn<V> {
                 looks += 1;
                 spin_loop();
             } else {
-                sleep(rt, bell, rung);
+                parker.park(rt);
             }
         }
         unreachable!()
@@ -79,7 +77,7 @@ impl<V: Played> Turn<V> {
     fn wake_next(&self, ticket: u64) {
         let next = ticket.wrapping_add(1);
         if self.table.shared.peek(TICKET) != next {
-            self.bells.ring(next);
+            self.bells.of(next).unpark();
         }
     }
 

@@ -6,8 +6,8 @@ use Rattle.session_script.specs.Script.{IsSession}
 use Rattle.caster_replay.specs.Scripts.{IsShort}
 use Rattle.station_tests.proofs.warm_tests.plain_report.Goals as goal
 
-pub replay-requires-clause-script : goal.replay-requires-clause-script
-replay-requires-clause-script c = (
+pub promised_report-requires-clause-script : goal.promised_report-requires-clause-script
+promised_report-requires-clause-script c = (
   (
     Replay 0,
     omega arith,

@@ -6,8 +6,8 @@ use Rattle.session_script.specs.Script.{IsSession}
 use Rattle.caster_replay.specs.Scripts.{IsShort}
 use Rattle.station_tests.proofs.warm_tests.warm_report.Goals as goal
 
-pub warm-requires-clause-script : goal.warm-requires-clause-script
-warm-requires-clause-script c = (
+pub greeted_report-requires-clause-script : goal.greeted_report-requires-clause-script
+greeted_report-requires-clause-script c = (
   (
     Replay 0,
     omega arith,
