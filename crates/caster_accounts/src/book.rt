@@ -17,6 +17,10 @@ pub struct Book {
     all: Sum,
 }
 
+// A book is its accounts and the sum of all, and nothing beside them. An account and a sum are
+// `Copy`, so they own no list.
+const _: () = prove!(size_of::<Book>() == size_of::<(Vec<Account>, Sum)>());
+
 impl Book {
     ghost use Rattle.caster_accounts.specs.Sums.{total, total_of_all};
 

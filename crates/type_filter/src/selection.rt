@@ -40,6 +40,9 @@ enum Kind {
     Among(Vec<u16>),
 }
 
+// A filter is its list of numbers, where it has one, and nothing beside it.
+const _: () = prove!(size_of::<Filter>() == size_of::<Option<Vec<u16>>>());
+
 impl Model for Filter {
     ghost use Rattle.type_filter.specs.Permitted.{FilterValue};
     ghost use Rattle.type_filter.specs.Codes.{filter_code};
