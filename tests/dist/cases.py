@@ -7,87 +7,14 @@ import socket
 import ssl
 import subprocess
 import sys
-import tempfile
 import time
 import traceback
-import xml.dom.minidom
-from html import unescape
 
 sys.path.insert(0, 'tests/serve')
-from wire import *
-
-WORK = tempfile.mkdtemp()
-processes = []
-
-
-class Missing(Exception):
-    """A program that a case needs is not installed."""
-
-
-def need(*programs):
-    for program in programs:
-        if not shutil.which(program, path=os.environ['PATH'] + ':/usr/sbin:/sbin'):
-            raise Missing(program)
-
-
-def text_of(path):
-    with open(path) as file:
-        return file.read()
-
-
-def write(name, text):
-    path = os.path.join(WORK, name)
-    with open(path, 'w') as file:
-        file.write(text)
-    return path
-
-
-def run(*words, **more):
-    return subprocess.run(words, stdout=subprocess.PIPE, stderr=subprocess.PIPE, timeout=60, **more)
-
-
-def passes(*words, **more):
-    """The command ends with 0 and says nothing to standard error."""
-    done = run(*words, **more)
-    if done.returncode or done.stderr:
-        raise Wrong('%s: status %d, %s' % (' '.join(words), done.returncode, show(done.stderr)))
-    return done.stdout
-
-
-def start(*words):
-    process = subprocess.Popen(words, stdin=subprocess.DEVNULL, stdout=subprocess.DEVNULL,
-                               stderr=subprocess.PIPE)
-    processes.append(process)
-    return process
-
-
-def serve(config, limit, port=None):
-    caster = Caster(config, limit, port and '127.0.0.1:%d' % port)
-    caster.port = port or caster.port
-    processes.append(caster.process)
-    return caster
-
-
-def replaced(text, changes):
-    """The text with these changes, each of which is to be made somewhere."""
-    for old, new in changes:
-        if old not in text:
-            raise Wrong('no %r' % old)
-        text = text.replace(old, new)
-    return text
-
-
-def config(workers, mounts=('ALPHA',)):
-    """A configuration without credentials of rovers."""
-    text = 'version = 2\nworkers = %d\n' % workers
-    for name in mounts:
-        text += ('[[mount]]\nname = "%s"\npassword = "sesame"\nring = 64\nlatitude = 0\nlongitude = 0\n'
-                 % name)
-    listed = ', '.join('"%s"' % name for name in mounts)
-    return text + ('[[group]]\nname = "open"\nmounts = [%s]\ntypes = "all"\n'
-                   '[[account]]\nuser = "leaf"\npassword = "secret"\ngroup = "open"\ncap = 20\n'
-                   '[anonymous]\ngroup = "open"\ncap = 99\n' % listed)
-
+import pages
+import positions
+import tools
+from common import *
 
 # ---- manual page, unit, installing
 
@@ -131,278 +58,16 @@ def installed():
         passes(folder + '/usr/local/bin/caster-' + name, input=b'')
 
 
-# ---- pictures
-
-def drawn(report):
-    return run('dist/draw-report', input=report)
-
-
-def the_example_picture():
-    """docs/example.svg is the picture of the example's report."""
-    report = passes(PROGRAM, 'replay', 'examples/caster.toml', 'examples/field.session')
-    if drawn(report).stdout != open('docs/example.svg', 'rb').read():
-        raise Wrong('docs/example.svg is another picture')
-
-
-def large_session():
-    """256 connections: two bases, near rovers that change between them, and rovers that are lapped."""
-    def came(connection, data):
-        return 'in %d %s' % (connection, data.hex())
-    near, plain = range(3, 60), range(60, 257)
-    lines = ['open 1', came(1, source_1('ALPHA', 'sesame')), 'open 2', came(2, source_1('BRAVO', 'open'))]
-    at = [report('4807.038,N', '01131.000,E'), report('4812.000,N', '01131.000,E')]
-    for one in near:
-        lines += ['open %d' % one, came(one, rover_1('NEAR', basic('rover1', 'secret'))),
-                  came(one, at[0].encode() + b'\r\n')]
-    for one in plain:
-        lines += ['open %d' % one, came(one, rover_1('ALPHA'))]
-    for place in range(300):
-        lines += [came(1, frame(1005, place)), came(2, frame(1005, place))]
-        lines += ['turn %d 16' % (3 + (place * 7 + step) % 254) for step in range(5)]
-        lines += [came(near[place % 57], at[place % 2].encode() + b'\r\n')]
-    return '\n'.join(lines + ['stop', ''])
-
-
-def large_picture():
-    """No line of a report of 256 connections is lost."""
-    large = replaced(text_of('examples/caster.toml'), [
-        ('cap = 2 ', 'cap = 300 '), ('cap = 20', 'cap = 300'), ('ring = 256', 'ring = 20')])
-    report = passes(PROGRAM, 'replay', write('large.toml', large), write('large.session', large_session()))
-    picture = drawn(report).stdout.decode()
-    xml.dom.minidom.parseString(picture)
-    titles = '\n'.join(re.findall(r'<title>(.*?)</title>', picture, re.S))
-    found = sorted(unescape(titles).split('\n'))
-    wanted = sorted(re.sub('^bytes (.*)', lambda hexed: 'bytes: %d' % (len(hexed[1]) // 2), line)
-                    for line in report.decode().splitlines())
-    for kind in ('connection ', 'segment ALPHA', 'segment BRAVO', 'lap ', 'account ', 'total '):
-        if not any(line.startswith(kind) for line in wanted):
-            raise Wrong('the report has no %s' % kind)
-    if found != wanted or picture.count('>lapped') != sum(line.startswith('lap ') for line in wanted):
-        raise Wrong('lines are lost')
-
-
-def cut_pictures():
-    """A report that is cut short anywhere, or is none, gets one line and status 1."""
-    report = passes(PROGRAM, 'replay', 'examples/caster.toml', 'examples/field.session')
-    cuts = [report[:at] for at in range(0, len(report), 23)] + [report[:-1]]
-    for wrong in cuts + [b'usage\n', b'\xff\n', report + report, report.replace(b'junk 0\n', b'')]:
-        done = drawn(wrong)
-        if done.returncode != 1 or done.stdout or done.stderr.count(b'\n') != 1:
-            raise Wrong('%s: status %d, %s' % (show(wrong), done.returncode, show(done.stderr)))
-        if wrong in cuts and b'cut short' not in done.stderr:
-            raise Wrong('%s: %s' % (show(wrong), show(done.stderr)))
-
-
-def picture_of_links():
-    """The lines of `caster keep` as a picture: of each link its receipt, each line of which is a title."""
-    second = plain(journal('keep.journal', 'keep.totals')).split('3.1 from', 1)
-    lines = ('3.1 from' + second[1]).splitlines()
-    picture = drawn('\n'.join(lines + ['']).encode())
-    if picture.returncode:
-        raise Wrong(show(picture.stderr))
-    text = picture.stdout.decode()
-    xml.dom.minidom.parseString(text)
-    titles = '\n'.join(re.findall(r'<title>(.*?)</title>', text, re.S))
-    before = ('from', 'to', 'asks', 'rover', 'source', 'relay')
-    wanted = [line for line in lines if line.split(' ')[1] not in before]
-    if sorted(unescape(titles).split('\n')) != sorted(wanted):
-        raise Wrong('the titles are\n%s' % titles)
-    wrong = ['0.1 what 5\n', '0.1 end rover:a 1 2\n', 'now\n', 'now mount ALPHA 5\n', 'now what\n']
-    for cut in ['\n'.join(lines[:-1]), '\n'.join(lines)] + wrong:
-        if drawn(cut.encode()).returncode != 1:
-            raise Wrong('it drew %r' % cut[-50:])
-
-
-# ---- the lines of a caster that keeps serving
-
-def journal(*names):
-    """These parts of a journal, written by hand: a run that is killed, and one that goes on, or is stopped."""
-    return ''.join(text_of('tests/dist/' + name) for name in names)
-
-
-def plain(text):
-    """The same lines without their times, as they stand in a file."""
-    return ''.join(line + '\n' for line in re.findall(r'^\S+ field caster\[[0-9]+\]: (.*)$', text, re.M))
-
-
-def prints(tool, text, wanted):
-    got = passes('dist/' + tool, input=text.encode()).decode()
-    if got != wanted:
-        raise Wrong('%s: wanted\n%sand got\n%s' % (tool, wanted, got))
-
-
-def who_is_on():
-    """In a run that goes on, behind a run that was killed; when only the first one had begun; and behind totals.
-    The same without times, where the lines of a run that was killed count until their workers have others."""
-    prints('who', journal('keep.journal'),
-           '0.1 source - ALPHA 203.0.113.1:50022 31 2026-11-29T00:01:06+0000\n'
-           '3.2 rover rover"2\\ ALPHA 203.0.113.7:50025 42 2026-11-29T00:02:01+0000\n')
-    killed = journal('keep.journal').split('2026-11-29T00:01:05')[0]
-    on = [('4.1 relay - CHARLIE 198.51.100.9:2101', 3, 1, '2026-11-28T23:58:01+0000'),
-          ('0.1 source - ALPHA 203.0.113.1:50001', 5, 3, '2026-11-28T23:58:02+0000'),
-          ('1.2 rover rover1 BRAVO 203.0.113.2:50010', 21, 19, '2026-11-29T00:00:01+0000'),
-          ('2.3 - - - -', 26, 24, '2026-11-29T00:00:09+0000')]
-    prints('who', killed, ''.join('%s %d %s\n' % (link, line, when) for link, line, _, when in on))
-    prints('who', plain(killed), ''.join('%s %d -\n' % (link, line) for link, _, line, _ in on))
-    # As `ts` puts the time before a line.
-    stamped = ''.join('2026-11-29T12:00:00 %s\n' % line for line in plain(killed).splitlines())
-    prints('who', stamped, ''.join('%s %d 2026-11-29T12:00:00\n' % (link, line) for link, _, line, _ in on))
-    second = plain(journal('keep.journal'))
-    prints('who', second, '0.1 source - ALPHA 203.0.113.1:50022 28 -\n3.2 rover rover"2\\ ALPHA 203.0.113.7:50025 39 -\n')
-    prints('who', journal('keep.journal', 'keep.totals'), '')
-    prints('who', plain(journal('keep.journal', 'keep.totals')), '')
-    prints('who', '', '')
-
-
-def bill():
-    """Sessions, frames sent and lost by the day of their ends, with times and without; the closing lines, which
-    are sums of the same, count nothing."""
-    prints('bill', journal('keep.journal', 'keep.totals'),
-           '2026-11-28 rover:rover1 1 87 10\n'
-           '2026-11-29 anonymous 1 3 0\n'
-           '2026-11-29 rover:rover"2\\ 1 19 0\n'
-           '2026-11-29 rover:rover1 2 42 0\n')
-    prints('bill', plain(journal('keep.journal', 'keep.totals')),
-           '- anonymous 1 3 0\n- rover:rover"2\\ 1 19 0\n- rover:rover1 3 129 10\n')
-    # Sums above 2^31.
-    prints('bill', '0.%d end rover:a 4000000000 3000000000 0 rover-end\n' * 3 % (1, 2, 3),
-           '- rover:a 3 12000000000 9000000000\n')
-    # A line that was cut, with the first line of the next run behind it.
-    cuts = ['0.1 end rover:a 5 0 0 rover-end'[:cut] + '0.1 from 127.0.0.1:9' for cut in range(18, 32)]
-    prints('bill', '\n'.join(cuts + ['0.1 end rover:a 5 0 0 rover-end unsettled', '0.2 end rover:b 7']),
-           '- rover:a 1 5 0\n')
-    prints('bill', '', '')
-
-
-STANDS = ['now mount ALPHA 77 9', 'now mount CHARLIE 5 -', 'now workers 4 5', 'now end']
-
-
-def asked(text):
-    """The same lines, and behind each an answer to `status` that says what no other line does."""
-    lines = []
-    for line in text.splitlines():
-        front = re.match(r'(\S+ field caster\[[0-9]+\]: )?', line)[0]
-        lines += [line] + [front + said for said in STANDS]
-    return ''.join(line + '\n' for line in lines)
-
-
-def told_alike(tool, text):
-    """The tool prints the same of both; a line's number, if it prints any, is that of the line."""
-    here, there = (passes('dist/' + tool, input=one.encode()).decode() for one in (text, asked(text)))
-    if tool == 'who':
-        here = re.sub(r'(?<= )([0-9]+)(?= \S+$)', lambda at: str(int(at[1]) * 5 - 4), here, flags=re.M)
-    if here != there:
-        raise Wrong('%s: wanted\n%sand got\n%s' % (tool, here, there))
-
-
-def how_things_stand_between():
-    """Answers to `status` between all other lines change nothing of what the tools tell of these. A line of an answer
-    that was cut, with another line behind it, is passed over."""
-    whole = journal('keep.journal', 'keep.totals')
-    for text in (journal('keep.journal'), whole, plain(journal('keep.journal')), plain(whole), ''):
-        for tool in ('who', 'bill', 'keep-metrics'):
-            told_alike(tool, text)
-    last = '3.1 from' + plain(whole).split('3.1 from', 1)[1]
-    answers, totals = asked(last.split('mount ')[0]), 'mount ' + last.split('mount ', 1)[1]
-    if drawn((answers + totals).encode()).stdout != drawn(last.encode()).stdout:
-        raise Wrong('another picture')
-    for tool in ('who', 'bill', 'keep-metrics'):
-        cut = ''.join('%s%s\n' % (STANDS[0][:at], '0.9 end rover:a 5 0 0 rover-end') for at in range(1, 20))
-        prints(tool, cut, passes('dist/' + tool, input=b'').decode())
-
-
-def status_by_the_fifo():
-    """A line `status` that is written to the FIFO of caster-run, by one who closes it again, is answered, and then
-    the line `stop` is heard."""
-    folder = os.path.join(WORK, 'run')
-    os.makedirs(folder)
-    with open(os.path.join(WORK, 'run.log'), 'w+b') as log:
-        more = dict(os.environ, CASTER=PROGRAM, RUNTIME_DIRECTORY=folder)
-        address = '127.0.0.1:%d' % free_port()
-        process = subprocess.Popen(['dist/caster-run', write('run.toml', config(3, ['ALPHA', 'BRAVO'])), address, '0'],
-                                   stdin=subprocess.DEVNULL, stdout=log, env=more)
-        processes.append(process)
-        answer = 'now mount ALPHA 0 -\nnow mount BRAVO 0 -\nnow workers 0 3\nnow end\n'
-        for word, wanted in [('status', answer), ('status', answer * 2)]:
-            until = time.monotonic() + PATIENCE
-            while not os.path.exists(folder + '/stop') and time.monotonic() < until:
-                time.sleep(0.05)
-            passes('sh', '-c', 'echo %s >%s/stop' % (word, folder))
-            while text_of(log.name) != wanted:
-                if time.monotonic() > until:
-                    raise Wrong('the lines are\n%s' % text_of(log.name))
-                time.sleep(0.05)
-        passes('sh', '-c', 'echo stop >%s/stop' % folder)
-        if process.wait(timeout=PATIENCE) or not text_of(log.name).startswith(answer * 2 + 'mount ALPHA 0 0\n'):
-            raise Wrong('status %d, and the lines are\n%s' % (process.returncode, text_of(log.name)))
-
-
-METRICS = '''# HELP caster_mount_held Whether a source or relay holds the mountpoint.
-# TYPE caster_mount_held gauge
-caster_mount_held{mount="ALPHA"} %d
-caster_mount_held{mount="CHARLIE"} 0
-# HELP caster_mount_claims_total Claims that were given.
-# TYPE caster_mount_claims_total counter
-caster_mount_claims_total{mount="ALPHA"} 2
-caster_mount_claims_total{mount="CHARLIE"} 1
-# HELP caster_mount_published Frames published in this run, as far as the lines tell.
-# TYPE caster_mount_published gauge
-caster_mount_published{mount="ALPHA"} %d
-caster_mount_published{mount="BRAVO"} 0
-%s# HELP caster_links Links that are open.
-# TYPE caster_links gauge
-caster_links{kind="other"} 0
-caster_links{kind="relay"} 0
-caster_links{kind="rover"} %d
-caster_links{kind="source"} %d
-# HELP caster_sessions_total Sessions of rovers that ended.
-# TYPE caster_sessions_total counter
-caster_sessions_total{account=""} 1
-%scaster_sessions_total{account="rover1"} 3
-# HELP caster_sent_total Frames sent in these.
-# TYPE caster_sent_total counter
-caster_sent_total{account=""} 3
-%scaster_sent_total{account="rover1"} 129
-# HELP caster_overrun_total Frames lost in these.
-# TYPE caster_overrun_total counter
-caster_overrun_total{account=""} 0
-%scaster_overrun_total{account="rover1"} 10
-# HELP caster_refusals_total Links that were refused.
-# TYPE caster_refusals_total counter
-caster_refusals_total{ending="password"} 1
-caster_refusals_total{ending="taken"} 1
-'''
-
-
-def metrics():
-    """The text for the node exporter while the caster goes on, and behind its totals; in a file, which is there
-    soon behind a line, and without one."""
-    other = 'caster_%s_total{account="rover\\"2\\\\"} %d\n'
-    open_run, whole_run = plain(journal('keep.journal')), plain(journal('keep.journal', 'keep.totals'))
-    wanted = METRICS % (1, 52, '', 1, 1, '', '', '')
-    prints('keep-metrics', open_run, wanted)
-    behind = METRICS % (0, 61, 'caster_mount_published{mount="CHARLIE"} 0\n', 0, 0,
-                        other % ('sessions', 1), other % ('sent', 19), other % ('overrun', 0))
-    prints('keep-metrics', whole_run, behind)
-    prints('keep-metrics', journal('keep.journal'), wanted)
-    prints('keep-metrics', journal('keep.journal', 'keep.totals'), behind)
-    cuts = ['0.1 end rover:a 5 0 0 rover-end'[:cut] + '0.1 from 127.0.0.1:9' for cut in range(18, 31)]
-    prints('keep-metrics', whole_run + '0.1 lap x\n4.1 segment ALPHA\nmount ALPHA\n' + '\n'.join(cuts + ['']), behind)
-    path = os.path.join(WORK, 'caster.prom')
-    process = subprocess.Popen(['dist/keep-metrics', path], stdin=subprocess.PIPE)
-    processes.append(process)
-    half = len(open_run) // 2
-    for text, says in [(open_run[:half], None), (open_run[half:], wanted), (whole_run[len(open_run):], behind)]:
-        process.stdin.write(text.encode())
-        process.stdin.flush()
-        until = time.monotonic() + PATIENCE
-        while not os.path.exists(path) or says and text_of(path) != says:
-            if time.monotonic() > until:
-                raise Wrong('the file has\n%s' % (text_of(path) if os.path.exists(path) else 'nothing'))
-            time.sleep(0.05)
-    process.stdin.close()
-    if process.wait(timeout=PATIENCE) or text_of(path) != behind or os.path.exists(path + '.new'):
-        raise Wrong('at the end: status %d' % process.returncode)
+def symbols():
+    """The program in dist/ takes no symbol of a glibc later than README names."""
+    need('objdump')
+    if not os.path.exists('dist/caster-x86_64-linux'):
+        raise Missing('the program in dist/')
+    table = passes('objdump', '-T', 'dist/caster-x86_64-linux').decode()
+    versions = [tuple(map(int, one.split('.'))) for one in re.findall(r'GLIBC_([0-9.]+)', table)]
+    named, = re.findall(r'glibc ([0-9.]+) or later', text_of('README.md'))
+    if not versions or max(versions) != tuple(map(int, named.split('.'))):
+        raise Wrong('README names %s, and the program takes %s' % (named, sorted(set(versions))))
 
 
 # ---- recipes
@@ -456,15 +121,66 @@ def vanished_base(sources, rovers):
     rover.close()
 
 
+def stranger(port, data=b''):
+    """A connection of another address, 127.0.0.2, that sends this and no more."""
+    one = socket.create_connection(('127.0.0.1', port), PATIENCE, ('127.0.0.2', 0))
+    one.sendall(data)
+    return one
+
+
+def has_ended(one):
+    try:
+        return one.recv(100) == b''
+    except ConnectionResetError:
+        return True
+
+
+def is_cut_off(port):
+    """Whether one more stranger is cut off, at once."""
+    try:
+        one = stranger(port)
+        one.settimeout(1)
+        return has_ended(one)
+    except ConnectionResetError:
+        return True
+    except TimeoutError:
+        return False
+
+
+def strangers(port, caster):
+    """Twelve of one address, as many as it may have, that send nothing, half a head, or the hello of TLS, take no
+    worker; one more is cut off at once. An honest base and rover find theirs meanwhile, at once."""
+    halves = [b'', b'GET /AL', b'SOURCE ', b'GET /ALPHA HTTP/1.0\r\nUser-Agent: x\r\n', b'SOURCE sesame ALPHA\r\n',
+              b'\x16\x03\x01\x02\x00\x01\x00\x01\xfc\x03\x03']
+    some = [stranger(port, half) for half in halves * 2]
+    if not is_cut_off(port):
+        raise Wrong('an address has more connections than it may')
+    begun = time.monotonic()
+    rover = Client(port).send(rover_1('ALPHA')).expect(ICY)
+    base = Client(port).send(source_1('ALPHA', 'sesame')).expect(ICY).send(A)
+    rover.expect(A)
+    if time.monotonic() - begun > 1:
+        raise Wrong('an honest one waited for %.1f s' % (time.monotonic() - begun))
+    if connections_at(caster.port) != 2:
+        raise Wrong('%d workers are taken' % connections_at(caster.port))
+    for one in some:
+        one.settimeout(PATIENCE)
+        if not has_ended(one):
+            raise Wrong('half a head was answered')
+    for one in (base, rover):
+        one.close()
+
+
 def haproxy_one():
-    """dist/haproxy-one.cfg with 3 seconds in place of a minute for bases, 2 for those who send nothing or wait
-    for a worker, and two workers for rovers. Bases find a worker when there is none for rovers."""
+    """dist/haproxy-one.cfg with 3 seconds in place of a minute for bases, 2 for those who send no head or wait for a
+    worker, 12 connections of an address, and two workers for rovers. Bases find a worker when there is none for
+    rovers, and strangers without a head take none."""
     need('haproxy', 'openssl')
     caster, plain, secret = serve(config(8, ['ALPHA', 'BRAVO']), 50), free_port(), free_port()
     start('haproxy', '-db', '-f', write('one.cfg', replaced(text_of('dist/haproxy-one.cfg'), [
         ('/etc/haproxy/caster.pem', certificate()), ('timeout tunnel 60s', 'timeout tunnel 3s'),
         ('inspect-delay 10s', 'inspect-delay 2s'), ('timeout queue 10s', 'timeout queue 2s'),
-        ('maxconn 56', 'maxconn 2'),
+        ('maxconn 56', 'maxconn 2'), ('gt 32', 'gt 12'),
         ('bind :2101', 'bind 127.0.0.1:%d' % plain), ('bind :2102', 'bind 127.0.0.1:%d' % secret),
         ('127.0.0.1:2110', '127.0.0.1:%d' % caster.port)])))
     silent = Client(plain)
@@ -479,6 +195,14 @@ def haproxy_one():
     waiting.expect(ICY)
     base.send(B)
     waiting.expect(B)
+    for one in (base, waiting, *rovers):
+        one.close()
+    until = time.monotonic() + PATIENCE
+    while connections_at(caster.port):
+        if time.monotonic() > until:
+            raise Wrong('connections are left')
+        time.sleep(0.05)
+    strangers(plain, caster)
 
 
 def haproxy_two():
@@ -567,12 +291,12 @@ def haproxy_log():
 
 
 def nginx():
-    """dist/nginx-tls.conf with 3 seconds in place of a minute."""
+    """dist/nginx-tls.conf with 3 seconds in place of a minute, and 3 connections of an address at each server."""
     need('nginx', 'openssl')
     caster, ports = serve(config(8), 50), [free_port() for _ in range(3)]
     path = write('nginx.conf', replaced(text_of('dist/nginx-tls.conf'), [
         ('/etc/nginx/caster.pem', certificate()), ('proxy_timeout 60s', 'proxy_timeout 3s'),
-        ('127.0.0.1:2110', '127.0.0.1:%d' % caster.port)]
+        ('127.0.0.1:2110', '127.0.0.1:%d' % caster.port), ('limit_conn addresses 32', 'limit_conn addresses 3')]
         + [('listen %d' % (2101 + at), 'listen 127.0.0.1:%d' % port) for at, port in enumerate(ports)]))
     tested = run('nginx', '-t', '-c', path)
     if tested.returncode and b'unknown directive "stream"' in tested.stderr:
@@ -580,7 +304,12 @@ def nginx():
     start('nginx', '-c', path, '-g', 'daemon off; pid %s/nginx.pid; error_log stderr;' % WORK)
     vanished_base(ports[2], ports[1])
     rover = Client(ports[0]).send(rover_1('ALPHA')).expect(ICY)
-    rover.close()
+    # Of another address: as many as it may have, at this server.
+    some = [stranger(ports[0]) for _ in range(3)]
+    if not is_cut_off(ports[0]):
+        raise Wrong('an address has more connections than it may')
+    for one in (rover, *some):
+        one.close()
 
 
 def redial():
@@ -612,9 +341,35 @@ def redial():
         raise Wrong('it dialled nobody')
 
 
-CASES = [manual, unit, installed, the_example_picture, large_picture, cut_pictures, picture_of_links, who_is_on, bill,
-         metrics, how_things_stand_between, status_by_the_fifo, haproxy_one, haproxy_two, haproxy_many, haproxy_log,
-         nginx, redial]
+def in_namespaces(script, name):
+    """Runs this script of tests/dist in namespaces of its own; it prints nothing and ends with 0."""
+    need('unshare', 'ip')
+    front = ['unshare', '--mount', '--net', '--pid', '--fork', '--kill-child', '--mount-proc']
+    if os.geteuid() or run(*front, 'true').returncode:
+        raise Missing('root and namespaces of its own')
+    folder = os.path.join(WORK, name)
+    os.mkdir(folder)
+    done = subprocess.run(front + [sys.executable, '-B', 'tests/dist/' + script, folder], stdin=subprocess.DEVNULL,
+                          stdout=subprocess.PIPE, stderr=subprocess.STDOUT, timeout=120)
+    if done.returncode or done.stdout:
+        raise Wrong('status %d: %s' % (done.returncode, done.stdout.decode(errors='replace')))
+
+
+def for_good():
+    """The block of README.md, "Run it for good", as it stands there: see for_good.py."""
+    need('haproxy', 'openssl', 'curl', 'dpkg')
+    if not os.path.exists('dist/caster-x86_64-linux'):
+        raise Missing('the program in dist/')
+    in_namespaces('for_good.py', 'for-good')
+
+
+def silent_names():
+    """A name server that never answers holds up no stop of caster-run: see silent_names.py."""
+    in_namespaces('silent_names.py', 'silent-names')
+
+
+CASES = [manual, unit, installed, symbols] + tools.CASES + [
+    haproxy_one, haproxy_two, haproxy_many, haproxy_log, nginx, redial, for_good, silent_names] + pages.CASES + positions.CASES
 
 
 def main():

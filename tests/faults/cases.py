@@ -6,6 +6,7 @@ import os
 import re
 import select
 import signal
+import socket
 import subprocess
 import sys
 import tempfile
@@ -472,12 +473,6 @@ def full_device():
 
 # ---- the system
 
-def processor_seconds(keeper):
-    with open('/proc/%d/stat' % keeper.process.pid) as file:
-        words = file.read().rpartition(')')[2].split()
-    return (int(words[11]) + int(words[12])) / os.sysconf('SC_CLK_TCK')
-
-
 def let_in(one):
     """This rover of ALPHA is let in, before anything is published that it hears."""
     one.expect(ICY)
@@ -511,10 +506,8 @@ def descriptors_run_out():
         rovers.append(waits)
     served = len(rovers)
     holds('%d rovers were served' % served, 1 <= served < 7)
-    before = processor_seconds(keeper)
-    time.sleep(2)
-    used = (processor_seconds(keeper) - before) / 2
-    holds('%.0f %% of a processor while one waits' % (100 * used), used < 0.5)
+    used = wire.busiest(keeper.process, 2)
+    holds('the busiest had work for %.0f %% of the time while one waits' % (100 * used), used < 0.5)
     leave(rovers.pop())
     let_in(waits)
     leave(waits, *rovers)
@@ -524,8 +517,46 @@ def descriptors_run_out():
     leave(base, late)
     limit_descriptors(keeper, 1024)
     closes(keeper, 2)
-    return ('%d rovers and a base were served, %.0f %% of a processor while one waited'
+    return ('%d rovers and a base were served, the busiest had work for %.0f %% of the time while one waited'
             % (served, 100 * used))
+
+
+class Elsewhere(guests.Upstream):
+    """Another caster at this address of loopback, whose name has several."""
+
+    def __init__(self, mount, host, name):
+        super().__init__(mount)
+        self.listener.close()
+        self.listener = socket.create_server((host, 0))
+        self.listener.settimeout(PATIENCE)
+        self.address = '%s:%d' % (name, self.listener.getsockname()[1])
+        self.relay = (mount, self.address, self.version)
+
+
+def names_with_two_addresses():
+    """The peers of two relays have one name, with two addresses; each listens at one of them alone, the other
+    refuses. Both are reached at the first dial, and their frames come to a rover."""
+    with tempfile.NamedTemporaryFile('w') as hosts:
+        hosts.write('127.0.0.1 localhost\n127.0.0.2 twice.test\n127.0.0.3 twice.test\n')
+        hosts.flush()
+        subprocess.run(['mount', '--bind', hosts.name, '/etc/hosts'], check=True)
+        others = [Elsewhere(mount, host, 'twice.test')
+                  for mount, host in (('BRAVO', '127.0.0.2'), ('CHARLIE', '127.0.0.3'))]
+        begun = time.monotonic()
+        keeper = keep(4, relays=[one.relay for one in others])
+        far = [one.accept(keeper) for one in others]
+        took = time.monotonic() - begun
+        holds('both were reached after %.1f seconds' % took, took < 4)
+        rovers = [Rover(keeper, one.mount, 'rover1') for one in others]
+        for one, rover in zip(far, rovers):
+            one.guest.claim = 1
+            one.publish(3)
+            rover.wait_for(one.mount, 2).guest.spans = [(0, 3)]
+            one.close()
+        leave(*rovers)
+        for one in others:
+            one.close()
+        closes(keeper, 1)
 
 
 def stopped_and_continued():
@@ -569,7 +600,8 @@ def heard_by(one):
 SLOW = [keep_alive, nobody_acknowledges, nothing_is_read]
 CASES = [packets_are_lost, packets_come_late, cables_are_put_back, cable_of_a_base,
          cable_of_a_rover, a_side_vanishes, a_rovers_side_comes_back, a_bases_side_comes_back,
-         full_disk, full_device, descriptors_run_out, stopped_and_continued] + SLOW
+         full_disk, full_device, descriptors_run_out, names_with_two_addresses,
+         stopped_and_continued] + SLOW
 
 
 # ---- all of them, each in a process with namespaces of its own

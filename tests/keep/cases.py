@@ -1,7 +1,7 @@
 """Cases of `caster keep` with real sockets. Each is a function whose text says what it tries; it is wrong
 where it raises something. What is wanted comes from docs/FORMATS.md and from what the clients did, saw and
 sent; tests/keep/books.py compares the lines with it. Cases of the process, its output and its signals stand
-in tests/keep/process.py.
+in tests/keep/process.py, those of its sockets and of its rests in tests/keep/sockets.py.
 """
 import os
 import random
@@ -19,6 +19,7 @@ from books import agree, compare, read
 from guests import *
 from mutants import try_all
 from process import *
+from sockets import *
 from wire import (BAD_PASSWORD_1, DENIED_1, FULL_1, NO_MOUNT_2, TAKEN_1, TAKEN_2, UNAUTHORIZED_1, UNAUTHORIZED_2,
                   Client, rover_1, rover_2, source_1, source_2, table_1, table_2)
 
@@ -478,9 +479,12 @@ def many_links():
 
 # Those that wait for seconds run beside the others, each in a process of its own.
 SLOW = [stop_while_a_write_waits, upstream_that_comes_back, many_links, killed_at_any_time, bases_that_vanish,
-        one_byte_a_second, cut_in_time]
-CASES = [stop_with_all_open, stop_of_250_rovers, lapped_and_near, other_words, status_while_all_are_busy, full_pipe, closed_output,
+        one_byte_a_second, cut_in_time, frames_come_at_once, those_who_wait_rest, peer_that_refuses,
+        peer_that_does_not_answer, descriptors_that_run_out]
+CASES = [stop_with_all_open, stop_of_250_rovers, lapped_and_near, other_words, status_while_all_are_busy,
+         status_with_a_relay, options_of_links, listener_that_is_gone, full_pipe, closed_output,
          outputs_that_take_nothing, no_further_thread, caster_run_by_signals, caster_run_early_and_often,
+         caster_run_at_a_hangup, caster_run_beside_another, caster_run_to_a_file_at_its_limit,
          caster_run_gives_the_status] + SLOW
 
 

@@ -42,7 +42,7 @@ def drain_into(ear, kept):
 
 def full_pipe():
     """Nobody reads the lines, and the pipe is full: a mountpoint and its open rovers go on, those that leave
-    and come wait. Once it is read all is there."""
+    and come wait, but that one who leaves sees its end at once. Once it is read all is there."""
     ear, mouth = pipe_of(4096)
     keeper = keep(8, output=mouth)
     os.close(mouth)
@@ -71,7 +71,7 @@ def full_pipe():
             one.wait_for('ALPHA', place + 1)
     leaving = rovers[0]
     leaving.guest.spans = [(0, 50)]
-    leaving.finish()
+    leaving.leaves()
     late = Visitor(keeper).send(rover_1('ALPHA')).asks(1, 'rover', 'ALPHA')
     for place in range(50, 60, 2):
         base.publish(2)
@@ -82,7 +82,6 @@ def full_pipe():
     leavers[-1].socket.settimeout(PATIENCE)
     leavers[-1].until_end()
     wants('what came to the one that found the pipe full', bytes(leavers[-1].got), BAD_PASSWORD_1)
-    leaving.until_end()
     late.expect(ICY)
     late.guest.entered, late.guest.heard, late.guest.spans = ('rover', '-'), [('ALPHA', [])], [(60, 60)]
     late.ended('rover-end')
@@ -260,12 +259,15 @@ def killed_at_any_time():
 # ---- caster-run
 
 class Run(Keeper):
-    """The program by dist/caster-run, with its FIFO in a folder for that."""
+    """The program by dist/caster-run, with its FIFO in a folder for that, in which one that was killed may have left
+    its own."""
 
     input = subprocess.DEVNULL
 
-    def __init__(self, workers, **named):
+    def __init__(self, workers, left=False, **named):
         self.folder = tempfile.mkdtemp()
+        if left:
+            os.mkfifo(os.path.join(self.folder, 'stop'), 0o600)
         self.more = {'env': dict(os.environ, CASTER=PROGRAM, RUNTIME_DIRECTORY=self.folder), 'start_new_session': True}
         super().__init__(workers, **named)
         keepers.append(self)
@@ -291,8 +293,8 @@ class Run(Keeper):
 
 
 def caster_run_by_signals():
-    """TERM, INT, HUP and QUIT to caster-run, and TERM, INT and HUP to all processes of its group: each client sees
-    its end, the status is 0, and the books are whole. So it is where `stop` is written into the FIFO."""
+    """TERM, INT and QUIT to caster-run, and TERM and INT to all processes of its group: each client sees its end,
+    the status is 0, and the books are whole. So it is where `stop` is written into the FIFO."""
     def by_signal(run, sent):
         run.process.send_signal(sent)
 
@@ -303,8 +305,8 @@ def caster_run_by_signals():
         with open(os.path.join(run.folder, 'stop'), 'w') as file:
             file.write('stop\n')
 
-    ways = [(by_signal, sent) for sent in (signal.SIGTERM, signal.SIGINT, signal.SIGHUP, signal.SIGQUIT)]
-    ways += [(to_the_group, sent) for sent in (signal.SIGTERM, signal.SIGINT, signal.SIGHUP)]
+    ways = [(by_signal, sent) for sent in (signal.SIGTERM, signal.SIGINT, signal.SIGQUIT)]
+    ways += [(to_the_group, sent) for sent in (signal.SIGTERM, signal.SIGINT)]
 
     def one_way(at):
         way, sent = (ways + [(by_the_fifo, None)])[at]
@@ -318,6 +320,63 @@ def caster_run_by_signals():
         run.checked(run.ends())
 
     all_at_once(len(ways) + 1, one_way)
+
+
+def caster_run_at_a_hangup():
+    """HUP to caster-run, to the program and to all processes of the group, as of a terminal that is closed: base and
+    rover go on, and the books are whole at the stop."""
+    def by_hangup(at):
+        run = Run(3)
+        base, rover = Base(run, 'ALPHA', claim=1), Rover(run, 'ALPHA', 'rover1')
+        base.publish(5)
+        rover.wait_for('ALPHA', 4)
+        if at == 0:
+            run.process.send_signal(signal.SIGHUP)
+        elif at == 1:
+            os.kill(run.program(), signal.SIGHUP)
+        else:
+            os.killpg(run.process.pid, signal.SIGHUP)
+        time.sleep(1)
+        base.publish(5)
+        rover.wait_for('ALPHA', 9).guest.spans = [(0, 10)]
+        run.process.send_signal(signal.SIGTERM)
+        for one in (base, rover):
+            one.until_end()
+        run.checked(run.ends())
+
+    all_at_once(3, by_hangup)
+
+
+def caster_run_beside_another():
+    """A second caster-run in the folder of one that serves ends with 73, and the FIFO stays the first one's. The FIFO
+    of one that was killed is taken."""
+    run = Run(3)
+    base, rover = Base(run, 'ALPHA', claim=1), Rover(run, 'ALPHA', 'rover1')
+    done = subprocess.run(['dist/caster-run', run.path, '127.0.0.1:0', '0'], stdin=subprocess.DEVNULL,
+                          stdout=subprocess.PIPE, stderr=subprocess.PIPE, timeout=PATIENCE, env=run.more['env'])
+    said = ('caster-run: another one has %s/stop\n' % run.folder).encode()
+    wants('status and output', (done.returncode, done.stdout, done.stderr), (73, b'', said))
+    base.publish(3)
+    rover.wait_for('ALPHA', 2).guest.spans = [(0, 3)]
+    with open(os.path.join(run.folder, 'stop'), 'w') as file:
+        file.write('stop\n')
+    for one in (base, rover):
+        one.until_end()
+    run.checked(run.ends())
+    run = Run(2, left=True)
+    base = Base(run, 'ALPHA', claim=1)
+    run.process.send_signal(signal.SIGTERM)
+    base.until_end()
+    run.checked(run.ends())
+
+
+def caster_run_to_a_file_at_its_limit():
+    """The lines go to a file that may not grow (`ulimit -f`): a write that failed, with status 5."""
+    with tempfile.NamedTemporaryFile() as file:
+        run = Run(2, front=['sh', '-c', 'ulimit -f 0; file=$1; shift; exec "$@" >>"$file"', 'sh', file.name])
+        Client(run.port).close()
+        wants('a line that cannot be written', run.ends(5), '')
+        wants('what was written', file.read(), b'')
 
 
 def caster_run_early_and_often():

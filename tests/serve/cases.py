@@ -13,6 +13,7 @@ import select
 import socket
 import subprocess
 import sys
+import tempfile
 import threading
 import time
 import traceback
@@ -852,6 +853,50 @@ def network_faults():
     serve(example(2, relay)).ends_with(['network fault'], 6)
 
 
+def listener_that_is_gone():
+    """The listener is shut from outside while connections are still to come: a source and a rover are served to
+    their ends, and then `serve` and `record` tell the fault of the network, with status 6, and nothing else."""
+    for begin in (lambda: serve(example(3), 2), lambda: serve(example(2), 2), lambda: record(example(1), 3)):
+        caster = begin()
+        source = caster.client().send(source_1('ALPHA', 'sesame')).expect(ICY)
+        rover = caster.client().send(rover_1('ALPHA', ROVER1)).expect(ICY)
+        shut_listeners(caster.process)
+        if caster.command == 'serve':
+            source.send(A + B)
+            rover.expect(A + B)
+        for one in (source, rover):
+            one.close()
+        caster.ends_with(['network fault'], 6)
+
+
+def output_in_large_pieces():
+    """A sourcetable of 60 mountpoints goes out in pieces of 65,536 bytes. A pipe that keeps what was written at once
+    apart gives 4,096 bytes of it at most at a time (pipe(2), O_DIRECT): so as many pieces come as it has of these."""
+    text = 'version = 2\nworkers = 1\n' + ''.join(
+        '[[mount]]\nname = "M%d"\npassword = "p"\nring = 1\nlatitude = 0\nlongitude = 0\ndetails = "%s"\n'
+        % (at, 'x' * 100) for at in range(60)) + '[[group]]\nname = "all"\nmounts = ["M0"]\ntypes = "all"\n'
+    with tempfile.NamedTemporaryFile('w', suffix='.toml') as file:
+        file.write(text)
+        file.flush()
+        ear, mouth = os.pipe2(os.O_DIRECT | os.O_CLOEXEC)
+        process = subprocess.Popen([PROGRAM, 'table', file.name], stdin=subprocess.DEVNULL, stdout=mouth)
+        os.close(mouth)
+        pieces = []
+        while True:
+            one = os.read(ear, 65536)
+            if not one:
+                break
+            pieces.append(one)
+        os.close(ear)
+        wants('status', process.wait(PATIENCE), 0)
+    whole = b''.join(pieces)
+    wants('its end', whole[-16:], b'ENDSOURCETABLE\r\n')
+    wants('records', whole.count(b'\nSTR;') + whole.startswith(b'STR;'), 60)
+    if not len(whole) > 8192:
+        raise Wrong('the table has %d bytes' % len(whole))
+    wants('pieces of a table of %d bytes' % len(whole), [len(one) for one in pieces[:-1]], [4096] * (len(whole) // 4096))
+
+
 def workers_side_by_side():
     """Forty workers that serve three connections each, from forty clients at a time, all of which but the
     source ask for the sourcetable or take what is published."""
@@ -885,6 +930,41 @@ def workers_side_by_side():
     caster.ends_with(['mount ALPHA 3 1', 'mount BRAVO 0 0', 'account rover1 0 0 0', 'total 20 40 0'])
 
 
+def silent_source(caster):
+    """A source of ALPHA that sends nothing, and a rover there that has its reply."""
+    return (caster.client().send(source_1('ALPHA', 'sesame')).expect(ICY),
+            caster.client().send(rover_2('ALPHA', ROVER1)).expect(ROVER_2_OK))
+
+
+def those_who_wait_rest():
+    """For three seconds nothing comes to a caster that serves a source and a rover while two workers wait for somebody,
+    to one that serves and has one worker, to one that records, and to a fetch: none of their threads has work for
+    a third of that time."""
+    several, lone, recorder = serve(example(4)), serve(example(1)), record(example(1), 3)
+    clients = [*silent_source(several), *silent_source(recorder)]
+    fetch = Fetch(1, [1, several.addr, 'ALPHA', '-', '-'])
+    lone.wait_for_threads(1)
+    time.sleep(0.5)
+    waiting = [('serve', several), ('serve with one worker', lone), ('record', recorder), ('fetch', fetch)]
+    used = [None] * len(waiting)
+
+    def measure(at):
+        used[at] = busiest(waiting[at][1].process)
+
+    threads = [threading.Thread(target=measure, args=(at,)) for at in range(len(waiting))]
+    for thread in threads:
+        thread.start()
+    for thread in threads:
+        thread.join()
+    told = ['%s: %.0f %%' % (what, 100 * part) for (what, _), part in zip(waiting, used)]
+    if max(used) >= 0.33:
+        raise Wrong('the busiest had work for this part of the time: %s' % ', '.join(told))
+    fetch.process.kill()
+    fetch.process.communicate()
+    for one in clients:
+        one.close()
+
+
 CASES = [sessions_of_version_1, sessions_of_version_2, near_rover, near_rover_of_version_2, sourcetables,
          fetches, fetches_that_get_nothing,
          refusals, refused_source_that_goes_on_sending, descriptors_that_run_out, taken, full_account, lapped_rover, rover_that_reads_late, rover_that_never_reads,
@@ -893,7 +973,8 @@ CASES = [sessions_of_version_1, sessions_of_version_2, near_rover, near_rover_of
          recorded_near_rover, recorded_near_rover_that_moves, recorded_sessions_that_end_by_themselves,
          recorded_session_of_256_connections, recorded_session_that_comes_to_its_limit,
          recorded_clients_that_stay, recorded_session_that_is_not_written,
-         network_faults_of_a_recorder, other_addresses, network_faults, workers_side_by_side]
+         network_faults_of_a_recorder, other_addresses, network_faults, workers_side_by_side,
+         output_in_large_pieces, listener_that_is_gone, those_who_wait_rest]
 
 
 def run(case, failed):
@@ -923,7 +1004,7 @@ def main(names):
     cases = [case for case in CASES if not names or case.__name__ in names]
     failed = []
     # Those that wait for seconds run beside the others.
-    slow = [rover_that_never_reads, relay_that_does_not_answer, recorded_clients_that_stay]
+    slow = [rover_that_never_reads, relay_that_does_not_answer, recorded_clients_that_stay, those_who_wait_rest]
     beside = [threading.Thread(target=run, args=(case, failed)) for case in cases if case in slow]
     for thread in beside:
         thread.start()

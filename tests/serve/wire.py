@@ -1,6 +1,7 @@
 """What the cases of tests/serve speak with: frames, heads, replies, clients, the program, and a wire
 between two programs that can be cut. All texts are written by hand from docs/FORMATS.md."""
 import base64
+import ctypes
 import os
 import re
 import socket
@@ -11,6 +12,9 @@ import threading
 import time
 
 PROGRAM = os.environ.get('CASTER', './caster')
+
+# Calls of Linux for which Python 3.8 has no names.
+PIDFD_OPEN, PIDFD_GETFD = 434, 438
 
 # How long a client waits for bytes, and for the program to end, in seconds.
 PATIENCE = 30
@@ -358,6 +362,57 @@ class Caster:
             self.process.communicate()
         if os.path.exists(self.path):
             os.unlink(self.path)
+
+
+def sockets_of(process):
+    """Copies of the sockets of the program, to look at and to shut."""
+    system = ctypes.CDLL(None, use_errno=True)
+    handle = system.syscall(PIDFD_OPEN, process.pid, 0)
+    found = []
+    for name in os.listdir('/proc/%d/fd' % process.pid) if handle >= 0 else []:
+        try:
+            is_socket = os.readlink('/proc/%d/fd/%s' % (process.pid, name)).startswith('socket:')
+        except OSError:
+            continue
+        copied = system.syscall(PIDFD_GETFD, handle, int(name), 0) if is_socket else -1
+        if copied >= 0:
+            found.append(socket.socket(fileno=copied))
+    if not found:
+        raise Wrong('it has no sockets, or they cannot be copied: %s' % os.strerror(ctypes.get_errno()))
+    os.close(handle)
+    return found
+
+
+def shut_listeners(process):
+    """Its listener is none any more: no accept of it can succeed."""
+    for one in sockets_of(process):
+        if one.getsockopt(socket.SOL_SOCKET, socket.SO_ACCEPTCONN):
+            one.shutdown(socket.SHUT_RDWR)
+        one.close()
+
+
+def busiest(process, seconds=3):
+    """Which part of so many seconds from now on the busiest of its threads has work, whether it is given a processor
+    for it or not: so another program's load changes little of it."""
+    folder, counts, looks = '/proc/%d/task' % process.pid, {}, int(seconds / 0.02)
+    for _ in range(looks):
+        for thread in os.listdir(folder):
+            try:
+                with open('%s/%s/stat' % (folder, thread)) as file:
+                    counts[thread] = counts.get(thread, 0) + (file.read().rpartition(') ')[2][0] == 'R')
+            except OSError:
+                pass
+        time.sleep(0.02)
+    return max(counts.values()) / looks
+
+
+def wakes(process):
+    """How often each of its threads has gone to rest so far, and so was woken."""
+    folder, found = '/proc/%d/task' % process.pid, {}
+    for thread in os.listdir(folder):
+        with open('%s/%s/status' % (folder, thread)) as file:
+            found[thread] = next(int(line.split()[1]) for line in file if line.startswith('voluntary_ctxt_switches:'))
+    return found
 
 
 def connections_at(port):
