@@ -219,6 +219,7 @@ module _ {G O : Type 0} (told : G → DoorTold) (over : G → Bool) (peer : G �
           keepers_are = are;
           porter_is = both.1;
           whole = is.1;
+          legal = worked.legal;
           owns = worked.owns;
           porter_owns = worked.porter_owns;
           nobody_else = worked.nobody_else;

@@ -3,7 +3,7 @@ use Rattle.std.specs.Prelude.{◌≡◌, ℕ, ◌+◌, ◌<◌, ◌≤◌, ⊤, 
 use Rattle.std.specs.List.{All, flat_map}
 use mathlib.Core.Option.{some}
 use lib.ListN.{get_elem?}
-use Rattle.turn_log.specs.History.{History, own}
+use Rattle.turn_log.specs.History.{History, IsLegal, own}
 use Rattle.cast_io.specs.Causes.{Rose}
 use Rattle.cast_io.specs.Told.{DoorTold, Grew}
 use Rattle.cast_io.specs.Doors.{IsNewDoor}
@@ -11,11 +11,13 @@ use Rattle.cast_io.specs.declared.yard_asked.YardAsked.{YardAsked}
 use Rattle.cast_io.specs.Yards.{AreNewNotes, GateTold, NotesTold, YardTold}
 use Rattle.cast_console.specs.Consoles.{ConsoleTold, IsNewConsole}
 use Rattle.caster_accounts.specs.declared.account.Sum.{Sum}
+use Rattle.caster_accounts.specs.History.{fits}
 use Rattle.caster_accounts.specs.Sums.{nothing}
 use Rattle.cast_config.specs.declared.config.Config.{Config}
 use Rattle.session_model.specs.declared.report.Receipt.{Receipt}
 use Rattle.session_model.specs.Reports.{closed_of}
 use Rattle.session_model.specs.Run.{Histories, nothing_called}
+use Rattle.session_model.specs.Setting.{caps}
 use Rattle.session_model.specs.Text.{closed_text}
 use Rattle.caster_press.specs.declared.line.Line.{Line}
 use Rattle.caster_press.specs.declared.press.OutputStart.{OutputStart}
@@ -178,6 +180,9 @@ module _ {G : Type 0} (told : G → DoorTold) (over : G → Bool) (peer : G → 
     pub keepers_are : AreKeepers told over peer c (calls_in histories) (length lines) 0 keepers
     pub porter_is : IsPorter c (calls_in histories) (length lines) (length keepers) porter
     pub whole : AreWhole (seen_by_all keepers porter) histories (length c.mount)
+    -- each of them made calls in the book that fitted there
+    pub legal : All (λ (row : Histories). IsLegal (fits (caps c)) row.book)
+        (seen_by_all keepers porter)
     pub owns : (k : ℕ) (keeper : KeeperTold G) → get_elem? keepers k ≡ some keeper
         → own k lines ≡ keeper.lines
     pub porter_owns : own (length keepers) lines ≡ porter.lines

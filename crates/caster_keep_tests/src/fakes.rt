@@ -7,10 +7,11 @@ ghost use Rattle.cast_io.specs.FakeDoors.{is_new_arrival};
 ghost use Rattle.cast_io.specs.FakeGates.{is_new_gate};
 ghost use Rattle.cast_io.specs.FakeYards.{are_new_notes};
 
+use crate::promised::promised_keep;
 use cast_config::{Config, read_config};
 use cast_console::{MemLodge, Wanted};
 use cast_io::{GateEnd, MemDoor, MemGate, MemLink, MemSink, MemStreet, MemYard, PeerAddr};
-use caster_keep::{KeepFault, Stop, keep};
+use caster_keep::{KeepFault, Stop};
 use std::alloc::{AllocError, Global};
 use std::sync::Wait;
 use std::test::Fail;
@@ -160,7 +161,7 @@ fn keep_over<R: Threads + Wait + Sync>(
 ) -> Result<Ended, Fail> {
     let config = config_of(alloc)?;
     let mut lodge = MemLodge::new(alloc, wanted.to_vec(alloc)?);
-    let kept = keep(rt, alloc, &config, "127.0.0.1:0", 300, street, &mut lodge);
+    let kept = promised_keep(rt, alloc, &config, "127.0.0.1:0", 300, street, &mut lodge);
     Ok(match kept {
         Ok(outcome) => Ok((outcome.stop, outcome.is_torn)),
         Err(fault) => Err(fault),

@@ -1,4 +1,5 @@
-//! Runs of casters that keep serving, over yards in memory.
+//! Runs of casters that keep serving, over yards in memory, by the public calls of `caster_keep`
+//! and by the law of `keep_promise` on what they came to.
 //!
 //! They stand in a crate of their own, so that the crate that they try is proved once.
 #![tactic(auto)]
@@ -19,6 +20,8 @@ mod line_tests;
 mod now_tests;
 #[cfg(test)]
 mod porter_tests;
+#[cfg(test)]
+mod promised;
 #[cfg(test)]
 mod sum_tests;
 #[cfg(test)]

@@ -4,3 +4,6 @@ pub mod CallerLemmas
 pub mod PeerLemmas
 pub mod RunLemmas
 pub mod OverLemmas
+pub mod KeeperLemmas
+pub mod KeepOverLemmas
+pub mod CompleteLemmas

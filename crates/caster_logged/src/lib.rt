@@ -6,9 +6,15 @@
 //! logs, and no clause has a premise of that kind. They are read in this order:
 //!
 //! - `specs/Inputs.antt`: which bytes were read;
-//! - `specs/Callers.antt`: what was promised of the links that a caster served;
+//! - `specs/Callers.antt`: what was promised of the links that a caster served, and of its
+//!   accounts;
+//! - `specs/Keepers.antt`: the same of a caster that kept serving, with its lines, however it
+//!   ended;
 //! - `specs/Peers.antt`: the session that was recorded over the links of one door;
-//! - `specs/Runs.antt`: the frames that were fetched.
+//! - `specs/Runs.antt`: the frames that were fetched;
+//! - `specs/Keepers.antt`: what was promised of the links of a caster that keeps serving, its lines
+//!   and totals, and how it ended;
+//! - `specs/Complete.antt`: when it ends as it should.
 //!
 //! There is no code: the laws are contracts of functions that do nothing.
 #![tactic(auto)]

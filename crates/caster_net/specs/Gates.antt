@@ -35,9 +35,24 @@ new_gate origin = record {
   quiet = quiet_of origin;
 }
 
+-- a peer that is dialled again and again: its address; for how long it is not dialled since it was
+-- put off last, 0 where it never was; and how long the next pause is, all in seconds
+pub record RedialState : Type 0 where
+  pub addr : List ℕ
+  pub wait : ℕ
+  pub pause : ℕ
+
 -- The pause behind this one before a peer is dialled again, in seconds: twice as long, up to 80.
 abbrev pub pause_behind : ℕ → ℕ
 pause_behind pause = min (pause * 2) 80
+
+-- it is put off for its next pause
+abbrev pub put_off : RedialState → RedialState
+put_off peer = record peer { wait = peer.pause; pause = pause_behind peer.pause }
+
+-- its next pause is the shortest again, 5 seconds
+abbrev pub rested : RedialState → RedialState
+rested peer = record peer { pause = 5 }
 
 -- what a gate tells
 abbrev pub gate_logged : GateLog → GateTold

@@ -1,5 +1,5 @@
 -- What contracts see of the adapters: what they gave and took, and not what is to come.
-use Rattle.std.specs.Prelude.{ℕ, ◌≡◌, List, [], Option}
+use Rattle.std.specs.Prelude.{ℕ, ◌≡◌, List, [], Option, None, Some}
 use Rattle.cast_io.specs.declared.steps.SourceStep.{SourceStep}
 use Rattle.cast_io.specs.declared.steps.Step.{Step}
 use Rattle.cast_io.specs.declared.link.Got.{Got}
@@ -7,6 +7,7 @@ use Rattle.cast_io.specs.declared.link.Got.TheVariants as got
 use Rattle.cast_io.specs.Logged.{LinkLog, DoorLog, StreetLog, link_logged}
 use Rattle.cast_io.specs.Told.{LinkTold}
 use Rattle.caster_net.specs.Honest.{BothTake}
+use Rattle.caster_net.specs.Silence.{KeepState}
 
 -- a wire, and a link over it: the stream, the steps that it took, the bytes that its writes took,
 -- and its count of faults
@@ -20,17 +21,38 @@ pub record WireState (S : Type 0) : Type 0 where
 abbrev pub new_wire : {S : Type 0} → S → WireState S
 new_wire stream = record { stream = stream; taken = []; bytes = []; faults = 0 }
 
--- nothing was read or written over this wire yet
-abbrev pub IsUnused : {S : Type 0} → WireState S → Type 0
-IsUnused wire = wire ≡ new_wire wire.stream
-
 -- the log of a link over this wire
-abbrev pub link_log : {S : Type 0} → WireState S → LinkLog
-link_log wire = record { taken = wire.taken; bytes = wire.bytes; faults = wire.faults }
+abbrev pub wire_log : {S : Type 0} → WireState S → LinkLog
+wire_log wire = record { taken = wire.taken; bytes = wire.bytes; faults = wire.faults }
 
 -- and what the link tells
-abbrev pub link_told : {S : Type 0} → WireState S → LinkTold
-link_told wire = link_logged (link_log wire)
+abbrev pub wire_told : {S : Type 0} → WireState S → LinkTold
+wire_told wire = link_logged (wire_log wire)
+
+-- a link: the wire below it, and what it heeds where it is one of a gate
+pub record LinkState (S : Type 0) : Type 0 where
+  pub wire : WireState S
+  pub keep : Option KeepState
+
+-- a link over this stream that did nothing yet, and heeds nothing
+abbrev pub new_link : {S : Type 0} → S → LinkState S
+new_link stream = record { wire = new_wire stream; keep = None }
+
+-- one of a gate, which heeds this
+abbrev pub new_kept_link : {S : Type 0} → S → KeepState → LinkState S
+new_kept_link stream keep = record { wire = new_wire stream; keep = Some keep }
+
+-- its log
+abbrev pub link_log : {S : Type 0} → LinkState S → LinkLog
+link_log link = wire_log link.wire
+
+-- and what it tells
+abbrev pub link_told : {S : Type 0} → LinkState S → LinkTold
+link_told link = wire_told link.wire
+
+-- nothing was read or written over this link yet, and it heeds nothing
+abbrev pub IsUnused : {S : Type 0} → LinkState S → Type 0
+IsUnused link = link ≡ new_link link.wire.stream
 
 -- how many bytes a read gave or a write took
 abbrev pub count_of : Got → ℕ

@@ -222,6 +222,7 @@ impl<'a> FileStore<'a> {
         ensures same { self.new ≡ record self.old { faults = self.new.faults } }
     {
         self.file = None;
+        // Untied line: which file is opened.
         let Ok(file) = File::open(self.rt, path) else {
             self.faults = self.faults.saturating_add(1);
             return Err(Failed);

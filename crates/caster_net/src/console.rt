@@ -1,6 +1,7 @@
 //! Where it is asked how a caster stands that keeps serving: the input by which it is stopped.
-ghost use Rattle.std.specs.Prelude.{◌≡◌, [], false};
+ghost use Rattle.std.specs.Prelude.{◌≡◌, [], map};
 ghost use Rattle.cast_console.specs.Consoles.{HasHeard};
+ghost use Rattle.caster_net.specs.Consoles.{console_told, heard_behind, new_console, next_line};
 
 use crate::halt::Halt;
 use crate::waiting::MAX_KEPT_REST;
@@ -31,17 +32,20 @@ pub struct InputConsole<'a> {
 }
 
 impl<'a> Model for InputConsole<'a> {
-    ghost use Rattle.cast_console.specs.Consoles.{ConsoleTold};
+    ghost use Rattle.caster_net.specs.Consoles.{ConsoleState};
 
-    ghost Value = { ConsoleTold };
+    ghost Value = { ConsoleState };
 
-    ghost view = { λ c. record { busy = c.busy; over = c.is_over } };
+    ghost view = { λ c. record {
+      told = record { busy = c.busy; over = c.is_over };
+      heard = c.heard;
+    } };
 }
 
 impl<'a> InputConsole<'a> {
     // A console at which nothing was heard.
     fn new(rt: &'a HostRuntime, halt: &'a Halt) -> Self
-        ensures { result ≡ record { busy = []; over = false } }
+        ensures { result ≡ new_console }
     {
         InputConsole {
             rt,
@@ -54,13 +58,16 @@ impl<'a> InputConsole<'a> {
     }
 
     // Whether the thread that waits here is needed at a gate.
+    // Untied: whether the porter is given up.
     fn is_in_the_way(&self) -> bool {
         self.rests > LONGEST_BEGIN / MAX_KEPT_REST && self.halt.unasked.load(Ordering::SeqCst) > 0
     }
 
     // One line more was heard, while so many workers are busy.
     fn tell(&mut self, busy: u32) -> Wanted
-        ensures { HasHeard result self.old self.new }
+        ensures status { result ≡ Wanted.Status busy }
+        ensures heard { HasHeard result self.old.told self.new.told }
+        ensures once { self.new.heard ≡ next_line self.old.heard }
     {
         self.heard = self.heard.wrapping_add(1);
         self.busy.add(&busy);
@@ -69,10 +76,12 @@ impl<'a> InputConsole<'a> {
 }
 
 impl Console for InputConsole<'_> {
-    ghost told = { λ c. c };
+    ghost told = { console_told };
 
+    // Untied: when the porter is asked, and how many workers are busy.
     fn hear(&mut self) -> Wanted
-        ensures { HasHeard result self.old self.new }
+        ensures heard { HasHeard result self.old.told self.new.told }
+        ensures once { self.new.heard ≡ heard_behind result self.old.heard }
     {
         let halt = self.halt;
         if halt.look(self.rt).is_some() || self.is_in_the_way() {
@@ -117,7 +126,7 @@ impl<'a> InputLodge<'a> {
 impl<'a> Lodge for InputLodge<'a> {
     type Console = InputConsole<'a>;
 
-    ghost back = { λ lodge. lodge.back };
+    ghost back = { λ lodge. map console_told lodge.back };
 
     fn console(&mut self) -> InputConsole<'a> {
         InputConsole::new(self.rt, self.halt)

@@ -4,7 +4,7 @@ ghost use Rattle.std.specs.Arc.{arc_value};
 ghost use Rattle.std.specs.IoError.{raw_os_error};
 ghost use Rattle.cast_io.specs.Logged.{door_logged};
 ghost use Rattle.caster_net.specs.Dead.{IsDead};
-ghost use Rattle.caster_net.specs.Told.{new_door, new_wire};
+ghost use Rattle.caster_net.specs.Told.{new_door, new_link};
 
 use crate::bells::Bells;
 use crate::link::TcpLink;
@@ -32,31 +32,42 @@ const MAX_ENDS: u64 = 2_000;
 #[derive(Drop)]
 pub(crate) struct Porch {
     pub(crate) listener: TcpListener,
+    // For contracts alone: the address that it was bound at.
+    pub(crate) addr: Journal<u8>,
     // A rest waits for a connection and nothing else: of several doors the system wakes one for
     // each. One door alone rests for a short while, since its worker may have more to do.
     waits: bool,
 }
 
 impl Porch {
-    /// The place of so many doors at this listener.
-    pub(crate) fn over(listener: TcpListener, doors: u32) -> io::Result<Porch>
-        ensures place { IfOk result (λ porch. porch.listener ≡ listener) }
+    /// The place of so many doors at a listener that is bound at this address.
+    pub(crate) fn bind(rt: &HostRuntime, addr: &str, doors: u32) -> io::Result<Porch>
+        ensures place { IfOk result (λ porch. porch.addr ≡ addr.now) }
         ensures waits { IfOk result (λ porch. IsTrue porch.waits ↔ (1 < doors)) }
     {
         let waits = doors > 1;
+        // Untied line: which address is bound.
+        let listener = TcpListener::bind(rt, addr)?;
         listener.set_nonblocking(!waits)?;
-        Ok(Porch { listener, waits })
+        Ok(Porch {
+            listener,
+            addr: Journal::of_bytes(addr.as_bytes()),
+            waits,
+        })
     }
 
-    /// The place of gates at this listener, each of which waits for a connection for so many
-    /// milliseconds at most. Of several the system wakes one for each.
-    pub(crate) fn of_gates(listener: TcpListener, limit: u64) -> io::Result<Porch>
-        ensures place { IfOk result (λ porch. porch.listener ≡ listener) }
+    /// The place of gates at a listener that is bound at this address. Each of them waits for a
+    /// connection for so many milliseconds at most, and of several the system wakes one for each.
+    pub(crate) fn bind_gates(rt: &HostRuntime, addr: &str, limit: u64) -> io::Result<Porch>
+        ensures place { IfOk result (λ porch. porch.addr ≡ addr.now) }
         ensures waits { IfOk result (λ porch. IsTrue porch.waits) }
     {
+        // Untied line: which address is bound.
+        let listener = TcpListener::bind(rt, addr)?;
         listener.limit_accepts(limit)?;
         Ok(Porch {
             listener,
+            addr: Journal::of_bytes(addr.as_bytes()),
             waits: true,
         })
     }
@@ -100,8 +111,14 @@ impl<'a> Model for TcpDoor<'a> {
 }
 
 impl<'a> TcpDoor<'a> {
-    /// A door at this place.
-    pub(crate) fn over(rt: &'a HostRuntime, bells: &'a Bells, porch: Arc<Porch, Global>) -> Self
+    /// A door at this place, which is at this address.
+    pub(crate) fn over(
+        rt: &'a HostRuntime,
+        bells: &'a Bells,
+        porch: Arc<Porch, Global>,
+        addr: &str,
+    ) -> Self
+        requires at { (arc_value porch).addr ≡ addr.now }
         ensures { result ≡ new_door }
     {
         TcpDoor {
@@ -124,6 +141,7 @@ impl<'a> TcpDoor<'a> {
     }
 
     // The next connection at the listener.
+    // Untied: which connection comes.
     fn take(&self) -> io::Result<TcpStream> {
         let (stream, _) = self.bells.note_accept(self.porch.listener.accept())?;
         Ok(stream)
@@ -131,7 +149,7 @@ impl<'a> TcpDoor<'a> {
 
     // A link over this connection, for whose bytes one door alone waits too.
     fn welcome(&mut self, stream: TcpStream) -> io::Result<TcpLink<'a>>
-        ensures link { IfOk result (λ link. link ≡ new_wire stream) }
+        ensures link { IfOk result (λ link. link ≡ new_link stream) }
         ensures same { self.new ≡ self.old }
     {
         if let Some(watch) = &mut self.watch {
@@ -181,6 +199,7 @@ impl<'a> Door for TcpDoor<'a> {
                     Err(_) => Arrived::Idle,
                 }
             }
+            // Untied line: which error is a failure of the door.
             Err(fault) if is_dead(&fault) => count_fault(&mut self.faults, Arrived::Failed),
             Err(_) => Arrived::Idle,
         }

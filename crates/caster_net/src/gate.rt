@@ -1,16 +1,18 @@
 //! A gate over sockets: at a listener, or one that dials its peer.
-ghost use Rattle.std.specs.Prelude.{◌≡◌, IfOk};
+ghost use Rattle.std.specs.Prelude.{◌≡◌, IfOk, IfSome, IsSomeAnd};
+ghost use Rattle.std.specs.Arc.{arc_value};
 ghost use Rattle.cast_io.specs.Doors.{HasAccepted, HasHungUp};
 ghost use Rattle.cast_io.specs.Logged.{door_logged};
 ghost use Rattle.caster_net.specs.Gates.{new_gate, quiet_of};
-ghost use Rattle.caster_net.specs.Told.{link_told, new_wire};
+ghost use Rattle.caster_net.specs.Silence.{new_keep, quiet_for};
+ghost use Rattle.caster_net.specs.Told.{link_told, new_kept_link};
 
 use crate::bells::Bells;
 use crate::door::{MAX_END, Porch, is_dead};
-use crate::halt::Halt;
+use crate::halt::{Asked, Halt};
 use crate::keep::Keep;
 use crate::link::TcpLink;
-use crate::redial::Redial;
+use crate::redial::{Reached, Redial};
 use crate::waiting::{MAX_KEPT_REST, SHORT, count_fault, would_wait};
 use cast_io::{Arrived, Door, Gate, Journal, Origin, PeerAddr};
 use std::alloc::Global;
@@ -29,6 +31,15 @@ pub(crate) struct Ground<'a> {
     pub(crate) rt: &'a HostRuntime,
     pub(crate) bells: &'a Bells,
     pub(crate) halt: &'a Halt,
+}
+
+impl<'a> Ground<'a> {
+    // What shows that the stop of these gates was asked for, if it was.
+    fn stop(&self) -> Option<Asked<'a>>
+        ensures of_this { IfSome result (λ asked. asked.of ≡ self.now.halt.now.asked.id) }
+    {
+        self.halt.look(self.rt)
+    }
 }
 
 // Where the links of a gate come from.
@@ -87,6 +98,7 @@ impl<'a> TcpGate<'a> {
         gates: u32,
         quiet: u32,
     ) -> Self
+        requires at { (arc_value porch).addr ≡ addr.now }
         ensures { result ≡ new_gate (asked.OpenGates addr.now gates quiet) }
     {
         TcpGate::over(
@@ -99,6 +111,7 @@ impl<'a> TcpGate<'a> {
 
     /// A gate that dials this peer, which is at this address.
     pub(crate) fn to_peer(ground: Ground<'a>, peer: Redial, addr: &str, quiet: u32) -> Self
+        requires at { peer.addr ≡ addr.now }
         ensures { result ≡ new_gate (asked.Reach addr.now quiet) }
     {
         TcpGate::over(
@@ -151,18 +164,6 @@ impl<'a> TcpGate<'a> {
         }
     }
 
-    // A link over this connection with this peer, which is named then.
-    fn welcome(&mut self, stream: TcpStream, peer: SocketAddr) -> io::Result<TcpLink<'a>>
-        ensures link { IfOk result (λ link. link ≡ new_wire stream) }
-        ensures same { self.new ≡ record self.old { peer = self.new.peer } }
-    {
-        let Ground { rt, bells, halt } = self.ground;
-        let keep = Keep::from_now(rt, halt, self.quiet)?;
-        let link = TcpLink::of_gate(rt, bells, stream, keep)?;
-        self.peer = word_of(peer);
-        Ok(link)
-    }
-
     // Somebody serves here.
     fn begin_gate(&mut self)
         ensures { self.new ≡ self.old }
@@ -174,6 +175,7 @@ impl<'a> TcpGate<'a> {
     }
 
     // A link came of a connection: where it came to the porch, a worker has it.
+    // Untied: which workers count as busy.
     fn begin(&self) {
         if let Way::Porch(_) = &self.way {
             let _ = self.ground.halt.busy.fetch_add(1, Ordering::SeqCst);
@@ -200,11 +202,14 @@ impl<'a> Door for TcpGate<'a> {
     fn accept(&mut self) -> Arrived<TcpLink<'a>>
         ensures accepted { HasAccepted link_told
             (door_logged self.old.door) (door_logged self.new.door) result }
+        ensures heeds { (link : _) → result ≡ Arrived.Link link
+            → IsSomeAnd link.keep (λ keep. keep.quiet ≡ quiet_for self.old.quiet) }
         ensures same { self.new ≡ record self.old { door = self.new.door; peer = self.new.peer } }
     {
         match self.next() {
-            Ok((stream, peer)) => match self.welcome(stream, peer) {
+            Ok((stream, peer)) => match welcome(self.ground, self.quiet, stream) {
                 Ok(link) => {
+                    self.peer = word_of(peer);
                     self.begin();
                     Arrived::Link(link)
                 }
@@ -213,6 +218,7 @@ impl<'a> Door for TcpGate<'a> {
                     Arrived::Idle
                 }
             },
+            // Untied line: which error is a failure of the gate.
             Err(fault) if is_dead(&fault) => count_fault(&mut self.faults, Arrived::Failed),
             Err(_) => Arrived::Idle,
         }
@@ -235,6 +241,7 @@ impl<'a> Door for TcpGate<'a> {
         link.come_back(&mut self.back, Duration::from_millis(MAX_END));
         match &mut self.way {
             Way::Porch(_) => {
+                // Untied line: which workers count as busy.
                 let _ = self.ground.halt.busy.fetch_sub(1, Ordering::SeqCst);
             }
             Way::Peer(peer) => peer.end(self.ground.rt),
@@ -254,7 +261,8 @@ impl Gate for TcpGate<'_> {
         ensures same { self.new ≡ record self.old { over = self.new.over } }
     {
         self.begin_gate();
-        self.is_over = self.ground.halt.look(self.ground.rt).is_some();
+        // Untied line: that the gate is over only where this is there.
+        self.is_over = self.ground.stop().is_some();
         self.is_over
     }
 
@@ -265,7 +273,18 @@ impl Gate for TcpGate<'_> {
     }
 }
 
+// A link over this connection at a gate of this QUIET, which heeds that and the stop.
+fn welcome<'a>(ground: Ground<'a>, quiet: u32, stream: TcpStream) -> io::Result<TcpLink<'a>>
+    ensures { IfOk result (λ link.
+        link ≡ new_kept_link stream (new_keep quiet ground.entry.halt.now.asked.id)) }
+{
+    let Ground { rt, bells, halt } = ground;
+    let keep = Keep::from_now(rt, halt, quiet)?;
+    TcpLink::of_gate(rt, bells, stream, keep)
+}
+
 // What comes in a while, if anything does. Where the peer is dialled, nothing comes.
+// Untied: which connection is the next one.
 fn what_comes(ground: Ground<'_>, way: &Way) -> Option<io::Result<(TcpStream, SocketAddr)>> {
     match way {
         Way::Porch(porch) => accept_at(ground, porch),
@@ -278,6 +297,7 @@ fn what_comes(ground: Ground<'_>, way: &Way) -> Option<io::Result<(TcpStream, So
 
 // What comes to the porch in a while, if anything does. An accept that failed for a while may do so
 // again at once: so it is tried again after a short rest.
+// Untied: which connection is the next one.
 fn accept_at(ground: Ground<'_>, porch: &Porch) -> Option<io::Result<(TcpStream, SocketAddr)>> {
     match ground.bells.note_accept(porch.listener.accept()) {
         Err(fault) if would_wait(fault.kind()) => None,
@@ -290,8 +310,12 @@ fn accept_at(ground: Ground<'_>, porch: &Porch) -> Option<io::Result<(TcpStream,
 }
 
 // A connection to this peer and its address, where it may be dialled now and could be.
+// Untied: which connection is the next one, and how its peer is named.
 fn dial_peer(ground: Ground<'_>, peer: &mut Redial) -> io::Result<(TcpStream, SocketAddr)> {
-    let Some(stream) = peer.dial(ground.rt, ground.halt) else {
+    if peer.is_early(ground.rt) {
+        return Err(nothing_yet());
+    }
+    let Some(Reached { stream, .. }) = peer.dial(ground.rt, ground.halt) else {
         return Err(nothing_yet());
     };
     let Ok(addr) = stream.peer_addr() else {
@@ -307,6 +331,7 @@ fn nothing_yet() -> io::Error {
 }
 
 // The word for the peer at this address.
+// Untied: how a peer is named.
 fn word_of(peer: SocketAddr) -> PeerAddr {
     let text = InlineText::<64>::of(peer);
     PeerAddr::new(text.as_str().as_bytes())

@@ -89,6 +89,7 @@ impl Halt {
 
     /// Has a look at the input, where the last one is a while ago, and heeds the words that came.
     /// What shows that the stop was asked for, if it was.
+    // Untied: whether the input is looked at.
     pub(crate) fn look(&self, rt: &HostRuntime) -> Option<Asked<'_>>
         ensures of_this { IfSome result (λ asked. asked.of ≡ self.now.asked.id) }
     {
@@ -99,6 +100,7 @@ impl Halt {
     }
 
     // Heeds the words that came, where the last look at the input is a while ago.
+    // Untied: when the input is looked at.
     fn hear(&self, rt: &HostRuntime) {
         let Some(fd) = self.input else {
             return;
@@ -112,6 +114,7 @@ impl Halt {
     }
 
     // Heeds these words.
+    // Untied: what its words bring about.
     fn heed(&self, came: Came) {
         if came.statuses > 0 {
             let _ = self.statuses.fetch_add(came.statuses, Ordering::SeqCst);
@@ -124,6 +127,7 @@ impl Halt {
 
 impl Heard {
     // Whether the last look is a while ago. If so, this is the last one from now on.
+    // Untied: when the input is looked at.
     fn is_due(&mut self, rt: &HostRuntime) -> bool {
         let Ok(now) = Instant::now(rt) else {
             return true;
@@ -138,6 +142,7 @@ impl Heard {
     }
 
     // Takes what is there, and answers which words its lines are.
+    // Untied: what of the input is taken.
     fn take_words(&mut self, fd: RawFd) -> Came {
         let mut taken = [0u8; MAX_READ_BYTES];
         match self.take(fd, &mut taken) {
@@ -151,6 +156,7 @@ impl Heard {
 
     // Takes what is there, without a wait. At the end of the input, behind which more may come of a
     // FIFO, the line that has not ended is none.
+    // Untied: what of the input is taken.
     fn take<'b>(&mut self, fd: RawFd, taken: &'b mut [u8]) -> Option<&'b [u8]> {
         if !has_come(fd) || !is_ours(fd) {
             return None;
@@ -184,6 +190,7 @@ fn words_in(line: &mut Line, bytes: &[u8]) -> Came
 }
 
 // What is ready at this descriptor now.
+// Untied: what is ready.
 fn ready_at(fd: RawFd) -> i16 {
     let mut asked = asked_of(fd, POLLIN);
     if poll(&mut asked, 0) > 0 {
@@ -194,17 +201,20 @@ fn ready_at(fd: RawFd) -> i16 {
 }
 
 // Something is open at this descriptor.
+// Untied: whether there is an input.
 fn is_open(fd: RawFd) -> bool {
     ready_at(fd) & POLLNVAL == 0
 }
 
 // Bytes are there, or the end is.
+// Untied: whether bytes are there.
 fn has_come(fd: RawFd) -> bool {
     ready_at(fd) & (POLLIN | POLLHUP) != 0
 }
 
 // A terminal stops a program in its background that reads from it. What is no terminal of this
 // program has no group in the foreground.
+// Untied: whether the terminal is ours.
 fn is_ours(fd: RawFd) -> bool {
     let foreground = tcgetpgrp(fd);
     foreground < 0 || foreground == getpgrp()

@@ -1,10 +1,10 @@
 //! What a link of a gate heeds.
-ghost use Rattle.std.specs.Prelude.{◌≡◌, Some, option_map, IfOk, IfSome, IsSome, IsTrue};
+ghost use Rattle.std.specs.Prelude.{◌≡◌, Some, IfOk, IfSome, IsSome, IsTrue, IsSomeAnd};
 ghost use Rattle.caster_net.specs.declared.keep.Cut.TheVariants as cuts;
-ghost use Rattle.caster_net.specs.Silence.{but_found, given, quiet_for, taken};
+ghost use Rattle.caster_net.specs.Silence.{IsTooLong, keep_but_found, keep_given, keep_taken, new_keep};
 
 use crate::halt::{Asked, Halt};
-use crate::quiet::Quiet;
+use crate::quiet::{Quiet, Silence};
 use std::io;
 use std::marker::Model;
 
@@ -13,8 +13,8 @@ use std::marker::Model;
 pub(crate) enum Cut<'a> {
     /// The stop was asked for, as this shows.
     Stopped(Asked<'a>),
-    /// It was quiet for too long.
-    Quiet,
+    /// It was quiet for too long, as this shows.
+    Quiet(Silence),
 }
 
 /// The stop, and for how long the link may be quiet. Contracts see which stop it is, and how long
@@ -39,7 +39,7 @@ impl<'a> Keep<'a> {
     /// That of a link that begins now and may be quiet for so many seconds: 0 is for ever.
     pub(crate) fn from_now(rt: &'a HostRuntime, halt: &'a Halt, quiet: u32) -> io::Result<Self>
         ensures new { IfOk result (λ keep.
-            keep ≡ record { quiet = quiet_for quiet; stop = halt.now.asked.id }) }
+            keep ≡ new_keep quiet halt.now.asked.id) }
     {
         let quiet = if quiet == 0 {
             None
@@ -53,21 +53,20 @@ impl<'a> Keep<'a> {
     pub(crate) fn cut(&self) -> Option<Cut<'a>>
         ensures stopped { (asked : _) → result ≡ Some (cuts.Stopped asked)
             → asked.of ≡ self.now.stop }
-        ensures quiet { result ≡ Some cuts.Quiet → IsSome self.now.quiet }
+        ensures quiet { (silence : _) → result ≡ Some (cuts.Quiet silence)
+            → IsSomeAnd self.now.quiet (λ quiet. IsTooLong quiet.limit silence) }
         ensures found { IfSome self.now.quiet (λ quiet. IsTrue quiet.is_found → IsSome result) }
     {
         if let Some(asked) = self.halt.look(self.rt) {
             return Some(Cut::Stopped(asked));
         }
-        match &self.quiet {
-            Some(quiet) if quiet.is_too_long(self.rt) => Some(Cut::Quiet),
-            _ => None,
-        }
+        let silence = self.quiet.as_ref()?.silence(self.rt)?;
+        Some(Cut::Quiet(silence))
     }
 
     /// The link gave bytes.
     pub(crate) fn give(&mut self)
-        ensures given { self.new ≡ record self.old { quiet = option_map given self.old.quiet } }
+        ensures given { self.new ≡ keep_given self.old }
     {
         if let Some(quiet) = &mut self.quiet {
             quiet.give(self.rt);
@@ -76,7 +75,7 @@ impl<'a> Keep<'a> {
 
     /// The link took bytes.
     pub(crate) fn take(&mut self)
-        ensures taken { self.new ≡ record self.old { quiet = option_map taken self.old.quiet } }
+        ensures taken { self.new ≡ keep_taken self.old }
     {
         if let Some(quiet) = &mut self.quiet {
             quiet.take(self.rt);
@@ -84,10 +83,9 @@ impl<'a> Keep<'a> {
     }
 
     /// A read gave nothing.
+    // Untied: whether a read that found nothing is noted.
     pub(crate) fn find_nothing(&mut self)
-        ensures stop { self.new.stop ≡ self.old.stop }
-        ensures quiet { option_map but_found self.new.quiet
-            ≡ option_map but_found self.old.quiet }
+        ensures rest { keep_but_found self.new ≡ keep_but_found self.old }
     {
         if let Some(quiet) = &mut self.quiet {
             quiet.find_nothing(self.rt);

@@ -1,6 +1,9 @@
 //! A TCP connection as a link.
-ghost use Rattle.std.specs.Prelude.{◌≡◌, [], ◌∷◌, ◌++◌, IfOk};
-ghost use Rattle.caster_net.specs.Told.{link_told, new_wire};
+ghost use Rattle.std.specs.Prelude.{◌≡◌, ◌<◌, [], ◌∷◌, ◌++◌, length, option_map, Some, IfOk, IsSome, OnOk, IsSomeAnd};
+ghost use Rattle.cast_io.specs.Links.{IsGot, HasRead, HasWritten};
+ghost use Rattle.caster_net.specs.declared.keep.Cut.TheVariants as cuts;
+ghost use Rattle.caster_net.specs.Silence.{HasNoted, IsTooLong, keep_but_found, keep_given, keep_taken};
+ghost use Rattle.caster_net.specs.Told.{link_told, new_kept_link, new_link};
 
 use crate::bells::{Bells, Ringer};
 use crate::keep::{Cut, Keep};
@@ -42,18 +45,18 @@ pub struct TcpLink<'a> {
 
 impl<'a> Model for TcpLink<'a> {
     ghost use Rattle.std.specs.declared.net.tcp.TcpStream.{TcpStream};
-    ghost use Rattle.caster_net.specs.Told.{WireState};
+    ghost use Rattle.caster_net.specs.Told.{LinkState};
 
-    ghost Value = { WireState TcpStream };
+    ghost Value = { LinkState TcpStream };
 
-    ghost view = { λ l. l.wire };
+    ghost view = { λ l. record { wire = l.wire; keep = l.keep } };
 }
 
 impl<'a> TcpLink<'a> {
     /// A link over this connection, whose reads and writes do not wait from now on, and whose
     /// small pieces are sent at once. The system finds out where its peer is gone.
     pub(crate) fn over(rt: &'a HostRuntime, bells: &'a Bells, stream: TcpStream) -> io::Result<Self>
-        ensures { IfOk result (λ link. link ≡ new_wire stream) }
+        ensures { IfOk result (λ link. link ≡ new_link stream) }
     {
         stream.set_nonblocking(true)?;
         stream.set_nodelay(true)?;
@@ -78,7 +81,7 @@ impl<'a> TcpLink<'a> {
         stream: TcpStream,
         keep: Keep<'a>,
     ) -> io::Result<Self>
-        ensures { IfOk result (λ link. link ≡ new_wire stream) }
+        ensures { IfOk result (λ link. link ≡ new_kept_link stream keep.entry) }
     {
         let mut link = TcpLink::over(rt, bells, stream)?;
         link.keep = Some(keep);
@@ -87,14 +90,14 @@ impl<'a> TcpLink<'a> {
 
     /// The connection itself.
     pub fn stream(&self) -> &TcpStream
-        ensures { result.now ≡ self.now.stream }
+        ensures { result.now ≡ self.now.wire.stream }
     {
         self.wire.stream()
     }
 
     /// How often a read or a write failed.
     pub(crate) fn faults(&self) -> u64
-        ensures { result ≡ self.now.faults }
+        ensures { result ≡ self.now.wire.faults }
     {
         self.wire.faults()
     }
@@ -121,13 +124,19 @@ impl<'a> TcpLink<'a> {
     }
 
     // Whether it is read no more, and why.
-    fn cut(&self) -> Option<Cut<'a>> {
+    fn cut(&self) -> Option<Cut<'a>>
+        ensures stopped { (asked : _) → result ≡ Some (cuts.Stopped asked)
+            → IsSomeAnd self.now.keep (λ keep. asked.of ≡ keep.stop) }
+        ensures quiet { (silence : _) → result ≡ Some (cuts.Quiet silence)
+            → IsSomeAnd self.now.keep (λ keep. IsSomeAnd keep.quiet
+            (λ quiet. IsTooLong quiet.limit silence)) }
+    {
         self.keep.as_ref()?.cut()
     }
 
     // Notes what the peer gave.
     fn hear(&mut self, bytes: &[u8])
-        ensures { self.new ≡ self.old }
+        ensures { self.new ≡ record self.old { keep = option_map keep_given self.old.keep } }
     {
         if let Some(keep) = &mut self.keep {
             keep.give();
@@ -165,7 +174,9 @@ impl<'a> TcpLink<'a> {
 
     // Notes that a read found nothing.
     fn miss(&mut self)
-        ensures { self.new ≡ self.old }
+        ensures wire { self.new.wire ≡ self.old.wire }
+        ensures keep { option_map keep_but_found self.new.keep
+            ≡ option_map keep_but_found self.old.keep }
     {
         if let Some(keep) = &mut self.keep {
             keep.find_nothing();
@@ -174,7 +185,7 @@ impl<'a> TcpLink<'a> {
 
     // Notes that the peer took bytes.
     fn feed(&mut self)
-        ensures { self.new ≡ self.old }
+        ensures { self.new ≡ record self.old { keep = option_map keep_taken self.old.keep } }
     {
         if let Some(keep) = &mut self.keep {
             keep.take();
@@ -212,7 +223,12 @@ impl<'a> TcpLink<'a> {
 impl Link for TcpLink<'_> {
     ghost told = { link_told };
 
-    fn read(&mut self, buf: &mut [u8]) -> Got {
+    fn read(&mut self, buf: &mut [u8]) -> Got
+        requires { 0 < length buf.old }
+        ensures bound { IsGot result (length buf.old) }
+        ensures read { HasRead (link_told self.old) (link_told self.new) result buf.new }
+        ensures noted { HasNoted result self.old.keep self.new.keep }
+    {
         self.ringer.tell();
         let got = match self.cut() {
             Some(cut) => self.wire.cut(cut, buf),
@@ -227,7 +243,11 @@ impl Link for TcpLink<'_> {
         got
     }
 
-    fn write(&mut self, piece: &[u8]) -> Result<(), Failed> {
+    fn write(&mut self, piece: &[u8]) -> Result<(), Failed>
+        ensures written { HasWritten (link_told self.old) (link_told self.new) result piece.now }
+        ensures noted { OnOk result (0 < length piece.now
+            → self.new.keep ≡ option_map keep_taken self.old.keep) }
+    {
         self.pause = 1;
         let fd = self.wire.fd();
         self.wire.write(self.rt, fd, piece)?;
@@ -262,6 +282,7 @@ impl Link for TcpLink<'_> {
 
 // Ends this connection; where it is not over, what the peer still sends is taken for this long at
 // most.
+// Untied: how a connection is ended.
 fn close(rt: &HostRuntime, mut stream: TcpStream, is_over: bool, limit: Duration) {
     let _ = stream.shutdown(Shutdown::Write);
     if !is_over {
@@ -270,6 +291,7 @@ fn close(rt: &HostRuntime, mut stream: TcpStream, is_over: bool, limit: Duration
 }
 
 // Takes what the peer sends until it ends, for this long and so many bytes at most.
+// Untied: what is taken of a connection that has ended.
 fn drain(rt: &HostRuntime, stream: &mut TcpStream, limit: Duration) -> io::Result<()> {
     let begun = Instant::now(rt)?;
     let mut buf = [0u8; 4096];

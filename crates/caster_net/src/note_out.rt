@@ -30,6 +30,7 @@ impl NoteOut {
 }
 
 impl Write for NoteOut {
+    // Untied: where a line goes.
     fn write(&mut self, buf: &[u8]) -> io::Result<usize> {
         match usize::try_from(write(self.fd, buf)) {
             Ok(count) => Ok(count.min(buf.len())),

@@ -67,6 +67,7 @@ impl<W: Write> Sink for NoteSink<'_, W> {
     {
         let answer = self.sink.write(piece);
         if answer.is_err() {
+            // Untied line: that a line which is not written asks for the stop.
             let _ = self.halt.asked.try_set(());
         }
         answer

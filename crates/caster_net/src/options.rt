@@ -32,6 +32,7 @@ pub(crate) trait KeepAlive {
 }
 
 impl KeepAlive for TcpStream {
+    // Untied: which options are set.
     fn keep_alive(&self) {
         let fd = self.as_raw_fd();
         // SAFETY: a call of `setsockopt` needs an option whose value holds no pointer, and a length
@@ -60,6 +61,7 @@ pub(crate) trait LimitAccepts {
 }
 
 impl LimitAccepts for TcpListener {
+    // Untied: which options are set.
     fn limit_accepts(&self, millis: u64) -> io::Result<()> {
         let limit = time(millis);
         // SAFETY: the value of `SO_RCVTIMEO` holds no pointer, and all 16 bytes of `limit` are

@@ -1,10 +1,34 @@
 //! Links that are quiet for too long.
-ghost use Rattle.std.specs.Prelude.{◌≡◌, IfOk, IsTrue};
-ghost use Rattle.caster_net.specs.Silence.{but_found, given, new_quiet, taken};
+ghost use Rattle.std.specs.Prelude.{◌≡◌, IfOk, IfSome, IsSome, IsTrue, is_some};
+ghost use Rattle.std.specs.Duration.{as_nanos};
+ghost use Rattle.std.specs.Option.{ForSome};
+ghost use Rattle.caster_net.specs.Silence.{IsTooLong, but_found, given, new_quiet, taken};
 
 use std::io;
 use std::marker::Model;
 use std::time::{Duration, Instant};
+
+/// What shows that a link was quiet for too long: for how long it might be, and for how long it
+/// was. It is made of a look at the clock alone.
+#[derive(Clone, Copy)]
+pub(crate) struct Silence {
+    limit: Duration,
+    since: Duration,
+}
+
+impl Silence {
+    // What the clock shows now of a time since then, where it is as long as this limit.
+    // Untied: whether the clock shows it.
+    fn since(rt: &HostRuntime, limit: Duration, then: &Instant) -> Option<Silence>
+        ensures { IfSome result (IsTooLong (as_nanos limit)) }
+    {
+        let since = then.elapsed(rt).ok()?;
+        if since < limit {
+            return None;
+        }
+        Some(Silence { limit, since })
+    }
+}
 
 /// For how long a link may be quiet, and since when it is. It is quiet for too long where it gave
 /// no byte and took none for so long, as found by a read that gave nothing; and where nothing was
@@ -17,11 +41,13 @@ pub(crate) struct Quiet {
     // When it last gave or took a byte; at first, its beginning.
     moved: Instant,
     is_written: bool,
-    // The last read gave nothing, so long after that.
-    is_found: bool,
+    // The last read gave nothing, so long after that, as this shows.
+    found: Option<Silence>,
+    ghost shown: { ForSome found (IsTooLong (as_nanos limit)) },
 }
 
 impl Model for Quiet {
+    ghost use Rattle.std.specs.Prelude.{is_some};
     ghost use Rattle.std.specs.Duration.{as_nanos};
     ghost use Rattle.caster_net.specs.Silence.{QuietState};
 
@@ -30,7 +56,7 @@ impl Model for Quiet {
     ghost view = { λ q. record {
       limit = as_nanos q.limit;
       is_written = q.is_written;
-      is_found = q.is_found;
+      is_found = is_some q.found;
     } };
 }
 
@@ -45,7 +71,7 @@ impl Quiet {
             begun: now,
             moved: now,
             is_written: false,
-            is_found: false,
+            found: None,
         })
     }
 
@@ -54,7 +80,7 @@ impl Quiet {
         ensures given { self.new ≡ given self.old }
     {
         self.moved = Instant::now(rt).unwrap_or(self.moved);
-        self.is_found = false;
+        self.found = None;
     }
 
     /// The link took bytes.
@@ -66,25 +92,23 @@ impl Quiet {
     }
 
     /// A read gave nothing.
+    // Untied: whether a read found the link quiet.
     pub(crate) fn find_nothing(&mut self, rt: &HostRuntime)
         ensures rest { but_found self.new ≡ but_found self.old }
     {
-        self.is_found = self.is_long_since(rt, &self.moved);
+        self.found = Silence::since(rt, self.limit, &self.moved);
     }
 
-    /// The link is quiet for too long.
-    pub(crate) fn is_too_long(&self, rt: &HostRuntime) -> bool
-        ensures found { IsTrue self.now.is_found → IsTrue result }
-        ensures written { IsTrue self.now.is_written → result ≡ self.now.is_found }
+    /// What shows that the link is quiet for too long, if it is.
+    pub(crate) fn silence(&self, rt: &HostRuntime) -> Option<Silence>
+        ensures shown { IfSome result (IsTooLong self.now.limit) }
+        ensures found { IsTrue self.now.is_found → IsSome result }
+        ensures written { IsTrue self.now.is_written → is_some result ≡ self.now.is_found }
     {
-        self.is_found || (!self.is_written && self.is_long_since(rt, &self.begun))
-    }
-
-    // This was too long ago.
-    fn is_long_since(&self, rt: &HostRuntime, then: &Instant) -> bool {
-        match then.elapsed(rt) {
-            Ok(since) => since >= self.limit,
-            Err(_) => false,
+        match self.found {
+            Some(silence) => Some(silence),
+            None if self.is_written => None,
+            None => Silence::since(rt, self.limit, &self.begun),
         }
     }
 }

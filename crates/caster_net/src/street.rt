@@ -1,5 +1,6 @@
 //! The network as a street.
 ghost use Rattle.std.specs.Prelude.{◌≡◌, ◌≤◌, [], vec_len, vec_capacity, IfOk, OnOk};
+ghost use Rattle.std.specs.Arc.{arc_value};
 ghost use Rattle.std.specs.List.{All};
 ghost use Rattle.cast_io.specs.Logged.{street_logged};
 ghost use Rattle.caster_net.specs.Gates.{new_net};
@@ -20,7 +21,7 @@ use std::alloc::{AllocError, Global};
 use std::io;
 use std::io::ErrorKind;
 use std::marker::Model;
-use std::net::{SocketAddr, TcpListener, TcpStream, ToSocketAddrs};
+use std::net::{SocketAddr, TcpStream, ToSocketAddrs};
 use std::sync::Arc;
 use std::time::{Duration, Instant};
 
@@ -143,23 +144,20 @@ fn opened_at<'a>(
         return Err(StreetFault::Memory);
     };
     let porch = porch_at(rt, addr, doors)?;
-    match open_all(rt, bells, &porch, doors, &mut opened) {
+    match open_all(rt, bells, &porch, addr, doors, &mut opened) {
         Ok(()) => Ok(opened),
         Err(AllocError) => Err(StreetFault::Memory),
     }
 }
 
 // A place for so many doors at this address, which they share.
-fn porch_at(rt: &HostRuntime, addr: &str, doors: u32) -> Result<Arc<Porch, Global>, StreetFault> {
-    match bound_at(rt, addr, doors) {
+fn porch_at(rt: &HostRuntime, addr: &str, doors: u32) -> Result<Arc<Porch, Global>, StreetFault>
+    ensures { IfOk result (λ porch. (arc_value porch).addr ≡ addr.now) }
+{
+    match Porch::bind(rt, addr, doors) {
         Ok(porch) => share_porch(rt, porch),
         Err(_) => Err(StreetFault::Failed),
     }
-}
-
-// The place itself.
-fn bound_at(rt: &HostRuntime, addr: &str, doors: u32) -> io::Result<Porch> {
-    Porch::over(TcpListener::bind(rt, addr)?, doors)
 }
 
 // Opens so many doors at this place, into a list with room for them.
@@ -167,16 +165,18 @@ fn open_all<'a>(
     rt: &'a HostRuntime,
     bells: &'a Bells,
     porch: &Arc<Porch, Global>,
+    addr: &str,
     doors: u32,
     opened: &mut Vec<TcpDoor<'a>>,
 ) -> Result<(), AllocError>
     requires empty { opened.old.items ≡ [] }
     requires room { doors ≤ vec_capacity opened.old }
+    requires at { (arc_value porch.now).addr ≡ addr.now }
     ensures count { OnOk result (vec_len opened.new ≡ doors) }
     ensures each { OnOk result (All (λ door. door ≡ new_door) opened.new.items) }
 {
     for _ in 0..doors {
-        opened.push_reserved(TcpDoor::over(rt, bells, porch.clone()?));
+        opened.push_reserved(TcpDoor::over(rt, bells, porch.clone()?, addr));
     }
     Ok(())
 }
@@ -189,6 +189,7 @@ fn link_to<'a>(rt: &'a HostRuntime, bells: &'a Bells, addr: &str) -> io::Result<
 }
 
 // Connects to this address, one address of its name after the other.
+// Untied: which address of a name is dialled.
 fn connect_to(rt: &HostRuntime, addr: &str) -> io::Result<TcpStream> {
     let begun = Instant::now(rt)?;
     for addr in addr.to_socket_addrs(rt)? {
@@ -200,6 +201,7 @@ fn connect_to(rt: &HostRuntime, addr: &str) -> io::Result<TcpStream> {
 }
 
 // Connects to this one address, in what is left of the time for a dial that began then.
+// Untied: which address is dialled.
 fn reached_at(rt: &HostRuntime, addr: &SocketAddr, begun: &Instant) -> io::Result<TcpStream> {
     let limit = Duration::from_secs(MAX_DIAL);
     TcpStream::connect_timeout(rt, addr, limit.saturating_sub(begun.elapsed(rt)?))

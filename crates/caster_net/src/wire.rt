@@ -2,7 +2,7 @@
 ghost use Rattle.std.specs.Prelude.{◌≡◌, ◌<◌, ◌≤◌, [], length, take, unwrap_or, IfSome};
 ghost use Rattle.cast_io.specs.Links.{IsGot, HasRead, HasWritten};
 ghost use Rattle.caster_net.specs.Honest.{IsHonestRead, IsHonestWrite, Means};
-ghost use Rattle.caster_net.specs.Told.{link_told, new_wire};
+ghost use Rattle.caster_net.specs.Told.{new_wire, wire_told};
 ghost use Rattle.caster_net.specs.declared.keep.Cut.TheVariants as cuts;
 
 use crate::keep::Cut;
@@ -95,7 +95,7 @@ impl<S: Read> Wire<S> {
     pub fn read(&mut self, buf: &mut [u8]) -> Got
         requires { 0 < length buf.old }
         ensures bound { IsGot result (length buf.old) }
-        ensures read { HasRead (link_told self.old) (link_told self.new) result buf.new }
+        ensures read { HasRead (wire_told self.old) (wire_told self.new) result buf.new }
         ensures honest { IsHonestRead (S.remaining self.old.stream) (S.remaining self.new.stream)
             result buf.new }
     {
@@ -109,14 +109,14 @@ impl<S> Wire<S> {
     /// A read of a wire that is read no more: at a stop the end is answered, as if the peer had
     /// ended, and else a failure. The stream is left as it is.
     pub(crate) fn cut(&mut self, cut: Cut<'_>, buf: &[u8]) -> Got
-        ensures read { HasRead (link_told self.old) (link_told self.new) result buf.now }
+        ensures read { HasRead (wire_told self.old) (wire_told self.new) result buf.now }
         ensures stream { self.new.stream ≡ self.old.stream }
         ensures stopped { (asked : _) → cut.entry ≡ cuts.Stopped asked → result ≡ Got.End }
-        ensures quiet { cut.entry ≡ cuts.Quiet → result ≡ Got.Failed }
+        ensures quiet { (silence : _) → cut.entry ≡ cuts.Quiet silence → result ≡ Got.Failed }
     {
         let got = match cut {
             Cut::Stopped(_) => Got::End,
-            Cut::Quiet => Got::Failed,
+            Cut::Quiet(_) => Got::Failed,
         };
         self.note(got, buf);
         got
@@ -125,7 +125,7 @@ impl<S> Wire<S> {
     // Notes what a read answered, with its buffer after it.
     fn note(&mut self, got: Got, buf: &[u8])
         requires { IsGot got (length buf.now) }
-        ensures read { HasRead (link_told self.old) (link_told self.new) got buf.now }
+        ensures read { HasRead (wire_told self.old) (wire_told self.new) got buf.now }
         ensures stream { self.new.stream ≡ self.old.stream }
     {
         if got == Got::Failed {
@@ -141,7 +141,7 @@ impl<S: Write> Wire<S> {
     /// Writes the whole piece, and waits at this descriptor, that of the stream, while there is no
     /// room for it. After `Failed` some first bytes of it were taken, none to all.
     pub fn write(&mut self, rt: &HostRuntime, fd: RawFd, piece: &[u8]) -> Result<(), Failed>
-        ensures written { HasWritten (link_told self.old) (link_told self.new) result piece.now }
+        ensures written { HasWritten (wire_told self.old) (wire_told self.new) result piece.now }
         ensures honest { IsHonestWrite (S.contents self.old.stream) (S.contents self.new.stream)
             self.old.bytes self.new.bytes result piece.now }
     {

@@ -1,5 +1,6 @@
 //! The network as a yard.
 ghost use Rattle.std.specs.Prelude.{◌≡◌, ◌≤◌, [], vec_len, vec_capacity, IfOk, OnOk};
+ghost use Rattle.std.specs.Arc.{arc_value};
 ghost use Rattle.std.specs.List.{All};
 ghost use Rattle.cast_io.specs.declared.yard_asked.YardAsked.TheVariants as asked;
 ghost use Rattle.caster_net.specs.Gates.{new_gate, yard_logged};
@@ -14,8 +15,6 @@ use crate::street::TcpStreet;
 use crate::waiting::{MAX_KEPT_REST, count_fault};
 use cast_io::{Origin, StreetFault, Yard};
 use std::alloc::{AllocError, Global};
-use std::io;
-use std::net::TcpListener;
 use std::sync::Arc;
 
 impl<'a> Yard for TcpStreet<'a> {
@@ -90,16 +89,13 @@ fn opened_at<'a>(
 }
 
 // A place for gates at this address, which they share.
-fn porch_at(rt: &HostRuntime, addr: &str) -> Result<Arc<Porch, Global>, StreetFault> {
-    match bound_at(rt, addr) {
+fn porch_at(rt: &HostRuntime, addr: &str) -> Result<Arc<Porch, Global>, StreetFault>
+    ensures { IfOk result (λ porch. (arc_value porch).addr ≡ addr.now) }
+{
+    match Porch::bind_gates(rt, addr, MAX_KEPT_REST) {
         Ok(porch) => share_porch(rt, porch),
         Err(_) => Err(StreetFault::Failed),
     }
-}
-
-// The place itself.
-fn bound_at(rt: &HostRuntime, addr: &str) -> io::Result<Porch> {
-    Porch::of_gates(TcpListener::bind(rt, addr)?, MAX_KEPT_REST)
 }
 
 // Opens so many gates at this place, which is at this address, into a list with room for them.
@@ -113,6 +109,7 @@ fn open_all<'a>(
 ) -> Result<(), AllocError>
     requires empty { opened.old.items ≡ [] }
     requires room { gates ≤ vec_capacity opened.old }
+    requires at { (arc_value porch.now).addr ≡ addr.now }
     ensures count { OnOk result (vec_len opened.new ≡ gates) }
     ensures each { OnOk result (All (λ gate. gate ≡ new_gate (asked.OpenGates addr.now gates quiet))
         opened.new.items) }

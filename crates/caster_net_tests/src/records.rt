@@ -42,14 +42,14 @@ pub fn vec_written(rt: &HostRuntime, fd: RawFd, piece: &[u8]) -> Result<Vec<u8>,
 /// One read of a link.
 pub fn heard(link: &mut TcpLink<'_>, buf: &mut [u8]) -> Got
     requires { 0 < length buf.old }
-    ensures { link.new.taken ≡ link.old.taken ++ step_of result buf.new ∷ [] }
+    ensures { link.new.wire.taken ≡ link.old.wire.taken ++ step_of result buf.new ∷ [] }
 {
     link.read(buf)
 }
 
 /// One write of a link.
 pub fn write_piece(link: &mut TcpLink<'_>, piece: &[u8]) -> Result<(), Failed>
-    ensures { OnOk result (link.new.bytes ≡ link.old.bytes ++ piece.now) }
+    ensures { OnOk result (link.new.wire.bytes ≡ link.old.wire.bytes ++ piece.now) }
 {
     link.write(piece)
 }
@@ -76,7 +76,7 @@ pub fn open_doors<'a>(
 /// An address is dialled.
 pub fn dial_link<'a>(street: &mut TcpStreet<'a>, addr: &str) -> Result<TcpLink<'a>, StreetFault>
     ensures asked { street.new.street.asked ≡ street.old.street.asked ++ asked.Dial addr.now ∷ [] }
-    ensures none_yet { IfOk result (λ link. (link.taken ≡ []) × (link.bytes ≡ [])) }
+    ensures none_yet { IfOk result (λ link. (link.wire.taken ≡ []) × (link.wire.bytes ≡ [])) }
 {
     street.dial(addr)
 }

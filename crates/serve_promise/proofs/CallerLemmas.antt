@@ -1,5 +1,6 @@
--- Each caller of a caster served links that are promised, and whole frames alone were published.
-use Rattle.std.proofs.Common.{◌≡◌, ◌≤◌, ◌<◌, ◌∙◌, ◌++◌, ◌+◌, ℕ, zero, suc, Bool, true, false, cond, IsTrue, List, [], ◌∷◌, length, fold, All, Ok, inl, inr, refl, sym, ap, subst, eqb, eq-eqb, append_assoc, arith}
+-- Each caller of a caster served links that are promised, and whole frames alone were published; its
+-- accounts come to what the receipts of its links say.
+use Rattle.std.proofs.Common.{◌≡◌, ◌≤◌, ◌<◌, ◌∙◌, ◌++◌, ◌+◌, ℕ, zero, suc, Bool, true, false, cond, IsTrue, List, [], ◌∷◌, length, fold, map, All, Ok, inl, inr, refl, sym, ap, subst, eqb, eq-eqb, append_assoc, arith}
 use Rattle.std.specs.Prelude.{⊤}
 use Rattle.std.proofs.lemmas.Bool.{cases_lt}
 use Rattle.std.proofs.lemmas.List.{append-nil, get_or_past, length-map}
@@ -16,6 +17,7 @@ use Rattle.mount_ring.specs.declared.call.RingCall.{RingCall}
 use Rattle.mount_ring.specs.declared.call.RingCall.TheVariants.{Claim, Release, Publish, Join, Look, Read}
 use Rattle.mount_ring.specs.Places.{frames_of, published_by}
 use Rattle.mount_ring.proofs.HistoryLemmas.{published-append}
+use Rattle.caster_accounts.specs.declared.call.BookCall.{BookCall}
 use Rattle.session_calls.specs.Steps.{Ask, to_ring, to_book, Step, at_ring, at_book, ask_of, answer_of, on_ring}
 use Rattle.session_calls.specs.Plans.{Plan, done, asks, IsBegun}
 use Rattle.session_calls.specs.Rings.{history_at, answer_at}
@@ -42,22 +44,26 @@ use Rattle.caster_serve.specs.Callers.{Caller, ServedOver, IsServed, AreServed, 
 use Rattle.caster_serve.specs.Caster.{AllServed, HasServed}
 use Rattle.run_promise.proofs.RunLemmas.{nothing_at}
 use Rattle.serve_promise.specs.Links.{AllFrames, GoOnTo}
-use Rattle.serve_promise.specs.Callers.{IsEntryKept, AreKeptInTurn, opening_at, AreLinksAt, AreCallersKept, AllKept, AllPromised}
+use Rattle.serve_promise.specs.Callers.{IsKept, Served, bill_of, records_of, AreKeptInTurn, opening_at, AreLinksAt, CallerLinks, caller_in, bills_by, AreCallersKept, AllKept, AllPromised}
+use Rattle.serve_promise.proofs.AccountLemmas.{AreBilled, AreInBook, account_totals}
+use Rattle.serve_promise.proofs.BilledLemmas.{billed}
+use Rattle.serve_promise.proofs.CapLemmas.{are_capped}
+use Rattle.serve_promise.proofs.LetInLemmas.{held_of, holds_as}
 use Rattle.serve_promise.proofs.LinkLemmas.{link_kept}
 
 -- ---- a caller publishes whole frames alone
 
-abbrev IsOne : List ℕ → Type 0
+abbrev pub IsOne : List ℕ → Type 0
 IsOne frame = IsTrue (is_frame frame)
 
-abbrev IsFit : RingCall → Type 0
+abbrev pub IsFit : RingCall → Type 0
 IsFit call = All IsOne (frames_of call)
 
-abbrev IsFitAsk : Ask → Type 0
+abbrev pub IsFitAsk : Ask → Type 0
 IsFitAsk (to_ring mount call) = IsFit call
 IsFitAsk (to_book call) = ⊤
 
-abbrev AreFit : List Step → Type 0
+abbrev pub AreFit : List Step → Type 0
 AreFit [] = ⊤
 AreFit (step ∷ steps) = IsFitAsk (ask_of step) × AreFit steps
 
@@ -99,7 +105,7 @@ good_among : (steps : List Step) → AreGood steps → AreGood (owed_among steps
 good_among [] good = tt
 good_among (step ∷ steps) good = good_owed step steps good.0 (good_among steps good.1)
 
-fit_calls : (mount : ℕ) (steps : List Step) → AreFit steps → All IsFit (calls_in (on_ring mount steps))
+pub fit_calls : (mount : ℕ) (steps : List Step) → AreFit steps → All IsFit (calls_in (on_ring mount steps))
 fit_calls mount [] fit = All-nil IsFit
 fit_calls mount (at_ring asked call answer ∷ steps) fit =
     let rest = fit_calls mount steps fit.1 in
@@ -110,18 +116,18 @@ fit_calls mount (at_ring asked call answer ∷ steps) fit =
 fit_calls mount (at_book call answer ∷ steps) fit = fit_calls mount steps fit.1
 
 -- the histories went on, and this caller published whole frames alone since
-record FitsOn (me : ℕ) (old now : List (History RingCall)) : Type 0 where
-  size : length now ≡ length old
-  rings : (mount : ℕ) → (more : History RingCall)
+pub record FitsOn (me : ℕ) (old now : List (History RingCall)) : Type 0 where
+  pub size : length now ≡ length old
+  pub rings : (mount : ℕ) → (more : History RingCall)
       × (history_at now mount ≡ history_at old mount ++ more) × All IsFit (own me more)
 
-fits_none : (me : ℕ) (h : List (History RingCall)) → FitsOn me h h
+pub fits_none : (me : ℕ) (h : List (History RingCall)) → FitsOn me h h
 fits_none me h = record {
   size = refl;
   rings = λ mount. ([], sym (append-nil (history_at h mount)), All-nil IsFit);
 }
 
-fits_both : (me : ℕ) (a b d : List (History RingCall)) → FitsOn me a b → FitsOn me b d → FitsOn me a d
+pub fits_both : (me : ℕ) (a b d : List (History RingCall)) → FitsOn me a b → FitsOn me b d → FitsOn me a d
 fits_both me a b d x y = record {
   size = y.size ∙ x.size;
   rings = λ mount.
@@ -133,10 +139,10 @@ fits_both me a b d x y = record {
       );
 }
 
-fits_goes : (me : ℕ) (a b : List (History RingCall)) → FitsOn me a b → GoOnTo a b
+pub fits_goes : (me : ℕ) (a b : List (History RingCall)) → FitsOn me a b → GoOnTo a b
 fits_goes me a b x mount = ((x.rings mount).0, (x.rings mount).1)
 
-goes_both : (a b d : List (History RingCall)) → GoOnTo a b → GoOnTo b d → GoOnTo a d
+pub goes_both : (a b d : List (History RingCall)) → GoOnTo a b → GoOnTo b d → GoOnTo a d
 goes_both a b d x y mount =
     let one = x mount in let two = y mount in (
       one.0 ++ two.0,
@@ -171,7 +177,7 @@ settled_fit true plan steps good is =
     owed_fit steps (good_among steps (begun_good plan steps good (made_begun plan steps is)))
 settled_fit false plan steps good is = subst AreFit (sym is) tt
 
-record_fits : (c : Config) (opening : Opening) (me : ℕ) (wear : Wear) (entry : Record) (start now : Histories)
+pub record_fits : (c : Config) (opening : Opening) (me : ℕ) (wear : Wear) (entry : Record) (start now : Histories)
     → RecordGoes c opening me wear entry start now → FitsOn me start.rings now.rings
 record_fits c opening me wear entry start now is =
     let goes = is.goes in
@@ -183,21 +189,35 @@ record_fits c opening me wear entry start now is =
     (settled_fit entry.receipt.settled (closing goes.j steps) goes.closed_by
     (good_closing (came_to goes.j steps) (segments_after [] steps)) goes.settled))
 
-entry_kept : (c : Config) (opening : Opening) (me : ℕ) (entry : Record) (start now : Histories)
-    (histories : Histories) → RecordGoes c opening me (only_worn (call_counts histories)) entry start now
+-- a link that went so, with what it held before it was closed
+abbrev served_by : (c : Config) (opening : Opening) (me : ℕ) (wear : Wear) (entry : Record) (start now : Histories)
+    → RecordGoes c opening me wear entry start now → Served
+served_by c opening me wear entry start now is =
+    record { entry = entry; held = held_of (came_to is.goes.j (steps_of is.goes.events)) }
+
+served_kept : (c : Config) (opening : Opening) (me : ℕ) (entry : Record) (start now histories : Histories)
+    (is : RecordGoes c opening me (only_worn (call_counts histories)) entry start now)
     → GoOnTo now.rings histories.rings → AllFrames histories.rings
-    → IsEntryKept c opening me start.rings now.rings histories entry
-entry_kept c opening me entry start now histories is on_to frames = record {
-  taken = is.taken;
-  written = is.written;
-  taken_is = is.taken_is;
-  bytes_is = is.bytes_is;
-  last = is.last;
-  caused = is.caused;
-  refused = is.refused;
-  kept = link_kept c opening me start now is.taken is.written is.last entry.receipt histories.rings is.goes on_to
-      frames;
-}
+    → IsKept c opening me start now histories
+    (served_by c opening me (only_worn (call_counts histories)) entry start now is)
+served_kept c opening me entry start now histories is on_to frames =
+    let goes = is.goes in
+    record {
+      entry = record {
+        taken = is.taken;
+        written = is.written;
+        taken_is = is.taken_is;
+        bytes_is = is.bytes_is;
+        last = is.last;
+        caused = is.caused;
+        refused = is.refused;
+        kept = link_kept c opening me start now is.taken is.written is.last entry.receipt histories.rings goes on_to
+            frames;
+      };
+      billed = billed c opening me start now is.taken is.written is.last entry.receipt goes
+          (held_of (came_to goes.j (steps_of goes.events)))
+          (holds_as c opening (came_to goes.j (steps_of goes.events)));
+    }
 
 -- ---- the links of a caller
 
@@ -209,14 +229,28 @@ followed_fits c me wear (entry ∷ entries) start now is =
     fits_both me start.rings is.0.rings now.rings (record_fits c sends_head me wear entry start is.0 is.1)
     (followed_fits c me wear entries is.0 now is.2)
 
-followed_kept : (c : Config) (me : ℕ) (entries : List Record) (start now : Histories) (histories : Histories)
-    → Followed c me (only_worn (call_counts histories)) entries start now → GoOnTo now.rings histories.rings
-    → AllFrames histories.rings → AreKeptInTurn c sends_head me histories entries start.rings now.rings
-followed_kept c me [] start now histories same on_to frames = ap (λ (h : Histories). h.rings) same
+abbrev all_served : (c : Config) (me : ℕ) (wear : Wear) (entries : List Record) (start now : Histories)
+    → Followed c me wear entries start now → List Served
+all_served c me wear [] start now is = []
+all_served c me wear (entry ∷ entries) start now is =
+    served_by c sends_head me wear entry start is.0 is.1 ∷ all_served c me wear entries is.0 now is.2
+
+same_records : (c : Config) (me : ℕ) (wear : Wear) (entries : List Record) (start now : Histories)
+    (is : Followed c me wear entries start now) → records_of (all_served c me wear entries start now is) ≡ entries
+same_records c me wear [] start now is = refl
+same_records c me wear (entry ∷ entries) start now is =
+    ap (λ (l : List Record). entry ∷ l) (same_records c me wear entries is.0 now is.2)
+
+followed_kept : (c : Config) (me : ℕ) (entries : List Record) (start now histories : Histories)
+    (is : Followed c me (only_worn (call_counts histories)) entries start now) → GoOnTo now.rings histories.rings
+    → AllFrames histories.rings
+    → AreKeptInTurn c sends_head me histories
+    (all_served c me (only_worn (call_counts histories)) entries start now is) start now
+followed_kept c me [] start now histories same on_to frames = same
 followed_kept c me (entry ∷ entries) start now histories is on_to frames =
     let wear : Wear = only_worn (call_counts histories) in (
-      is.0.rings,
-      entry_kept c sends_head me entry start is.0 histories is.1
+      is.0,
+      served_kept c sends_head me entry start is.0 histories is.1
           (goes_both is.0.rings now.rings histories.rings
           (fits_goes me is.0.rings now.rings (followed_fits c me wear entries is.0 now is.2)) on_to) frames,
       followed_kept c me entries is.0 now histories is.2 on_to frames,
@@ -233,40 +267,44 @@ over_fits c limit me wear (over_link number before) (over_link now after) old ne
 
 -- what was served over this end
 record ServedLinks (c : Config) (histories : Histories) (me : ℕ) (after : EndpointTold) (old new : Caller) : Type 0 where
-  entries : List Record
-  links : AreLinksAt after new.served entries
-  in_turn : AreKeptInTurn c (opening_at after) me histories entries old.seen.rings new.seen.rings
-  tally : new.tally ≡ fold tallied old.tally (receipts_of entries)
+  links : List Served
+  links_are : AreLinksAt after new.served (records_of links)
+  in_turn : AreKeptInTurn c (opening_at after) me histories links old.seen new.seen
+  tally : new.tally ≡ fold tallied old.tally (receipts_of (records_of links))
 
 over_kept : (c : Config) (limit me : ℕ) (before after : EndpointTold) (old new : Caller) (histories : Histories)
     → ServedOver c limit me (only_worn (call_counts histories)) before after old new → IsUnused before
     → GoOnTo new.seen.rings histories.rings → AllFrames histories.rings → ServedLinks c histories me after old new
 over_kept c limit me (at_door before) (at_door after) old new histories is unused on_to frames =
     let works = is.works in
+    let wear : Wear = only_worn (call_counts histories) in
+    let same : records_of (all_served c me wear works.entries old.seen new.seen works.followed) ≡ works.entries =
+    same_records c me wear works.entries old.seen new.seen works.followed in
     record {
-      entries = works.entries;
-      links = (
+      links = all_served c me wear works.entries old.seen new.seen works.followed;
+      links_are = subst (AreLinksAt (at_door after) new.served) (sym same) (
         λ list told.
             let grew = works.back list told in
             grew.2 ∙ ap (λ (l : List LinkTold). l ++ links_of works.entries) (unused.back grew.0 grew.1),
         works.counted,
       );
       in_turn = followed_kept c me works.entries old.seen new.seen histories works.followed on_to frames;
-      tally = works.tally;
+      tally = works.tally ∙ ap (λ (l : List Record). fold tallied old.tally (receipts_of l)) (sym same);
     }
 over_kept c limit me (at_door before) (over_link number after) old new histories is unused on_to frames = absurd is
 over_kept c limit me (over_link number before) (at_door after) old new histories is unused on_to frames = absurd is
 over_kept c limit me (over_link number before) (over_link now after) old new histories is unused on_to frames =
+    let wear : Wear = only_worn (call_counts histories) in
     let entry : Record = record { link = after; receipt = is.1.receipt } in
+    let served : Served = served_by c (relays number) me wear entry old.seen new.seen is.1.goes in
     record {
-      entries = entry ∷ [];
-      links = refl;
-      in_turn = subst (λ (n : ℕ).
-          AreKeptInTurn c (relays n) me histories (entry ∷ []) old.seen.rings new.seen.rings) (sym is.0) (
-            new.seen.rings,
-            entry_kept c (relays number) me entry old.seen new.seen histories is.1.goes on_to frames,
-            refl,
-          );
+      links = served ∷ [];
+      links_are = refl;
+      in_turn = subst (λ (n : ℕ). AreKeptInTurn c (relays n) me histories (served ∷ []) old.seen new.seen) (sym is.0) (
+        new.seen,
+        served_kept c (relays number) me entry old.seen new.seen histories is.1.goes on_to frames,
+        refl,
+      );
       tally = is.1.tally;
     }
 
@@ -292,7 +330,7 @@ caller_fits : (c : Config) (limit : ℕ) (worn : List ℕ) (me : ℕ) (caller : 
 caller_fits c limit worn me caller is =
     over_fits c limit me (only_worn worn) is.end caller.end (uncalled c is.end) caller is.served
 
-own_fit : (c : Config) (me mount : ℕ) (seen : List (History RingCall)) (whole : History RingCall)
+pub own_fit : (c : Config) (me mount : ℕ) (seen : List (History RingCall)) (whole : History RingCall)
     → FitsOn me (nothing_called c).rings seen → GoesOn me (history_at seen mount) whole → All IsFit (own me whole)
 own_fit c me mount seen whole fits goes =
     let at = fits.rings mount in
@@ -322,11 +360,11 @@ tail_fit : (b : Bool) (call : RingCall) (calls : List RingCall) → All IsFit (c
 tail_fit true call calls all = All-tail IsFit call calls all
 tail_fit false call calls all = all
 
-abbrev IsBelow : ℕ → ℕ × RingCall → Type 0
+abbrev pub IsBelow : ℕ → ℕ × RingCall → Type 0
 IsBelow count entry = entry.0 < count
 
 -- where each caller's own calls are fit, all frames are whole
-all_fit : (count : ℕ) (h : History RingCall) → All (IsBelow count) h
+pub all_fit : (count : ℕ) (h : History RingCall) → All (IsBelow count) h
     → ((me : ℕ) → me < count → All IsFit (own me h)) → All IsOne (published_by h)
 all_fit count [] below each = All-nil IsOne
 all_fit count (entry ∷ h) below each =
@@ -336,28 +374,80 @@ all_fit count (entry ∷ h) below each =
     (all_fit count h (All-tail (IsBelow count) entry h below)
     (λ me there. tail_fit (eqb entry.0 me) entry.1 (own me h) (each me there)))
 
+-- what they have seen of the book goes on to its one history, with no call of theirs
+abbrev AreBooked : ℕ → List Caller → History BookCall → Type 0
+AreBooked n callers whole =
+    (k me : ℕ) (seen : History BookCall) → me ≡ n + k
+    → get_elem? (rows.seen_in_book (seen_of callers)) k ≡ some seen → GoesOn me seen whole
+
+-- these callers with the links that they served
+abbrev WithLinks : Config → Histories → ℕ → List Caller → Type 0
+WithLinks c histories n callers =
+    (all : List CallerLinks) × (map caller_in all ≡ callers) × AreCallersKept c histories n all
+
 callers_kept : (c : Config) (limit n : ℕ) (callers : List Caller) (histories : Histories)
     → AreServed c limit (call_counts histories) n callers
-    → ((mount : ℕ) → AreSeen n callers mount (history_at histories.rings mount)) → AllFrames histories.rings
-    → AreCallersKept c histories n callers
-callers_kept c limit n [] histories served seen frames = tt
-callers_kept c limit n (caller ∷ callers) histories served seen frames =
+    → ((mount : ℕ) → AreSeen n callers mount (history_at histories.rings mount))
+    → AreBooked n callers histories.book → AllFrames histories.rings → WithLinks c histories n callers
+callers_kept c limit n [] histories served seen booked frames = ([], refl, tt)
+callers_kept c limit n (caller ∷ callers) histories served seen booked frames =
     let is = served.0 in
     let goes : (mount : ℕ) → GoesOn n (history_at caller.seen.rings mount) (history_at histories.rings mount) =
     λ mount. seen_first n caller callers mount (history_at histories.rings mount) (seen mount) in
-    let all : ServedLinks c histories n caller.end (uncalled c is.end) caller =
+    let one : ServedLinks c histories n caller.end (uncalled c is.end) caller =
     over_kept c limit n is.end caller.end (uncalled c is.end) caller histories is.served is.unused
-    (λ mount. ((goes mount).0, (goes mount).1)) frames in (
-      record {
-        entries = all.entries;
-        links = all.links;
-        in_turn = all.in_turn;
-        nothing_else = goes;
-        tally = all.tally;
-      },
-      callers_kept c limit (n + 1) callers histories served.1
-          (λ mount. seen_next n caller callers mount (history_at histories.rings mount) (seen mount)) frames,
+    (λ mount. ((goes mount).0, (goes mount).1)) frames in
+    let rest = callers_kept c limit (n + 1) callers histories served.1
+    (λ mount. seen_next n caller callers mount (history_at histories.rings mount) (seen mount))
+    (λ k me row same at. booked (suc k) me row (omega (arith, same)) at) frames in (
+      record { caller = caller; links = one.links } ∷ rest.0,
+      ap (λ (l : List Caller). caller ∷ l) rest.1,
+      (
+        record {
+          links_are = one.links_are;
+          in_turn = one.in_turn;
+          nothing_else = goes;
+          nothing_booked = booked zero n caller.seen.book (omega arith) refl;
+          tally = one.tally;
+        },
+        rest.2,
+      ),
     )
+
+-- ---- their calls in the book
+
+abbrev book_seen : CallerLinks → History BookCall
+book_seen one = one.caller.seen.book
+
+links_billed : (c : Config) (opening : Opening) (me : ℕ) (histories : Histories) (links : List Served)
+    (start now : Histories) → AreKeptInTurn c opening me histories links start now
+    → AreBilled c me (map bill_of links) start.book now.book
+links_billed c opening me histories [] start now same = ap (λ (h : Histories). h.book) same
+links_billed c opening me histories (served ∷ links) start now is = (
+  is.0.book,
+  is.1.billed.calls,
+  is.1.billed.booked,
+  is.1.billed.are_calls,
+  links_billed c opening me histories links is.0 now is.2,
+)
+
+all_in_book : (c : Config) (histories : Histories) (n : ℕ) (all : List CallerLinks)
+    → AreCallersKept c histories n all → AreInBook book_seen bills_by c histories.book n all
+all_in_book c histories n [] kept = tt
+all_in_book c histories n (one ∷ more) kept = (
+  links_billed c (opening_at one.caller.end) n histories one.links (nothing_called c) one.caller.seen kept.0.in_turn,
+  kept.0.nothing_booked,
+  all_in_book c histories (n + 1) more kept.1,
+)
+
+abbrev IsBookedBelow : ℕ → ℕ × BookCall → Type 0
+IsBookedBelow count entry = entry.0 < count
+
+all_below : (all : List CallerLinks) (callers : List Caller) (book : History BookCall) → map caller_in all ≡ callers
+    → All (IsBookedBelow (length callers)) book → All (IsBookedBelow (length all)) book
+all_below all callers book same below =
+    subst (λ (n : ℕ). All (IsBookedBelow n) book)
+    (ap (λ (l : List Caller). length l) (sym same) ∙ length-map all caller_in) below
 
 -- ---- where there is no such mountpoint
 
@@ -410,25 +500,43 @@ all_kept c limit old new callers histories is =
     (all_fit (length callers) (history_at histories.rings mount) (at mount).0
     (λ me below. each_fit c limit worn 0 callers mount (history_at histories.rings mount) is.served (at mount).1 me
     me (omega arith) below)) in
+    let booked : AreBooked 0 callers histories.book =
+    λ k me seen same here. subst (λ (m : ℕ). GoesOn m seen histories.book)
+    (let e : k ≡ me = omega (arith, same) in e) (is.whole.book.each k seen here) in
+    let found = callers_kept c limit 0 callers histories is.served (λ mount. (at mount).1) booked frames in
+    let below : All (IsBookedBelow (length callers)) histories.book =
+    subst (λ (n : ℕ). All (IsBookedBelow n) histories.book)
+    (length-map (seen_of callers) (λ (row : Histories). row.book)
+    ∙ length-map callers (λ (caller : Caller). caller.seen)) is.whole.book.numbers in
     record {
       kinds_are = is.kinds_are;
       given_back = is.given_back;
       one_each = is.whole.size;
       frames = frames;
-      kept = callers_kept c limit 0 callers histories is.served (λ mount. (at mount).1) frames;
+      all = found.0;
+      callers_are = found.1;
+      kept = found.2;
       nothing_else = λ mount. (at mount).0;
+      book_callers = below;
+      capped = are_capped book_seen bills_by c histories.book found.0 (all_in_book c histories 0 found.0 found.2)
+          (all_below found.0 callers histories.book found.1 below);
     }
 
 pub all_promised : (c : Config) (addr : List ℕ) (limit : ℕ) (old new : StreetTold) (closed : Closed)
     → HasServed c addr limit old new (Ok closed) → AllPromised c limit old new closed
 all_promised c addr limit old new closed is =
     let ended = is.answered.ended in
+    let histories : Histories = ended.histories in
+    let kept = all_kept c limit old new ended.callers histories ended.all in
     record {
       callers = ended.callers;
-      histories = ended.histories;
-      kept = all_kept c limit old new ended.callers ended.histories ended.all;
+      histories = histories;
+      kept = kept;
       whole = ended.whole;
-      mounts = ap (λ (x : Closed). x.mounts) ended.closed_is;
-      accounts = ap (λ (x : Closed). x.accounts) ended.closed_is;
+      closed_is = ended.closed_is;
+      accounts = ap (λ (x : Closed). x.accounts) ended.closed_is
+          ∙ account_totals book_seen bills_by c 1 c.account histories kept.all
+          (all_in_book c histories 0 kept.all kept.kept)
+          (all_below kept.all ended.callers histories.book kept.callers_are kept.book_callers);
       total = ended.total;
     }

@@ -5,4 +5,9 @@ pub mod FrameLemmas
 pub mod FirstLemmas
 pub mod EndLemmas
 pub mod LinkLemmas
+pub mod LetInLemmas
+pub mod BookLemmas
+pub mod BilledLemmas
+pub mod AccountLemmas
+pub mod CapLemmas
 pub mod CallerLemmas

@@ -1,2 +1,4 @@
 pub mod Links
+pub mod LetIn
+pub mod Accounts
 pub mod Callers
