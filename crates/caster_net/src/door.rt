@@ -17,6 +17,7 @@ use std::io::ErrorKind;
 use std::marker::Model;
 use std::net::{TcpListener, TcpStream};
 use std::os::fd::AsRawFd;
+use std::snapshot::Snapshot;
 use std::sync::Arc;
 use std::time::{Duration, Instant};
 use std::{io, thread};
@@ -33,7 +34,7 @@ const MAX_ENDS: u64 = 2_000;
 pub(crate) struct Porch {
     pub(crate) listener: TcpListener,
     // For contracts alone: the address that it was bound at.
-    pub(crate) addr: Journal<u8>,
+    pub(crate) addr: Snapshot<Journal<u8>>,
     // A rest waits for a connection and nothing else: of several doors the system wakes one for
     // each. One door alone rests for a short while, since its worker may have more to do.
     waits: bool,
@@ -42,7 +43,7 @@ pub(crate) struct Porch {
 impl Porch {
     /// The place of so many doors at a listener that is bound at this address.
     pub(crate) fn bind(rt: &HostRuntime, addr: &str, doors: u32) -> io::Result<Porch>
-        ensures place { IfOk result (λ porch. porch.addr ≡ addr.now) }
+        ensures place { IfOk result (λ porch. porch.addr.value ≡ addr.now) }
         ensures waits { IfOk result (λ porch. IsTrue porch.waits ↔ (1 < doors)) }
     {
         let waits = doors > 1;
@@ -51,7 +52,7 @@ impl Porch {
         listener.set_nonblocking(!waits)?;
         Ok(Porch {
             listener,
-            addr: Journal::of_bytes(addr.as_bytes()),
+            addr: Snapshot::of(&Journal::of_bytes(addr.as_bytes())),
             waits,
         })
     }
@@ -59,7 +60,7 @@ impl Porch {
     /// The place of gates at a listener that is bound at this address. Each of them waits for a
     /// connection for so many milliseconds at most, and of several the system wakes one for each.
     pub(crate) fn bind_gates(rt: &HostRuntime, addr: &str, limit: u64) -> io::Result<Porch>
-        ensures place { IfOk result (λ porch. porch.addr ≡ addr.now) }
+        ensures place { IfOk result (λ porch. porch.addr.value ≡ addr.now) }
         ensures waits { IfOk result (λ porch. IsTrue porch.waits) }
     {
         // Untied line: which address is bound.
@@ -67,7 +68,7 @@ impl Porch {
         listener.limit_accepts(limit)?;
         Ok(Porch {
             listener,
-            addr: Journal::of_bytes(addr.as_bytes()),
+            addr: Snapshot::of(&Journal::of_bytes(addr.as_bytes())),
             waits: true,
         })
     }
@@ -118,7 +119,7 @@ impl<'a> TcpDoor<'a> {
         porch: Arc<Porch, Global>,
         addr: &str,
     ) -> Self
-        requires at { (arc_value porch).addr ≡ addr.now }
+        requires at { (arc_value porch).addr.value ≡ addr.now }
         ensures { result ≡ new_door }
     {
         TcpDoor {

@@ -20,6 +20,7 @@ use std::fmt::InlineText;
 use std::io::ErrorKind;
 use std::marker::Model;
 use std::net::{SocketAddr, TcpStream};
+use std::snapshot::Snapshot;
 use std::sync::Arc;
 use std::sync::atomic::Ordering;
 use std::time::Duration;
@@ -66,7 +67,7 @@ pub struct TcpGate<'a> {
     // Whether it was asked already whether it is over: so somebody serves here.
     is_asked: bool,
     is_over: bool,
-    origin: Origin,
+    origin: Snapshot<Origin>,
     back: Journal<TcpLink<'a>>,
     faults: u64,
 }
@@ -82,7 +83,7 @@ impl<'a> Model for TcpGate<'a> {
       door = record { back = map link_log g.back; faults = g.faults };
       over = g.is_over;
       peer = g.peer;
-      origin = g.origin;
+      origin = g.origin.value;
       quiet = g.quiet;
     } };
 }
@@ -98,7 +99,7 @@ impl<'a> TcpGate<'a> {
         gates: u32,
         quiet: u32,
     ) -> Self
-        requires at { (arc_value porch).addr ≡ addr.now }
+        requires at { (arc_value porch).addr.value ≡ addr.now }
         ensures { result ≡ new_gate (asked.OpenGates addr.now gates quiet) }
     {
         TcpGate::over(
@@ -137,7 +138,7 @@ impl<'a> TcpGate<'a> {
             peer: PeerAddr::unknown(),
             is_asked: false,
             is_over: false,
-            origin,
+            origin: Snapshot::of(&origin),
             back: Journal::new(),
             faults: 0,
         }

@@ -152,7 +152,7 @@ fn opened_at<'a>(
 
 // A place for so many doors at this address, which they share.
 fn porch_at(rt: &HostRuntime, addr: &str, doors: u32) -> Result<Arc<Porch, Global>, StreetFault>
-    ensures { IfOk result (λ porch. (arc_value porch).addr ≡ addr.now) }
+    ensures { IfOk result (λ porch. (arc_value porch).addr.value ≡ addr.now) }
 {
     match Porch::bind(rt, addr, doors) {
         Ok(porch) => share_porch(rt, porch),
@@ -171,7 +171,7 @@ fn open_all<'a>(
 ) -> Result<(), AllocError>
     requires empty { opened.old.items ≡ [] }
     requires room { doors ≤ vec_capacity opened.old }
-    requires at { (arc_value porch.now).addr ≡ addr.now }
+    requires at { (arc_value porch.now).addr.value ≡ addr.now }
     ensures count { OnOk result (vec_len opened.new ≡ doors) }
     ensures each { OnOk result (All (λ door. door ≡ new_door) opened.new.items) }
 {

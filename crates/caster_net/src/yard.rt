@@ -90,7 +90,7 @@ fn opened_at<'a>(
 
 // A place for gates at this address, which they share.
 fn porch_at(rt: &HostRuntime, addr: &str) -> Result<Arc<Porch, Global>, StreetFault>
-    ensures { IfOk result (λ porch. (arc_value porch).addr ≡ addr.now) }
+    ensures { IfOk result (λ porch. (arc_value porch).addr.value ≡ addr.now) }
 {
     match Porch::bind_gates(rt, addr, MAX_KEPT_REST) {
         Ok(porch) => share_porch(rt, porch),
@@ -109,7 +109,7 @@ fn open_all<'a>(
 ) -> Result<(), AllocError>
     requires empty { opened.old.items ≡ [] }
     requires room { gates ≤ vec_capacity opened.old }
-    requires at { (arc_value porch.now).addr ≡ addr.now }
+    requires at { (arc_value porch.now).addr.value ≡ addr.now }
     ensures count { OnOk result (vec_len opened.new ≡ gates) }
     ensures each { OnOk result (All (λ gate. gate ≡ new_gate (asked.OpenGates addr.now gates quiet))
         opened.new.items) }
