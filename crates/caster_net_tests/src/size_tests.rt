@@ -23,10 +23,11 @@ fn a_record_adds_nothing_to_a_reader_a_writer_and_a_stream(rt: HostRuntime) {
     );
 }
 
-// The numbers were measured of these types with their records taken out.
+// The numbers were measured of these types with their records taken out. Of a link 40 bytes show for
+// how long it was quiet, where a read found it so.
 #[test]
 fn a_record_adds_nothing_to_links_doors_streets_and_stores(rt: HostRuntime) {
-    assert_eq!(rt; size_of::<TcpLink<'_>>(), 232);
+    assert_eq!(rt; size_of::<TcpLink<'_>>(), 272);
     assert_eq!(rt; size_of::<TcpDoor<'_>>(), 224);
     assert_eq!(rt; size_of::<TcpStreet<'_>>(), 56);
     assert_eq!(rt; size_of::<FileStore<'_>>(), 32);
