@@ -1,5 +1,6 @@
 """Cases of what stands in dist/. Each is a function whose text says what it tries; it is wrong where it
 raises something, and left out where it raises Missing."""
+import glob
 import os
 import re
 import shutil
@@ -11,6 +12,10 @@ import time
 import traceback
 
 sys.path.insert(0, 'tests/serve')
+import alarms
+import bills
+import forms
+import linting
 import pages
 import positions
 import tools
@@ -46,16 +51,22 @@ def installed():
     found = sorted(os.path.relpath(os.path.join(at, name), folder)
                    for at, _, names in os.walk(folder) for name in names)
     wanted = ['etc/systemd/system/caster-limit.service', 'etc/systemd/system/caster.service']
-    wanted += ['usr/local/bin/caster' + name for name in ('', '-bill', '-keep-metrics', '-run', '-who')]
-    wanted += ['usr/local/bin/draw-report', 'usr/local/share/doc/caster/caster.toml',
-               'usr/local/share/doc/caster/two-workers.toml', 'usr/local/share/man/man1/caster.1']
+    wanted += ['usr/local/bin/caster' + name for name in ('', '-bill', '-keep-metrics', '-lines', '-run', '-who')]
+    wanted += ['usr/local/bin/draw-report']
+    wanted += sorted('usr/local/lib/caster/' + os.path.relpath(name, 'dist') for name in glob.glob('dist/lines/*.py'))
+    wanted += ['usr/local/share/doc/caster/' + name
+               for name in ('caster-rules.yml', 'caster.conf', 'caster.toml', 'two-workers.toml')]
+    wanted += ['usr/local/share/man/man1/caster.1']
     if found != wanted:
         raise Wrong('installed: %s' % found)
     said = passes(folder + '/usr/local/bin/caster', 'check', 'examples/caster.toml')
     if said != b'ok\n':
         raise Wrong('check: %s' % show(said))
-    for name in ('who', 'bill', 'keep-metrics'):
-        passes(folder + '/usr/local/bin/caster-' + name, input=b'')
+    for name in ('caster-who', 'caster-bill', 'caster-keep-metrics', 'draw-report'):
+        for link in (name, 'caster-lines ' + name.replace('keep-', '').replace('draw-report', 'caster-draw')[7:]):
+            done = run(*(folder + '/usr/local/bin/' + link).split(' '), input=b'hello\n')
+            if done.returncode != 1 or not done.stderr.startswith(name.encode() + b': none of 1 line'):
+                raise Wrong('%s: status %d, %s' % (link, done.returncode, show(done.stderr)))
 
 
 def symbols():
@@ -368,7 +379,7 @@ def silent_names():
     in_namespaces('silent_names.py', 'silent-names')
 
 
-CASES = [manual, unit, installed, symbols] + tools.CASES + [
+CASES = [manual, unit, installed, symbols] + tools.CASES + forms.CASES + bills.CASES + alarms.CASES + linting.CASES + [
     haproxy_one, haproxy_two, haproxy_many, haproxy_log, nginx, redial, for_good, silent_names] + pages.CASES + positions.CASES
 
 

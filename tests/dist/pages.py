@@ -220,8 +220,8 @@ def phrases_not_said():
         phrases = [line.strip() for line in file if line.strip() and not line.startswith('#')]
     if len(phrases) < 20 or len(set(phrases)) != len(phrases):
         raise Wrong('the phrases are %s' % phrases)
-    paths = ['README.md', 'CONTRIBUTING.md'] + ['%s/%s' % (folder, name) for folder in ('docs', 'dist')
-                                                for name in sorted(os.listdir(folder))]
+    paths = ['README.md', 'CONTRIBUTING.md'] + ['%s/%s' % (at, name) for folder in ('docs', 'dist')
+                                                for at, _, names in os.walk(folder) for name in sorted(names)]
     texts = {}
     for path in paths:
         with open(path, 'rb') as file:

@@ -1,4 +1,4 @@
-"""Cases of the tools in dist/ that read reports and lines: pictures, who is on, the bill, metrics."""
+"""Cases of the tools in dist/ that read reports and lines: pictures, who is on, metrics."""
 import os
 import re
 import subprocess
@@ -103,10 +103,12 @@ def plain(text):
     return ''.join(line + '\n' for line in re.findall(r'^\S+ field caster\[[0-9]+\]: (.*)$', text, re.M))
 
 
-def prints(tool, text, wanted):
-    got = passes('dist/' + tool, input=text.encode()).decode()
-    if got != wanted:
-        raise Wrong('%s: wanted\n%sand got\n%s' % (tool, wanted, got))
+def prints(tool, text, wanted, *words):
+    """The tool prints this and ends with 0; what it says of lines that it passed over is not looked at."""
+    done = run('dist/' + tool, *words, input=text.encode())
+    if done.returncode or done.stdout.decode() != wanted:
+        raise Wrong('%s: status %d, wanted\n%sand got\n%s%s'
+                    % (tool, done.returncode, wanted, done.stdout.decode(), show(done.stderr)))
 
 
 def who_is_on():
@@ -132,43 +134,29 @@ def who_is_on():
     prints('who', '', '')
 
 
-def bill():
-    """Sessions, frames sent and lost by the day of their ends, with times and without; the closing lines, which
-    are sums of the same, count nothing."""
-    prints('bill', journal('keep.journal', 'keep.totals'),
-           '2026-11-28 rover:rover1 1 87 10\n'
-           '2026-11-29 anonymous 1 3 0\n'
-           '2026-11-29 rover:rover"2\\ 1 19 0\n'
-           '2026-11-29 rover:rover1 2 42 0\n')
-    prints('bill', plain(journal('keep.journal', 'keep.totals')),
-           '- anonymous 1 3 0\n- rover:rover"2\\ 1 19 0\n- rover:rover1 3 129 10\n')
-    # Sums above 2^31.
-    prints('bill', '0.%d end rover:a 4000000000 3000000000 0 rover-end\n' * 3 % (1, 2, 3),
-           '- rover:a 3 12000000000 9000000000\n')
-    # A line that was cut, with the first line of the next run behind it.
-    cuts = ['0.1 end rover:a 5 0 0 rover-end'[:cut] + '0.1 from 127.0.0.1:9' for cut in range(18, 32)]
-    prints('bill', '\n'.join(cuts + ['0.1 end rover:a 5 0 0 rover-end unsettled', '0.2 end rover:b 7']),
-           '- rover:a 1 5 0\n')
-    prints('bill', '', '')
-
-
 STANDS = ['now mount ALPHA 77 9', 'now mount CHARLIE 5 -', 'now workers 4 5', 'now end']
 
 
 def asked(text):
     """The same lines, and behind each an answer to `status` that says what no other line does."""
-    lines = []
+    lines, front = [], ''
     for line in text.splitlines():
-        front = re.match(r'(\S+ field caster\[[0-9]+\]: )?', line)[0]
+        front = re.match(r'(\S+ field caster\[[0-9]+\]: )?', line)[0] or front
         lines += [line] + [front + said for said in STANDS]
     return ''.join(line + '\n' for line in lines)
 
 
+# What the answers alone tell.
+OF_STATUS = re.compile('^caster_(workers|workers_busy|status_answers_total|mount_published)[ {].*\n', re.M)
+
+
 def told_alike(tool, text):
-    """The tool prints the same of both; a line's number, if it prints any, is that of the line."""
-    here, there = (passes('dist/' + tool, input=one.encode()).decode() for one in (text, asked(text)))
+    """The tool prints the same of both, but for what the answers tell; a line's number, if it prints any, is that of
+    the line."""
+    here, there = (run('dist/' + tool, input=one.encode()).stdout.decode() for one in (text, asked(text)))
     if tool == 'who':
         here = re.sub(r'(?<= )([0-9]+)(?= \S+$)', lambda at: str(int(at[1]) * 5 - 4), here, flags=re.M)
+    here, there = OF_STATUS.sub('', here), OF_STATUS.sub('', there)
     if here != there:
         raise Wrong('%s: wanted\n%sand got\n%s' % (tool, here, there))
 
@@ -177,16 +165,18 @@ def how_things_stand_between():
     """Answers to `status` between all other lines change nothing of what the tools tell of these. A line of an answer
     that was cut, with another line behind it, is passed over."""
     whole = journal('keep.journal', 'keep.totals')
-    for text in (journal('keep.journal'), whole, plain(journal('keep.journal')), plain(whole), ''):
+    for text in (journal('keep.journal'), whole, plain(journal('keep.journal')), plain(whole)):
         for tool in ('who', 'bill', 'keep-metrics'):
             told_alike(tool, text)
     last = '3.1 from' + plain(whole).split('3.1 from', 1)[1]
     answers, totals = asked(last.split('mount ')[0]), 'mount ' + last.split('mount ', 1)[1]
     if drawn((answers + totals).encode()).stdout != drawn(last.encode()).stdout:
         raise Wrong('another picture')
+    cut = ''.join('%s%s\n' % (STANDS[0][:at], '0.9 end rover:a 5 0 0 rover-end') for at in range(1, 20))
     for tool in ('who', 'bill', 'keep-metrics'):
-        cut = ''.join('%s%s\n' % (STANDS[0][:at], '0.9 end rover:a 5 0 0 rover-end') for at in range(1, 20))
-        prints(tool, cut, passes('dist/' + tool, input=b'').decode())
+        done = run('dist/' + tool, input=cut.encode())
+        if done.returncode != 1 or done.stdout:
+            raise Wrong('%s: %s' % (tool, show(done.stdout)))
 
 
 def status_by_the_fifo():
@@ -227,7 +217,12 @@ caster_mount_claims_total{mount="CHARLIE"} 1
 # TYPE caster_mount_published gauge
 caster_mount_published{mount="ALPHA"} %d
 caster_mount_published{mount="BRAVO"} 0
-%s# HELP caster_links Links that are open.
+%s# HELP caster_rovers Rovers that are open, by what they asked for.
+# TYPE caster_rovers gauge
+%s# HELP caster_relay_up Whether the relay of the mountpoint holds it.
+# TYPE caster_relay_up gauge
+caster_relay_up{mount="CHARLIE"} 0
+# HELP caster_links Links that are open.
 # TYPE caster_links gauge
 caster_links{kind="other"} 0
 caster_links{kind="relay"} 0
@@ -249,6 +244,16 @@ caster_overrun_total{account=""} 0
 # TYPE caster_refusals_total counter
 caster_refusals_total{ending="password"} 1
 caster_refusals_total{ending="taken"} 1
+# HELP caster_workers Workers, as the last answer to status says.
+# TYPE caster_workers gauge
+# HELP caster_workers_busy Workers with a connection, as the last answer to status says.
+# TYPE caster_workers_busy gauge
+# HELP caster_status_answers_total Answers to status.
+# TYPE caster_status_answers_total counter
+caster_status_answers_total 0
+# HELP caster_lines_passed_over_total Lines that were none of a caster.
+# TYPE caster_lines_passed_over_total counter
+caster_lines_passed_over_total %d
 '''
 
 
@@ -257,15 +262,18 @@ def metrics():
     soon behind a line, and without one."""
     other = 'caster_%s_total{account="rover\\"2\\\\"} %d\n'
     open_run, whole_run = plain(journal('keep.journal')), plain(journal('keep.journal', 'keep.totals'))
-    wanted = METRICS % (1, 52, '', 1, 1, '', '', '')
+    rovers = 'caster_rovers{mount="ALPHA"} %d\ncaster_rovers{mount="BRAVO"} 0\ncaster_rovers{mount="NEAR"} 0\n'
+    wanted = METRICS % (1, 52, '', rovers % 1, 1, 1, '', '', '', 0)
     prints('keep-metrics', open_run, wanted)
-    behind = METRICS % (0, 61, 'caster_mount_published{mount="CHARLIE"} 0\n', 0, 0,
-                        other % ('sessions', 1), other % ('sent', 19), other % ('overrun', 0))
+    end = (0, 61, 'caster_mount_published{mount="CHARLIE"} 0\n', rovers % 0, 0, 0,
+           other % ('sessions', 1), other % ('sent', 19), other % ('overrun', 0))
+    behind = METRICS % (*end, 0)
     prints('keep-metrics', whole_run, behind)
     prints('keep-metrics', journal('keep.journal'), wanted)
     prints('keep-metrics', journal('keep.journal', 'keep.totals'), behind)
     cuts = ['0.1 end rover:a 5 0 0 rover-end'[:cut] + '0.1 from 127.0.0.1:9' for cut in range(18, 31)]
-    prints('keep-metrics', whole_run + '0.1 lap x\n4.1 segment ALPHA\nmount ALPHA\n' + '\n'.join(cuts + ['']), behind)
+    prints('keep-metrics', whole_run + '0.1 lap x\n4.1 segment ALPHA\nmount ALPHA\n' + '\n'.join(cuts + ['']),
+           METRICS % (*end, 3 + len(cuts)))
     path = os.path.join(WORK, 'caster.prom')
     process = subprocess.Popen(['dist/keep-metrics', path], stdin=subprocess.PIPE)
     processes.append(process)
@@ -291,16 +299,14 @@ def short(text):
 
 
 def default_form():
-    """Lines of `journalctl -u caster` in its default form are understood: the bill has no day, since there is no
-    year, and who is on has the time as it stands there."""
+    """Lines of `journalctl -u caster` in its default form are understood, and who is on has the time as it stands
+    there."""
     whole, open_run = journal('keep.journal', 'keep.totals'), journal('keep.journal')
     if 'Nov 29 00:02:01 field caster[733]: 3.2 from' not in short(open_run):
         raise Wrong('no default form: %s' % short(open_run)[:300])
     prints('who', short(open_run), '0.1 source - ALPHA 203.0.113.1:50022 31 Nov_29_00:01:06\n'
            '3.2 rover rover"2\\ ALPHA 203.0.113.7:50025 42 Nov_29_00:02:01\n')
-    prints('bill', short(whole), '- anonymous 1 3 0\n- rover:rover"2\\ 1 19 0\n- rover:rover1 3 129 10\n')
     padded = short(whole).replace('Nov 29 ', 'Nov  9 ')
-    prints('bill', padded, '- anonymous 1 3 0\n- rover:rover"2\\ 1 19 0\n- rover:rover1 3 129 10\n')
     for text in (whole, open_run):
         prints('keep-metrics', short(text), passes('dist/keep-metrics', input=text.encode()).decode())
     prints('keep-metrics', padded, passes('dist/keep-metrics', input=whole.encode()).decode())
@@ -311,16 +317,19 @@ def none_known():
     systemd say themselves are no such lines; a line that is known is enough, whatever it says."""
     said = '2026-11-29T00:01:05+0000 field systemd[1]: Started caster.service - NTRIP caster.\n'
     for tool in ('who', 'bill', 'keep-metrics'):
-        for text in ('hello\n', '{"MESSAGE": "0.1 from -"}\n{"MESSAGE": "0.1 end - 0 0 0 no-head"}\n', 'hello\n' + said):
+        for text in ('hello\n', '{"MESSAGE": "hello"}\n{"MESSAGE": 0}\n', 'hello\n' + said):
             done = run('dist/' + tool, input=text.encode())
             name = ('caster-%s: none of %d line' % (tool, text.count('\n') - text.count('systemd'))).encode()
             if done.returncode != 1 or done.stdout or not done.stderr.startswith(name) or done.stderr.count(b'\n') != 1:
                 raise Wrong('%s of %r: status %d, %s %s'
                             % (tool, text, done.returncode, show(done.stdout), show(done.stderr)))
         nothing = passes('dist/' + tool, input=b'').decode()
-        for text in ('-- No entries --\n', said, short(said), 'now mount ALPHA 0 -\n', 'hello\nnow end\n', 'network fault\n',
-                     '0.1 asks 1 table - -\n', 'account rover1 0 0 0\n'):
+        for text in ('-- No entries --\n', said, short(said), 'network fault\n', '0.1 end - 0 0 0 no-head\n',
+                     'account rover1 0 0 0\n'):
             prints(tool, text, nothing)
+    done = run('dist/who', input=b'hello\nnow end\n')
+    if done.returncode or done.stderr != b'caster-who: passed over 1 of 2 lines, which are none of caster keep\n':
+        raise Wrong('status %d, %s' % (done.returncode, show(done.stderr)))
     # As the lines come: said once, while it goes on.
     path = os.path.join(WORK, 'none.prom')
     process = subprocess.Popen(['dist/keep-metrics', path], stdin=subprocess.PIPE, stderr=subprocess.PIPE)
@@ -368,5 +377,5 @@ def held_mounts():
         raise Wrong(prints_held)
 
 
-CASES = [the_example_picture, large_picture, cut_pictures, picture_of_links, who_is_on, bill, metrics, default_form,
+CASES = [the_example_picture, large_picture, cut_pictures, picture_of_links, who_is_on, metrics, default_form,
          none_known, held_mounts, how_things_stand_between, status_by_the_fifo]

@@ -1,0 +1,1 @@
+"""What reads the lines of a caster and its configuration: see `caster-lines`."""

@@ -1,0 +1,40 @@
+"""The words of `caster-lines`, and the names by which it is called."""
+import os
+import sys
+
+from lines import bill, draw, lint, metrics, reader, who
+
+# Each word with what it runs, and the name that it is called by alone. A further one is a row more.
+WORDS = {
+    'who': (who, 'caster-who'),
+    'bill': (bill, 'caster-bill'),
+    'metrics': (metrics, 'caster-keep-metrics'),
+    'draw': (draw, 'draw-report'),
+    'lint': (lint, 'caster-lint')}
+
+# Which word a name is, with `caster-` before it or not.
+NAMES = {**{word: word for word in WORDS}, 'keep-metrics': 'metrics', 'draw-report': 'draw'}
+
+
+def main(program, words, about):
+    called = os.path.basename(program)
+    word = NAMES.get(called[len('caster-'):] if called.startswith('caster-') else called)
+    if word is None:
+        word, words = (words or [''])[0], words[1:]
+    if word not in WORDS:
+        return reader.usage('caster-lines', about)
+    module, name = WORDS[word]
+    if words[:1] in (['-h'], ['--help']):
+        return reader.usage(name, module.__doc__)
+    try:
+        status = module.run(name, words)
+        sys.stdout.flush()
+        return status
+    except BrokenPipeError:
+        os.dup2(os.open(os.devnull, os.O_WRONLY), sys.stdout.fileno())
+        return 0
+    except OSError as fault:
+        reader.say('%s: %s' % (name, fault))
+        return 2
+    except KeyboardInterrupt:
+        return 130
