@@ -366,21 +366,13 @@ def in_namespaces(script, name):
         raise Wrong('status %d: %s' % (done.returncode, done.stdout.decode(errors='replace')))
 
 
-def for_good():
-    """The block of README.md, "Run it for good", as it stands there: see for_good.py."""
-    need('haproxy', 'openssl', 'curl', 'dpkg')
-    if not os.path.exists('dist/caster-x86_64-linux'):
-        raise Missing('the program in dist/')
-    in_namespaces('for_good.py', 'for-good')
-
-
 def silent_names():
     """A name server that never answers holds up no stop of caster-run: see silent_names.py."""
     in_namespaces('silent_names.py', 'silent-names')
 
 
 CASES = [manual, unit, installed, symbols] + tools.CASES + forms.CASES + bills.CASES + alarms.CASES + linting.CASES + [
-    haproxy_one, haproxy_two, haproxy_many, haproxy_log, nginx, redial, for_good, silent_names] + pages.CASES + positions.CASES
+    haproxy_one, haproxy_two, haproxy_many, haproxy_log, nginx, redial, silent_names] + pages.CASES + positions.CASES
 
 
 def main():
