@@ -151,7 +151,9 @@ def multilog():
     files = lambda: sorted(glob.glob(piped.folder + '/lines/@*')) + [piped.folder + '/lines/current']
 
     def turned():
-        os.kill(piped.reader('multilog'), signal.SIGALRM)
+        # It heeds ALRM by the time that its file is there, and would end by it before.
+        if os.path.exists(piped.folder + '/lines/current'):
+            os.kill(piped.reader('multilog'), signal.SIGALRM)
         time.sleep(0.5)
         return len(files()) > TURNS
 
