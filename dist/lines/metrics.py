@@ -10,7 +10,6 @@ Counts go on while it runs, also where the caster is started again. What is open
 A mountpoint or an account has its lines once it was told of. How many workers there are, and how many are busy, only
 answers to `status` tell.
 """
-import os
 from collections import Counter
 
 from lines import reader
@@ -129,32 +128,18 @@ def escaped(value):
     return value.replace('\\', '\\\\').replace('"', '\\"')
 
 
-def put(path, text):
-    with open(path + '.new', 'w') as file:
-        file.write(text)
-    os.chmod(path + '.new', 0o644)
-    os.rename(path + '.new', path)
-
-
 def run(name, words):
     path, *files = words or ['-']
-    metrics, said = Metrics(), []
+    metrics = Metrics()
 
     def write():
-        put(path, metrics.text())
-        fault = reader.fault_of(metrics.reader, name)
-        if fault and not said:
-            reader.say(fault)
-            said.append(fault)
+        reader.put(path, metrics.text())
     if path != '-' and not files:
-        reader.follow(metrics.reader, write)
-    else:
-        reader.read_all(metrics.reader, files)
-    if said:
-        return 1 if reader.fault_of(metrics.reader, name) else 0
+        return reader.keep(metrics.reader, name, write)
+    reader.read_all(metrics.reader, files)
     status = reader.finish(metrics.reader, name)
-    if path != '-' and status == 0:
-        put(path, metrics.text())
+    if status == 0 and path != '-':
+        write()
     elif status == 0:
         reader.write(metrics.text().encode())
     return status

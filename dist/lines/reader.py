@@ -28,10 +28,11 @@ ZERO = ord('0')
 
 class Link:
     """A connection of which the lines tell. `kind` is what it was let in as, and `-` before; `front` is that of its
-    first line, `entered` that of its being let in, `last` that of its last line so far. `base` is the mountpoint of
-    its last segment; `sent` and `overrun` are the sums of these."""
+    first line, `entered` that of its being let in, `last` that of its last line so far. `wanted` is what its head asks
+    for and `asker` whose credentials it has. `base` is the mountpoint of its last segment; `sent` and `overrun` are
+    the sums of these."""
 
-    kind, user, mount, wanted = '-', b'-', b'-', b'-'
+    kind, user, mount, wanted, asker = '-', b'-', b'-', b'-', b'-'
     entered, claim, base, sent, overrun = None, None, None, 0, 0
     # The front of the last line of its run, where it was cut.
     until = None
@@ -213,7 +214,8 @@ class Reader:
         self.begin(name, found[1])
 
     def take_asks(self, name, found):
-        self.link_of(name).wanted = found[3]
+        link = self.link_of(name)
+        link.wanted, link.asker = found[3], found[4]
 
     def take_rover(self, name, found):
         link = self.link_of(name)
@@ -362,6 +364,14 @@ def follow(reader, write):
     write()
 
 
+def put(path, text):
+    """Writes a file by another name first, so that nobody reads half of it."""
+    with open(path + '.new', 'w') as file:
+        file.write(text)
+    os.chmod(path + '.new', 0o644)
+    os.rename(path + '.new', path)
+
+
 # ---- what is said of the lines
 
 def fault_of(reader, name):
@@ -396,3 +406,20 @@ def finish(reader, name):
         say('%s: passed over %d of %d lines, which are none of caster keep'
             % (name, reader.strange, reader.strange + reader.known()))
     return 0
+
+
+def keep(reader, name, write):
+    """Takes the lines of standard input as they come and has what they say written; the status of the word. Where none
+    of them is known it says so once, as soon as that is so."""
+    said = []
+
+    def written():
+        write()
+        fault = fault_of(reader, name)
+        if fault and not said:
+            say(fault)
+            said.append(fault)
+    follow(reader, written)
+    if said:
+        return 1 if fault_of(reader, name) else 0
+    return finish(reader, name)

@@ -2,13 +2,15 @@
 import os
 import sys
 
-from lines import bill, draw, lint, metrics, reader, who
+from lines import bill, draw, health, lint, metrics, page, reader, who
 
 # Each word with what it runs, and the name that it is called by alone. A further one is a row more.
 WORDS = {
     'who': (who, 'caster-who'),
     'bill': (bill, 'caster-bill'),
     'metrics': (metrics, 'caster-keep-metrics'),
+    'page': (page, 'caster-page'),
+    'health': (health, 'caster-health'),
     'draw': (draw, 'draw-report'),
     'lint': (lint, 'caster-lint')}
 
