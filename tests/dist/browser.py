@@ -28,7 +28,7 @@ class Browser:
             os.dup2(high_two, 4)
         self.process = subprocess.Popen(
             ['chromium', '--headless', '--no-sandbox', '--disable-gpu', '--disable-dev-shm-usage', '--no-first-run',
-             '--disable-background-networking', '--disable-component-update', '--disable-sync', '--hide-scrollbars',
+             '--disable-background-networking', '--disable-component-update', '--disable-sync', '--hide-scrollbars', '--ignore-certificate-errors',
              '--remote-debugging-pipe', '--user-data-dir=' + self.folder, 'about:blank'],
             stdin=subprocess.DEVNULL, stdout=subprocess.DEVNULL, stderr=subprocess.DEVNULL, pass_fds=(3, 4),
             preexec_fn=to_three_and_four)

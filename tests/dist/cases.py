@@ -19,6 +19,7 @@ import linting
 import pages
 import positions
 import tools
+import webpage
 from common import *
 
 # ---- manual page, unit, installing
@@ -82,18 +83,6 @@ def symbols():
 
 
 # ---- recipes
-
-def certificate():
-    path = os.path.join(WORK, 'caster.pem')
-    if not os.path.exists(path):
-        done = run('openssl', 'req', '-x509', '-newkey', 'rsa:2048', '-nodes', '-keyout', path + '.key',
-                   '-out', path, '-days', '2', '-subj', '/CN=localhost')
-        if done.returncode:
-            raise Wrong(show(done.stderr))
-        with open(path, 'a') as file:
-            file.write(text_of(path + '.key'))
-    return path
-
 
 def secret_client(port):
     """A client that speaks TLS."""
@@ -371,7 +360,7 @@ def silent_names():
     in_namespaces('silent_names.py', 'silent-names')
 
 
-CASES = [manual, unit, installed, symbols] + tools.CASES + forms.CASES + bills.CASES + alarms.CASES + linting.CASES + [
+CASES = [manual, unit, installed, symbols] + tools.CASES + forms.CASES + bills.CASES + alarms.CASES + linting.CASES + webpage.CASES + [
     haproxy_one, haproxy_two, haproxy_many, haproxy_log, nginx, redial, silent_names] + pages.CASES + positions.CASES
 
 

@@ -67,6 +67,18 @@ def replaced(text, changes):
     return text
 
 
+def certificate():
+    path = os.path.join(WORK, 'caster.pem')
+    if not os.path.exists(path):
+        done = run('openssl', 'req', '-x509', '-newkey', 'rsa:2048', '-nodes', '-keyout', path + '.key',
+                   '-out', path, '-days', '2', '-subj', '/CN=localhost')
+        if done.returncode:
+            raise Wrong(show(done.stderr))
+        with open(path, 'a') as file:
+            file.write(text_of(path + '.key'))
+    return path
+
+
 def config(workers, mounts=('ALPHA',)):
     """A configuration without credentials of rovers."""
     text = 'version = 2\nworkers = %d\n' % workers

@@ -226,7 +226,7 @@ def phrases_not_said():
     for path in paths:
         with open(path, 'rb') as file:
             data = file.read()
-        if path != 'docs/phrases-not-said' and data[:4] != b'\x7fELF':
+        if path != 'docs/phrases-not-said' and data[:4] not in (b'\x7fELF', b'\x89PNG'):
             # In the manual page a minus sign has a backslash before it.
             texts[path] = plain(data.decode().replace('\\-', '-'))
     for phrase in phrases:
