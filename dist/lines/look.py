@@ -36,7 +36,8 @@ tr.silent td:first-child { border-left: 3px solid var(--warn); }
 .badge.silent { background: var(--warn-back); color: var(--warn); }
 .badge.none { background: var(--bad-back); color: var(--bad); }
 .curve { width: 120px; height: 24px; display: block; }
-.curve path { fill: none; stroke: var(--curve); stroke-width: 1.5; stroke-linecap: round; }
+.curve path { fill: none; stroke: var(--curve); stroke-width: 1.5; }
+.curve .ground { stroke: var(--line); stroke-width: 1; }
 summary { cursor: pointer; }
 summary h2 { display: inline-block; }
 details:last-child { padding-bottom: 32px; }

@@ -28,7 +28,6 @@ NEARLY, SHARE, UNASKED = 0.9, 0.01, 180
 
 # So many rovers are named at most among what needs an eye.
 MOST_NAMED = 10
-GAP = 300
 
 ENDINGS = {
     'source-end': 'ended by itself', 'rover-end': 'left', 'no-head': 'ended before its head was whole',
@@ -160,19 +159,19 @@ def table(name, columns, rows, nothing):
 
 
 def curve(mount, now):
-    """The frames a second of the last hour as a small picture."""
-    points = [(end, rate) for end, rate in mount['curve']]
-    if not points:
+    """The frames a second of the last hour as a small picture: a step for each two answers, above a line for none."""
+    steps = mount['curve']
+    if not steps:
         return NONE
-    most, parts, last = max(rate for _, rate in points) or 1, [], None
-    for end, rate in points:
-        letter = 'L' if last is not None and end - last <= GAP else 'M'
-        parts.append('%s%.1f %.1f' % (letter, 120 * (1 - (now - end) / 3600), 22 - 20 * rate / most))
+    most, parts, last = max(rate for _, _, rate in steps), [], None
+    for start, end, rate in steps:
+        left, right = (120 * max(0, 1 - (now - at) / 3600) for at in (start, end))
+        height = 22 - 20 * rate / (most or 1)
+        parts.append('%s%.1f %.1fH%.1f' % ('L' if start == last else 'M', left, height, right))
         last = end
-    said = 'up to %s frames a second' % per_second(max(rate for _, rate in points))
-    # A line of one point is drawn as a dot, by its round end.
-    return ('<svg class="curve" viewBox="0 0 120 24" role="img" aria-label="%s"><title>%s</title><path d="%s L%s"/></svg>'
-            % (said, said, ' '.join(parts), parts[-1][1:]))
+    said = 'up to %s frames a second' % per_second(most)
+    return ('<svg class="curve" viewBox="0 0 120 24" role="img" aria-label="%s"><title>%s</title><path class="ground" '
+            'd="M0 23.5H120"/><path d="%s"/></svg>' % (said, said, ''.join(parts)))
 
 
 def held_by(mount):
@@ -236,7 +235,7 @@ def tiles(state):
     caster, now = state['caster'], state['at']
     workers = NONE if caster['workers'] is None else '%s of %d' % (number(caster['busy']), caster['workers'])
     kinds = [row['kind'] for row in state['connections']]
-    begun = since(caster['since'], now) + (' or before' if caster['is_first_run'] and caster['since'] is not None else '')
+    begun = since(caster['since'], now) + (', or before' if caster['is_first_run'] and caster['since'] is not None else '')
     rows = [('Serving since' if caster['is_serving'] else 'Stopped; served since', begun),
             ('Workers busy', workers), ('Rovers', number(kinds.count('rover'))),
             ('Bases and relays', number(kinds.count('source') + kinds.count('relay'))),

@@ -59,9 +59,10 @@ class Mount:
         return max(0, self.answers[-1][0] - self.quiet) // SECOND if self.answers else None
 
     def rates(self):
-        """The frames a second of the last hour, each with the time up to which they are so."""
+        """The frames a second of the last hour, each with the times between which they are so."""
         points = list(self.curve)
-        return [(end[0], (end[1] - start[1]) * SECOND / (end[0] - start[0])) for start, end in zip(points, points[1:])
+        return [(start[0], end[0], (end[1] - start[1]) * SECOND / (end[0] - start[0]))
+                for start, end in zip(points, points[1:])
                 if start[2] == end[2] and end[0] > start[0] and end[1] >= start[1]]
 
 
@@ -203,7 +204,8 @@ class State(reader.Listener):
         row = {'name': text_of(mount.name), 'is_near': False, 'is_held': False, 'holder': None, 'claim': None,
                'address': None, 'since': None, 'published': mount.published,
                'rate': mount.rate(), 'silent': mount.silence(), 'rovers': rovers, 'relay': None,
-               'curve': [[seconds(end), round(rate, 3)] for end, rate in mount.rates() if end > at - HOUR]}
+               'curve': [[seconds(start), seconds(end), round(rate, 3)] for start, end, rate in mount.rates()
+                         if end > at - HOUR]}
         if link is not None:
             row.update(is_held=True, holder=link.kind, claim=link.claim, address=text_of(link.address),
                        since=seconds(link.entered))

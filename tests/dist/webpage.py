@@ -69,7 +69,7 @@ def page_by_hand():
     alpha, bravo, near = state['mounts']
     holds('ALPHA', alpha, {'name': 'ALPHA', 'is_held': True, 'holder': 'source', 'address': '203.0.113.1:50001',
                            'claim': 1, 'since': EPOCH_8 + 1, 'published': 605, 'rate': 5.0, 'silent': 0, 'rovers': 0,
-                           'relay': None, 'curve': [[EPOCH_8 + 70, 5.0], [EPOCH_8 + 130, 5.0]]})
+                           'relay': None, 'curve': [[EPOCH_8 + 10, EPOCH_8 + 70, 5.0], [EPOCH_8 + 70, EPOCH_8 + 130, 5.0]]})
     holds('BRAVO', bravo, {'is_held': False, 'rate': 0.0, 'silent': 120, 'rovers': 0, 'since': None,
                            'relay': {'at': EPOCH_8 + 18, 'tries': 2, 'ending': 'upstream 503'}})
     holds('NEAR', near, {'name': 'NEAR', 'is_near': True, 'rovers': 1})
@@ -106,7 +106,8 @@ def runs_of_a_page():
         raise Wrong('the mountpoints are %s' % state['mounts'])
     holds('ALPHA', state['mounts'][0], {'address': '203.0.113.1:50101', 'rate': 0.0, 'silent': 60, 'since': EPOCH_8 + 201})
     # No rate reaches from one run into the other.
-    if state['mounts'][0]['curve'] != [[EPOCH_8 + 70, 5.0], [EPOCH_8 + 130, 5.0], [EPOCH_8 + 270, 0.0]]:
+    if [step[1:] for step in state['mounts'][0]['curve']] != [
+            [EPOCH_8 + 70, 5.0], [EPOCH_8 + 130, 5.0], [EPOCH_8 + 270, 0.0]]:
         raise Wrong('the curve is %s' % state['mounts'][0]['curve'])
     ended = [(row['kind'], row['mount'], row['sent'], row['lost'], row['ending']) for row in state['ended']]
     if sorted(ended[:2]) != [('rover', 'ALPHA', 98, 2, ''), ('source', 'ALPHA', None, None, '')] or len(ended) != 3:
@@ -135,7 +136,8 @@ def page_of_many():
     if len(state['refused']) != 50 or state['refused'][0]['at'] != EPOCH_8 + 119 or state['caster']['refused'] != 120:
         raise Wrong('%d were refused' % len(state['refused']))
     curve = state['mounts'][0]['curve']
-    if len(curve) != 60 or curve[-1] != [EPOCH_8 + 200 + 179 * 60, 2.0] or {rate for _, rate in curve} != {2.0}:
+    last = EPOCH_8 + 200 + 179 * 60
+    if len(curve) != 60 or curve[-1] != [last - 60, last, 2.0] or {rate for _, _, rate in curve} != {2.0}:
         raise Wrong('%d places of a curve, %s' % (len(curve), curve[-1]))
 
 
@@ -146,19 +148,19 @@ workers = 12
 [[mount]]
 name = "ALPHA"
 password = "sesame"
-ring = 64
+ring = 512
 latitude = 0
 longitude = 0
 [[mount]]
 name = "BRAVO"
 password = "sesame"
-ring = 64
+ring = 512
 latitude = 100
 longitude = 0
 [[mount]]
 name = "CHARLIE"
 password = "sesame"
-ring = 64
+ring = 512
 latitude = 200
 longitude = 0
 [[near]]
@@ -186,12 +188,15 @@ cap = 99
 # Frames of a base that sends all at once, more than the system keeps for a rover.
 BURST, SIZE = 12000, 1000
 
+# Frames of that base in the half of an hour before.
+QUIET_ONES = 16 * 120
+
 
 class Scene:
     """The program, each of whose lines gets the time of a clock of ours and goes to `page`, whose folder nginx serves."""
 
     def __init__(self):
-        self.port, self.front, self.clock, self.lines = free_port(), free_port(), int(time.time()) - 300, []
+        self.port, self.front, self.clock, self.lines = free_port(), free_port(), int(time.time()) - 1700, []
         self.folder = os.path.join(WORK, 'www')
         os.makedirs(self.folder)
         self.page = subprocess.Popen(['dist/caster-lines', 'page', self.folder], stdin=subprocess.PIPE)
@@ -248,11 +253,19 @@ class Scene:
         self.waits_for('^now end$', count + 1)
 
 
+    def ends(self):
+        """The program is told to stop, and the page with it."""
+        self.caster.stdin.write(b'stop\n')
+        self.caster.stdin.flush()
+        if self.caster.wait(timeout=PATIENCE) or self.page.wait(timeout=PATIENCE):
+            raise Wrong('they end with %d and %d' % (self.caster.returncode, self.page.returncode))
+
+
 class Clients:
     """Two bases and five rovers, and what each of them did."""
 
     def __init__(self, scene):
-        port, self.begun = scene.port, scene.clock
+        port, self.begun, self.taken = scene.port, scene.clock, 0
         self.alpha = Client(port).send(source_1('ALPHA', 'sesame')).expect(ICY)
         self.bravo = Client(port).send(source_2('BRAVO', 'sesame')).expect(SOURCE_2_OK)
         here = report('0000.000,N', '00000.000,E')
@@ -272,6 +285,15 @@ class Clients:
         rows = [('–', 'base', at(self.alpha), 'ALPHA'), ('–', 'base', at(self.bravo), 'BRAVO')]
         return sorted(rows + [(user, 'rover', at(self.rovers[name]), mount) for name, (user, mount) in about.items()])
 
+    def half_an_hour_goes_by(self, scene):
+        """By our clock: the base at ALPHA sends some frames a second, and the other one falls silent in the midst."""
+        for minute in range(27):
+            self.frames_come(240 + 30 * (minute % 3))
+            if minute < 16:
+                self.bravo.send(B * 120)
+                self.rovers['slow'].expect(B * 120)
+            scene.status_is_asked(60)
+
     def frames_come(self, count):
         """The base at ALPHA sends so many frames, and each rover that hears it takes them."""
         self.alpha.send(A * count)
@@ -279,10 +301,11 @@ class Clients:
             self.rovers[name].expect(A * count)
         for _ in range(count):
             self.rovers['tractor7'].expect(chunk(A))
+        self.taken += count
 
     def burst(self):
         """The base at BRAVO sends more at once than its slow rover can be kept; it reads on to the last frame, and gives
-        how many came."""
+        how many of these came."""
         self.bravo.send(b''.join(frames(1005, 0, BURST, SIZE)))
         slow, last = self.rovers['slow'], frame(1005, BURST - 1, SIZE)
         came = places_in(slow.receive_until(last), SIZE)
@@ -320,14 +343,14 @@ def clock_of(at):
 
 
 def shows_who_is_on(tab, scene, clients):
-    """Behind 40 frames of ALPHA in ten seconds."""
+    """Behind half an hour, and 40 frames of ALPHA in its last ten seconds; BRAVO had its last ones at 16 of 27 minutes."""
     tab.wait_for("document.querySelector('#mounts') && [...document.querySelectorAll('#mounts td')].some("
                  "cell => cell.textContent === '4.0')")
     rows = tab.rows('links')
     got = sorted((row['User'], row['Kind'], row['Address'], row['Mountpoint']) for row in rows)
     if got != clients.links():
         raise Wrong('on are %s, and the clients are %s' % (got, clients.links()))
-    since = clock_of(clients.begun) + ' (20 s)'
+    since = clock_of(clients.begun) + ' (27 min)'
     if {row['Since'] for row in rows} != {since}:
         raise Wrong('they are on since %s, and not %s' % ([row['Since'] for row in rows], since))
     mounts = {row['Mountpoint']: row for row in tab.rows('mounts')}
@@ -336,12 +359,12 @@ def shows_who_is_on(tab, scene, clients):
     holds('ALPHA', mounts['ALPHA'], {'State': 'held', 'Held by': 'base ' + at(clients.alpha), 'Since': since,
                                      'Frames/s': '4.0', 'Silent for': '0 s', 'Rovers': '3'})
     holds('BRAVO', mounts['BRAVO'], {'State': 'silent', 'Held by': 'base ' + at(clients.bravo), 'Frames/s': '0.0',
-                                     'Silent for': '20 s', 'Rovers': '1'})
+                                     'Silent for': '11 min', 'Rovers': '1'})
     holds('CHARLIE', mounts['CHARLIE'], {'State': 'no base', 'Held by': '–', 'Rovers': '0'})
     holds('NEAR', mounts['NEAR'], {'State': 'near', 'Rovers': '1'})
     holds('the caster', figures(tab), {'Workers busy': '7 of 12', 'Rovers': '5', 'Bases and relays': '2',
                                        'Turned away': '0, 0 in the last hour'})
-    if eye_of(tab) != ['No base holds CHARLIE.', 'BRAVO is held, and silent for 20 s.']:
+    if eye_of(tab) != ['No base holds CHARLIE.', 'BRAVO is held, and silent for 11 min.']:
         raise Wrong('what needs an eye: %s' % eye_of(tab))
 
 
@@ -351,14 +374,14 @@ def shows_who_left(tab, clients, came, refused):
                  "document.querySelector('#eye li').textContent === 'No base holds BRAVO.'")
     ended = [(row['User'], row['Kind'], row['Sent'], row['Lost'], row['Why']) for row in tab.rows('ended')]
     wanted = [('–', 'base', '–', '–', 'ended by itself'),
-              ('tractor7', 'rover', '40', '0', 'left'),
-              ('rover1', 'rover', '{:,}'.format(came), '{:,}'.format(BURST - came), 'left')]
+              ('tractor7', 'rover', '{:,}'.format(clients.taken), '0', 'left'),
+              ('rover1', 'rover', '{:,}'.format(came + QUIET_ONES), '{:,}'.format(BURST - came), 'left')]
     if ended != wanted or came > 0.98 * BURST:
         raise Wrong('ended: %s, and the clients counted %s' % (ended, wanted))
     got = [(row['Asked for'], row['As user'], row['Why']) for row in tab.rows('refused')]
     if got != refused[::-1]:
         raise Wrong('refused: %s, and those who came: %s' % (got, refused))
-    share = 'rover1 at BRAVO lost %.2f %% of its frames' % (100 - 100 * came / BURST)
+    share = 'rover1 at BRAVO lost %.2f %% of its frames' % (100 * (BURST - came) / (BURST + QUIET_ONES))
     said = eye_of(tab)
     if said[:3] != ['No base holds BRAVO.', 'No base holds CHARLIE.', 'ALPHA is held, and silent for 20 s.'] or \
             not said[3].startswith(share) or len(said) != 4:
@@ -400,6 +423,7 @@ def page_in_a_browser():
         raise Wrong('another password is taken')
     clients = Clients(scene)
     scene.status_is_asked(10)
+    clients.half_an_hour_goes_by(scene)
     clients.frames_come(40)
     scene.status_is_asked(10)
     origin, url = ['https://%s127.0.0.1:%d/' % (user, scene.front) for user in ('', 'me:see@')]
@@ -430,6 +454,8 @@ def page_in_a_browser():
                        "'ALPHA is held, and silent for 1 min.')")
         if eye_of(still)[2] != 'ALPHA is held, and silent for 20 s.':
             raise Wrong('without scripts it renews itself: %s' % eye_of(still))
+        scene.ends()
+        phone.wait_for("document.querySelector('#eye li').textContent.startsWith('The caster has stopped')")
         takes_nothing_from_elsewhere((phone, desktop, still), origin)
 
 
