@@ -1,18 +1,14 @@
 """The words of `caster-lines`, and the names by which it is called."""
+import importlib
 import os
 import sys
 
-from lines import bill, draw, health, lint, metrics, page, reader, who
+from lines import reader
 
-# Each word with what it runs, and the name that it is called by alone. A further one is a row more.
+# Each word, which is that of the module that it runs, with the name by which it is called alone.
 WORDS = {
-    'who': (who, 'caster-who'),
-    'bill': (bill, 'caster-bill'),
-    'metrics': (metrics, 'caster-keep-metrics'),
-    'page': (page, 'caster-page'),
-    'health': (health, 'caster-health'),
-    'draw': (draw, 'draw-report'),
-    'lint': (lint, 'caster-lint')}
+    'who': 'caster-who', 'bill': 'caster-bill', 'metrics': 'caster-keep-metrics', 'page': 'caster-page',
+    'health': 'caster-health', 'draw': 'draw-report', 'lint': 'caster-lint'}
 
 # Which word a name is, with `caster-` before it or not.
 NAMES = {**{word: word for word in WORDS}, 'keep-metrics': 'metrics', 'draw-report': 'draw'}
@@ -25,7 +21,8 @@ def main(program, words, about):
         word, words = (words or [''])[0], words[1:]
     if word not in WORDS:
         return reader.usage('caster-lines', about)
-    module, name = WORDS[word]
+    # No other word is read: `health` is asked often.
+    module, name = importlib.import_module('lines.' + word), WORDS[word]
     if words[:1] in (['-h'], ['--help']):
         return reader.usage(name, module.__doc__)
     try:

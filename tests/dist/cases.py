@@ -15,6 +15,7 @@ sys.path.insert(0, 'tests/serve')
 import alarms
 import bills
 import forms
+import healthy
 import linting
 import pages
 import positions
@@ -31,14 +32,18 @@ def manual():
 
 
 def unit():
-    """systemd takes both units, with the programs at another place, since it wants ones that are there."""
+    """systemd takes each unit, with the programs at another place, since it wants ones that are there."""
     need('systemd-analyze')
-    for name in ('caster.service', 'caster-limit.service'):
-        path = write(name, replaced(text_of('dist/' + name), [('ExecStart=/usr/local/bin/', 'ExecStart=%s/bin/' % WORK)]))
-        os.makedirs(WORK + '/bin', exist_ok=True)
-        for program in ('caster', 'caster-run'):
-            shutil.copy('dist/caster-run', WORK + '/bin/' + program)
-        passes('systemd-analyze', 'verify', '--man=no', path)
+    os.makedirs(WORK + '/bin')
+    for program in ('caster', 'caster-run', 'caster-lines'):
+        shutil.copy('dist/caster-run', WORK + '/bin/' + program)
+    names = sorted(name for name in os.listdir('dist') if name.endswith(('.service', '.socket', '.timer')))
+    if len(names) < 7:
+        raise Wrong('the units are %s' % names)
+    for name in names:
+        write(name, text_of('dist/' + name).replace('/usr/local/bin/', WORK + '/bin/'))
+    for name in names:
+        passes('systemd-analyze', 'verify', '--man=no', os.path.join(WORK, name))
 
 
 def installed():
@@ -360,8 +365,9 @@ def silent_names():
     in_namespaces('silent_names.py', 'silent-names')
 
 
-CASES = [manual, unit, installed, symbols] + tools.CASES + forms.CASES + bills.CASES + alarms.CASES + linting.CASES + webpage.CASES + [
-    haproxy_one, haproxy_two, haproxy_many, haproxy_log, nginx, redial, silent_names] + pages.CASES + positions.CASES
+CASES = [manual, unit, installed, symbols, haproxy_one, haproxy_two, haproxy_many, haproxy_log, nginx, redial, silent_names]
+for module in (webpage, healthy, tools, forms, bills, alarms, linting, pages, positions):
+    CASES += module.CASES
 
 
 def main():
