@@ -56,12 +56,13 @@ def installed():
     passes('sh', '-euc', line, env=dict(os.environ, DESTDIR=folder))
     found = sorted(os.path.relpath(os.path.join(at, name), folder)
                    for at, _, names in os.walk(folder) for name in names)
-    wanted = ['etc/systemd/system/caster-limit.service', 'etc/systemd/system/caster.service']
+    wanted = sorted('etc/systemd/system/' + name for name in os.listdir('dist')
+                    if name.endswith(('.service', '.socket', '.timer')))
     wanted += ['usr/local/bin/caster' + name for name in ('', '-bill', '-keep-metrics', '-lines', '-run', '-who')]
     wanted += ['usr/local/bin/draw-report']
     wanted += sorted('usr/local/lib/caster/' + os.path.relpath(name, 'dist') for name in glob.glob('dist/lines/*.py'))
     wanted += ['usr/local/share/doc/caster/' + name
-               for name in ('caster-rules.yml', 'caster.conf', 'caster.toml', 'two-workers.toml')]
+               for name in ('caster-rules.yml', 'caster.conf', 'caster.toml', 'nginx-page.conf', 'two-workers.toml')]
     wanted += ['usr/local/share/man/man1/caster.1']
     if found != wanted:
         raise Wrong('installed: %s' % found)

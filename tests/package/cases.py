@@ -14,10 +14,11 @@ import for_good
 import leaves
 import life
 import rotation
+import watched
 from common import *
 
 PAGES = ['caster.1', 'caster-run.1', 'caster-who.1', 'caster-bill.1', 'caster-keep-metrics.1', 'draw-report.1',
-         'caster-redial.1', 'caster.toml.5']
+         'caster-redial.1', 'caster-lines.1', 'caster.toml.5']
 
 
 def package(folder, *front, **more):
@@ -177,7 +178,7 @@ def changelog():
 
 
 CASES = [same_bytes, contents, links_of_tools, lintian, manual_pages, changelog] + for_good.CASES + life.CASES \
-    + rotation.CASES + leaves.CASES + container.CASES
+    + watched.CASES + rotation.CASES + leaves.CASES + container.CASES
 
 
 def main():

@@ -6,7 +6,7 @@ import re
 from for_good import *
 from root import *
 
-UNITS = ['caster.service', 'caster-limit.service']
+UNITS = ['caster.service', 'caster-limit.service', 'caster-page.service', 'caster-status.timer', 'caster-health.socket']
 LINK = '/etc/systemd/system/multi-user.target.wants/caster.service'
 
 
