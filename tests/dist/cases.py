@@ -8,6 +8,7 @@ import socket
 import ssl
 import subprocess
 import sys
+import tempfile
 import time
 import traceback
 
@@ -80,7 +81,7 @@ def symbols():
     """The program in dist/ takes no symbol of a glibc later than README names."""
     need('objdump')
     if not os.path.exists('dist/caster-x86_64-linux'):
-        raise Missing('the program in dist/')
+        raise Missing('dist/caster-x86_64-linux')
     table = passes('objdump', '-T', 'dist/caster-x86_64-linux').decode()
     versions = [tuple(map(int, one.split('.'))) for one in re.findall(r'GLIBC_([0-9.]+)', table)]
     named, = re.findall(r'glibc ([0-9.]+) or later', text_of('README.md'))
@@ -141,12 +142,22 @@ def has_ended(one):
         return True
 
 
-def is_cut_off(port):
-    """Whether one more stranger is cut off, at once."""
+def is_still_there(one):
+    one.setblocking(False)
     try:
-        one = stranger(port)
-        one.settimeout(1)
-        return has_ended(one)
+        return one.recv(100) != b''
+    except BlockingIOError:
+        return True
+    except ConnectionResetError:
+        return False
+    finally:
+        one.settimeout(PATIENCE)
+
+
+def is_cut_off(port):
+    """Whether one more stranger is cut off."""
+    try:
+        return has_ended(stranger(port))
     except ConnectionResetError:
         return True
     except TimeoutError:
@@ -155,22 +166,20 @@ def is_cut_off(port):
 
 def strangers(port, caster):
     """Twelve of one address, as many as it may have, that send nothing, half a head, or the hello of TLS, take no
-    worker; one more is cut off at once. An honest base and rover find theirs meanwhile, at once."""
+    worker. One more is cut off, and an honest base and rover are served, while all twelve are still waited for."""
     halves = [b'', b'GET /AL', b'SOURCE ', b'GET /ALPHA HTTP/1.0\r\nUser-Agent: x\r\n', b'SOURCE sesame ALPHA\r\n',
               b'\x16\x03\x01\x02\x00\x01\x00\x01\xfc\x03\x03']
     some = [stranger(port, half) for half in halves * 2]
     if not is_cut_off(port):
         raise Wrong('an address has more connections than it may')
-    begun = time.monotonic()
     rover = Client(port).send(rover_1('ALPHA')).expect(ICY)
     base = Client(port).send(source_1('ALPHA', 'sesame')).expect(ICY).send(A)
     rover.expect(A)
-    if time.monotonic() - begun > 1:
-        raise Wrong('an honest one waited for %.1f s' % (time.monotonic() - begun))
+    if not all(is_still_there(one) for one in some):
+        raise Wrong('who sends no head was cut off before others were served')
     if connections_at(caster.port) != 2:
         raise Wrong('%d workers are taken' % connections_at(caster.port))
     for one in some:
-        one.settimeout(PATIENCE)
         if not has_ended(one):
             raise Wrong('half a head was answered')
     for one in (base, rover):
@@ -178,14 +187,13 @@ def strangers(port, caster):
 
 
 def haproxy_one():
-    """dist/haproxy-one.cfg with 3 seconds in place of a minute for bases, 2 for those who send no head or wait for a
-    worker, 12 connections of an address, and two workers for rovers. Bases find a worker when there is none for
+    """dist/haproxy-one.cfg with 3 seconds in place of a minute for bases, 2 for those who wait for a worker, 12 connections of an address, and two workers for rovers. Bases find a worker when there is none for
     rovers, and strangers without a head take none."""
     need('haproxy', 'openssl')
     caster, plain, secret = serve(config(8, ['ALPHA', 'BRAVO']), 50), free_port(), free_port()
     start('haproxy', '-db', '-f', write('one.cfg', replaced(text_of('dist/haproxy-one.cfg'), [
         ('/etc/haproxy/caster.pem', certificate()), ('timeout tunnel 60s', 'timeout tunnel 3s'),
-        ('inspect-delay 10s', 'inspect-delay 2s'), ('timeout queue 10s', 'timeout queue 2s'),
+        ('timeout queue 10s', 'timeout queue 2s'),
         ('maxconn 56', 'maxconn 2'), ('gt 32', 'gt 12'),
         ('bind :2101', 'bind 127.0.0.1:%d' % plain), ('bind :2102', 'bind 127.0.0.1:%d' % secret),
         ('127.0.0.1:2110', '127.0.0.1:%d' % caster.port)])))
@@ -306,7 +314,7 @@ def nginx():
         + [('listen %d' % (2101 + at), 'listen 127.0.0.1:%d' % port) for at, port in enumerate(ports)]))
     tested = run('nginx', '-t', '-c', path)
     if tested.returncode and b'unknown directive "stream"' in tested.stderr:
-        raise Missing('the stream module of nginx')
+        raise Missing('libnginx-mod-stream')
     start('nginx', '-c', path, '-g', 'daemon off; pid %s/nginx.pid; error_log stderr;' % WORK)
     vanished_base(ports[2], ports[1])
     rover = Client(ports[0]).send(rover_1('ALPHA')).expect(ICY)
@@ -326,7 +334,7 @@ def redial():
     trunk.client().close()
     relay = '[[relay]]\nmount = "ALPHA"\naddress = "127.0.0.1:%d"\nupstream = "ALPHA"\nprotocol = 1\n'
     path = write('relay.toml', config(4) + relay % trunk.port)
-    words = ['dist/redial', 'http://127.0.0.1:%d/ALPHA' % port, '2', PROGRAM, 'serve', path,
+    words = ['dist/redial', 'http://127.0.0.1:%d/ALPHA' % port, '4', PROGRAM, 'serve', path,
              '127.0.0.1:%d' % port, '50']
     base = trunk.client().send(source_1('ALPHA', 'sesame')).expect(ICY)
     for _ in range(2):
@@ -352,7 +360,7 @@ def in_namespaces(script, name):
     need('unshare', 'ip')
     front = ['unshare', '--mount', '--net', '--pid', '--fork', '--kill-child', '--mount-proc']
     if os.geteuid() or run(*front, 'true').returncode:
-        raise Missing('root and namespaces of its own')
+        raise Missing('namespaces')
     folder = os.path.join(WORK, name)
     os.mkdir(folder)
     done = subprocess.run(front + [sys.executable, '-B', 'tests/dist/' + script, folder], stdin=subprocess.DEVNULL,
@@ -371,32 +379,88 @@ for module in (webpage, healthy, tools, forms, bills, alarms, linting, pages, po
     CASES += module.CASES
 
 
+# So many cases run side by side.
+SIDE_BY_SIDE = 4
+PASSED, FAILED, LACKING = 0, 1, 3
+
+
+def tried(case):
+    """Runs a case, and gives what came of it; what it wanted and is not there stands in the last line."""
+    try:
+        case()
+        return PASSED
+    except Missing as program:
+        print('left out: %s, for want of %s' % (case.__name__, program))
+        return LACKING
+    except Exception:
+        print('FAILED %s' % case.__name__)
+        traceback.print_exc(file=sys.stdout)
+        return FAILED
+    finally:
+        for process in processes:
+            if process.poll() is None:
+                process.terminate()
+                process.wait(timeout=PATIENCE)
+        shutil.rmtree(WORK)
+
+
+class Trial:
+    """A case in a process of its own."""
+
+    def __init__(self, case):
+        self.name, self.begun, self.output = case.__name__, time.monotonic(), tempfile.TemporaryFile('w+')
+        self.process = subprocess.Popen([sys.executable, '-B', __file__, self.name], stdin=subprocess.DEVNULL,
+                                        stdout=self.output, stderr=subprocess.STDOUT)
+
+    def said(self):
+        self.output.seek(0)
+        return self.output.read()
+
+
+def side_by_side(cases):
+    """Runs each case in a process of its own, some at a time; gives the trials."""
+    waiting, running, done = list(cases), [], []
+    while waiting or running:
+        while waiting and len(running) < SIDE_BY_SIDE:
+            running.append(Trial(waiting.pop(0)))
+        for trial in [trial for trial in running if trial.process.poll() is not None]:
+            running.remove(trial)
+            done.append(trial)
+            if '--times' in sys.argv:
+                print('%5.1f s %s' % (time.monotonic() - trial.begun, trial.name), flush=True)
+            if trial.process.returncode:
+                print(trial.said().rstrip(), flush=True)
+        time.sleep(0.02)
+    return done
+
+
+def lacking(trials):
+    """What is not there, and whether that is a failure: where CASES_MAY_LACK is set, what it does not name."""
+    names = sorted({name for trial in trials if trial.process.returncode == LACKING
+                    for name in trial.said().rsplit('for want of ', 1)[1].split()})
+    if names:
+        print('dist: not there: %s' % ' '.join(names))
+    allowed = os.environ.get('CASES_MAY_LACK')
+    wrong = [] if allowed is None else [name for name in names if name not in allowed.split()]
+    if wrong:
+        print('FAILED dist: CASES_MAY_LACK does not name %s' % ' '.join(wrong))
+    return wrong
+
+
 def main():
     os.environ['PATH'] += ':/usr/sbin:/sbin'
-    named = sys.argv[1:]
-    failed, passed, missing = 0, 0, 0
-    for case in CASES:
-        if named and case.__name__ not in named:
-            continue
-        try:
-            case()
-            passed += 1
-        except Missing as program:
-            missing += 1
-            print('left out: %s, for want of %s' % (case.__name__, program))
-        except Exception:
-            failed += 1
-            print('FAILED %s' % case.__name__)
-            traceback.print_exc(file=sys.stdout)
-        finally:
-            for process in processes:
-                if process.poll() is None:
-                    process.terminate()
-                    process.wait(timeout=PATIENCE)
-            processes.clear()
-    shutil.rmtree(WORK)
-    print('dist: %d passed, %d failed, %d left out' % (passed, failed, missing))
-    return 1 if failed else 0
+    named = [word for word in sys.argv[1:] if word != '--times']
+    cases = [case for case in CASES if not named or case.__name__ in named]
+    if set(named) - {case.__name__ for case in cases}:
+        print('no such case: %s' % ' '.join(set(named) - {case.__name__ for case in cases}))
+        return 1
+    if len(named) == 1:
+        return tried(cases[0])
+    trials = side_by_side(cases)
+    counts = [sum(trial.process.returncode == status for trial in trials) for status in (PASSED, LACKING)]
+    wrong = lacking(trials)
+    print('dist: %d passed, %d failed, %d left out' % (counts[0], len(trials) - sum(counts), counts[1]))
+    return 1 if wrong or sum(counts) < len(trials) else 0
 
 
 if __name__ == '__main__':

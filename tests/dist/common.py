@@ -15,9 +15,10 @@ class Missing(Exception):
 
 
 def need(*programs):
-    for program in programs:
-        if not shutil.which(program, path=os.environ['PATH'] + ':/usr/sbin:/sbin'):
-            raise Missing(program)
+    path = os.environ['PATH'] + ':/usr/sbin:/sbin'
+    missing = [program for program in programs if not shutil.which(program, path=path)]
+    if missing:
+        raise Missing(' '.join(missing))
 
 
 def text_of(path):

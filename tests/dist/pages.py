@@ -89,10 +89,16 @@ def publishes(caster, client, head, answer):
 def is_sent(caster, client, head, answer, frame):
     source = source_at(caster)
     answered(client.send(head), answer)
-    if head.endswith(b'\n') and AT_ALPHA.encode() in head.split(b'\r\n\r\n')[-1]:
-        # The report comes behind the head: nothing says when it is read.
-        time.sleep(0.3)
-    source.send(A)
+    # Where a report comes behind the head nothing says when it is read: so a frame is sent until one comes.
+    until = time.monotonic() + PATIENCE
+    while not client.came and time.monotonic() < until:
+        source.send(A)
+        client.socket.settimeout(1)
+        try:
+            client.receive()
+        except Wrong:
+            pass
+    client.socket.settimeout(PATIENCE)
     client.expect(frame)
     source.close()
 
@@ -159,7 +165,8 @@ def positions():
     try:
         rover = caster.client().send(rover_1('NEAR', ROVER1)).expect(ICY)
         rover.send(AT_ALPHA.encode() + b'\r\n')
-        time.sleep(0.3)
+        # Nothing says when a report is read.
+        time.sleep(1)
         alpha = source_at(caster).send(A)
         heard_nothing(rover)
         if len(NO_REPORTS[-1]) != 129 or changed('', '') != AT_ALPHA:
@@ -169,7 +176,7 @@ def positions():
         heard_nothing(rover)
         # The end of its line.
         rover.send(b'\n')
-        time.sleep(0.3)
+        time.sleep(1)
         alpha.send(B)
         rover.expect(B)
         bravo = caster.client().send(source_1('BRAVO', 'open')).expect(ICY)
@@ -179,9 +186,9 @@ def positions():
         source_at(caster).send(Z).close()
         rover.expect(Z)
         source_at(caster).close()
-        time.sleep(0.3)
+        time.sleep(1)
         rover.send(AT_ALPHA.encode() + b'\n')
-        time.sleep(0.3)
+        time.sleep(1)
         bravo.send(A)
         rover.expect(A)
         rover.close()
