@@ -27,9 +27,14 @@ from common import *
 # ---- manual page, unit, installing
 
 def manual():
-    """The manual page is taken without a warning."""
+    """Each manual page is taken without a warning; that of caster-lines has each of its words."""
     need('groff')
-    passes('groff', '-man', '-ww', '-Tutf8', 'dist/caster.1')
+    for path in sorted(glob.glob('dist/*.[15]')):
+        passes('groff', '-man', '-ww', '-Tutf8', path)
+    page, usage = text_of('dist/caster-lines.1'), run('dist/caster-lines').stderr.decode()
+    words = set(re.findall(r'^    caster-lines (\w+) ', usage, re.M))
+    if len(words) < 7 or words != set(re.findall(r'\.SY caster\\-lines\n\.B (\w+)\n', page)):
+        raise Wrong('the words are %s' % sorted(words))
 
 
 def unit():
@@ -388,6 +393,7 @@ def tried(case):
     """Runs a case, and gives what came of it; what it wanted and is not there stands in the last line."""
     try:
         case()
+        print('passed: %s' % case.__name__)
         return PASSED
     except Missing as program:
         print('left out: %s, for want of %s' % (case.__name__, program))

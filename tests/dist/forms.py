@@ -9,7 +9,7 @@ import re
 import sys
 
 from common import *
-from tools import journal, plain, prints
+from tools import asked, journal, plain, prints
 
 sys.path[:0] = ['dist', 'tests/keep']
 sys.dont_write_bytecode = True
@@ -264,22 +264,33 @@ def with_mutated(text, count, seed):
     return b'\n'.join(mixed)
 
 
+def told_by(tool, lines):
+    """What a word says of these lines, without the numbers of lines and how many were passed over; of the page its state,
+    without when it was written."""
+    if tool != 'page':
+        done = run('dist/' + tool, input=lines)
+        numbered = rb'(?m)( [0-9]+)(?= \S+$)|^caster_lines_passed_over_total .*'
+        return done, re.sub(numbered, b'', done.stdout) if tool in ('who', 'keep-metrics') else done.stdout
+    folder = os.path.join(WORK, 'mutated')
+    os.makedirs(folder, exist_ok=True)
+    done = run('dist/caster-lines', 'page', folder, input=lines)
+    return done, re.sub('"(written|passed_over)": [0-9]+', '', text_of(folder + '/state.json')).encode()
+
+
 def mutated_lines():
     """20,000 mutated lines between those of a run neither stop a word nor change what it tells of the others; how many
     were passed over it says."""
     whole, open_run = journal(*WHOLE), journal('keep.journal')
     last = '3.1 from' + plain(whole).split('3.1 from', 1)[1]
     texts = {'who': [open_run, plain(open_run)], 'bill': [whole, plain(open_run)], 'draw-report': [last],
-             'keep-metrics': [whole, plain(open_run)]}
+             'keep-metrics': [whole, plain(open_run)], 'page': [whole, asked(open_run)]}
     for tool, some in texts.items():
         for seed, text in enumerate(some):
             count = 20000 // len(some)
-            mixed = run('dist/' + tool, input=with_mutated(text, count, seed))
-            alone = run('dist/' + tool, input=text.encode())
-            if mixed.returncode or b'passed over %d of ' % count not in mixed.stderr:
+            mixed, got = told_by(tool, with_mutated(text, count, seed))
+            alone, wanted = told_by(tool, text.encode())
+            if mixed.returncode or alone.returncode or b'passed over %d of ' % count not in mixed.stderr:
                 raise Wrong('%s: status %d, %s' % (tool, mixed.returncode, show(mixed.stderr)))
-            got, wanted = (re.sub(rb'(?m)( [0-9]+)(?= \S+$)|^caster_lines_passed_over_total .*', b'', one.stdout)
-                           if tool in ('who', 'keep-metrics') else one.stdout for one in (mixed, alone))
             if got != wanted or not wanted:
                 raise Wrong('%s: wanted\n%s\nand got\n%s' % (tool, wanted.decode(), got.decode()))
 
