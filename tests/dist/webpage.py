@@ -91,6 +91,21 @@ def page_by_hand():
         raise Wrong('what needs an eye: %s' % needs_of(page))
 
 
+def state_of_formats():
+    """docs/FORMATS.md, "The state of a page", has the keys of each row, and no others."""
+    state, _ = state_of(stamped(RUN))
+    section = text_of('docs/FORMATS.md').split('## The state of a page\n')[1].split('\n## ')[0]
+    rows = dict(re.findall(r'^\| (.*?) \| (.*) \|$', section, re.M))
+    kinds = ('source', 'relay', 'rover', 'status', '[from, to, rate]')
+    bravo = state['mounts'][1]
+    for of, got in [('the file', state), ('`caster`', state['caster']), ('a mountpoint', {**bravo, **bravo['relay']}),
+                    ('a connection', state['connections'][0]), ('one that ended', state['ended'][0]),
+                    ('one that was refused', state['refused'][0])]:
+        named = {word for word in re.findall('`([^`]+)`', rows[of])}
+        if named - set(kinds) != set(got) - set(kinds):
+            raise Wrong('%s: FORMATS has %s, and the state %s' % (of, sorted(named), sorted(got)))
+
+
 def needs_of(page):
     return re.findall('<li>(.*?)</li>', page)
 
@@ -467,4 +482,4 @@ def pictures(phone, desktop):
         desktop.picture(folder + '/desktop.png', 1200)
 
 
-CASES = [page_by_hand, runs_of_a_page, page_of_many, page_in_a_browser]
+CASES = [page_by_hand, state_of_formats, runs_of_a_page, page_of_many, page_in_a_browser]
