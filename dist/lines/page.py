@@ -26,7 +26,7 @@ from lines.state import State
 # behind the last answer to `status` nobody asks any more.
 NEARLY, SHARE, UNASKED = 0.9, 0.01, 180
 
-# So many rovers are named at most among what needs an eye.
+# So many mountpoints, and so many rovers, are named at most among what needs an eye.
 MOST_NAMED = 10
 
 ENDINGS = {
@@ -114,9 +114,14 @@ def mount_need(mount):
     return 0, ''
 
 
+def named(texts, what):
+    """These texts, but only so many, and how many there are more."""
+    return texts[:MOST_NAMED] + [what % (len(texts) - MOST_NAMED)] * (len(texts) > MOST_NAMED)
+
+
 def mount_needs(state):
     needs = sorted((mount_need(mount) for mount in state['mounts']), key=lambda need: -need[0])
-    return [text for rank, text in needs if rank]
+    return named([text for rank, text in needs if rank], 'And %d mountpoints more have no base, or are silent.')
 
 
 def lossy_needs(state):
@@ -126,7 +131,7 @@ def lossy_needs(state):
     texts += ['%s at %s lost %s of its frames, up to %s.' % (
         user_of(row), row['mount'], percent(share_of(row)), clock(row['at'], state['at']))
         for row in state['ended'] if is_lossy(row) and row['at'] > state['at'] - 3600]
-    return texts[:MOST_NAMED] + ['And %d rovers more lose frames.' % (len(texts) - MOST_NAMED)] * (len(texts) > MOST_NAMED)
+    return named(texts, 'And %d rovers more lose frames.')
 
 
 def needs(state):

@@ -102,7 +102,7 @@ class State(reader.Listener):
     def ended(self, link, who, sent, overrun, ending):
         kind, _, name = who.partition(b':')
         text = ending.decode()
-        if kind == b'-' and is_refused(text.split(' ')[0]):
+        if kind == b'-' and is_refused(text.partition(' ')[0]):
             self.refuse(link, text)
         elif kind in (b'rover', b'anonymous'):
             self.remember(link, 'rover', name, link.base or link.wanted, sent, overrun, text)
@@ -121,9 +121,9 @@ class State(reader.Listener):
 
     def refuse(self, link, ending):
         at = self.now()
-        self.refused_rows.appendleft({'at': at, 'address': host_of(link.address), 'user': link.asker,
-                                      'mount': link.wanted, 'ending': ending})
-        self.refusals[ending.split(' ')[0]] += 1
+        # A million of them a day may come: what is shown is made of the last ones alone.
+        self.refused_rows.appendleft((at, link.address, link.asker, link.wanted, ending))
+        self.refusals[ending.partition(' ')[0]] += 1
         minute = at // (60 * SECOND)
         if not self.minutes or self.minutes[-1][0] != minute:
             self.minutes.append([minute, 0])
@@ -190,7 +190,9 @@ class State(reader.Listener):
         return {'at': seconds(at), 'written': int(self.clock()), 'caster': self.caster_row(at), 'mounts': mounts + near,
                 'connections': [self.link_row(link, at) for link in self.reader.links.values()],
                 'ended': [told_row(row) for row in self.ended_rows],
-                'refused': [told_row(row) for row in self.refused_rows]}
+                'refused': [{'at': seconds(at), 'address': text_of(host_of(address)), 'user': text_of(user),
+                             'mount': text_of(mount), 'ending': ending}
+                            for at, address, user, mount, ending in self.refused_rows]}
 
     def caster_row(self, at):
         busy, workers = self.workers or (None, None)

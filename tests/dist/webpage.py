@@ -144,13 +144,17 @@ def page_of_many():
                  (at, '0.%d end rover:r%d 1 0 0 rover-end' % (at + 1, at)),
                  (at, '1.%d from 203.0.113.2:%d' % (at + 1, at + 1)), (at, '1.%d end - 0 0 0 password 1' % (at + 1))]
     for minute in range(180):
+        rows += [(200 + 60 * minute, 'now mount FREE%d 0 -' % number) for number in range(30)]
         rows += answer(200 + 60 * minute, '%d 1' % (minute * 120), '%d -' % minute)
-    state, _ = state_of(stamped(rows))
+    state, page = state_of(stamped(rows))
+    if needs_of(page) != ['No base holds FREE%d.' % number for number in range(10)] + [
+            'And 21 mountpoints more have no base, or are silent.']:
+        raise Wrong('what needs an eye: %s' % needs_of(page))
     if [row['user'] for row in state['ended']] != ['r%d' % at for at in range(119, 69, -1)]:
         raise Wrong('who ended: %s' % [row['user'] for row in state['ended']])
     if len(state['refused']) != 50 or state['refused'][0]['at'] != EPOCH_8 + 119 or state['caster']['refused'] != 120:
         raise Wrong('%d were refused' % len(state['refused']))
-    curve = state['mounts'][0]['curve']
+    curve = next(mount for mount in state['mounts'] if mount['name'] == 'ALPHA')['curve']
     last = EPOCH_8 + 200 + 179 * 60
     if len(curve) != 60 or curve[-1] != [last - 60, last, 2.0] or {rate for _, _, rate in curve} != {2.0}:
         raise Wrong('%d places of a curve, %s' % (len(curve), curve[-1]))

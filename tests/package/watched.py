@@ -49,7 +49,7 @@ def page_and_health():
         fill_in(root, [value.replace('of its base', 'of-its-base') for value in FILLED])
         root.does('editor', '/etc/caster/caster.toml')
         root.does('systemctl', 'enable', '--now', 'caster')
-        root.does('sh', '-ec', block_of('### A page\n'))
+        root.does('sh', '-ec', block_of('### A page'))
         with root.network():
             for run in range(2):
                 base = Client(2101).send(source_1('ALPHA', 'of-its-base')).expect(ICY).send(A)
