@@ -18,6 +18,7 @@ import bills
 import forms
 import healthy
 import linting
+import packed
 import pages
 import positions
 import tools
@@ -380,7 +381,7 @@ def silent_names():
 
 
 CASES = [manual, unit, installed, symbols, haproxy_one, haproxy_two, haproxy_many, haproxy_log, nginx, redial, silent_names]
-for module in (webpage, healthy, tools, forms, bills, alarms, linting, pages, positions):
+for module in (webpage, healthy, tools, forms, bills, alarms, linting, packed, pages, positions):
     CASES += module.CASES
 
 

@@ -57,16 +57,17 @@ class Leaf:
 
 
 def waits_until(path, wanted):
-    """haproxy counts each leaf so, by its own statistics."""
+    """haproxy counts the leaves so, from the first one on, by its own statistics and the answers of agents."""
     until = time.monotonic() + PATIENCE
     while True:
         with socket.socket(socket.AF_UNIX) as one:
             one.connect(path)
             one.sendall(b'show stat\n')
             rows = [line.split(',') for line in b''.join(iter(lambda: one.recv(65536), b'')).decode().splitlines()]
-        at = rows[0].index('status')
-        got = [row[at].split(' ')[0] == 'DOWN' for row in rows if row[:2] in (['leaves', 'leaf1'], ['leaves', 'leaf2'])]
-        if got == [not one for one in wanted]:
+        at, agent = rows[0].index('status'), rows[0].index('agent_status')
+        leaves = [row for row in rows if row[0] == 'leaves' and row[1].startswith('leaf')][:len(wanted)]
+        got = [None if row[agent] not in ('L7OK', 'L7STS') else not row[at].startswith('DOWN') for row in leaves]
+        if got == wanted:
             return
         if time.monotonic() > until:
             raise Wrong('haproxy has %s, wanted %s' % (got, wanted))

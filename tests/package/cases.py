@@ -16,18 +16,10 @@ import life
 import rotation
 import watched
 from common import *
+from packed import lintian, package
 
 PAGES = ['caster.1', 'caster-run.1', 'caster-who.1', 'caster-bill.1', 'caster-keep-metrics.1', 'draw-report.1',
          'caster-redial.1', 'caster-lines.1', 'caster.toml.5']
-
-
-def package(folder, *front, **more):
-    """Makes the package in this folder of WORK, and returns its path."""
-    path = os.path.join(WORK, folder)
-    said = passes(*front, 'dist/package', path, **more).decode()
-    if said != '%s/viewlemon_%s_amd64.deb\n' % (path, text_of('VERSION').strip()):
-        raise Wrong('it said %r' % said)
-    return said.strip()
 
 
 def unpacked(deb):
@@ -118,21 +110,6 @@ def links_of_tools():
         raise Wrong('what the tools are made of is not there')
     if passes(root + '/usr/bin/caster-who') != b'lines\n':
         raise Wrong('it says something else')
-
-
-def lintian():
-    """lintian says nothing, but what the package tells it why; each of that is named in docs/DECISIONS.md."""
-    need('lintian')
-    done = subprocess.run(['lintian', '--allow-root', '--display-info', '--pedantic', package('lintian')],
-                          stdout=subprocess.PIPE, stderr=subprocess.PIPE, timeout=600)
-    # The bytes of another program may spell no word.
-    said = [line for line in done.stdout.decode().splitlines()
-            if not ('unused-override' in line and 'spelling-error-in-binary' in line)]
-    if said or done.returncode:
-        raise Wrong('status %d: %s %s' % (done.returncode, '\n'.join(said), show(done.stderr)))
-    told = [line for line in text_of('dist/package-overrides').splitlines() if not line.startswith('#')]
-    if '`lintian` is told %s' % {5: 'why of five lines'}.get(len(told)) not in text_of('docs/DECISIONS.md'):
-        raise Wrong('%d lines of overrides' % len(told))
 
 
 def manual_pages():

@@ -4,6 +4,7 @@ import os
 import socket
 import stat
 
+import healthy
 from life import *
 
 # The timer asks once a minute, and a busy machine takes its time.
@@ -30,6 +31,15 @@ def health():
         return b''.join(iter(lambda: one.recv(100), b'')).decode()
 
 
+def haproxy_asks(root):
+    """haproxy by dist/haproxy-many.cfg, where this caster is the only leaf."""
+    root.put('/etc/haproxy/haproxy.cfg', replaced(text_of('dist/haproxy-many.cfg'), [
+        ('global\n', 'global\n    stats socket /run/h.sock\n'), ('192.0.2.1:2101', '127.0.0.1:2199'), ('bind :2101', 'bind :2100'),
+        ('192.0.2.11:2101', '127.0.0.1:2101'), ('192.0.2.12:2101', '127.0.0.1:2198 disabled'),
+        ('192.0.2.13:2101', '127.0.0.1:2198 disabled')]))
+    root.does('systemctl', 'restart', 'haproxy')
+
+
 def rights(root):
     """Who serves the page may read it, and nobody else; its program has a user of its own."""
     about, file = os.stat(root.path('/run/caster-page')), os.stat(root.path('/run/caster-page/index.html'))
@@ -42,14 +52,15 @@ def rights(root):
 
 def page_and_health():
     """docs/OPERATING.md, "A page": the units as they are installed. Within a minute the page has what the timer asked and
-    who is on, before and behind a restart of the caster; the socket says up, and down behind a stop. None of them says
-    anything to the journal by itself."""
+    who is on, before and behind a restart of the caster. The socket says up, and down behind a stop, to us and to haproxy.
+    None of them says anything to the journal by itself."""
     with Root() as root:
         install(root)
         fill_in(root, [value.replace('of its base', 'of-its-base') for value in FILLED])
         root.does('editor', '/etc/caster/caster.toml')
         root.does('systemctl', 'enable', '--now', 'caster')
         root.does('sh', '-ec', block_of('### A page'))
+        haproxy_asks(root)
         with root.network():
             for run in range(2):
                 base = Client(2101).send(source_1('ALPHA', 'of-its-base')).expect(ICY).send(A)
@@ -61,6 +72,7 @@ def page_and_health():
                     raise Wrong('the state is %s' % state)
                 if health() != 'up\n':
                     raise Wrong('the socket says %r' % health())
+                healthy.waits_until(root.path('/run/h.sock'), [True])
                 if run == 0:
                     rights(root)
                     root.does('systemctl', 'restart', 'caster')
@@ -69,6 +81,7 @@ def page_and_health():
             waits_for_state(root, lambda state: not state['caster']['is_serving'])
             if health() != 'down #stopped\n':
                 raise Wrong('the socket says %r' % health())
+            healthy.waits_until(root.path('/run/h.sock'), [False])
         active = [root.property(unit, 'ActiveState') for unit in WATCHING]
         if active != ['active', 'inactive', 'active']:
             raise Wrong('they are %s' % active)
