@@ -380,13 +380,14 @@ def silent_names():
     in_namespaces('silent_names.py', 'silent-names')
 
 
-CASES = [manual, unit, installed, symbols, haproxy_one, haproxy_two, haproxy_many, haproxy_log, nginx, redial, silent_names]
-for module in (webpage, healthy, tools, forms, bills, alarms, linting, packed, pages, positions):
+# Those that take longest begin first.
+CASES = packed.CASES + forms.CASES + webpage.CASES + [redial, haproxy_one, haproxy_two, haproxy_many, haproxy_log, nginx, silent_names]
+for module in (linting, bills, tools, healthy, pages, positions, alarms):
     CASES += module.CASES
+CASES += [manual, unit, installed, symbols]
 
-
-# So many cases run side by side.
-SIDE_BY_SIDE = 4
+# So many cases run side by side: most of them wait most of the time.
+SIDE_BY_SIDE = 6
 PASSED, FAILED, LACKING = 0, 1, 3
 
 

@@ -1,13 +1,28 @@
 """What the cases of tests/dist share: a folder to work in, programs that are started, and the caster."""
+import importlib
 import os
 import shutil
 import subprocess
+import sys
 import tempfile
+import time
+import traceback
 
 from wire import *
 
+sys.dont_write_bytecode = True
+sys.path.insert(0, 'dist')
+from lines import words as tool_words
+
+for each in tool_words.WORDS:
+    importlib.import_module('lines.' + each)
+
 WORK = tempfile.mkdtemp()
 processes = []
+
+# The tools that are words of caster-lines.
+TOOLS = {'dist/who': 'who', 'dist/bill': 'bill', 'dist/keep-metrics': 'keep-metrics', 'dist/draw-report': 'draw-report',
+         'dist/caster-lines': 'caster-lines'}
 
 
 class Missing(Exception):
@@ -34,7 +49,45 @@ def write(name, text):
 
 
 def run(*words, **more):
+    """Runs a command to its end. A word of caster-lines runs in a child of this process, which has read its modules: that
+    takes a tenth of the time. The case `installed` runs the files themselves."""
+    if words[0] in TOOLS and len(words) + (words[0] != 'dist/caster-lines') > 1 and set(more) <= {'input'}:
+        return in_a_child(TOOLS[words[0]], list(words[1:]), more.get('input', b''))
     return subprocess.run(words, stdout=subprocess.PIPE, stderr=subprocess.PIPE, timeout=60, **more)
+
+
+def in_a_child(name, words, data):
+    files = [tempfile.TemporaryFile(dir=WORK) for _ in range(3)]
+    files[0].write(data)
+    files[0].seek(0)
+    child = os.fork()
+    if child == 0:
+        status = 70
+        try:
+            for number, file in enumerate(files):
+                os.dup2(file.fileno(), number)
+            sys.stdout, sys.stderr = open(1, 'w', closefd=False), open(2, 'w', closefd=False)
+            status = tool_words.main(name, words, '')
+            sys.stdout.flush()
+        except BaseException:
+            traceback.print_exc()
+        finally:
+            sys.stderr.flush()
+            os._exit(status)
+    until = time.monotonic() + 60
+    while True:
+        ended, status = os.waitpid(child, os.WNOHANG)
+        if ended:
+            break
+        if time.monotonic() > until:
+            os.kill(child, 9)
+            os.waitpid(child, 0)
+            raise Wrong('%s %s does not end' % (name, words))
+        time.sleep(0.002)
+    for file in files:
+        file.seek(0)
+    return subprocess.CompletedProcess([name, *words], os.waitstatus_to_exitcode(status), files[1].read(),
+                                       files[2].read())
 
 
 def passes(*words, **more):

@@ -2,6 +2,7 @@
 refused."""
 import ast
 import collections
+import functools
 import glob
 import json
 import random
@@ -246,6 +247,7 @@ def is_harmless(line):
     return not text.startswith('-- ') and 'systemd[' not in text and not any(is_known(text[start:]) for start in starts)
 
 
+@functools.lru_cache(None)
 def with_mutated(text, count, seed):
     """The text with so many mutated lines of it between its lines, none of which is known."""
     draw, lines = random.Random(seed), text.encode().splitlines()

@@ -160,6 +160,31 @@ def page_of_many():
         raise Wrong('%d places of a curve, %s' % (len(curve), curve[-1]))
 
 
+def page_without_times():
+    """Lines without times are as of when they come, and the page follows them: each is in it soon."""
+    folder = os.path.join(WORK, 'live')
+    os.makedirs(folder)
+    process = subprocess.Popen(['dist/caster-lines', 'page', folder], stdin=subprocess.PIPE)
+    processes.append(process)
+    begun, rows = int(time.time()), [line for _, line in RUN]
+    for part, wanted in ((rows[:3], 1), (rows[3:14], 2), (rows[14:16], 3)):
+        process.stdin.write(''.join(line + '\n' for line in part).encode())
+        process.stdin.flush()
+        until = time.monotonic() + PATIENCE
+        while not os.path.exists(folder + '/state.json') or len(
+                json.loads(text_of(folder + '/state.json'))['connections']) != wanted:
+            if time.monotonic() > until:
+                raise Wrong('it has %s' % os.listdir(folder))
+            time.sleep(0.05)
+    process.stdin.close()
+    if process.wait(timeout=PATIENCE):
+        raise Wrong('status %d' % process.returncode)
+    state = json.loads(text_of(folder + '/state.json'))
+    times = [state['at'], state['mounts'][0]['since'], *[row['since'] for row in state['connections'][:2]]]
+    if not all(begun <= at <= time.time() for at in times) or state['connections'][2]['since'] is not None:
+        raise Wrong('the times are %s, begun at %d' % (times, begun))
+
+
 # ---- in a browser
 
 CONFIG = '''version = 2
@@ -486,4 +511,4 @@ def pictures(phone, desktop):
         desktop.picture(folder + '/desktop.png', 1200)
 
 
-CASES = [page_by_hand, state_of_formats, runs_of_a_page, page_of_many, page_in_a_browser]
+CASES = [page_by_hand, state_of_formats, runs_of_a_page, page_of_many, page_without_times, page_in_a_browser]
