@@ -109,6 +109,8 @@ def serve(config, limit, port=None):
     caster = Caster(config, limit, port and '127.0.0.1:%d' % port)
     caster.port = port or caster.port
     processes.append(caster.process)
+    # A front may dial it at once, and gives up where nobody listens yet.
+    Client(caster.port).close()
     return caster
 
 

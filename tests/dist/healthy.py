@@ -58,7 +58,7 @@ class Leaf:
 
 def waits_until(path, wanted):
     """haproxy counts the leaves so, from the first one on, by its own statistics and the answers of agents."""
-    until = time.monotonic() + PATIENCE
+    until = time.monotonic() + 2 * PATIENCE
     while True:
         with socket.socket(socket.AF_UNIX) as one:
             one.connect(path)
@@ -96,7 +96,7 @@ def haproxy_health():
     need('haproxy', 'systemd-socket-activate')
     leaves, front, admin = [Leaf('leaf1'), Leaf('leaf2')], free_port(), os.path.join(WORK, 'admin')
     changes = [('bind :2101', 'bind 127.0.0.1:%d' % front), ('global\n', 'global\n    stats socket %s\n' % admin),
-               ('agent-inter 5s', 'agent-inter 1s'), ('192.0.2.1:2101', '127.0.0.1:%d' % free_port()),
+               ('agent-inter 5s', 'agent-inter 3s'), ('192.0.2.1:2101', '127.0.0.1:%d' % free_port()),
                ('192.0.2.13:2101', '127.0.0.1:%d disabled' % free_port())]
     changes += [('192.0.2.1%d:2101 maxconn 256' % number, '127.0.0.1:%d maxconn 256 agent-port %d'
                  % (leaf.caster.port, leaf.agent)) for number, leaf in enumerate(leaves, 1)]
