@@ -35,8 +35,9 @@ ENDINGS = {
     'coding': 'another coding of its body', 'no-mount': 'no such mountpoint', 'no-account': 'no such user',
     'password': 'wrong password', 'source-password': 'wrong password of the mountpoint',
     'denied': 'its group may not enter there', 'taken': 'another base holds the mountpoint',
-    'full': 'its account is full', 'bad-chunk': 'its chunked body broke', 'upstream-table': 'answered with a sourcetable',
-    'upstream': 'answered with status', 'read-fault': 'reading failed, or it was silent for too long',
+    'full': 'its account is full', 'bad-chunk': 'its chunked body broke',
+    'upstream-table': 'answered with a sourcetable', 'upstream': 'answered with status',
+    'read-fault': 'reading failed, or it was silent for too long',
     'write-fault': 'writing failed', 'worn': 'a lock is worn', 'memory': 'no memory', '': 'its caster ended'}
 KINDS = {'source': 'base', 'relay': 'relay', 'rover': 'rover', None: 'not let in yet'}
 NONE = '–'
@@ -240,12 +241,13 @@ def tiles(state):
     caster, now = state['caster'], state['at']
     workers = NONE if caster['workers'] is None else '%s of %d' % (number(caster['busy']), caster['workers'])
     kinds = [row['kind'] for row in state['connections']]
-    begun = since(caster['since'], now) + (', or before' if caster['is_first_run'] and caster['since'] is not None else '')
+    is_older = caster['is_first_run'] and caster['since'] is not None
+    begun = since(caster['since'], now) + ', or before' * is_older
+    away = '%s, %s in the last hour' % (number(caster['refused']), number(caster['refused_in_an_hour']))
     rows = [('Serving since' if caster['is_serving'] else 'Stopped; served since', begun),
             ('Workers busy', workers), ('Rovers', number(kinds.count('rover'))),
             ('Bases and relays', number(kinds.count('source') + kinds.count('relay'))),
-            ('Turned away', '%s, %s in the last hour' % (number(caster['refused']), number(caster['refused_in_an_hour']))),
-            ('Frames and workers as of', clock(caster['answered'], now))]
+            ('Turned away', away), ('Frames and workers as of', clock(caster['answered'], now))]
     return '<dl>%s</dl>' % ''.join('<div><dt>%s</dt><dd>%s</dd></div>' % row for row in rows)
 
 
@@ -273,10 +275,13 @@ def main_of(state):
                  now, time.strftime('%Y-%m-%d %H:%M:%S', time.gmtime(now))),
              '<section id="eye"><h2>Needs an eye</h2>%s</section>' % eye(state),
              '<section id="caster">%s</section>' % tiles(state),
-             '<section><h2>Mountpoints</h2>%s</section>' % table('mounts', MOUNT_COLUMNS, mount_rows(state), 'None is known.'),
-             '<section><h2>Connections</h2>%s</section>' % table('links', LINK_COLUMNS, link_rows(state), 'None is open.'),
+             '<section><h2>Mountpoints</h2>%s</section>' % table(
+                 'mounts', MOUNT_COLUMNS, mount_rows(state), 'None is known.'),
+             '<section><h2>Connections</h2>%s</section>' % table(
+                 'links', LINK_COLUMNS, link_rows(state), 'None is open.'),
              folded('ended', 'The last that ended', ended_rows(state), ENDED_COLUMNS, 'None ended.'),
-             folded('refused', 'The last that were refused', refused_rows(state), REFUSED_COLUMNS, 'None was refused.')]
+             folded('refused', 'The last that were refused', refused_rows(state), REFUSED_COLUMNS,
+                    'None was refused.')]
     return '<main>\n%s\n</main>' % '\n'.join(parts)
 
 

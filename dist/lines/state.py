@@ -115,8 +115,8 @@ class State(reader.Listener):
                 self.remember(link, kind.decode(), b'', name, None, None, text)
 
     def remember(self, link, kind, user, mount, sent, overrun, ending, at=None):
-        row = {'at': self.now() if at is None else at, 'kind': kind, 'user': user, 'address': link.address, 'mount': mount,
-               'since': link.entered, 'sent': sent, 'lost': overrun, 'ending': ending}
+        row = {'at': self.now() if at is None else at, 'kind': kind, 'user': user, 'address': link.address,
+               'mount': mount, 'since': link.entered, 'sent': sent, 'lost': overrun, 'ending': ending}
         self.ended_rows.appendleft(row)
 
     def refuse(self, link, ending):
@@ -223,8 +223,8 @@ class State(reader.Listener):
         first = self.time_of(link.front) if link.entered is None else link.entered
         # What it was sent its segments tell, and only they.
         is_told = link.kind == 'rover' and link.base is not None
-        return {'number': text_of(link.name), 'kind': None if link.kind == '-' else link.kind, 'user': text_of(link.user),
-                'address': text_of(link.address), 'mount': text_of(link.wanted if link.claim is None else link.mount),
+        return {'number': text_of(link.name), 'kind': None if link.kind == '-' else link.kind,
+                'user': text_of(link.user), 'address': text_of(link.address), 'mount': text_of(link.wanted if link.claim is None else link.mount),
                 'base': is_told and text_of(link.base) or None, 'since': seconds(first),
                 'sent': link.sent if is_told else None, 'lost': link.overrun if is_told else None}
 

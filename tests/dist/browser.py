@@ -22,14 +22,14 @@ class Browser:
 
         def to_three_and_four():
             # Away first from the numbers that they are to have.
-            one, two = os.dup(reads), os.dup(writes)
-            high_one, high_two = os.dup2(one, 98), os.dup2(two, 99)
-            os.dup2(high_one, 3)
-            os.dup2(high_two, 4)
+            os.dup2(reads, 98)
+            os.dup2(writes, 99)
+            os.dup2(98, 3)
+            os.dup2(99, 4)
         self.process = subprocess.Popen(
             ['chromium', '--headless', '--no-sandbox', '--disable-gpu', '--disable-dev-shm-usage', '--no-first-run',
-             '--disable-background-networking', '--disable-component-update', '--disable-sync', '--hide-scrollbars', '--ignore-certificate-errors',
-             '--remote-debugging-pipe', '--user-data-dir=' + self.folder, 'about:blank'],
+             '--disable-background-networking', '--disable-component-update', '--disable-sync', '--hide-scrollbars',
+             '--ignore-certificate-errors', '--remote-debugging-pipe', '--user-data-dir=' + self.folder, 'about:blank'],
             stdin=subprocess.DEVNULL, stdout=subprocess.DEVNULL, stderr=subprocess.DEVNULL, pass_fds=(3, 4),
             preexec_fn=to_three_and_four)
         os.close(reads)

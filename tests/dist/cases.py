@@ -200,8 +200,9 @@ def strangers(port, caster):
 
 
 def haproxy_one():
-    """dist/haproxy-one.cfg with 3 seconds in place of a minute for bases, 2 for those who wait for a worker, 12 connections of an address, and two workers for rovers. Bases find a worker when there is none for
-    rovers, and strangers without a head take none."""
+    """dist/haproxy-one.cfg with 3 seconds in place of a minute for bases, 2 for those who wait for a worker, 12
+    connections of an address, and two workers for rovers. Bases find a worker when there is none for rovers, and
+    strangers without a head take none."""
     need('haproxy', 'openssl')
     caster, plain, secret = serve(config(8, ['ALPHA', 'BRAVO']), 50), free_port(), free_port()
     start('haproxy', '-db', '-f', write('one.cfg', replaced(text_of('dist/haproxy-one.cfg'), [
@@ -386,7 +387,8 @@ def silent_names():
 
 
 # Those that take longest begin first.
-CASES = packed.CASES + forms.CASES + webpage.CASES + [redial, haproxy_one, haproxy_two, haproxy_many, haproxy_log, nginx, silent_names]
+CASES = packed.CASES + forms.CASES + webpage.CASES + [
+    redial, haproxy_one, haproxy_two, haproxy_many, haproxy_log, nginx, silent_names]
 for module in (linting, bills, tools, healthy, pages, positions, alarms):
     CASES += module.CASES
 CASES += [manual, unit, installed, symbols]

@@ -49,8 +49,8 @@ def write(name, text):
 
 
 def run(*words, **more):
-    """Runs a command to its end. A word of caster-lines runs in a child of this process, which has read its modules: that
-    takes a tenth of the time. The case `installed` runs the files themselves."""
+    """Runs a command to its end. A word of caster-lines runs in a child of this process, which has read its modules:
+    that takes a tenth of the time. The case `installed` runs the files themselves."""
     if words[0] in TOOLS and len(words) + (words[0] != 'dist/caster-lines') > 1 and set(more) <= {'input'}:
         return in_a_child(TOOLS[words[0]], list(words[1:]), more.get('input', b''))
     return subprocess.run(words, stdout=subprocess.PIPE, stderr=subprocess.PIPE, timeout=60, **more)

@@ -267,8 +267,8 @@ def with_mutated(text, count, seed):
 
 
 def told_by(tool, lines):
-    """What a word says of these lines, without the numbers of lines and how many were passed over; of the page its state,
-    without when it was written."""
+    """What a word says of these lines, without the numbers of lines and how many were passed over; of the page its
+    state, without when it was written."""
     if tool != 'page':
         done = run('dist/' + tool, input=lines)
         numbered = rb'(?m)( [0-9]+)(?= \S+$)|^caster_lines_passed_over_total .*'
@@ -378,5 +378,5 @@ def fail2ban():
             raise Wrong('%s: status %d, %s %s' % (form, done.returncode, done.stdout.decode(), show(done.stderr)))
 
 
-CASES = [grammar_of_formats, python_39, forms_of_the_journal, forms_of_journalctl, files_and_boots, mutated_lines, mutated_configurations, endless_lines,
-         refused_addresses, fail2ban]
+CASES = [mutated_lines, mutated_configurations, grammar_of_formats, python_39, forms_of_the_journal,
+         forms_of_journalctl, files_and_boots, endless_lines, refused_addresses, fail2ban]

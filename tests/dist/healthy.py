@@ -20,8 +20,8 @@ def answers():
     that stopped, of no state, and of one that is none. The age that it takes may be another."""
     folder = os.path.join(WORK, 'health')
     stopped = ['mount ALPHA 0 0', 'total 0 0 0']
-    for age, more, words, wanted in [(0, [], [], 'up'), (100, [], [], 'up'), (121, [], [], 'down #no line for 12[1-9] s'),
-                                     (100, [], ['60'], 'down #no line for 10[0-9] s'), (500, [], ['900'], 'up'),
+    for age, more, words, wanted in [(0, [], [], 'up'), (100, [], [], 'up'),
+                                     (121, [], [], 'down #no line for 1[2-9][0-9] s'), (100, [], ['60'], 'down #no line for 1[0-9]{2} s'), (500, [], ['900'], 'up'),
                                      (0, stopped, [], 'down #stopped')]:
         tells(folder, age, *more)
         said = passes('dist/caster-lines', 'health', folder, *words).decode()

@@ -69,7 +69,7 @@ def page_by_hand():
     alpha, bravo, near = state['mounts']
     holds('ALPHA', alpha, {'name': 'ALPHA', 'is_held': True, 'holder': 'source', 'address': '203.0.113.1:50001',
                            'claim': 1, 'since': EPOCH_8 + 1, 'published': 605, 'rate': 5.0, 'silent': 0, 'rovers': 0,
-                           'relay': None, 'curve': [[EPOCH_8 + 10, EPOCH_8 + 70, 5.0], [EPOCH_8 + 70, EPOCH_8 + 130, 5.0]]})
+                           'relay': None, 'curve': [[EPOCH_8 + at, EPOCH_8 + at + 60, 5.0] for at in (10, 70)]})
     holds('BRAVO', bravo, {'is_held': False, 'rate': 0.0, 'silent': 120, 'rovers': 0, 'since': None,
                            'relay': {'at': EPOCH_8 + 18, 'tries': 2, 'ending': 'upstream 503'}})
     holds('NEAR', near, {'name': 'NEAR', 'is_near': True, 'rovers': 1})
@@ -119,7 +119,8 @@ def runs_of_a_page():
     state, page = state_of(stamped(RUN) + stamped(more + cut, 72))
     if [mount['name'] for mount in state['mounts']] != ['ALPHA']:
         raise Wrong('the mountpoints are %s' % state['mounts'])
-    holds('ALPHA', state['mounts'][0], {'address': '203.0.113.1:50101', 'rate': 0.0, 'silent': 60, 'since': EPOCH_8 + 201})
+    holds('ALPHA', state['mounts'][0], {'address': '203.0.113.1:50101', 'rate': 0.0, 'silent': 60,
+                                        'since': EPOCH_8 + 201})
     # No rate reaches from one run into the other.
     if [step[1:] for step in state['mounts'][0]['curve']] != [
             [EPOCH_8 + 70, 5.0], [EPOCH_8 + 130, 5.0], [EPOCH_8 + 270, 0.0]]:
@@ -127,7 +128,8 @@ def runs_of_a_page():
     ended = [(row['kind'], row['mount'], row['sent'], row['lost'], row['ending']) for row in state['ended']]
     if sorted(ended[:2]) != [('rover', 'ALPHA', 98, 2, ''), ('source', 'ALPHA', None, None, '')] or len(ended) != 3:
         raise Wrong('who ended: %s' % ended)
-    if needs_of(page) != ['ALPHA is held, and silent for 1 min.', '4 of 4 workers are busy: who comes next may have to wait.',
+    if needs_of(page) != ['ALPHA is held, and silent for 1 min.',
+                          '4 of 4 workers are busy: who comes next may have to wait.',
                           'without credentials at ALPHA lost 2.00 % of its frames, up to 08:02:10.']:
         raise Wrong('what needs an eye: %s' % needs_of(page))
     totals = [(300, 'mount ALPHA 30 1'), (300, 'total 0 0 0')]
@@ -237,7 +239,7 @@ QUIET_ONES = 16 * 120
 
 
 class Scene:
-    """The program, each of whose lines gets the time of a clock of ours and goes to `page`, whose folder nginx serves."""
+    """The program; each of its lines gets the time of a clock of ours and goes to `page`, whose folder nginx serves."""
 
     def __init__(self):
         self.port, self.front, self.clock, self.lines = free_port(), free_port(), int(time.time()) - 1700, []
@@ -324,8 +326,8 @@ class Clients:
 
     def links(self):
         """User, kind, address and mountpoint of each, as the page is to have them."""
-        about = {'rover1': ('rover1', 'ALPHA'), 'tractor7': ('tractor7', 'ALPHA'), 'open': ('without credentials', 'ALPHA'),
-                 'near': ('without credentials', 'NEAR'), 'slow': ('rover1', 'BRAVO')}
+        about = {'rover1': ('rover1', 'ALPHA'), 'tractor7': ('tractor7', 'ALPHA'),
+                 'open': ('without credentials', 'ALPHA'), 'near': ('without credentials', 'NEAR'), 'slow': ('rover1', 'BRAVO')}
         rows = [('–', 'base', at(self.alpha), 'ALPHA'), ('–', 'base', at(self.bravo), 'BRAVO')]
         return sorted(rows + [(user, 'rover', at(self.rovers[name]), mount) for name, (user, mount) in about.items()])
 
@@ -355,6 +357,20 @@ class Clients:
         came = places_in(slow.receive_until(last), SIZE)
         slow.close()
         return len(came)
+
+    def come_and_go(self, scene):
+        """The slow rover, another one and the base at BRAVO leave, and three are refused: how many frames of the burst
+        came to the slow one, and who was refused."""
+        came = self.burst()
+        scene.waits_for(' end rover:rover1 ')
+        self.rovers['tractor7'].close()
+        scene.waits_for(' end rover:tractor7 ')
+        refused = self.are_refused(scene)
+        self.bravo.close()
+        scene.waits_for(' end source:BRAVO ')
+        scene.status_is_asked(10)
+        scene.status_is_asked(10)
+        return came, refused
 
     def are_refused(self, scene):
         """Three that are turned away: by what they asked for, as whom, and why."""
@@ -387,7 +403,7 @@ def clock_of(at):
 
 
 def shows_who_is_on(tab, scene, clients):
-    """Behind half an hour, and 40 frames of ALPHA in its last ten seconds; BRAVO had its last ones at 16 of 27 minutes."""
+    """Behind half an hour, and 40 frames of ALPHA in its last ten seconds; BRAVO had its last ones at minute 16."""
     tab.wait_for("document.querySelector('#mounts') && [...document.querySelectorAll('#mounts td')].some("
                  "cell => cell.textContent === '4.0')")
     rows = tab.rows('links')
@@ -479,16 +495,7 @@ def page_in_a_browser():
         reads_well(phone, desktop)
         pictures(phone, desktop)
         phone.value("document.getElementById('fold-ended').open = true")
-        came = clients.burst()
-        scene.waits_for(' end rover:rover1 ')
-        clients.rovers['tractor7'].close()
-        scene.waits_for(' end rover:tractor7 ')
-        refused = clients.are_refused(scene)
-        clients.bravo.close()
-        scene.waits_for(' end source:BRAVO ')
-        scene.status_is_asked(10)
-        scene.status_is_asked(10)
-        shows_who_left(phone, clients, came, refused)
+        shows_who_left(phone, clients, *clients.come_and_go(scene))
         still = browser.Tab(chromium, scripts=False)
         still.open(url)
         if [still.rows(name) for name in ('mounts', 'links')] != [phone.rows(name) for name in ('mounts', 'links')]:

@@ -34,8 +34,8 @@ def health():
 def haproxy_asks(root):
     """haproxy by dist/haproxy-many.cfg, where this caster is the only leaf."""
     root.put('/etc/haproxy/haproxy.cfg', replaced(text_of('dist/haproxy-many.cfg'), [
-        ('global\n', 'global\n    stats socket /run/h.sock\n'), ('192.0.2.1:2101', '127.0.0.1:2199'), ('bind :2101', 'bind :2100'),
-        ('192.0.2.11:2101', '127.0.0.1:2101'), ('192.0.2.12:2101', '127.0.0.1:2198 disabled'),
+        ('global\n', 'global\n    stats socket /run/h.sock\n'), ('192.0.2.1:2101', '127.0.0.1:2199'),
+        ('bind :2101', 'bind :2100'), ('192.0.2.11:2101', '127.0.0.1:2101'), ('192.0.2.12:2101', '127.0.0.1:2198 disabled'),
         ('192.0.2.13:2101', '127.0.0.1:2198 disabled')]))
     root.does('systemctl', 'restart', 'haproxy')
 
@@ -51,9 +51,9 @@ def rights(root):
 
 
 def page_and_health():
-    """docs/OPERATING.md, "A page": the units as they are installed. Within a minute the page has what the timer asked and
-    who is on, before and behind a restart of the caster. The socket says up, and down behind a stop, to us and to haproxy.
-    None of them says anything to the journal by itself."""
+    """docs/OPERATING.md, "A page": the units as they are installed. Within a minute the page has what the timer asked
+    and who is on, before and behind a restart of the caster. The socket says up, and down behind a stop, to us and to
+    haproxy. None of them says anything to the journal by itself."""
     with Root() as root:
         install(root)
         fill_in(root, [value.replace('of its base', 'of-its-base') for value in FILLED])
