@@ -374,13 +374,13 @@ class Clients:
 
     def are_refused(self, scene):
         """Three that are turned away: by what they asked for, as whom, and why."""
-        for head in (rover_1('ALPHA', basic('rover1', 'wrong')), rover_1('<script>alert(1)'),
-                     source_1('CHARLIE', 'wrong')):
+        heads = [rover_1('ALPHA', basic('rover1', 'wrong')), rover_1('<script>alert(1)'), source_1('CHARLIE', 'wrong')]
+        for count, head in enumerate(heads, 1):
             one = Client(scene.port).send(head)
             while one.receive():
                 pass
             one.close()
-        scene.waits_for(' end - 0 0 0 (password|no-mount|source-password)', 3)
+            scene.waits_for(' end - 0 0 0 (password|no-mount|source-password)', count)
         return [('ALPHA', 'rover1', 'wrong password'), ('<script>alert(1)', '–', 'no such mountpoint'),
                 ('CHARLIE', '–', 'wrong password of the mountpoint')]
 
