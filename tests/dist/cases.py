@@ -419,12 +419,16 @@ def tried(case):
         shutil.rmtree(WORK)
 
 
+# What gives a command a network of its own, where that can be had: no case takes another one's port then.
+OWN_NETWORK = ['unshare', '--net', 'sh', '-c', 'ip link set lo up && exec "$@"', 'sh']
+
+
 class Trial:
     """A case in a process of its own."""
 
-    def __init__(self, case):
+    def __init__(self, case, front):
         self.name, self.begun, self.output = case.__name__, time.monotonic(), tempfile.TemporaryFile('w+')
-        self.process = subprocess.Popen([sys.executable, '-B', __file__, self.name], stdin=subprocess.DEVNULL,
+        self.process = subprocess.Popen([*front, sys.executable, '-B', __file__, self.name], stdin=subprocess.DEVNULL,
                                         stdout=self.output, stderr=subprocess.STDOUT)
 
     def said(self):
@@ -435,9 +439,11 @@ class Trial:
 def side_by_side(cases):
     """Runs each case in a process of its own, some at a time; gives the trials."""
     waiting, running, done = list(cases), [], []
+    has_own = shutil.which('unshare') and shutil.which('ip') and run(*OWN_NETWORK, 'true').returncode == 0
+    front = OWN_NETWORK if has_own else []
     while waiting or running:
         while waiting and len(running) < SIDE_BY_SIDE:
-            running.append(Trial(waiting.pop(0)))
+            running.append(Trial(waiting.pop(0), front))
         for trial in [trial for trial in running if trial.process.poll() is not None]:
             running.remove(trial)
             done.append(trial)

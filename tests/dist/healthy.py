@@ -56,17 +56,26 @@ class Leaf:
         return sum(' from ' in line for line in self.caster.lines())
 
 
+def statistics(path):
+    """The rows of haproxy's own statistics, by names; none while it does not answer yet."""
+    try:
+        with socket.socket(socket.AF_UNIX) as one:
+            one.connect(path)
+            one.sendall(b'show stat\n')
+            text = b''.join(iter(lambda: one.recv(65536), b'')).decode()
+    except OSError:
+        return []
+    names, *rows = [line.split(',') for line in text.splitlines() if line]
+    return [dict(zip(names, row)) for row in rows]
+
+
 def waits_until(path, wanted):
     """haproxy counts the leaves so, from the first one on, by its own statistics and the answers of agents."""
     until = time.monotonic() + 2 * PATIENCE
     while True:
-        with socket.socket(socket.AF_UNIX) as one:
-            one.connect(path)
-            one.sendall(b'show stat\n')
-            rows = [line.split(',') for line in b''.join(iter(lambda: one.recv(65536), b'')).decode().splitlines()]
-        at, agent = rows[0].index('status'), rows[0].index('agent_status')
-        leaves = [row for row in rows if row[0] == 'leaves' and row[1].startswith('leaf')][:len(wanted)]
-        got = [None if row[agent] not in ('L7OK', 'L7STS') else not row[at].startswith('DOWN') for row in leaves]
+        leaves = [row for row in statistics(path) if row['# pxname'] == 'leaves' and row['svname'].startswith('leaf')]
+        got = [None if row['agent_status'] not in ('L7OK', 'L7STS') else not row['status'].startswith('DOWN')
+               for row in leaves[:len(wanted)]]
         if got == wanted:
             return
         if time.monotonic() > until:
