@@ -114,8 +114,8 @@ def runs_of_a_page():
     """A run that was killed is over when the next one begins: who was on stands among those that ended, a mountpoint
     that the next run does not name is gone, and frames are counted anew. Behind totals the caster has stopped."""
     more = [(200, '0.1 from 203.0.113.1:50101'), (201, '0.1 source ALPHA 1')]
-    cut = [(210, 'now mount ALPHA 30 1'), (210, 'now workers 4 4'), (210, 'now end'),
-           (270, 'now mount ALPHA 30 1'), (270, 'now workers 4 4'), (270, 'now end')]
+    cut = [(210, 'now mount ALPHA 700 1'), (210, 'now workers 4 4'), (210, 'now end'),
+           (270, 'now mount ALPHA 700 1'), (270, 'now workers 4 4'), (270, 'now end')]
     state, page = state_of(stamped(RUN) + stamped(more + cut, 72))
     if [mount['name'] for mount in state['mounts']] != ['ALPHA']:
         raise Wrong('the mountpoints are %s' % state['mounts'])
@@ -132,10 +132,39 @@ def runs_of_a_page():
                           '4 of 4 workers are busy: who comes next may have to wait.',
                           'without credentials at ALPHA lost 2.00 % of its frames, up to 08:02:10.']:
         raise Wrong('what needs an eye: %s' % needs_of(page))
-    totals = [(300, 'mount ALPHA 30 1'), (300, 'total 0 0 0')]
+    totals = [(300, 'mount ALPHA 700 1'), (300, 'total 0 0 0')]
     state, page = state_of(stamped(RUN) + stamped(more + cut + totals, 72))
     if state['caster']['is_serving'] or needs_of(page) != ['The caster has stopped, in order: its totals came.']:
         raise Wrong('it has stopped: %s' % needs_of(page))
+
+
+# Behind each part of the lines, which begin in the midst of a run: whether ALPHA is held, by whom, under which claim, and
+# its relay.
+MIDST = [(answer(0, '5 7', '0 -'), (True, None, 7, None)),
+         ([(1, '0.9 end source:ALPHA 0 0 0 source-end 7')], (False, None, None, None)),
+         ([(2, '1.5 from 203.0.113.1:1'), (2, '0.10 from 203.0.113.2:2'), (3, '0.10 source ALPHA 8')],
+          (True, '203.0.113.2:2', 8, None)),
+         # The next claim is told before the line `end` of the connection that had the one before.
+         ([(4, '1.5 source ALPHA 9')], (True, '203.0.113.1:1', 9, None)),
+         ([(5, '0.10 end source:ALPHA 0 0 0 read-fault')], (True, '203.0.113.1:1', 9, None)),
+         ([(6, '1.5 end source:ALPHA 0 0 0 source-end 9'), (7, '4.7 to 198.51.100.9:2101'), (8, '4.7 relay ALPHA 10')],
+          (True, '198.51.100.9:2101', 10, None)),
+         ([(9, '4.7 end relay:ALPHA 0 0 0 source-end 10')], (False, None, None, (0, 'source-end 10'))),
+         ([(10, '4.8 to -'), (11, '4.8 end relay:ALPHA 0 0 0 no-head')], (False, None, None, (1, 'no-head'))),
+         ([(12, '4.9 to 198.51.100.9:2101'), (13, '4.9 relay ALPHA 11')], (True, '198.51.100.9:2101', 11, None))]
+
+
+def holders_in_the_midst():
+    """Who holds a mountpoint, where the lines begin in the midst of a run, claims follow each other closely, and a relay
+    comes and goes."""
+    rows = []
+    for part, (is_held, address, claim, relay) in MIDST:
+        rows += part
+        state, _ = state_of(stamped(rows))
+        alpha = state['mounts'][0]
+        holds('behind %s' % part[-1][1], alpha, {'is_held': is_held, 'address': address, 'claim': claim})
+        if (alpha['relay'] and (alpha['relay']['tries'], alpha['relay']['ending'])) != relay:
+            raise Wrong('behind %s: the relay is %s' % (part[-1][1], alpha['relay']))
 
 
 def page_of_many():
@@ -518,4 +547,4 @@ def pictures(phone, desktop):
         desktop.picture(folder + '/desktop.png', 1200)
 
 
-CASES = [page_by_hand, state_of_formats, runs_of_a_page, page_of_many, page_without_times, page_in_a_browser]
+CASES = [page_by_hand, state_of_formats, runs_of_a_page, holders_in_the_midst, page_of_many, page_without_times, page_in_a_browser]
