@@ -49,7 +49,7 @@ details:last-child { padding-bottom: 32px; }
     border: 1px solid var(--line); border-radius: 6px; padding: 8px 12px; }
   tr.none { border-left: 3px solid var(--bad); }
   tr.silent { border-left: 3px solid var(--warn); }
-  td, tr.none td:first-child, tr.silent td:first-child { border: 0; padding: 0; }
+  td, tr.none td:first-child, tr.silent td:first-child { border: 0; padding: 0; font-size: 14px; }
   td.unknown { display: none; }
   td::before { content: attr(data-label); display: block; color: var(--soft); font-size: 12px; }
   dl { grid-template-columns: 1fr 1fr; }
