@@ -134,84 +134,98 @@ def now():
 
 
 class Rover:
-    """A rover that keeps its own account: from when to when it was on, and the frames that came."""
+    """A rover that keeps its own account: the frames that came, and two times between which it came on, and two between
+    which it left."""
 
-    def __init__(self, port, user):
+    def __init__(self, caster, user, earlier):
         head = rover_1('ALPHA', basic('leaf', 'secret')) if user == 'rover:leaf' else rover_1('ALPHA')
-        self.client, self.user, self.frames = Client(port).send(head).expect(ICY), user, 0
-        self.begin, self.end, self.is_cut = now(), None, False
+        self.begin = [now()]
+        self.client, self.user, self.frames = Client(caster.port).send(head).expect(ICY), user, 0
+        self.is_cut = False
+        caster.waits_for(' rover ' + user.split(':')[-1].replace('anonymous', '-'), earlier + 1)
+        self.begin.append(now())
 
     def hears(self, data, count):
         self.client.expect(data)
         self.frames += count
 
-    def leaves(self):
+    def leaves(self, caster, earlier):
+        self.end = [now()]
         self.client.close()
-        self.end = now()
+        caster.waits_for(' end ' + self.user, earlier + 1)
+        self.end.append(now())
 
-    def is_killed(self):
-        self.end, self.is_cut = now(), True
+    def is_killed(self, before):
+        self.end, self.is_cut = [before, now()], True
         self.client.expect_end()
 
 
-def a_run(number, path, is_killed):
-    """A base and three rovers, of which one leaves early; then all leave, or the caster is killed."""
+def a_run(number, path, is_killed, ahead):
+    """A base and three rovers, of which one leaves early; then the clock is put ahead, and all leave, or the caster is
+    killed."""
     caster = Stamped(number, path)
     base = Client(caster.port).send(source_1('ALPHA', 'sesame')).expect(ICY)
-    rovers = [Rover(caster.port, user) for user in ('rover:leaf', 'anonymous', 'rover:leaf')]
+    rovers = [Rover(caster, 'rover:leaf', 0), Rover(caster, 'anonymous', 0), Rover(caster, 'rover:leaf', 1)]
     base.send(A * 3)
     for rover in rovers:
         rover.hears(A * 3, 3)
-    time.sleep(1.5)
-    rovers[2].leaves()
-    caster.waits_for(' end rover:leaf')
+    rovers[2].leaves(caster, 0)
+    Stamped.clock += ahead
     base.send(A * 2)
     for rover in rovers[:2]:
         rover.hears(A * 2, 2)
-    time.sleep(2.5)
     if is_killed:
+        before = now()
         caster.kill()
-    for rover in rovers[:2]:
-        rover.is_killed() if is_killed else rover.leaves()
-    if not is_killed:
-        caster.waits_for(' end rover:leaf', 2)
-        caster.waits_for(' end anonymous')
-        caster.say('stop')
-        if caster.process.wait(timeout=PATIENCE):
-            raise Wrong('status %d' % caster.process.returncode)
-        caster.reader.join(PATIENCE)
+        for rover in rovers[:2]:
+            rover.is_killed(before)
+        return rovers
+    rovers[0].leaves(caster, 1)
+    rovers[1].leaves(caster, 0)
+    caster.say('stop')
+    if caster.process.wait(timeout=PATIENCE):
+        raise Wrong('status %d' % caster.process.returncode)
+    caster.reader.join(PATIENCE)
     return rovers
 
 
-def overlap(rover, day):
-    """The seconds of this day for which the rover was on."""
-    begin = max(rover.begin, datetime.datetime.combine(day, datetime.time()))
-    end = min(rover.end, datetime.datetime.combine(day + datetime.timedelta(1), datetime.time()))
+def overlap(begin, end, day):
+    """The seconds of this day that are between the two times."""
+    begin = max(begin, datetime.datetime.combine(day, datetime.time()))
+    end = min(end, datetime.datetime.combine(day + datetime.timedelta(1), datetime.time()))
     return max(0, (end - begin).total_seconds())
 
 
+def spans(rovers, day):
+    """The least and the most seconds of this day for which these rovers were on; a bill has whole seconds of each."""
+    least = sum(overlap(rover.begin[1], rover.end[0], day) for rover in rovers)
+    most = sum(overlap(rover.begin[0], rover.end[1], day) for rover in rovers)
+    return least - len(rovers), most + len(rovers)
+
+
 def counted(rovers):
-    """What the clients counted: by day and user sessions, frames, seconds, sessions that were cut, and their seconds."""
-    days = sorted({rover.begin.date() for rover in rovers} | {rover.end.date() for rover in rovers})
+    """What the clients counted: by day and user sessions, frames, sessions that were cut, and seconds of both."""
+    days = sorted({rover.begin[0].date() for rover in rovers} | {rover.end[1].date() for rover in rovers})
     for day in days:
         for user in ('anonymous', 'rover:leaf'):
             own = [rover for rover in rovers if rover.user == user]
-            ended = [rover for rover in own if rover.end.date() == day and not rover.is_cut]
+            ended = [rover for rover in own if rover.end[1].date() == day and not rover.is_cut]
             # A kill leaves no receipt: what a client was sent, its own count alone has.
-            cut = [rover for rover in own if rover.begin.date() == day and rover.is_cut]
+            cut = [rover for rover in own if rover.begin[1].date() == day and rover.is_cut]
             yield ('%s %s' % (day, user), len(ended) + len(cut), sum(rover.frames for rover in ended), len(cut),
-                   sum(overlap(rover, day) for rover in own if not rover.is_cut),
-                   sum(overlap(rover, day) for rover in own if rover.is_cut))
+                   spans([rover for rover in own if not rover.is_cut], day),
+                   spans([rover for rover in own if rover.is_cut], day))
 
 
 def bill_of_clients():
     """Three runs of the program over midnight and the turn of a month, two of which are killed: the bill has what the
-    clients counted."""
+    clients counted. The clock is put ahead where nobody comes or goes, so no line is near midnight."""
     path = write('bill.toml', config(8))
     Stamped.lines, Stamped.began = [], time.monotonic()
-    Stamped.clock = datetime.datetime(2026, 3, 31, 23, 59, 52)
-    rovers = [rover for number, is_killed in ((71, True), (72, True), (73, False))
-              for rover in a_run(number, path, is_killed)]
+    Stamped.clock = datetime.datetime(2026, 3, 31, 21)
+    minute, hours = datetime.timedelta(minutes=1), datetime.timedelta(hours=6)
+    rovers = [rover for number, is_killed, ahead in ((71, True, minute), (72, True, hours), (73, False, minute))
+              for rover in a_run(number, path, is_killed, ahead)]
     text = ''.join(Stamped.lines)
     got = {}
     for line in passes('dist/bill', input=text.encode()).decode().splitlines():
@@ -223,8 +237,8 @@ def bill_of_clients():
         row = got.pop(key, [0] * 6)
         if row[:3] != [sessions, frames, 0] or row[4] != cut:
             raise Wrong('%s: %s, and the clients counted %s' % (key, row, (sessions, frames, cut)))
-        if abs(row[3] - seconds) > 1.5 or abs(row[5] - open_seconds) > 1.5:
-            raise Wrong('%s: %s, and the clients counted %.2f and %.2f seconds' % (key, row, seconds, open_seconds))
+        if not (seconds[0] <= row[3] <= seconds[1] and open_seconds[0] <= row[5] <= open_seconds[1]):
+            raise Wrong('%s: %s, and the clients counted %s and %s seconds' % (key, row, seconds, open_seconds))
     if got:
         raise Wrong('rows of nobody: %s' % got)
 

@@ -157,6 +157,56 @@ NO_REPORTS = [changed('E,1,', 'E,0,'), changed('4807.038,N,01131.000,E,1', ',,,,
               changed('4807', '4860'), changed('GPGGA', 'gpgga'), ' ' + AT_ALPHA, changed('.9,', '.9' + '0' * 64 + ',')]
 
 
+def unread(client):
+    """How many bytes of the client the caster's system holds that the caster has not read."""
+    ends = [':%04X' % address[1] for address in (client.socket.getpeername(), client.socket.getsockname())]
+    with open('/proc/net/tcp') as file:
+        for line in file:
+            fields = line.split()
+            if fields[1].endswith(ends[0]) and fields[2].endswith(ends[1]):
+                return int(fields[4].split(':')[1], 16)
+    raise Wrong('the caster has no such connection')
+
+
+def reports(client, data):
+    """The client sends this, and the caster has read it. Nothing says when it has heeded it: a second is left for
+    that."""
+    client.send(data)
+    until = time.monotonic() + PATIENCE
+    while unread(client):
+        if time.monotonic() > until:
+            raise Wrong('the caster does not read')
+        time.sleep(0.01)
+    time.sleep(1)
+
+
+def heard_by(witness, source, frame):
+    """The source sends a frame, and it is published: a rover of its mountpoint alone has got it."""
+    source.send(frame)
+    witness.expect(frame)
+    return source
+
+
+def is_gone(caster, mount):
+    """Each source that held the mountpoint has its receipt."""
+    until = time.monotonic() + PATIENCE
+    while True:
+        lines = [line.split(' ') for line in caster.lines()]
+        ended = {words[0] for words in lines if words[1] == 'end'}
+        if {words[0] for words in lines if words[1:3] == ['source', mount]} <= ended:
+            return
+        if time.monotonic() > until:
+            raise Wrong('a source of %s stays' % mount)
+        time.sleep(0.02)
+
+
+def segments_of(caster, mount):
+    """The segments of the rover that asked for this mountpoint."""
+    lines = [line.split(' ') for line in caster.lines()]
+    number, = (words[0] for words in lines if words[1] == 'asks' and words[3:5] == ['rover', mount])
+    return [words[2:] for words in lines if words[:2] == [number, 'segment']]
+
+
 def positions():
     """docs/FORMATS.md, "Positions": a rover of NEAR hears nothing until it has reported a position that counts while a
     base is held; where its base goes it stays until its next report; and a base that comes back it hears without
@@ -164,37 +214,33 @@ def positions():
     caster = Keeping(example(8), 0)
     try:
         rover = caster.client().send(rover_1('NEAR', ROVER1)).expect(ICY)
-        rover.send(AT_ALPHA.encode() + b'\r\n')
-        # Nothing says when a report is read.
-        time.sleep(1)
-        alpha = source_at(caster).send(A)
+        at_alpha, at_bravo = (caster.client().send(rover_1(mount, ROVER1)).expect(ICY) for mount in ('ALPHA', 'BRAVO'))
+        reports(rover, AT_ALPHA.encode() + b'\r\n')
+        alpha = heard_by(at_alpha, source_at(caster), A)
         heard_nothing(rover)
         if len(NO_REPORTS[-1]) != 129 or changed('', '') != AT_ALPHA:
             raise Wrong('another line was meant')
-        rover.send(''.join(line + '\r\n' for line in NO_REPORTS).encode() + AT_ALPHA.encode())
-        alpha.send(A)
+        reports(rover, ''.join(line + '\r\n' for line in NO_REPORTS).encode() + AT_ALPHA.encode())
+        heard_by(at_alpha, alpha, A)
         heard_nothing(rover)
         # The end of its line.
-        rover.send(b'\n')
-        time.sleep(1)
-        alpha.send(B)
+        reports(rover, b'\n')
+        heard_by(at_alpha, alpha, B)
         rover.expect(B)
         bravo = caster.client().send(source_1('BRAVO', 'open')).expect(ICY)
         alpha.close()
-        bravo.send(A)
+        heard_by(at_bravo, bravo, A)
         heard_nothing(rover)
-        source_at(caster).send(Z).close()
+        heard_by(at_alpha, source_at(caster), Z).close()
         rover.expect(Z)
-        source_at(caster).close()
-        time.sleep(1)
-        rover.send(AT_ALPHA.encode() + b'\n')
-        time.sleep(1)
-        bravo.send(A)
+        is_gone(caster, 'ALPHA')
+        reports(rover, AT_ALPHA.encode() + b'\n')
+        heard_by(at_bravo, bravo, A)
         rover.expect(A)
-        rover.close()
-        bravo.close()
+        for client in (rover, at_alpha, at_bravo, bravo):
+            client.close()
         caster.ends()
-        segments = [line.split(' ')[2:] for line in caster.lines() if ' segment ' in line]
+        segments = segments_of(caster, 'NEAR')
         # At ALPHA from the third frame on, at BRAVO from the second on, each up to the last.
         if segments != [['ALPHA', '2', '4', '2', '0'], ['BRAVO', '1', '2', '1', '0']]:
             raise Wrong('segments: %s' % segments)
