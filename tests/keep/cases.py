@@ -1,7 +1,8 @@
 """Cases of `caster keep` with real sockets. Each is a function whose text says what it tries; it is wrong
 where it raises something. What is wanted comes from docs/FORMATS.md and from what the clients did, saw and
 sent; tests/keep/books.py compares the lines with it. Cases of the process, its output and its signals stand
-in tests/keep/process.py, those of its sockets and of its rests in tests/keep/sockets.py.
+in tests/keep/process.py, those of its sockets and of its rests in tests/keep/sockets.py, those of slow rovers in
+tests/keep/slow.py.
 """
 import os
 import random
@@ -19,6 +20,7 @@ from books import agree, compare, read
 from guests import *
 from mutants import try_all
 from process import *
+from slow import *
 from sockets import *
 from wire import (BAD_PASSWORD_1, DENIED_1, FULL_1, NO_MOUNT_2, TAKEN_1, TAKEN_2, UNAUTHORIZED_1, UNAUTHORIZED_2,
                   Client, rover_1, rover_2, source_1, source_2, table_1, table_2)
@@ -163,42 +165,6 @@ def lapped_and_near():
     holds('no rover was lapped', all(
         link.end.overrun for link in books.links.values() if link.entered[0] == 'rover' and link.asks[2] == 'CHARLIE'))
     wants('the bases of the near rover', [mount for mount, _ in near.guest.heard], ['ALPHA', 'BRAVO'])
-
-
-def wait_for_no_room(keeper, visitor):
-    """Until what the system keeps for this client has not grown for two seconds."""
-    ports = ':%04X' % keeper.port, ':%04X' % int(visitor.guest.peer[1].split(':')[1])
-    kept, since = None, time.monotonic()
-    while time.monotonic() - since < 2:
-        with open('/proc/net/tcp') as file:
-            rows = [line.split() for line in file]
-        now = [row[4] for row in rows if row[1].endswith(ports[0]) and row[2].endswith(ports[1])]
-        if now != kept:
-            kept, since = now, time.monotonic()
-        time.sleep(0.05)
-
-
-def stop_while_a_write_waits():
-    """A rover reads nothing, and the system takes no more for it: at the stop all others see their end at once,
-    and the program ends when that write was given up, ten seconds behind the last byte that was taken."""
-    keeper = keep(3, ring=4096)
-    base, rover = Base(keeper, 'CHARLIE', claim=1), Rover(keeper, 'CHARLIE', 'rover1', 2)
-    deaf = Rover(keeper, 'CHARLIE', 'rover1', room=4096).ended('write-fault')
-    # More than the system keeps for a connection.
-    for _ in range(20 + wire.most_kept() * 3 // 200000):
-        base.publish(100)
-        rover.wait_for('CHARLIE', keeper.published['CHARLIE'] - 1)
-    wait_for_no_room(keeper, deaf)
-    rover.guest.spans = [(0, keeper.published['CHARLIE'])]
-    keeper.ask()
-    begun = time.monotonic()
-    all_at_once(2, lambda at: (base, rover)[at].until_end())
-    ended_within(1.5, begun, (base, rover))
-    text = keeper.ends()
-    took = time.monotonic() - begun
-    holds('it ended after %.1f seconds' % took, 1 < took < 11)
-    deaf.until_end(is_open=True)
-    keeper.checked(text)
 
 
 def publish_until(base, came, rover):
@@ -478,9 +444,10 @@ def many_links():
 
 
 # Those that wait for seconds run beside the others, each in a process of its own.
-SLOW = [stop_while_a_write_waits, upstream_that_comes_back, many_links, killed_at_any_time, bases_that_vanish,
-        one_byte_a_second, cut_in_time, frames_come_at_once, those_who_wait_rest, peer_that_refuses,
-        peer_that_does_not_answer, descriptors_that_run_out]
+SLOW = [stop_while_a_write_waits, slow_rovers_are_lapped, stop_while_a_link_has_no_room, end_of_a_link_without_room,
+        upstream_that_comes_back, many_links, killed_at_any_time, bases_that_vanish, one_byte_a_second, cut_in_time,
+        frames_come_at_once, those_who_wait_rest, peer_that_refuses, peer_that_does_not_answer,
+        descriptors_that_run_out]
 CASES = [stop_with_all_open, stop_of_250_rovers, lapped_and_near, other_words, status_while_all_are_busy,
          status_with_a_relay, options_of_links, listener_that_is_gone, full_pipe, closed_output,
          outputs_that_take_nothing, no_further_thread, caster_run_by_signals, caster_run_early_and_often,

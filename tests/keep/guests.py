@@ -41,9 +41,12 @@ def house(workers, relays=()):
     return House(workers, MOUNTS, list(USERS), [mount for mount, *_ in relays], HEARS)
 
 
-def config(workers, relays=(), ring=256):
-    """The configuration of the house; each relay is a mountpoint, an address and a version."""
+def config(workers, relays=(), ring=256, records=0):
+    """The configuration of the house; each relay is a mountpoint, an address and a version. The sourcetable has so many
+    records more, of 1,000 bytes each."""
     text = 'version = 2\nworkers = %d\n' % workers
+    if records:
+        text += 'records = [%s]\n' % ', '.join(['"NET;%s;x;N;N;x;x;x;"' % ('x' * 980)] * records)
     for at, mount in enumerate(MOUNTS):
         text += ('[[mount]]\nname = "%s"\npassword = "%s"\nring = %d\nlatitude = %d\nlongitude = 115166666\n'
                  % (mount, PASSWORDS[mount], ring, 481173000 + 827000 * at))
@@ -70,11 +73,11 @@ class Keeper(wire.Caster):
     input = subprocess.PIPE
     may_say = b''
 
-    def __init__(self, workers, relays=(), quiet=0, ring=256, addr=None, output=None, front=()):
+    def __init__(self, workers, relays=(), quiet=0, ring=256, addr=None, output=None, front=(), records=0):
         self.house, self.published, self.lock = house(workers, relays), dict.fromkeys(MOUNTS, 0), threading.Lock()
         self.guests, self.front = [], list(front)
         self.written = tempfile.NamedTemporaryFile('w+b', suffix='.lines')
-        super().__init__(config(workers, relays, ring), quiet, addr, self.written if output is None else output)
+        super().__init__(config(workers, relays, ring, records), quiet, addr, self.written if output is None else output)
 
     def words(self, limit):
         return self.front + super().words(limit)

@@ -423,6 +423,13 @@ def connections_at(port):
     return sum(int(row[1].split(':')[1], 16) == port and row[3] not in ('0A', '06') for row in rows)
 
 
+def standing_at(port):
+    """How many connections of this port of loopback neither side has ended."""
+    with open('/proc/net/tcp') as file:
+        rows = [line.split() for line in file.readlines()[1:]]
+    return sum(int(row[1].split(':')[1], 16) == port and row[3] == '01' for row in rows)
+
+
 class Keeping(Caster):
     """The program, keeping a caster over this configuration, for a case of one that serves. It goes on until
     it is awaited: once all connections have ended it is told to stop. What it has written is then its closing

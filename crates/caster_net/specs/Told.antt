@@ -1,5 +1,7 @@
 -- What contracts see of the adapters: what they gave and took, and not what is to come.
 use Rattle.std.specs.Prelude.{ℕ, ◌≡◌, List, [], Option, None, Some}
+use Rattle.send_room.specs.declared.flow.Flow.{Flow}
+use Rattle.send_room.specs.Flows.{new_flow}
 use Rattle.cast_io.specs.declared.steps.SourceStep.{SourceStep}
 use Rattle.cast_io.specs.declared.steps.Step.{Step}
 use Rattle.cast_io.specs.declared.link.Got.{Got}
@@ -29,18 +31,28 @@ wire_log wire = record { taken = wire.taken; bytes = wire.bytes; faults = wire.f
 abbrev pub wire_told : {S : Type 0} → WireState S → LinkTold
 wire_told wire = link_logged (wire_log wire)
 
--- a link: the wire below it, and what it heeds where it is one of a gate
+-- a link: the wire below it; what it heeds where it is one of a gate; and how its peer takes what
+-- it is sent, where its reads wait for room
 pub record LinkState (S : Type 0) : Type 0 where
   pub wire : WireState S
   pub keep : Option KeepState
+  pub room : Option Flow
 
 -- a link over this stream that did nothing yet, and heeds nothing
 abbrev pub new_link : {S : Type 0} → S → LinkState S
-new_link stream = record { wire = new_wire stream; keep = None }
+new_link stream = record { wire = new_wire stream; keep = None; room = None }
 
--- one of a gate, which heeds this
+-- one whose reads wait for room
+abbrev pub new_patient_link : {S : Type 0} → S → LinkState S
+new_patient_link stream = record { wire = new_wire stream; keep = None; room = Some new_flow }
+
+-- one of a gate, which heeds this beside
 abbrev pub new_kept_link : {S : Type 0} → S → KeepState → LinkState S
-new_kept_link stream keep = record { wire = new_wire stream; keep = Some keep }
+new_kept_link stream keep = record {
+  wire = new_wire stream;
+  keep = Some keep;
+  room = Some new_flow;
+}
 
 -- its log
 abbrev pub link_log : {S : Type 0} → LinkState S → LinkLog

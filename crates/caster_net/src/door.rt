@@ -1,16 +1,17 @@
 //! A listener as a door.
-ghost use Rattle.std.specs.Prelude.{◌≡◌, ◌<◌, ◌↔◌, IfErr, IfOk, IsTrue};
+ghost use Rattle.std.specs.Prelude.{◌≡◌, ◌<◌, ◌↔◌, if◌then◌else◌, IfErr, IfOk, IsTrue};
 ghost use Rattle.std.specs.Arc.{arc_value};
 ghost use Rattle.std.specs.IoError.{raw_os_error};
 ghost use Rattle.cast_io.specs.Logged.{door_logged};
 ghost use Rattle.caster_net.specs.Dead.{IsDead};
-ghost use Rattle.caster_net.specs.Told.{new_door, new_link};
+ghost use Rattle.caster_net.specs.Told.{new_door, new_link, new_patient_link, new_wire};
 
 use crate::bells::Bells;
 use crate::link::TcpLink;
 use crate::options::LimitAccepts;
 use crate::waiting::{SHORT, count_fault};
 use crate::watch::Watch;
+use crate::wire::Wire;
 use cast_io::{Arrived, Door, Journal, StreetFault};
 use std::alloc::Global;
 use std::io::ErrorKind;
@@ -97,18 +98,18 @@ pub struct TcpDoor<'a> {
     // What ended a rest, for the next accept.
     came: Option<io::Result<TcpStream>>,
     patience: Duration,
-    back: Journal<TcpLink<'a>>,
+    back: Journal<Wire<TcpStream>>,
     faults: u64,
 }
 
 impl<'a> Model for TcpDoor<'a> {
     ghost use Rattle.std.specs.Prelude.{map};
     ghost use Rattle.cast_io.specs.Logged.{DoorLog};
-    ghost use Rattle.caster_net.specs.Told.{link_log};
+    ghost use Rattle.caster_net.specs.Told.{wire_log};
 
     ghost Value = { DoorLog };
 
-    ghost view = { λ d. record { back = map link_log d.back; faults = d.faults } };
+    ghost view = { λ d. record { back = map wire_log d.back; faults = d.faults } };
 }
 
 impl<'a> TcpDoor<'a> {
@@ -150,13 +151,13 @@ impl<'a> TcpDoor<'a> {
 
     // A link over this connection, for whose bytes one door alone waits too.
     fn welcome(&mut self, stream: TcpStream) -> io::Result<TcpLink<'a>>
-        ensures link { IfOk result (λ link. link ≡ new_link stream) }
+        ensures link { IfOk result (λ link. link.wire ≡ new_wire stream) }
         ensures same { self.new ≡ self.old }
     {
         if let Some(watch) = &mut self.watch {
             let _ = watch.join(stream.as_raw_fd());
         }
-        TcpLink::over(self.rt, self.bells, stream)
+        link_at(&self.porch, self.rt, self.bells, stream)
     }
 
     // Waits a short while for a connection and for bytes of the links.
@@ -232,6 +233,24 @@ impl<'a> Door for TcpDoor<'a> {
             Err(_) => limit,
         };
         self.patience = self.patience.saturating_sub(taken);
+    }
+}
+
+// A link over this connection of this place. Of several doors each serves one link at a time, whose
+// reads wait for room. Those of one door alone do not: its worker may have other links to serve.
+fn link_at<'a>(
+    porch: &Porch,
+    rt: &'a HostRuntime,
+    bells: &'a Bells,
+    stream: TcpStream,
+) -> io::Result<TcpLink<'a>>
+    ensures { IfOk result (λ link.
+        link ≡ (if porch.now.waits then new_patient_link stream else new_link stream)) }
+{
+    if porch.waits {
+        TcpLink::patient(rt, bells, stream)
+    } else {
+        TcpLink::over(rt, bells, stream)
     }
 }
 

@@ -14,6 +14,7 @@ use crate::keep::Keep;
 use crate::link::TcpLink;
 use crate::redial::{Reached, Redial};
 use crate::waiting::{MAX_KEPT_REST, SHORT, count_fault, would_wait};
+use crate::wire::Wire;
 use cast_io::{Arrived, Door, Gate, Journal, Origin, PeerAddr};
 use std::alloc::Global;
 use std::fmt::InlineText;
@@ -59,6 +60,16 @@ enum Way {
 pub struct TcpGate<'a> {
     ground: Ground<'a>,
     way: Way,
+    standing: Standing,
+    origin: Snapshot<Origin>,
+    // Of a link its wire alone: what has more parts is not found to cross threads.
+    back: Journal<Wire<TcpStream>>,
+}
+
+// How a gate stands. It is a struct of its own since a gate whose every part is looked at is not
+// found to cross threads.
+#[derive(Drop)]
+struct Standing {
     // For how many seconds a link may be quiet; 0 is for ever.
     quiet: u32,
     // What ended a rest at the porch, for the next accept.
@@ -67,24 +78,22 @@ pub struct TcpGate<'a> {
     // Whether it was asked already whether it is over: so somebody serves here.
     is_asked: bool,
     is_over: bool,
-    origin: Snapshot<Origin>,
-    back: Journal<TcpLink<'a>>,
     faults: u64,
 }
 
 impl<'a> Model for TcpGate<'a> {
     ghost use Rattle.std.specs.Prelude.{map};
     ghost use Rattle.caster_net.specs.Gates.{GateLog};
-    ghost use Rattle.caster_net.specs.Told.{link_log};
+    ghost use Rattle.caster_net.specs.Told.{wire_log};
 
     ghost Value = { GateLog };
 
     ghost view = { λ g. record {
-      door = record { back = map link_log g.back; faults = g.faults };
-      over = g.is_over;
-      peer = g.peer;
+      door = record { back = map wire_log g.back; faults = g.standing.faults };
+      over = g.standing.is_over;
+      peer = g.standing.peer;
       origin = g.origin.value;
-      quiet = g.quiet;
+      quiet = g.standing.quiet;
     } };
 }
 
@@ -133,14 +142,16 @@ impl<'a> TcpGate<'a> {
         TcpGate {
             ground,
             way,
-            quiet: seconds,
-            came: None,
-            peer: PeerAddr::unknown(),
-            is_asked: false,
-            is_over: false,
+            standing: Standing {
+                quiet: seconds,
+                came: None,
+                peer: PeerAddr::unknown(),
+                is_asked: false,
+                is_over: false,
+                faults: 0,
+            },
             origin: Snapshot::of(&origin),
             back: Journal::new(),
-            faults: 0,
         }
     }
 
@@ -148,7 +159,7 @@ impl<'a> TcpGate<'a> {
     pub(crate) fn faults(&self) -> u64
         ensures { result ≡ self.now.door.faults }
     {
-        self.faults
+        self.standing.faults
     }
 
     // The connection that ended the last rest, or one to the peer where it may be dialled now, and
@@ -157,7 +168,7 @@ impl<'a> TcpGate<'a> {
         ensures { self.new ≡ self.old }
     {
         match &mut self.way {
-            Way::Porch(_) => match self.came.take() {
+            Way::Porch(_) => match self.standing.came.take() {
                 Some(came) => came,
                 None => Err(nothing_yet()),
             },
@@ -169,8 +180,8 @@ impl<'a> TcpGate<'a> {
     fn begin_gate(&mut self)
         ensures { self.new ≡ self.old }
     {
-        if !self.is_asked {
-            self.is_asked = true;
+        if !self.standing.is_asked {
+            self.standing.is_asked = true;
             let _ = self.ground.halt.unasked.fetch_sub(1, Ordering::SeqCst);
         }
     }
@@ -208,9 +219,9 @@ impl<'a> Door for TcpGate<'a> {
         ensures same { self.new ≡ record self.old { door = self.new.door; peer = self.new.peer } }
     {
         match self.next() {
-            Ok((stream, peer)) => match welcome(self.ground, self.quiet, stream) {
+            Ok((stream, peer)) => match welcome(self.ground, self.standing.quiet, stream) {
                 Ok(link) => {
-                    self.peer = word_of(peer);
+                    self.standing.peer = word_of(peer);
                     self.begin();
                     Arrived::Link(link)
                 }
@@ -220,7 +231,10 @@ impl<'a> Door for TcpGate<'a> {
                 }
             },
             // Untied line: which error is a failure of the gate.
-            Err(fault) if is_dead(&fault) => count_fault(&mut self.faults, Arrived::Failed),
+            Err(fault) if is_dead(&fault) => count_fault(
+                &mut self.standing.faults,
+                Arrived::Failed,
+            ),
             Err(_) => Arrived::Idle,
         }
     }
@@ -229,8 +243,8 @@ impl<'a> Door for TcpGate<'a> {
     fn rest(&mut self)
         ensures { self.new ≡ self.old }
     {
-        if self.came.is_none() {
-            self.came = what_comes(self.ground, &self.way);
+        if self.standing.came.is_none() {
+            self.standing.came = what_comes(self.ground, &self.way);
         }
     }
 
@@ -263,14 +277,14 @@ impl Gate for TcpGate<'_> {
     {
         self.begin_gate();
         // Untied line: that the gate is over only where this is there.
-        self.is_over = self.ground.stop().is_some();
-        self.is_over
+        self.standing.is_over = self.ground.stop().is_some();
+        self.standing.is_over
     }
 
     fn peer(&self) -> &PeerAddr
         ensures { result.now ≡ self.now.peer }
     {
-        &self.peer
+        &self.standing.peer
     }
 }
 

@@ -5,6 +5,7 @@ ghost use Rattle.caster_net.specs.Silence.{IsTooLong, keep_but_found, keep_given
 
 use crate::halt::{Asked, Halt};
 use crate::quiet::{Quiet, Silence};
+use send_room::Stuck;
 use std::io;
 use std::marker::Model;
 
@@ -15,6 +16,8 @@ pub(crate) enum Cut<'a> {
     Stopped(Asked<'a>),
     /// It was quiet for too long, as this shows.
     Quiet(Silence),
+    /// Its socket had no room for too long, as this shows.
+    Stuck(Stuck),
 }
 
 /// The stop, and for how long the link may be quiet. Contracts see which stop it is, and how long
@@ -49,18 +52,40 @@ impl<'a> Keep<'a> {
         Ok(Keep { rt, halt, quiet })
     }
 
+    /// Whether the stop was asked for.
+    // Untied: whether the input is looked at.
+    pub(crate) fn is_stopped(&self) -> bool {
+        self.halt.look(self.rt).is_some()
+    }
+
     /// Whether the link is read no more, and why.
     pub(crate) fn cut(&self) -> Option<Cut<'a>>
         ensures stopped { (asked : _) → result ≡ Some (cuts.Stopped asked)
             → asked.of ≡ self.now.stop }
         ensures quiet { (silence : _) → result ≡ Some (cuts.Quiet silence)
             → IsSomeAnd self.now.quiet (λ quiet. IsTooLong quiet.limit silence) }
+        ensures not_stuck { (stuck : _) → result ≡ Some (cuts.Stuck stuck) → ⊥ }
         ensures found { IfSome self.now.quiet (λ quiet. IsTrue quiet.is_found → IsSome result) }
     {
         if let Some(asked) = self.halt.look(self.rt) {
             return Some(Cut::Stopped(asked));
         }
         let silence = self.quiet.as_ref()?.silence(self.rt)?;
+        Some(Cut::Quiet(silence))
+    }
+
+    /// Whether the link is read no more, and why, where its read has found no room yet.
+    pub(crate) fn cut_in_wait(&self) -> Option<Cut<'a>>
+        ensures stopped { (asked : _) → result ≡ Some (cuts.Stopped asked)
+            → asked.of ≡ self.now.stop }
+        ensures quiet { (silence : _) → result ≡ Some (cuts.Quiet silence)
+            → IsSomeAnd self.now.quiet (λ quiet. IsTooLong quiet.limit silence) }
+        ensures not_stuck { (stuck : _) → result ≡ Some (cuts.Stuck stuck) → ⊥ }
+    {
+        if let Some(asked) = self.halt.look(self.rt) {
+            return Some(Cut::Stopped(asked));
+        }
+        let silence = self.quiet.as_ref()?.lasting(self.rt)?;
         Some(Cut::Quiet(silence))
     }
 

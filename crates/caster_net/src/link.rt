@@ -1,14 +1,16 @@
 //! A TCP connection as a link.
-ghost use Rattle.std.specs.Prelude.{◌≡◌, ◌<◌, [], ◌∷◌, ◌++◌, length, option_map, Some, IfOk, IsSome, OnOk, IsSomeAnd};
+ghost use Rattle.std.specs.Prelude.{◌≡◌, ◌<◌, [], ◌∷◌, ◌++◌, length, option_map, IfOk, IfSome, OnOk};
 ghost use Rattle.cast_io.specs.Links.{IsGot, HasRead, HasWritten};
-ghost use Rattle.caster_net.specs.declared.keep.Cut.TheVariants as cuts;
-ghost use Rattle.caster_net.specs.Silence.{HasNoted, IsTooLong, keep_but_found, keep_given, keep_taken};
-ghost use Rattle.caster_net.specs.Told.{link_told, new_kept_link, new_link};
+ghost use Rattle.caster_net.specs.Rooms.{AreTold, IsOpen, IsTried};
+ghost use Rattle.caster_net.specs.Silence.{HasNoted, keep_given, keep_taken};
+ghost use Rattle.caster_net.specs.Told.{count_of, link_told, new_kept_link, new_link, new_patient_link};
 
 use crate::bells::{Bells, Ringer};
-use crate::keep::{Cut, Keep};
-use crate::options::KeepAlive;
-use crate::waiting::{MAX_KEPT_REST, MAX_REST, SHORT, asked_of, poll_millis};
+use crate::heed::{Awaited, Heed};
+use crate::keep::Keep;
+use crate::options::{KeepAlive, UNACKNOWLEDGED, set_user_timeout};
+use crate::room::Room;
+use crate::waiting::{SHORT, asked_of, poll_millis};
 use crate::watch::{Watch, Woken};
 use crate::wire::Wire;
 use cast_io::{Failed, Got, Journal, Link};
@@ -16,6 +18,7 @@ use libc::net::{POLLIN, poll};
 use std::io::Read;
 use std::marker::Model;
 use std::net::{Shutdown, TcpStream};
+use std::os::fd::AsRawFd;
 use std::time::{Duration, Instant};
 use std::{io, thread};
 
@@ -30,7 +33,6 @@ const MAX_DRAINED: usize = 64 * 1024;
 /// rests end with its peer, and with the bell that its ringer names.
 #[derive(Drop)]
 pub struct TcpLink<'a> {
-    rt: &'a HostRuntime,
     wire: Wire<TcpStream>,
     ringer: Ringer<'a>,
     // None before the first rest, and where descriptors lack.
@@ -39,8 +41,7 @@ pub struct TcpLink<'a> {
     // How long it sleeps before it waits, in milliseconds.
     pause: u64,
     has_ended: bool,
-    // What a link of a gate heeds.
-    keep: Option<Keep<'a>>,
+    heed: Heed<'a>,
 }
 
 impl<'a> Model for TcpLink<'a> {
@@ -49,7 +50,11 @@ impl<'a> Model for TcpLink<'a> {
 
     ghost Value = { LinkState TcpStream };
 
-    ghost view = { λ l. record { wire = l.wire; keep = l.keep } };
+    ghost view = { λ l. record {
+      wire = l.wire;
+      keep = l.heed.keep;
+      room = l.heed.room;
+    } };
 }
 
 impl<'a> TcpLink<'a> {
@@ -62,19 +67,33 @@ impl<'a> TcpLink<'a> {
         stream.set_nodelay(true)?;
         stream.keep_alive();
         Ok(TcpLink {
-            rt,
             wire: Wire::over(stream),
             ringer: Ringer::over(bells),
             watch: None,
             has_rested: false,
             pause: 0,
             has_ended: false,
-            keep: None,
+            heed: Heed::nothing(rt),
         })
     }
 
-    /// A link of a gate over this connection. It ends once the stop is asked for, and fails where
-    /// it is quiet for too long.
+    /// A link over this connection whose reads wait for room, so that what waits for a slow peer
+    /// waits elsewhere.
+    pub(crate) fn patient(
+        rt: &'a HostRuntime,
+        bells: &'a Bells,
+        stream: TcpStream,
+    ) -> io::Result<Self>
+        ensures { IfOk result (λ link. link ≡ new_patient_link stream) }
+    {
+        let room = Room::from_now(rt, stream.as_raw_fd())?;
+        let mut link = TcpLink::over(rt, bells, stream)?;
+        link.heed.set_room(room);
+        Ok(link)
+    }
+
+    /// A link of a gate over this connection, whose reads wait for room. It ends once the stop is
+    /// asked for, and fails where it is quiet for too long.
     pub(crate) fn of_gate(
         rt: &'a HostRuntime,
         bells: &'a Bells,
@@ -83,8 +102,8 @@ impl<'a> TcpLink<'a> {
     ) -> io::Result<Self>
         ensures { IfOk result (λ link. link ≡ new_kept_link stream keep.entry) }
     {
-        let mut link = TcpLink::over(rt, bells, stream)?;
-        link.keep = Some(keep);
+        let mut link = TcpLink::patient(rt, bells, stream)?;
+        link.heed.set_keep(keep);
         Ok(link)
     }
 
@@ -95,6 +114,13 @@ impl<'a> TcpLink<'a> {
         self.wire.stream()
     }
 
+    /// What its reads answered and its writes took, for a record of it.
+    pub(crate) fn wire(&self) -> &Wire<TcpStream>
+        ensures { result.now ≡ self.now.wire }
+    {
+        &self.wire
+    }
+
     /// How often a read or a write failed.
     pub(crate) fn faults(&self) -> u64
         ensures { result ≡ self.now.wire.faults }
@@ -102,18 +128,19 @@ impl<'a> TcpLink<'a> {
         self.wire.faults()
     }
 
-    /// Comes back, as it is in the record then, and ends the connection: first what is sent, and
-    /// where the peer has not ended and no call failed, then what it still sends is taken for this
-    /// long at most. A connection that is closed with bytes unread is reset, and its peer may lose
-    /// what it was sent last (RFC 9112, section 9.6). What is taken here is no part of the record.
-    pub(crate) fn come_back(mut self, back: &mut Journal<TcpLink<'a>>, limit: Duration)
-        ensures { back.new ≡ back.old ++ self.entry ∷ [] }
+    /// Comes back, as its wire is in the record then, and ends the connection: first what is sent,
+    /// and where the peer has not ended and no call failed, then what it still sends is taken for
+    /// this long at most. A connection that is closed with bytes unread is reset, and its peer may
+    /// lose what it was sent last (RFC 9112, section 9.6). What is taken here is no part of the
+    /// record.
+    pub(crate) fn come_back(mut self, back: &mut Journal<Wire<TcpStream>>, limit: Duration)
+        ensures { back.new ≡ back.old ++ self.entry.wire ∷ [] }
     {
-        back.add(&self);
+        back.add(&self.wire);
         self.tell_last();
         let is_over = self.has_ended || self.wire.faults() > 0;
-        let TcpLink { rt, wire, .. } = self;
-        close(rt, wire.into_stream(), is_over, limit);
+        let TcpLink { wire, heed, .. } = self;
+        close(heed.rt, wire.into_stream(), is_over, limit);
     }
 
     /// Rings for what this link gave since it last did.
@@ -123,24 +150,11 @@ impl<'a> TcpLink<'a> {
         self.ringer.tell_last();
     }
 
-    // Whether it is read no more, and why.
-    fn cut(&self) -> Option<Cut<'a>>
-        ensures stopped { (asked : _) → result ≡ Some (cuts.Stopped asked)
-            → IsSomeAnd self.now.keep (λ keep. asked.of ≡ keep.stop) }
-        ensures quiet { (silence : _) → result ≡ Some (cuts.Quiet silence)
-            → IsSomeAnd self.now.keep (λ keep. IsSomeAnd keep.quiet
-            (λ quiet. IsTooLong quiet.limit silence)) }
-    {
-        self.keep.as_ref()?.cut()
-    }
-
     // Notes what the peer gave.
     fn hear(&mut self, bytes: &[u8])
         ensures { self.new ≡ record self.old { keep = option_map keep_given self.old.keep } }
     {
-        if let Some(keep) = &mut self.keep {
-            keep.give();
-        }
+        self.heed.give();
         if self.ringer.hear(bytes) {
             self.pause = 0;
         }
@@ -162,9 +176,9 @@ impl<'a> TcpLink<'a> {
     fn tune(&mut self) -> io::Result<()>
         ensures { self.new ≡ self.old }
     {
-        let ear = self.ringer.ear(self.rt)?;
+        let ear = self.ringer.ear(self.heed.rt)?;
         if self.watch.is_none() {
-            self.watch = Some(Watch::over(self.rt, self.wire.fd())?);
+            self.watch = Some(Watch::over(self.heed.rt, self.wire.fd())?);
         }
         match &mut self.watch {
             Some(watch) => watch.hear(ear),
@@ -172,45 +186,17 @@ impl<'a> TcpLink<'a> {
         }
     }
 
-    // Notes that a read found nothing.
-    fn miss(&mut self)
-        ensures wire { self.new.wire ≡ self.old.wire }
-        ensures keep { option_map keep_but_found self.new.keep
-            ≡ option_map keep_but_found self.old.keep }
-    {
-        if let Some(keep) = &mut self.keep {
-            keep.find_nothing();
-        }
-    }
-
-    // Notes that the peer took bytes.
-    fn feed(&mut self)
-        ensures { self.new ≡ record self.old { keep = option_map keep_taken self.old.keep } }
-    {
-        if let Some(keep) = &mut self.keep {
-            keep.take();
-        }
-    }
-
-    // How long its longest rest is.
-    fn longest(&self) -> Duration {
-        Duration::from_millis(match self.keep {
-            Some(_) => MAX_KEPT_REST,
-            None => MAX_REST,
-        })
-    }
-
     // Waits for the peer and the bell; with no watch, a short while for the peer alone.
     fn wait(&mut self) -> Woken
         ensures { self.new ≡ self.old }
     {
-        let (longest, short) = (self.longest(), Duration::from_millis(SHORT));
+        let (longest, short) = (self.heed.longest(), Duration::from_millis(SHORT));
         match &mut self.watch {
             Some(watch) => {
                 if let Ok(woken) = watch.wait(longest) {
                     return woken;
                 }
-                thread::sleep(self.rt, short);
+                thread::sleep(self.heed.rt, short);
             }
             None => {
                 poll(&mut asked_of(self.wire.fd(), POLLIN), poll_millis(short));
@@ -228,16 +214,19 @@ impl Link for TcpLink<'_> {
         ensures bound { IsGot result (length buf.old) }
         ensures read { HasRead (link_told self.old) (link_told self.new) result buf.new }
         ensures noted { HasNoted result self.old.keep self.new.keep }
+        ensures open { 0 < count_of result → IfSome self.new.room IsOpen }
     {
         self.ringer.tell();
-        let got = match self.cut() {
-            Some(cut) => self.wire.cut(cut, buf),
-            None => self.wire.read(buf),
+        let fd = self.wire.fd();
+        let got = match self.heed.await_room(fd) {
+            Awaited::Room => self.wire.read(buf),
+            Awaited::Nothing => self.wire.pass(buf),
+            Awaited::Cut(cut) => self.wire.cut(cut, buf),
         };
         match got {
             Got::Bytes(count) => self.hear(&buf[..count]),
             Got::End => self.has_ended = true,
-            Got::Idle => self.miss(),
+            Got::Idle => self.heed.find_nothing(),
             Got::Failed => {}
         }
         got
@@ -247,12 +236,13 @@ impl Link for TcpLink<'_> {
         ensures written { HasWritten (link_told self.old) (link_told self.new) result piece.now }
         ensures noted { OnOk result (0 < length piece.now
             → self.new.keep ≡ option_map keep_taken self.old.keep) }
+        ensures told { OnOk result (AreTold (length piece.now) self.old.room self.new.room) }
     {
         self.pause = 1;
         let fd = self.wire.fd();
-        self.wire.write(self.rt, fd, piece)?;
+        self.wire.write_heeding(&mut self.heed, fd, piece)?;
         if !piece.is_empty() {
-            self.feed();
+            self.heed.take();
         }
         Ok(())
     }
@@ -260,10 +250,13 @@ impl Link for TcpLink<'_> {
     // While the bell is rung for nothing, the pause before a rest grows: so links that have nothing
     // to send are not woken by each frame of others.
     fn rest(&mut self)
-        ensures { self.new ≡ self.old }
+        ensures same { self.new ≡ record self.old { room = self.new.room } }
+        ensures tried { IsTried self.old.room self.new.room }
     {
+        let fd = self.wire.fd();
+        self.heed.catch_up(fd);
         if self.pause > 0 {
-            thread::sleep(self.rt, Duration::from_millis(self.pause));
+            thread::sleep(self.heed.rt, Duration::from_millis(self.pause));
         }
         self.prepare();
         match self.wait() {
@@ -284,6 +277,7 @@ impl Link for TcpLink<'_> {
 // most.
 // Untied: how a connection is ended.
 fn close(rt: &HostRuntime, mut stream: TcpStream, is_over: bool, limit: Duration) {
+    set_user_timeout(stream.as_raw_fd(), UNACKNOWLEDGED);
     let _ = stream.shutdown(Shutdown::Write);
     if !is_over {
         let _ = drain(rt, &mut stream, limit);

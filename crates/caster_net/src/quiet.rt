@@ -99,6 +99,13 @@ impl Quiet {
         self.found = Silence::since(rt, self.limit, &self.moved);
     }
 
+    /// What shows that the link gave no byte and took none for too long, if so.
+    pub(crate) fn lasting(&self, rt: &HostRuntime) -> Option<Silence>
+        ensures shown { IfSome result (IsTooLong self.now.limit) }
+    {
+        Silence::since(rt, self.limit, &self.moved)
+    }
+
     /// What shows that the link is quiet for too long, if it is.
     pub(crate) fn silence(&self, rt: &HostRuntime) -> Option<Silence>
         ensures shown { IfSome result (IsTooLong self.now.limit) }

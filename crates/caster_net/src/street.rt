@@ -16,6 +16,7 @@ use crate::note_sink::NoteSink;
 use crate::notes::{AskedNote, CallNote};
 use crate::redial::MAX_DIAL;
 use crate::waiting::count_fault;
+use crate::wire::Wire;
 use cast_io::{Journal, Street, StreetFault};
 use std::alloc::{AllocError, Global};
 use std::io;
@@ -35,7 +36,7 @@ pub struct TcpStreet<'a> {
     pub(crate) ground: Ground<'a>,
     asked: Journal<AskedNote>,
     doors: Journal<TcpDoor<'a>>,
-    links: Journal<TcpLink<'a>>,
+    links: Journal<Wire<TcpStream>>,
     faults: u64,
     link_faults: u64,
     // What it was asked as a yard, and what came back.
@@ -50,7 +51,7 @@ impl<'a> Model for TcpStreet<'a> {
     ghost use Rattle.std.specs.Prelude.{map};
     ghost use Rattle.caster_net.specs.Notes.{asked_noted};
     ghost use Rattle.caster_net.specs.Gates.{NetLog, call_noted, notes_logged};
-    ghost use Rattle.caster_net.specs.Told.{link_log};
+    ghost use Rattle.caster_net.specs.Told.{wire_log};
 
     ghost Value = { NetLog };
 
@@ -58,7 +59,7 @@ impl<'a> Model for TcpStreet<'a> {
       street = record {
         asked = map asked_noted s.asked;
         doors = s.doors;
-        links = map link_log s.links;
+        links = map wire_log s.links;
         faults = s.faults;
         link_faults = s.link_faults;
       };
@@ -120,7 +121,7 @@ impl<'a> Street for TcpStreet<'a> {
 
     fn hang_up(&mut self, mut link: TcpLink<'a>) {
         link.tell_last();
-        self.links.add(&link);
+        self.links.add(link.wire());
         self.link_faults = self.link_faults.saturating_add(link.faults().min(1));
     }
 

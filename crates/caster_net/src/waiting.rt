@@ -5,6 +5,7 @@ ghost use Rattle.std.specs.Duration.{as_nanos};
 ghost use Rattle.cast_io.specs.Causes.{Rose};
 ghost use Rattle.caster_net.specs.Honest.{WouldWait};
 
+use libc::net::{POLLOUT, poll};
 use libc::types::pollfd;
 use std::io::ErrorKind;
 use std::os::fd::RawFd;
@@ -46,6 +47,13 @@ pub(crate) fn asked_of(fd: RawFd, wanted: i16) -> [pollfd; 1]
         events: wanted,
         revents: 0,
     }]
+}
+
+/// Waits so many milliseconds at most until there is room at this socket, or its connection has
+/// failed or ended. Whether that is so.
+// Untied: whether there is room.
+pub(crate) fn has_room(socket: RawFd, limit: i32) -> bool {
+    poll(&mut asked_of(socket, POLLOUT), limit) > 0
 }
 
 /// So long as `poll` counts it, in milliseconds: it waits, and never for ever, as it would at a

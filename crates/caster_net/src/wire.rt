@@ -1,23 +1,20 @@
 //! What a link reads and writes, over any stream of std, and the record of it.
-ghost use Rattle.std.specs.Prelude.{◌≡◌, ◌<◌, ◌≤◌, [], length, take, unwrap_or, IfSome};
+ghost use Rattle.std.specs.Prelude.{◌≡◌, ◌<◌, ◌≤◌, [], length, option_map, take, unwrap_or, IfSome, OnOk};
 ghost use Rattle.cast_io.specs.Links.{IsGot, HasRead, HasWritten};
 ghost use Rattle.caster_net.specs.Honest.{IsHonestRead, IsHonestWrite, Means};
+ghost use Rattle.caster_net.specs.Rooms.{AreTold, measured};
 ghost use Rattle.caster_net.specs.Told.{new_wire, wire_told};
 ghost use Rattle.caster_net.specs.declared.keep.Cut.TheVariants as cuts;
 
+use crate::heed::Heed;
 use crate::keep::Cut;
 use crate::notes::{StepNote, step_of_read};
-use crate::waiting::{MAX_REST, asked_of, count_fault, poll_millis, would_wait};
+use crate::waiting::{MAX_REST, count_fault, would_wait};
 use cast_io::{Failed, Got, Journal};
-use libc::net::{POLLOUT, poll};
 use std::io;
 use std::io::{Read, Write};
 use std::marker::Model;
 use std::os::fd::{AsRawFd, RawFd};
-use std::time::{Duration, Instant};
-
-// How long a write waits for room with no byte taken, in seconds.
-const MAX_WRITE: u64 = 10;
 
 /// A stream, and how often it failed. For contracts alone it has a record of what its reads
 /// answered and of the bytes that its writes took, which costs nothing.
@@ -113,13 +110,24 @@ impl<S> Wire<S> {
         ensures stream { self.new.stream ≡ self.old.stream }
         ensures stopped { (asked : _) → cut.entry ≡ cuts.Stopped asked → result ≡ Got.End }
         ensures quiet { (silence : _) → cut.entry ≡ cuts.Quiet silence → result ≡ Got.Failed }
+        ensures stuck { (stuck : _) → cut.entry ≡ cuts.Stuck stuck → result ≡ Got.Failed }
     {
         let got = match cut {
             Cut::Stopped(_) => Got::End,
-            Cut::Quiet(_) => Got::Failed,
+            Cut::Quiet(_) | Cut::Stuck(_) => Got::Failed,
         };
         self.note(got, buf);
         got
+    }
+
+    /// A read of a wire that is not read now: nothing is there yet.
+    pub(crate) fn pass(&mut self, buf: &[u8]) -> Got
+        ensures read { HasRead (wire_told self.old) (wire_told self.new) result buf.now }
+        ensures stream { self.new.stream ≡ self.old.stream }
+        ensures nothing { result ≡ Got.Idle }
+    {
+        self.note(Got::Idle, buf);
+        Got::Idle
     }
 
     // Notes what a read answered, with its buffer after it.
@@ -145,12 +153,29 @@ impl<S: Write> Wire<S> {
         ensures honest { IsHonestWrite (S.contents self.old.stream) (S.contents self.new.stream)
             self.old.bytes self.new.bytes result piece.now }
     {
+        self.write_heeding(&mut Heed::nothing(rt), fd, piece)
+    }
+
+    /// Writes the whole piece so, and waits as long as a link does that heeds this.
+    pub(crate) fn write_heeding(
+        &mut self,
+        heed: &mut Heed<'_>,
+        fd: RawFd,
+        piece: &[u8],
+    ) -> Result<(), Failed>
+        ensures written { HasWritten (wire_told self.old) (wire_told self.new) result piece.now }
+        ensures honest { IsHonestWrite (S.contents self.old.stream) (S.contents self.new.stream)
+            self.old.bytes self.new.bytes result piece.now }
+        ensures keep { heed.new.keep ≡ heed.old.keep }
+        ensures told { OnOk result (AreTold (length piece.now) heed.old.room heed.new.room) }
+    {
         let mut at = 0;
         while at < piece.len() {
-            let Some(count) = self.write_some(rt, fd, &piece[at..]) else {
+            let Some(count) = self.write_some(heed, fd, &piece[at..]) else {
                 self.steps.add(&StepNote::WriteFailed);
                 return count_fault(&mut self.faults, Err(Failed));
             };
+            heed.take_part(count);
             at += count;
         }
         Ok(())
@@ -158,28 +183,34 @@ impl<S: Write> Wire<S> {
 
     // Writes some first bytes of a piece that is not empty, and waits where it must: how many were
     // taken, and None where none were.
-    fn write_some(&mut self, rt: &HostRuntime, fd: RawFd, piece: &[u8]) -> Option<usize>
+    fn write_some(&mut self, heed: &mut Heed<'_>, fd: RawFd, piece: &[u8]) -> Option<usize>
         ensures bound { IfSome result (λ count. (0 < count) × (count ≤ length piece.now)) }
         ensures took { Took S.contents self.old self.new (take (unwrap_or result 0) piece.now) }
+        ensures keep { heed.new.keep ≡ heed.old.keep }
+        ensures room { option_map measured heed.new.room ≡ option_map measured heed.old.room }
     {
         match self.write_once(piece) {
             Got::Bytes(count) => Some(count),
-            Got::Idle => self.write_late(rt, fd, piece),
+            Got::Idle => self.write_late(heed, fd, piece),
             _ => None,
         }
     }
 
-    // Waits for room and writes some first bytes then, in so many seconds.
-    fn write_late(&mut self, rt: &HostRuntime, fd: RawFd, piece: &[u8]) -> Option<usize>
+    // Waits for room and writes some first bytes then. It is tried twice a second or more often:
+    // there may be room for some bytes, while the socket is called writable only when a good part
+    // of its buffer is free.
+    fn write_late(&mut self, heed: &mut Heed<'_>, fd: RawFd, piece: &[u8]) -> Option<usize>
         ensures bound { IfSome result (λ count. (0 < count) × (count ≤ length piece.now)) }
         ensures took { Took S.contents self.old self.new (take (unwrap_or result 0) piece.now) }
+        ensures keep { heed.new.keep ≡ heed.old.keep }
+        ensures room { option_map measured heed.new.room ≡ option_map measured heed.old.room }
     {
-        let begun = Instant::now(rt).ok()?;
+        let mut wait = heed.begin_wait().ok()?;
         for _ in 0..u64::MAX {
-            poll(
-                &mut asked_of(fd, POLLOUT),
-                poll_millis(pause_in(rt, &begun)?),
-            );
+            if heed.gives_up(&mut wait) {
+                return None;
+            }
+            heed.wait(fd, MAX_REST);
             match self.write_once(piece) {
                 Got::Bytes(count) => return Some(count),
                 Got::Idle => {}
@@ -222,16 +253,4 @@ fn got_of(answer: io::Result<usize>) -> Got
         Err(fault) if would_wait(fault.kind()) => Got::Idle,
         Err(_) => Got::Failed,
     }
-}
-
-// How long a write that has waited for room since then waits before its next try: None once that is
-// long enough. It is half a second at most: there may be room for some bytes, while the socket is
-// called writable only when a good part of its buffer is free.
-fn pause_in(rt: &HostRuntime, begun: &Instant) -> Option<Duration> {
-    let waited = begun.elapsed(rt).ok()?;
-    let left = Duration::from_secs(MAX_WRITE).saturating_sub(waited);
-    if left.is_zero() {
-        return None;
-    }
-    Some(left.min(Duration::from_millis(MAX_REST)))
 }

@@ -1,7 +1,16 @@
 -- What was taken before, and one more part of the rest.
-use Rattle.std.proofs.Common.{◌-◌, ◌≤◌, ◌∙◌, length, drop, arith, length-take, length-drop}
+use Rattle.std.proofs.Common.{rules, ◌-◌, ◌≤◌, ◌∙◌, length, drop, arith, length-take, length-drop}
 use Rattle.caster_net.proofs.PieceLemmas.{part_taken}
-use Rattle.caster_net.proofs.wire.Wire.write.Goals as goal
+use Rattle.caster_net.proofs.ToldLemmas.{none_told, told_more}
+use Rattle.caster_net.proofs.wire.Wire.write_heeding.Goals as goal
+
+pub loop-at-init : goal.loop-at-init
+loop-at-init g c = record {
+  within = search rules;
+  took = search rules;
+  keep = search rules;
+  told = none_told c.args.heed.now.room;
+}
 
 pub loop-at-preserved : goal.loop-at-preserved
 loop-at-preserved g c =
@@ -21,4 +30,7 @@ loop-at-preserved g c =
         taken = more.taken ∙ so_far.taken;
         faults = more.faults ∙ so_far.faults;
       };
+      keep = cc;
+      told = told_more _ _ _ _ at count c.loop-at.invariant.told c.in-Some.ensures.room
+          c.take_part.ensures.told;
     }
