@@ -98,9 +98,15 @@ class Road(net.Side):
     def connect(self):
         ends = net.device(self.near), self.call(lambda: net.device(self.far))
         words = [self.words[0], *map(str, ends), *self.words[1:]]
-        subprocess.Popen(words, pass_fds=ends, stdin=subprocess.DEVNULL)
+        self.process = subprocess.Popen(words, pass_fds=ends, stdin=subprocess.DEVNULL)
         for one in ends:
             os.close(one)
+
+    def end(self):
+        """No packet goes by it any more, and its name is free."""
+        self.process.kill()
+        self.process.wait()
+        net.ip('netns', 'del', self.name)
 
 
 # ---- bases

@@ -61,8 +61,8 @@ def option_of(keeper, rover, level, option):
 
 def slow_rovers_are_lapped():
     """Two rovers of small windows read half of what their base sends. They are lapped, and each place came or stands in
-    a lap. Their newest frames stay near the base's, and while they are behind the system is not to cut them; when they
-    have read all it may again, where their own systems are gone."""
+    a lap. Their newest frames stay near the base's. From when they are behind the system is not to cut them, also
+    when they have read all: it counts from the first time that their window was too small."""
     keeper = keep(4, ring=16)
     base, quick = Base(keeper, 'CHARLIE', claim=1), Rover(keeper, 'CHARLIE', 'rover1')
     slow = [(Rover(keeper, 'CHARLIE', 'rover1', room=4096), 1000), (Rover(keeper, 'CHARLIE', 'rover2', 2, 4096), 500)]
@@ -82,8 +82,10 @@ def slow_rovers_are_lapped():
     last = keeper.published['CHARLIE']
     for rover, place in [(quick, last - 1), (slow[0][0], last - 1), (slow[1][0], last - 2)]:
         rover.wait_for('CHARLIE', place).guest.spans = [(0, last)]
+    # Some rests behind that.
+    time.sleep(2)
     for rover, _ in slow:
-        until(lambda: option_of(keeper, rover, socket.IPPROTO_TCP, USER_TIMEOUT) == 90000, 'a link that may fail', 60)
+        wants('its time without an acknowledgement', option_of(keeper, rover, socket.IPPROTO_TCP, USER_TIMEOUT), 0)
     books = checked_at_a_stop(keeper, [base, quick, *(rover for rover, _ in slow)])
     ends = {link.peer: link.end for link in books.links.values()}
     wants('frames that the quick one lost', ends[quick.guest.peer].overrun, 0)

@@ -8,7 +8,7 @@ ghost use Rattle.caster_net.specs.Told.{count_of, link_told, new_kept_link, new_
 use crate::bells::{Bells, Ringer};
 use crate::heed::{Awaited, Heed};
 use crate::keep::Keep;
-use crate::options::{KeepAlive, UNACKNOWLEDGED, set_user_timeout};
+use crate::options::KeepAlive;
 use crate::room::Room;
 use crate::waiting::{SHORT, asked_of, poll_millis};
 use crate::watch::{Watch, Woken};
@@ -277,7 +277,6 @@ impl Link for TcpLink<'_> {
 // most.
 // Untied: how a connection is ended.
 fn close(rt: &HostRuntime, mut stream: TcpStream, is_over: bool, limit: Duration) {
-    set_user_timeout(stream.as_raw_fd(), UNACKNOWLEDGED);
     let _ = stream.shutdown(Shutdown::Write);
     if !is_over {
         let _ = drain(rt, &mut stream, limit);

@@ -22,7 +22,7 @@ const PROBES: u32 = 3;
 
 // After how many milliseconds the connection has failed, where bytes were sent and the peer's
 // system acknowledged none of them: as long as all questions take where none were sent.
-pub(crate) const UNACKNOWLEDGED: u32 = 90_000;
+const UNACKNOWLEDGED: u32 = 90_000;
 
 // The longest time, in milliseconds, before what nobody acknowledged is sent again: so a peer that
 // is gone is found out in time where little is sent. Linux has this option from 6.15 on.

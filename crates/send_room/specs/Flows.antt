@@ -61,9 +61,10 @@ size_to_set now flow =
     if differs flow.size (wanted_at now flow) then Some (wanted_at now flow) else None
 
 -- For how long the system waits until a peer that acknowledges nothing is gone: 90 seconds where it
--- was just caught up, and for ever (0) where it is behind.
+-- was just caught up, and for ever (0) from the first time on that it is behind. The system counts
+-- from when the peer's window first was too small, which may be long past.
 abbrev pub timeout_at : ℕ → Flow → ℕ
-timeout_at now flow = if is_caught_up now flow then 90000 else 0
+timeout_at now flow = if nat_lt 0 flow.timeout && is_caught_up now flow then 90000 else 0
 
 -- and that is to be set at this time, where it is not
 abbrev pub timeout_to_set : ℕ → Flow → Option ℕ

@@ -41,7 +41,7 @@ pub struct Flow {
     half: u64,
     // The size that is set.
     size: u32,
-    // The system's wait for an acknowledgement that is set; 0 is for ever.
+    // The system's wait for an acknowledgement that is set; 0 is for ever, and stays.
     timeout: u32,
     // Since when no look found room.
     closed: Option<u64>,
@@ -109,12 +109,13 @@ impl Flow {
         Some(wanted)
     }
 
-    /// The system's wait for an acknowledgement that is to be set now, where it is not set.
+    /// The system's wait for an acknowledgement that is to be set now, where it is not set. Of a peer
+    /// that was behind once it stays for ever.
     pub fn retime(&mut self, now: u64) -> Option<u32>
         ensures timeout { result ≡ timeout_to_set now self.old }
         ensures set { self.new ≡ record self.old { timeout = timeout_at now self.old } }
     {
-        let timeout = if self.is_caught_up(now) {
+        let timeout = if self.timeout > 0 && self.is_caught_up(now) {
             UNACKNOWLEDGED
         } else {
             0
