@@ -103,6 +103,7 @@ impl<'a> Heed<'a> {
         if let Some(cut) = self.cut() {
             return Awaited::Cut(cut);
         }
+        // Untied line: how many looks come before the answer that nothing is there.
         for _ in 0..MAX_LOOKS {
             if self.has_room(fd) {
                 return Awaited::Room;

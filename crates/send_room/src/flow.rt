@@ -109,8 +109,8 @@ impl Flow {
         Some(wanted)
     }
 
-    /// The system's wait for an acknowledgement that is to be set now, where it is not set. Of a peer
-    /// that was behind once it stays for ever.
+    /// The system's wait for an acknowledgement that is to be set now, where it is not set. Of a
+    /// peer that was behind once it is 0 from then on, which is for ever.
     pub fn retime(&mut self, now: u64) -> Option<u32>
         ensures timeout { result ≡ timeout_to_set now self.old }
         ensures set { self.new ≡ record self.old { timeout = timeout_at now self.old } }
