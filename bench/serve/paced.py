@@ -152,7 +152,7 @@ class Rover:
     room      its receive buffer (SO_RCVBUF), or None for the system's own
     stop      None, or when it stops to read, and for how long; then it resets its connection
     ages      how old the newest whole frame that it had was, each second from the base's first one on
-    oldest    the largest age at any time from `since` seconds behind the first frame on
+    oldest    the largest age at any time from `since` seconds behind the first frame on, up to the base's last one
     lates     by place, how long each frame was on its way
     cut       after how many seconds its connection ended, which it did not ask for, or None
     """
@@ -174,7 +174,7 @@ class Rover:
 
     def run(self, begun, since, over):
         """Reads until this event, and then what is left; then it leaves."""
-        self.begun, self.since, self.due = begun, since, begun
+        self.begun, self.since, self.due, self.is_over = begun, since, begun, over.is_set
         try:
             while not over.is_set() and self.read() and not self.stops():
                 pass
@@ -226,7 +226,10 @@ class Rover:
         del self.part[:whole * size]
 
     def note_age(self, now):
-        """How old the newest frame has become by now, and was at each second before."""
+        """How old the newest frame has become by now, and was at each second before. It does not age behind the last
+        frame of its base."""
+        if self.is_over():
+            now = min(now, self.base.sent[-1])
         heard = self.guest.heard[0][1]
         newest = self.base.sent[heard[-1][0]] if heard else self.begun
         while self.begun + len(self.ages) + 1 <= now:

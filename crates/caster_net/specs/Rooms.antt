@@ -1,5 +1,5 @@
 -- The room of sockets, and what a link heeds beside its peer's bytes.
-use Rattle.std.specs.Prelude.{ℕ, ◌≡◌, Bool, List, Option, None, Some, IsSomeAnd, unwrap_or, if◌then◌else◌}
+use Rattle.std.specs.Prelude.{ℕ, ◌≡◌, Bool, List, Option, None, Some, IsSome, IsSomeAnd, unwrap_or, if◌then◌else◌}
 use Rattle.send_room.specs.declared.flow.Flow.{Flow}
 use Rattle.send_room.specs.declared.stuck.Stuck.{Stuck}
 use Rattle.send_room.specs.Flows.{IsStuck, size_to_set, timeout_at, with_taken, with_try}
@@ -30,6 +30,10 @@ new_heed = record { keep = None; room = None }
 -- the last look found room
 abbrev pub IsOpen : Flow → Type 0
 IsOpen flow = flow.closed ≡ None
+
+-- and here it found none
+abbrev pub IsShut : Flow → Type 0
+IsShut flow = IsSome flow.closed
 
 -- this shows that no look found room for 90 seconds, of this very socket
 abbrev pub IsStuckAt : Stuck → Flow → Type 0

@@ -54,11 +54,7 @@ new_kept_link stream keep = record {
   room = Some new_flow;
 }
 
--- its log
-abbrev pub link_log : {S : Type 0} → LinkState S → LinkLog
-link_log link = wire_log link.wire
-
--- and what it tells
+-- what a link tells
 abbrev pub link_told : {S : Type 0} → LinkState S → LinkTold
 link_told link = wire_told link.wire
 

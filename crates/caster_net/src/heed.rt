@@ -1,8 +1,8 @@
 //! What a link heeds beside its peer's bytes: the stop and QUIET, and the room at its socket.
-ghost use Rattle.std.specs.Prelude.{◌≡◌, Some, IfSome, IsSomeAnd, IsTrue, option_map};
+ghost use Rattle.std.specs.Prelude.{◌≡◌, None, Some, IfSome, IsFalse, IsSome, IsSomeAnd, IsTrue, option_map};
 ghost use Rattle.caster_net.specs.declared.heed.Awaited.TheVariants as awaits;
 ghost use Rattle.caster_net.specs.declared.keep.Cut.TheVariants as cuts;
-ghost use Rattle.caster_net.specs.Rooms.{IsLooked, IsOpen, IsStuckAt, IsTold, IsTried, measured, new_heed};
+ghost use Rattle.caster_net.specs.Rooms.{IsLooked, IsOpen, IsShut, IsStuckAt, IsTold, IsTried, measured, new_heed};
 ghost use Rattle.caster_net.specs.Silence.{IsTooLong, keep_but_found, keep_given, keep_taken};
 
 use crate::keep::{Cut, Keep};
@@ -92,6 +92,7 @@ impl<'a> Heed<'a> {
     pub(crate) fn await_room(&mut self, fd: RawFd) -> Awaited<'a>
         ensures keep { self.new.keep ≡ self.old.keep }
         ensures open { result ≡ awaits.Room → IfSome self.new.room IsOpen }
+        ensures shut { result ≡ awaits.Nothing → IsSomeAnd self.new.room IsShut }
         ensures stopped { (asked : _) → result ≡ awaits.Cut (cuts.Stopped asked)
             → IsSomeAnd self.old.keep (λ keep. asked.of ≡ keep.stop) }
         ensures quiet { (silence : _) → result ≡ awaits.Cut (cuts.Quiet silence)
@@ -103,17 +104,35 @@ impl<'a> Heed<'a> {
         if let Some(cut) = self.cut() {
             return Awaited::Cut(cut);
         }
-        // Untied line: how many looks come before the answer that nothing is there.
         for _ in 0..MAX_LOOKS {
-            if self.has_room(fd) {
-                return Awaited::Room;
+            match self.look(fd) {
+                Awaited::Nothing => self.wait(fd, MAX_KEPT_REST),
+                known => return known,
             }
-            if let Some(cut) = self.cut_in_wait() {
-                return Awaited::Cut(cut);
-            }
-            self.wait(fd, MAX_KEPT_REST);
         }
-        Awaited::Nothing
+        self.look(fd)
+    }
+
+    // What one look for room at this socket comes to.
+    fn look(&mut self, fd: RawFd) -> Awaited<'a>
+        ensures keep { self.new.keep ≡ self.old.keep }
+        ensures open { result ≡ awaits.Room → IfSome self.new.room IsOpen }
+        ensures shut { result ≡ awaits.Nothing → IsSomeAnd self.new.room IsShut }
+        ensures stopped { (asked : _) → result ≡ awaits.Cut (cuts.Stopped asked)
+            → IsSomeAnd self.old.keep (λ keep. asked.of ≡ keep.stop) }
+        ensures quiet { (silence : _) → result ≡ awaits.Cut (cuts.Quiet silence)
+            → IsSomeAnd self.old.keep (λ keep. IsSomeAnd keep.quiet
+            (λ quiet. IsTooLong quiet.limit silence)) }
+        ensures stuck { (stuck : _) → result ≡ awaits.Cut (cuts.Stuck stuck)
+            → IsSomeAnd self.new.room (IsStuckAt stuck) }
+    {
+        if self.has_room(fd) {
+            return Awaited::Room;
+        }
+        match self.cut_in_wait() {
+            Some(cut) => Awaited::Cut(cut),
+            None => Awaited::Nothing,
+        }
     }
 
     // Whether there is room at this socket, or none is asked for. First what the peer's taking asks
@@ -121,6 +140,7 @@ impl<'a> Heed<'a> {
     fn has_room(&mut self, fd: RawFd) -> bool
         ensures keep { self.new.keep ≡ self.old.keep }
         ensures open { IsTrue result → IfSome self.new.room IsOpen }
+        ensures heeded { IsFalse result → IsSome self.new.room }
         ensures looked { IsLooked self.old.room self.new.room }
     {
         match &mut self.room {
@@ -147,6 +167,8 @@ impl<'a> Heed<'a> {
     // Whether a link whose look found no room is read no more, and why.
     fn cut_in_wait(&mut self) -> Option<Cut<'a>>
         ensures keep { self.new.keep ≡ self.old.keep }
+        ensures same_kind { IsSome self.old.room → IsSome self.new.room }
+        ensures shut { result ≡ None → IfSome self.new.room IsShut }
         ensures stopped { (asked : _) → result ≡ Some (cuts.Stopped asked)
             → IsSomeAnd self.old.keep (λ keep. asked.of ≡ keep.stop) }
         ensures quiet { (silence : _) → result ≡ Some (cuts.Quiet silence)

@@ -1,7 +1,7 @@
 //! The room that a socket has for what its peer is sent.
 ghost use Rattle.std.specs.Prelude.{◌≡◌, ℕ, Bool, Some, IfOk, IfSome};
 ghost use Rattle.send_room.specs.Flows.{IsStuck, new_flow, with_taken, with_try};
-ghost use Rattle.caster_net.specs.Rooms.{found, tuned};
+ghost use Rattle.caster_net.specs.Rooms.{IsShut, found, tuned};
 
 use crate::options::{set_buffer, set_user_timeout};
 use crate::waiting::has_room;
@@ -81,6 +81,7 @@ impl Room {
     pub(crate) fn find_none(&mut self, rt: &HostRuntime) -> Option<Stuck>
         ensures stuck { IfSome result IsStuck }
         ensures since { IfSome result (λ stuck. self.new.closed ≡ Some stuck.since) }
+        ensures shut { IsShut self.new }
         ensures same { self.new ≡ record self.old { closed = self.new.closed } }
     {
         let now = self.now(rt);

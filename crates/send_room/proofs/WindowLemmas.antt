@@ -107,22 +107,23 @@ later_le : (halves : ℕ) (taken : List ℕ) → sum (later halves taken) ≤ su
 later_le halves taken =
     omega (arith, later_sum halves taken, sum_by-take-le (λ x. x) taken (8 - halves))
 
--- of so many half seconds later, with so many bytes more in the latest before them
-sum_step : (later_still halves count : ℕ) (taken : List ℕ) → length taken ≡ 8
+-- of the first ones so many half seconds later, with so many bytes more in the latest before them
+sum_step : (k later_still halves count : ℕ) (taken : List ℕ) → k ≤ 8 → length taken ≡ 8
     → slice_index (later halves taken) 0 + count < 2 ^ 32
-    → sum (later later_still (with_more count (later halves taken)))
-    ≡ (if nat_lt later_still 8 then count else 0) + sum (later (later_still + halves) taken)
-sum_step p halves count taken size fits = elim (cases_lt p 8) [
+    → sum (take k (later later_still (with_more count (later halves taken))))
+    ≡ (if nat_lt later_still k then count else 0)
+    + sum (take k (later (later_still + halves) taken))
+sum_step k p halves count taken eight size fits = elim (cases_lt p k) [
   | inl lt ↦
       let v = later halves taken in
       let some : 0 < length v = omega (arith, length_later halves taken size) in
-      let one : suc (7 - p) ≡ 8 - p = omega arith in
-      let more = take_more (7 - p) count v some fits in
-      let first = later_sum p (with_more count v) in
-      let second = take_later (8 - p) halves taken (omega arith) in
-      let third = later_sum (p + halves) taken in
-      let same : 8 - p - halves ≡ 8 - (p + halves) = omega arith in
-      let counts = ap (λ b. if b then count else 0) (lt-ltb p 8 lt) in
+      let one : suc (k - p - 1) ≡ k - p = omega arith in
+      let more = take_more (k - p - 1) count v some fits in
+      let first = take_later k p (with_more count v) eight in
+      let second = take_later (k - p) halves taken (omega arith) in
+      let third = take_later k (p + halves) taken eight in
+      let same : k - p - halves ≡ k - (p + halves) = omega arith in
+      let counts = ap (λ b. if b then count else 0) (lt-ltb p k lt) in
       omega (
         arith,
         first,
@@ -136,13 +137,13 @@ sum_step p halves count taken size fits = elim (cases_lt p 8) [
       )
   | inr le ↦
       let v = with_more count (later halves taken) in
-      let none : 8 - p ≡ 0 = omega arith in
-      let none_too : 8 - (p + halves) ≡ 0 = omega arith in
-      let counts = ap (λ b. if b then count else 0) (le-ltb p 8 le) in
+      let none : k - p ≡ 0 = omega arith in
+      let none_too : k - (p + halves) ≡ 0 = omega arith in
+      let counts = ap (λ b. if b then count else 0) (le-ltb p k le) in
       omega (
         arith,
-        later_sum p v,
-        later_sum (p + halves) taken,
+        take_later k p v eight,
+        take_later k (p + halves) taken eight,
         counts,
         ap (λ n. sum (take n v)) none,
         ap (λ n. sum (take n taken)) none_too,
@@ -156,21 +157,23 @@ in_order_le first (part ∷ more) last order =
     omega (arith, order.0, in_order_le (part.at / 500) more last order.1)
 
 -- a part is late enough
-same_test : (now at count : ℕ) → at ≤ now → (if nat_lt (now - at) 8 then count else 0)
-    ≡ (if nat_lt now (at + 8) then count else 0)
-same_test now at count past = elim (cases_lt now (at + 8)) [
+same_test : (k now at count : ℕ) → at ≤ now → (if nat_lt (now - at) k then count else 0)
+    ≡ (if nat_lt now (at + k) then count else 0)
+same_test k now at count past = elim (cases_lt now (at + k)) [
   | inl lt ↦ ap (λ b. if b then count else 0)
-      (lt-ltb (now - at) 8 (omega arith) ∙ sym (lt-ltb now (at + 8) lt))
+      (lt-ltb (now - at) k (omega arith) ∙ sym (lt-ltb now (at + k) lt))
   | inr le ↦ ap (λ b. if b then count else 0)
-      (le-ltb (now - at) 8 (omega arith) ∙ sym (le-ltb now (at + 8) le))
+      (le-ltb (now - at) k (omega arith) ∙ sym (le-ltb now (at + k) le))
 ]
 
 -- behind any flow, what is looked back at is what was and what of the parts is late enough
-behind_flow : (parts : List Part) (now : ℕ) (flow : Flow) → length flow.taken ≡ 8
-    → InOrder flow.half parts (now / 500) → sum flow.taken + size_of parts < 2 ^ 32
-    → sum (lately now (behind parts flow)) ≡ recent now parts + sum (lately now flow)
-behind_flow [] now flow size order fits = omega arith
-behind_flow (part ∷ more) now flow size order fits =
+behind_flow : (k : ℕ) (parts : List Part) (now : ℕ) (flow : Flow) → k ≤ 8
+    → length flow.taken ≡ 8 → InOrder flow.half parts (now / 500)
+    → sum flow.taken + size_of parts < 2 ^ 32
+    → sum (take k (lately now (behind parts flow)))
+    ≡ recent k now parts + sum (take k (lately now flow))
+behind_flow k [] now flow eight size order fits = omega arith
+behind_flow k (part ∷ more) now flow eight size order fits =
     let at = part.at / 500 in
     let count = part.count in
     let gone = at - flow.half in
@@ -191,26 +194,28 @@ behind_flow (part ∷ more) now flow size order fits =
     ) in
     let fits' : sum told.taken + size_of more < 2 ^ 32 =
     omega (arith, sum_more count v some room, all, low) in
-    let rest = behind_flow more now told size' order' fits' in
-    let step = sum_step (now / 500 - at) gone count flow.taken size room in
+    let rest = behind_flow k more now told eight size' order' fits' in
+    let step = sum_step k (now / 500 - at) gone count flow.taken eight size room in
     let end = in_order_le at more (now / 500) order.1 in
     let back : now / 500 - at + gone ≡ now / 500 - flow.half = omega (arith, order.0, end) in
-    let first = ap (λ (h : ℕ). sum (later (now / 500 - h) told.taken)) half in
-    let last = ap (λ (h : ℕ). sum (later h flow.taken)) back in
-    let same = same_test (now / 500) at count end in
+    let first = ap (λ (h : ℕ). sum (take k (later (now / 500 - h) told.taken))) half in
+    let last = ap (λ (h : ℕ). sum (take k (later h flow.taken))) back in
+    let same = same_test k (now / 500) at count end in
     let counts = sum_by-cons
-    (λ (p : Part). if nat_lt (now / 500) (p.at / 500 + 8) then p.count else 0) part more in
+    (λ (p : Part). if nat_lt (now / 500) (p.at / 500 + k) then p.count else 0) part more in
     omega (arith, rest, first, step, last, same, counts)
 
 -- behind one that begins, what is looked back at is what of the parts is late enough
-pub behind_new : (parts : List Part) (now : ℕ) → InOrder 0 parts (now / 500)
-    → size_of parts < 2 ^ 32 → sum (lately now (behind parts new_flow)) ≡ recent now parts
-behind_new parts now order fits =
+pub behind_new : (parts : List Part) (now k : ℕ) → k ≤ 8 → InOrder 0 parts (now / 500)
+    → size_of parts < 2 ^ 32 → sum (take k (lately now (behind parts new_flow))) ≡ recent k now parts
+behind_new parts now k eight order fits =
     let none : sum (replicate 8 0) ≡ 0 = zeroes 8 in
     let before = later_le (now / 500 - 0) (replicate 8 0) in
+    let first = sum_by-take-le (λ x. x) (later (now / 500 - 0) (replicate 8 0)) k in
     omega (
       arith,
       none,
       before,
-      behind_flow parts now new_flow refl order (omega (arith, none, fits)),
+      first,
+      behind_flow k parts now new_flow eight refl order (omega (arith, none, fits)),
     )

@@ -46,10 +46,18 @@ is_caught_up now flow = nat_lt (now - flow.caught) 2000
 abbrev pub least_at : ℕ → Flow → ℕ
 least_at now flow = if is_caught_up now flow then 16384 else 4096
 
--- The size that the buffer is to have at this time: a quarter of what was taken in the last four
--- seconds, within 4,096 and 262,144, and at least 16,384 for a peer that was just caught up.
+-- How many bytes were taken in a second up to this time: half of those of the last two seconds for
+-- a peer that was just caught up, so that the size follows one that takes more and more, and a
+-- quarter of those of the last four.
+abbrev pub second_at : ℕ → Flow → ℕ
+second_at now flow =
+    if is_caught_up now flow then sum (take 4 (lately now flow)) / 2
+    else sum (take 8 (lately now flow)) / 4
+
+-- The size that the buffer is to have at this time: what was taken in a second, within 4,096 and
+-- 262,144, and at least 16,384 for a peer that was just caught up.
 abbrev pub wanted_at : ℕ → Flow → ℕ
-wanted_at now flow = max (least_at now flow) (min (sum (lately now flow) / 4) 262144)
+wanted_at now flow = max (least_at now flow) (min (second_at now flow) 262144)
 
 -- the one size is a quarter of the other, or more, above it or below it
 abbrev pub differs : ℕ → ℕ → Bool

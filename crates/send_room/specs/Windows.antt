@@ -22,7 +22,7 @@ behind (part ∷ more) flow = behind more (with_taken part.at part.count flow)
 abbrev pub size_of : List Part → ℕ
 size_of parts = sum_by (λ part. part.count) parts
 
--- how many of these bytes were taken in the eight half seconds up to this time
-abbrev pub recent : ℕ → List Part → ℕ
-recent now parts =
-    sum_by (λ part. if nat_lt (now / 500) (part.at / 500 + 8) then part.count else 0) parts
+-- how many of these bytes were taken in so many half seconds up to this time
+abbrev pub recent : ℕ → ℕ → List Part → ℕ
+recent halves now parts =
+    sum_by (λ part. if nat_lt (now / 500) (part.at / 500 + halves) then part.count else 0) parts

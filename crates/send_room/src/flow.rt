@@ -1,6 +1,6 @@
 //! How a peer takes what it is sent.
-ghost use Rattle.std.specs.Prelude.{◌≡◌, ◌-◌, ◌≤◌, ◌↔◌, Some, IsSome, IfSome, if◌then◌else◌, is_some, sum, unwrap_or};
-ghost use Rattle.send_room.specs.Flows.{IsStuck, closed_since, is_caught_up, is_try_due, lately, later, new_flow, size_to_set, timeout_at, timeout_to_set, wanted_at, with_taken};
+ghost use Rattle.std.specs.Prelude.{◌≡◌, ◌-◌, ◌≤◌, ◌↔◌, Some, IsSome, IfSome, if◌then◌else◌, is_some, sum, take, unwrap_or};
+ghost use Rattle.send_room.specs.Flows.{IsStuck, closed_since, is_caught_up, is_try_due, lately, later, new_flow, second_at, size_to_set, timeout_at, timeout_to_set, wanted_at, with_taken};
 
 use crate::stuck::Stuck;
 
@@ -91,8 +91,8 @@ impl Flow {
         ensures { result ≡ wanted_at now self.now }
     {
         let least = if self.is_caught_up(now) { FIRST } else { LEAST };
-        let quarter = self.taken_lately(now) / 4;
-        least.max(u32::try_from(quarter).unwrap_or(MOST).min(MOST))
+        let second = u32::try_from(self.second(now)).unwrap_or(MOST);
+        least.max(second.min(MOST))
     }
 
     /// The size that is to be set now, where it differs by a quarter of the one that is set.
@@ -189,13 +189,26 @@ impl Flow {
         later(&self.taken, (now / HALF).saturating_sub(self.half))
     }
 
-    // How many bytes were taken in the four seconds up to now.
-    fn taken_lately(&self, now: u64) -> u64
-        ensures { result ≡ sum (lately now self.now) }
+    // How many bytes were taken in a second: in half of the last two where the peer was just caught
+    // up, so that the size follows one that takes more and more, and in a quarter of the last four.
+    fn second(&self, now: u64) -> u64
+        ensures { result ≡ second_at now self.now }
+    {
+        if self.is_caught_up(now) {
+            self.taken_lately(now, HALVES / 2) / 2
+        } else {
+            self.taken_lately(now, HALVES) / 4
+        }
+    }
+
+    // How many bytes were taken in so many half seconds up to now.
+    fn taken_lately(&self, now: u64, halves: usize) -> u64
+        requires eight { halves ≤ 8 }
+        ensures { result ≡ sum (take halves (lately now self.now)) }
     {
         let taken = self.lately(now);
         let mut sum = 0;
-        for count in &taken {
+        for count in &taken[..halves] {
             sum += u64::from(*count);
         }
         sum
