@@ -1,5 +1,5 @@
 -- Works at gates and behind them one at the console: as they begin, and as they have ended.
-use Rattle.std.proofs.Common.{◌≡◌, ◌∙◌, ◌+◌, ◌++◌, ◌≤◌, ℕ, suc, Bool, List, [], ◌∷◌, length, map, refl, sym, ap, subst, arith, append-nil, append_assoc, length-append}
+use Rattle.std.proofs.Common.{◌≡◌, ◌∙◌, ◌+◌, ◌++◌, ℕ, suc, Bool, List, [], ◌∷◌, length, map, refl, sym, ap, subst, arith, append-nil, append_assoc, length-append}
 use Rattle.std.specs.Prelude.{Option, Result, Ok, Err, IfOk, OnErr}
 use Rattle.std.specs.List.{All}
 use Rattle.std.proofs.lemmas.List.{length-map, map-append}
@@ -165,10 +165,10 @@ booth_still {A} {B} gates console x begun ended none booths front are same empty
 module _ {G C A B : Type 0} (told : G → DoorTold) (over : G → Bool) (peer : G → List ℕ) (heard : C → ConsoleTold)
     (at_gate : A → PostTold G) (at_console : B → BoothTold C) where
   -- what each of them did
-  abbrev pub DidHis : Duty A B → Duty A B → List Line → ℕ → Type 0
-  DidHis old new lines worn =
-      HasDone (λ (a b : A) (l : List Line) (w : ℕ). HasWorkedOn told over peer (at_gate a) (at_gate b) l w)
-      (λ (a b : B) (l : List Line) (w : ℕ). HasWaitedOn heard (at_console a) (at_console b) l w) old new lines worn
+  abbrev pub DidHis : Duty A B → Duty A B → List Line → Type 0
+  DidHis old new lines =
+      HasDone (λ (a b : A) (l : List Line). HasWorkedOn told over peer (at_gate a) (at_gate b) l)
+      (λ (a b : B) (l : List Line). HasWaitedOn heard (at_console a) (at_console b) l) old new lines
 
   -- These ended, who began as works at gates, numbered from this number on, and one at the console
   -- behind them: each did its own, and is where it was.
@@ -178,9 +178,7 @@ module _ {G C A B : Type 0} (told : G → DoorTold) (over : G → Bool) (peer : 
     pub last : B
     pub are : ended ≡ all_duties left last
     pub worked : AllWorked told over peer whole n (map at_gate gates) (map at_gate left)
-    pub met : ℕ
-    pub few : met ≤ length whole
-    pub waited : HasWaitedOn heard (at_console console) (at_console last) (own (n + length gates) whole) met
+    pub waited : HasWaitedOn heard (at_console console) (at_console last) (own (n + length gates) whole)
 
   further : (n k : ℕ) → n + 1 + k ≡ n + suc k
   further n k = omega arith
@@ -188,49 +186,36 @@ module _ {G C A B : Type 0} (told : G → DoorTold) (over : G → Bool) (peer : 
   ended_from : (whole : History Line) (n : ℕ) (gates : List A) (console : B) (ended : List (Duty A B))
       → length ended ≡ length gates + 1
       → ((k : ℕ) (old new : Duty A B) → get_elem? (all_duties gates console) k ≡ some old
-      → get_elem? ended k ≡ some new
-      → (worn : ℕ) × (worn ≤ length whole) × DidHis old new (own (n + k) whole) worn)
+      → get_elem? ended k ≡ some new → DidHis old new (own (n + k) whole))
       → Ended whole n gates console ended
   ended_from whole n [] console [] long each = absurd (omega (arith, long))
   ended_from whole n [] console (duties.Gate work ∷ more) long each =
-      absurd (each 0 (duties.Console console) (duties.Gate work) refl refl).2
+      absurd (each 0 (duties.Console console) (duties.Gate work) refl refl)
   ended_from whole n [] console (duties.Console last ∷ []) long each =
       let did = each 0 (duties.Console console) (duties.Console last) refl refl in record {
         left = [];
         last = last;
         are = refl;
         worked = tt;
-        met = did.0;
-        few = did.1;
-        waited = did.2;
+        waited = did;
       }
   ended_from whole n [] console (duties.Console last ∷ x ∷ more) long each = absurd (omega (arith, long))
   ended_from whole n (work ∷ gates) console [] long each = absurd (omega (arith, long))
   ended_from whole n (work ∷ gates) console (duties.Console last ∷ more) long each =
-      absurd (each 0 (duties.Gate work) (duties.Console last) refl refl).2
+      absurd (each 0 (duties.Gate work) (duties.Console last) refl refl)
   ended_from whole n (work ∷ gates) console (duties.Gate left ∷ more) long each =
       let did = each 0 (duties.Gate work) (duties.Gate left) refl refl in
       let rest = ended_from whole (n + 1) gates console more (omega (arith, long)) (λ k old new was now.
-      let one = each (suc k) old new was now in (
-        one.0,
-        one.1,
-        subst (λ (i : ℕ). DidHis old new (own i whole) one.0) (sym (further n k)) one.2,
-      )) in record {
+      subst (λ (i : ℕ). DidHis old new (own i whole)) (sym (further n k)) (each (suc k) old new was now)) in record {
         left = left ∷ rest.left;
         last = rest.last;
         are = ap (λ l. duties.Gate left ∷ l) rest.are;
         worked = (
-          record {
-            met = did.0;
-            few = did.1;
-            does = subst (λ (i : ℕ). HasWorkedOn told over peer (at_gate work) (at_gate left) (own i whole) did.0)
-                (let e : n + 0 ≡ n = omega arith in e) did.2;
-          },
+          subst (λ (i : ℕ). HasWorkedOn told over peer (at_gate work) (at_gate left) (own i whole))
+              (let e : n + 0 ≡ n = omega arith in e) did,
           rest.worked,
         );
-        met = rest.met;
-        few = rest.few;
-        waited = subst (λ (i : ℕ). HasWaitedOn heard (at_console console) (at_console rest.last) (own i whole) rest.met)
+        waited = subst (λ (i : ℕ). HasWaitedOn heard (at_console console) (at_console rest.last) (own i whole))
             (further n (length gates)) rest.waited;
       }
 
@@ -243,11 +228,8 @@ module _ {G C A B : Type 0} (told : G → DoorTold) (over : G → Bool) (peer : 
       ended_from written.whole 0 gates console ended
       (written.count ∙ ap length are ∙ length_all gates console)
       (λ k old new was now.
-      let one = written.each k old new (ap (λ (l : List (Duty A B)). get_elem? l k) are ∙ was) now in (
-        one.0,
-        one.1,
-        subst (λ (i : ℕ). DidHis old new (own i written.whole) one.0) (from_zero k) one.2,
-      )) where
+      subst (λ (i : ℕ). DidHis old new (own i written.whole)) (from_zero k)
+      (written.each k old new (ap (λ (l : List (Duty A B)). get_elem? l k) are ∙ was) now)) where
         from_zero : (k : ℕ) → k ≡ 0 + k
         from_zero k = omega arith
 

@@ -1,8 +1,7 @@
 -- Links that a gate gave, one after the other, each kept and its lines put.
-use Rattle.std.proofs.Common.{◌≡◌, ◌∙◌, ◌+◌, ◌^◌, ◌≤◌, ◌++◌, ℕ, Bool, true, false, IsTrue, List, [], ◌∷◌, length, fold, refl, sym, ap, subst, Option, None, Some, append-nil, append_assoc, arith, Bor}
-use Rattle.std.specs.Prelude.{Result, Ok, Err, OnOk, OnErr, is_ok, is_some}
+use Rattle.std.proofs.Common.{◌≡◌, ◌∙◌, ◌+◌, ◌++◌, ℕ, Bool, true, false, IsTrue, List, [], ◌∷◌, length, fold, refl, sym, ap, subst, Option, None, Some, append-nil, append_assoc, arith, Bor}
+use Rattle.std.specs.Prelude.{is_some}
 use Rattle.std.specs.Option.{option_copied}
-use Rattle.std.specs.Result.{IsErr}
 use Rattle.std.proofs.lemmas.List.{map-append, length-append}
 use Rattle.std.proofs.lemmas.Grind.{fold-append}
 use Rattle.turn_log.specs.History.{History}
@@ -19,16 +18,15 @@ use Rattle.caster_press.specs.declared.line.Line.{Line}
 use Rattle.session_core.specs.declared.asked.Asked.{Asked}
 use Rattle.session_core.specs.declared.held.Held.{Held}
 use Rattle.session_core.specs.declared.held.Held.TheVariants as holds
-use Rattle.session_core.specs.Holding.{HoldsOn, IsHolding}
+use Rattle.session_core.specs.Holding.{IsHolding}
 use Rattle.session_core.specs.Asking.{AsksOn}
 use Rattle.caster_press.specs.Lines.{text_of}
 use Rattle.caster_press.specs.Places.{HasPut}
 use Rattle.keep_lines.specs.declared.told.Entered.{Entered}
 use Rattle.keep_lines.specs.declared.told.LinkNumber.{LinkNumber}
-use Rattle.keep_lines.specs.declared.told.Who.{Who}
 use Rattle.keep_lines.specs.Lines.{entered_line, receipt_lines}
-use Rattle.keep_lines.specs.Puts.{HasBegun, HasTold}
-use Rattle.keep_lines.proofs.PutLemmas.{begun_as, begun_more, begun_one, begun_then, told_as, told_none, told_one, told_then}
+use Rattle.keep_lines.specs.Puts.{HasTold}
+use Rattle.keep_lines.proofs.PutLemmas.{told_as, told_behind, told_none, told_one, told_then}
 use Rattle.caster_link.specs.declared.role.Role.{Role}
 use Rattle.caster_link.specs.Links.{opening_of}
 use Rattle.caster_link.specs.Stepped.{HasClosed}
@@ -41,114 +39,30 @@ use Rattle.caster_serve.proofs.WorkLemmas.{fault_come, link_come, link_counted, 
 use Rattle.caster_keep.specs.declared.stop.Stop.{Stop}
 use Rattle.caster_keep.specs.declared.stop.Stop.TheVariants as stops
 use Rattle.caster_keep.specs.Links.{Follow, Kept, KeptGoes, LinkKept, asked_line, asked_lines, entered_lines, entered_of, first_line, lines_from, lines_of, lines_of_entered, link_lines, number_of, records_of, told_lines, whose}
-use Rattle.caster_keep.specs.Keepers.{AreItsLines, IsTurn, IsWhy, KeptOn, Turn, Went, kept_at, links_in}
-use Rattle.keep_porter.specs.Porters.{ArePut}
-
--- ---- the lines of one link
-
--- these lines were put, and behind them those, or some first ones of those
-pub put_behind : {T E : Type 0} (r : Result T E) (by : ℕ) (texts more : List (List ℕ)) (old mid new : History Line)
-    → HasTold by texts old mid → OnOk r (HasTold by more mid new) → OnErr r (HasBegun by more mid new)
-    → ArePut (is_ok r) by (texts ++ more) old new
-put_behind (Ok value) by texts more old mid new a whole part = told_then by texts more old mid new a whole
-put_behind (Err fault) by texts more old mid new a whole part = begun_then by texts more old mid new a part
-
--- no further line was put, since one before it could not be
-pub put_no_more : {T E : Type 0} (r : Result T E) (e : E) (by : ℕ) (texts more : List (List ℕ))
-    (old new : History Line) → r ≡ Err e → ArePut (is_ok r) by texts old new → ArePut false by (texts ++ more) old new
-put_no_more r e by texts more old new is put =
-    begun_more by texts more old new (subst (λ (whole : Bool). ArePut whole by texts old new) (ap is_ok is) put)
-
--- a first line was put, or not
-pub put_first : {T E : Type 0} (r : Result T E) (by : ℕ) (line : Line) (old new : History Line)
-    → OnOk r (HasPut by (line ∷ []) old new) → OnErr r (new ≡ old) → ArePut (is_ok r) by (text_of line ∷ []) old new
-put_first (Ok value) by line old new put kept = told_one by line old new put
-put_first (Err fault) by line old new put kept = begun_one by (text_of line) old new kept
-
--- a line more was put, or not
-put_one_more : {T E : Type 0} (r : Result T E) (by : ℕ) (texts : List (List ℕ)) (line : Line)
-    (old mid new : History Line) → HasTold by texts old mid → OnOk r (HasPut by (line ∷ []) mid new)
-    → OnErr r (new ≡ mid) → ArePut (is_ok r) by (texts ++ text_of line ∷ []) old new
-put_one_more (Ok value) by texts line old mid new told put kept =
-    told_then by texts (text_of line ∷ []) old mid new told (told_one by line mid new put)
-put_one_more (Err fault) by texts line old mid new told put kept =
-    begun_then by texts (text_of line ∷ []) old mid new told (begun_one by (text_of line) mid new kept)
+use Rattle.caster_keep.specs.Keepers.{IsTurn, IsWhy, KeptOn, Turn, Went, kept_at, links_in}
 
 -- ---- as what it was let in
-
--- what was told stays, and more may follow
-entered_on : (c : Config) (link : LinkNumber) (before now : Held) → HoldsOn before now
-    → (more : List (List ℕ)) × (entered_lines c link now ≡ entered_lines c link before ++ more)
-entered_on c link holds.Nothing now on = (entered_lines c link now, refl)
-entered_on c link (holds.Rover account) now on = ([], ap (entered_lines c link) on)
-entered_on c link (holds.Source mount claim) now on = ([], ap (entered_lines c link) on)
-entered_on c link (holds.Relay mount None) now on = (entered_lines c link now, refl)
-entered_on c link (holds.Relay mount (Some claim)) now on =
-    ([], ap (entered_lines c link) (on.1 ∙ ap (λ (given : Option ℕ). holds.Relay mount given) on.2))
-
--- a line before it could not be put
-pub untold : {T E A F : Type 0} (r : Result T E) (e : E) (answer : Result A F) (c : Config) (link : LinkNumber)
-    (before now : Held) (by : ℕ) (texts : List (List ℕ)) (old new : History Line) → r ≡ Err e → IsErr answer
-    → HoldsOn before now → ArePut (is_ok r) by (texts ++ entered_lines c link before) old new
-    → ArePut (is_ok answer) by (texts ++ entered_lines c link now) old new
-untold r e (Ok value) c link before now by texts old new is none on put =
-    absurd (let clash : false ≡ true = none in cc)
-untold r e (Err fault) c link before now by texts old new is none on put =
-    let more = entered_on c link before now on in
-    let so_far : List (List ℕ) = texts ++ entered_lines c link before in
-    begun_as by (so_far ++ more.0) (texts ++ entered_lines c link now) old new
-    (append_assoc texts (entered_lines c link before) more.0 ∙ ap (λ (l : List (List ℕ)). texts ++ l) (sym more.1))
-    (put_no_more r e by so_far more.0 old new is put)
-
-told_ok : {T E : Type 0} (r : Result T E) (x : T) (by : ℕ) (texts : List (List ℕ)) (old new : History Line)
-    → r ≡ Ok x → ArePut (is_ok r) by texts old new → HasTold by texts old new
-told_ok r x by texts old new is put = subst (λ (whole : Bool). ArePut whole by texts old new) (ap is_ok is) put
 
 no_lines : (c : Config) (link : LinkNumber) (held : Option Entered) → is_some held ≡ false
     → lines_of_entered c link held ≡ []
 no_lines c link None none = refl
 no_lines c link (Some entered) none = absurd (let clash : true ≡ false = none in cc)
 
--- it is told now, or could not be
-pub told_now : {T E A F : Type 0} (r : Result T E) (x : T) (answer : Result A F) (c : Config) (link : LinkNumber)
-    (before now : Held) (entered : Entered) (line : Line) (by : ℕ) (texts : List (List ℕ)) (old mid new : History Line)
-    → r ≡ Ok x → is_some (entered_of before) ≡ false → entered_of now ≡ Some entered
-    → text_of line ≡ entered_line c link entered → OnOk answer (HasPut by (line ∷ []) mid new)
-    → OnErr answer (new ≡ mid) → ArePut (is_ok r) by (texts ++ entered_lines c link before) old mid
-    → ArePut (is_ok answer) by (texts ++ entered_lines c link now) old new
-told_now r x answer c link before now entered line by texts old mid new is none some text ok err put =
-    subst (λ (l : List (List ℕ)). ArePut (is_ok answer) by (texts ++ l) old new)
+-- as what it was let in is told now
+pub told_now : (c : Config) (link : LinkNumber) (before now : Held) (entered : Entered) (line : Line) (by : ℕ)
+    (texts : List (List ℕ)) (old mid new : History Line) → is_some (entered_of before) ≡ false
+    → entered_of now ≡ Some entered → text_of line ≡ entered_line c link entered → HasPut by (line ∷ []) mid new
+    → HasTold by (texts ++ entered_lines c link before) old mid
+    → HasTold by (texts ++ entered_lines c link now) old new
+told_now c link before now entered line by texts old mid new none some text put so_far =
+    subst (λ (l : List (List ℕ)). HasTold by (texts ++ l) old new)
     (ap (λ (t : List ℕ). t ∷ []) text ∙ sym (ap (lines_of_entered c link) some))
-    (put_one_more answer by texts line old mid new
+    (told_then by texts (text_of line ∷ []) old mid new
     (told_as by (texts ++ entered_lines c link before) texts old mid
-    (ap (λ (l : List (List ℕ)). texts ++ l) (no_lines c link (entered_of before) none) ∙ append-nil texts)
-    (told_ok r x by (texts ++ entered_lines c link before) old mid is put)) ok err)
+    (ap (λ (l : List (List ℕ)). texts ++ l) (no_lines c link (entered_of before) none) ∙ append-nil texts) so_far)
+    (told_one by line mid new put))
 
 -- ---- what its head asks
-
--- what is as it was is told by no more lines
-same_more : (f : Option Asked → Held → List (List ℕ)) (before now : Option Asked) (held : Held) → now ≡ before
-    → (more : List (List ℕ)) × (f now held ≡ f before held ++ more)
-same_more f before now held same =
-    ([], ap (λ (asked : Option Asked). f asked held) same ∙ sym (append-nil (f before held)))
-
--- what was told of one that holds nothing stays, and more may follow
-asked_more : (c : Config) (link : LinkNumber) (before now : Option Asked) → AsksOn before now
-    → (more : List (List ℕ)) × (told_lines c link now holds.Nothing ≡ told_lines c link before holds.Nothing ++ more)
-asked_more c link None now on = (told_lines c link now holds.Nothing, refl)
-asked_more c link (Some asked) now on = same_more (told_lines c link) (Some asked) now holds.Nothing on
-
--- what was told stays, and more may follow where it holds nothing
-asked_on : (c : Config) (link : LinkNumber) (before now : Option Asked) (held : Held) → AsksOn before now
-    → (IsHolding held → now ≡ before)
-    → (more : List (List ℕ)) × (told_lines c link now held ≡ told_lines c link before held ++ more)
-asked_on c link before now holds.Nothing on still = asked_more c link before now on
-asked_on c link before now (holds.Rover account) on still =
-    same_more (told_lines c link) before now (holds.Rover account) (still tt)
-asked_on c link before now (holds.Source mount claim) on still =
-    same_more (told_lines c link) before now (holds.Source mount claim) (still tt)
-asked_on c link before now (holds.Relay mount claim) on still =
-    same_more (told_lines c link) before now (holds.Relay mount claim) (still tt)
 
 -- it holds nothing that a line tells, where what is told of what it asks is not what it was
 not_in : (c : Config) (link : LinkNumber) (held : Held) (asked : Asked) → (IsHolding held → Some asked ≡ None)
@@ -158,65 +72,38 @@ not_in c link (holds.Rover account) asked still = absurd (let clash : Some asked
 not_in c link (holds.Source mount claim) asked still = absurd (let clash : Some asked ≡ None = still tt in cc)
 not_in c link (holds.Relay mount claim) asked still = absurd (let clash : Some asked ≡ None = still tt in cc)
 
--- a line before it could not be put
-pub unasked : {T E A F : Type 0} (r : Result T E) (e : E) (answer : Result A F) (c : Config) (link : LinkNumber)
-    (before now : Option Asked) (held : Held) (by : ℕ) (first : List ℕ) (old new : History Line) → r ≡ Err e
-    → IsErr answer → AsksOn before now → (IsHolding held → now ≡ before)
-    → ArePut (is_ok r) by (first ∷ told_lines c link before held) old new
-    → ArePut (is_ok answer) by (first ∷ told_lines c link now held) old new
-unasked r e (Ok value) c link before now held by first old new is none on still put =
-    absurd (let clash : false ≡ true = none in cc)
-unasked r e (Err fault) c link before now held by first old new is none on still put =
-    let more = asked_on c link before now held on still in
-    let so_far : List (List ℕ) = first ∷ told_lines c link before held in
-    begun_as by (so_far ++ more.0) (first ∷ told_lines c link now held) old new
-    (ap (λ (l : List (List ℕ)). first ∷ l) (sym more.1))
-    (put_no_more r e by so_far more.0 old new is put)
-
 -- it was told before
-pub asked_before : {T E : Type 0} (r : Result T E) (x : T) (c : Config) (link : LinkNumber)
-    (before now : Option Asked) (held : Held) (by : ℕ) (first : List ℕ) (old new : History Line) → r ≡ Ok x
-    → is_some before ≡ true → AsksOn before now
-    → ArePut (is_ok r) by (first ∷ told_lines c link before held) old new
-    → HasTold by (first ∷ told_lines c link now held) old new
-asked_before r x c link None now held by first old new is some on put =
-    absurd (let clash : false ≡ true = some in cc)
-asked_before r x c link (Some asked) now held by first old new is some on put =
-    subst (λ (told : Option Asked). HasTold by (first ∷ told_lines c link told held) old new) (sym on)
-    (told_ok r x by (first ∷ told_lines c link (Some asked) held) old new is put)
+pub asked_before : (c : Config) (link : LinkNumber) (before now : Option Asked) (held : Held) (by : ℕ)
+    (old new : History Line) → is_some before ≡ true → AsksOn before now
+    → HasTold by (told_lines c link before held) old new → HasTold by (told_lines c link now held) old new
+asked_before c link None now held by old new some on so_far = absurd (let clash : false ≡ true = some in cc)
+asked_before c link (Some asked) now held by old new some on so_far =
+    subst (λ (told : Option Asked). HasTold by (told_lines c link told held) old new) (sym on) so_far
 
 -- it asks nothing so far
-pub asks_nothing : {T E : Type 0} (r : Result T E) (x : T) (c : Config) (link : LinkNumber)
-    (before now : Option Asked) (held : Held) (by : ℕ) (first : List ℕ) (old new : History Line) → r ≡ Ok x
-    → is_some before ≡ false → now ≡ None
-    → ArePut (is_ok r) by (first ∷ told_lines c link before held) old new
-    → HasTold by (first ∷ told_lines c link now held) old new
-asks_nothing r x c link (Some asked) now held by first old new is some none put =
+pub asks_nothing : (c : Config) (link : LinkNumber) (before now : Option Asked) (held : Held) (by : ℕ)
+    (old new : History Line) → is_some before ≡ false → now ≡ None
+    → HasTold by (told_lines c link before held) old new → HasTold by (told_lines c link now held) old new
+asks_nothing c link (Some asked) now held by old new some none so_far =
     absurd (let clash : true ≡ false = some in cc)
-asks_nothing r x c link None now held by first old new is some none put =
-    subst (λ (told : Option Asked). HasTold by (first ∷ told_lines c link told held) old new) (sym none)
-    (told_ok r x by (first ∷ told_lines c link None held) old new is put)
+asks_nothing c link None now held by old new some none so_far =
+    subst (λ (told : Option Asked). HasTold by (told_lines c link told held) old new) (sym none) so_far
 
--- it is told now, or could not be
-pub asked_now : {T E A F : Type 0} (r : Result T E) (x : T) (answer : Result A F) (c : Config) (link : LinkNumber)
-    (before now : Option Asked) (asked : Asked) (held : Held) (line : Line) (by : ℕ) (first : List ℕ)
-    (old mid new : History Line) → r ≡ Ok x → is_some before ≡ false → now ≡ Some asked
-    → (IsHolding held → now ≡ before) → text_of line ≡ asked_line link asked
-    → OnOk answer (HasPut by (line ∷ []) mid new) → OnErr answer (new ≡ mid)
-    → ArePut (is_ok r) by (first ∷ told_lines c link before held) old mid
-    → ArePut (is_ok answer) by (first ∷ told_lines c link now held) old new
-asked_now r x answer c link (Some before) now asked held line by first old mid new is some told still text ok err put =
+-- it is told now
+pub asked_now : (c : Config) (link : LinkNumber) (before now : Option Asked) (asked : Asked) (held : Held) (line : Line)
+    (by : ℕ) (old mid new : History Line) → is_some before ≡ false → now ≡ Some asked
+    → (IsHolding held → now ≡ before) → text_of line ≡ asked_line link asked → HasPut by (line ∷ []) mid new
+    → HasTold by (told_lines c link before held) old mid → HasTold by (told_lines c link now held) old new
+asked_now c link (Some before) now asked held line by old mid new some told still text put so_far =
     absurd (let clash : true ≡ false = some in cc)
-asked_now r x answer c link None now asked held line by first old mid new is some told still text ok err put =
+asked_now c link None now asked held line by old mid new some told still text put so_far =
     let nothing = not_in c link held asked (λ holding. sym told ∙ still holding) in
-    subst (λ (l : List (List ℕ)). ArePut (is_ok answer) by (first ∷ l) old new)
+    subst (λ (l : List (List ℕ)). HasTold by l old new)
     (ap (λ (t : List ℕ). t ∷ []) text ∙ sym (append-nil (asked_lines link (Some asked)))
     ∙ ap (λ (l : List (List ℕ)). asked_lines link (Some asked) ++ l) (sym nothing)
     ∙ ap (λ (a : Option Asked). told_lines c link a held) (sym told))
-    (put_one_more answer by (first ∷ []) line old mid new
-    (told_as by (first ∷ told_lines c link None held) (first ∷ []) old mid
-    (ap (λ (l : List (List ℕ)). first ∷ l) nothing)
-    (told_ok r x by (first ∷ told_lines c link None held) old mid is put)) ok err)
+    (told_then by [] (text_of line ∷ []) old mid new
+    (told_as by (told_lines c link None held) [] old mid nothing so_far) (told_one by line mid new put))
 
 -- what is asked is the same where it is seen through a reference
 pub some_copied : (asked : Option (Bor Asked)) → is_some asked ≡ is_some (option_copied asked)
@@ -225,34 +112,18 @@ some_copied (Some asked) = refl
 
 -- ---- all lines of one link
 
--- its receipt was put behind them, or some first lines of it
-pub link_put : {T E A F : Type 0} (r : Result T E) (x : T) (answer : Result A F) (c : Config) (link : LinkNumber)
-    (role : Role) (peer : List ℕ) (asked : Option Asked) (held : Held) (receipt : Receipt) (by : ℕ) (first : Line)
-    (who : Who) (old mid new : History Line) → r ≡ Ok x → text_of first ≡ first_line c link role peer
-    → who ≡ whose c role held → ArePut (is_ok r) by (text_of first ∷ told_lines c link asked held) old mid
-    → OnOk answer (HasTold by (receipt_lines c link who receipt) mid new)
-    → OnErr answer (HasBegun by (receipt_lines c link who receipt) mid new)
-    → ArePut (is_ok answer) by (link_lines c link role peer asked held receipt) old new
-link_put r x answer c link role peer asked held receipt by first who old mid new is text of put whole part =
-    let entered : List (List ℕ) = told_lines c link asked held in
-    subst (λ (w : Who). ArePut (is_ok answer) by
-    (first_line c link role peer ∷ (entered ++ receipt_lines c link w receipt)) old new) of
-    (subst (λ (t : List ℕ). ArePut (is_ok answer) by (t ∷ (entered ++ receipt_lines c link who receipt)) old new) text
-    (put_behind answer by (text_of first ∷ entered) (receipt_lines c link who receipt) old mid new
-    (told_ok r x by (text_of first ∷ entered) old mid is put) whole part))
-
--- a line before its receipt could not be put
-pub link_torn : {T E A F : Type 0} (r : Result T E) (e : E) (answer : Result A F) (c : Config) (link : LinkNumber)
-    (role : Role) (peer : List ℕ) (asked : Option Asked) (held : Held) (receipt : Receipt) (by : ℕ) (first : Line)
-    (old new : History Line) → r ≡ Err e → IsErr answer → text_of first ≡ first_line c link role peer
-    → ArePut (is_ok r) by (text_of first ∷ told_lines c link asked held) old new
-    → ArePut (is_ok answer) by (link_lines c link role peer asked held receipt) old new
-link_torn r e (Ok value) c link role peer asked held receipt by first old new is none text put =
-    absurd (let clash : false ≡ true = none in cc)
-link_torn r e (Err fault) c link role peer asked held receipt by first old new is none text put =
-    let rest : List (List ℕ) = receipt_lines c link (whose c role held) receipt in
-    subst (λ (t : List ℕ). HasBegun by (t ∷ (told_lines c link asked held ++ rest)) old new) text
-    (put_no_more r e by (text_of first ∷ told_lines c link asked held) rest old new is put)
+-- its first line, what was told while it was served, and its receipt
+pub link_put : (c : Config) (link : LinkNumber) (role : Role) (peer : List ℕ) (asked : Option Asked) (held : Held)
+    (receipt : Receipt) (by : ℕ) (first : Line) (old one two new : History Line)
+    → text_of first ≡ first_line c link role peer → HasPut by (first ∷ []) old one
+    → HasTold by (told_lines c link asked held) one two
+    → HasTold by (receipt_lines c link (whose c role held) receipt) two new
+    → HasTold by (link_lines c link role peer asked held receipt) old new
+link_put c link role peer asked held receipt by first old one two new text put entered rest =
+    let receipts : List (List ℕ) = receipt_lines c link (whose c role held) receipt in
+    subst (λ (t : List ℕ). HasTold by (t ∷ (told_lines c link asked held ++ receipts)) old new) text
+    (told_behind by (text_of first) (told_lines c link asked held ++ receipts) old one new (told_one by first old one put)
+    (told_then by (told_lines c link asked held) receipts one two new entered rest))
 
 -- what was held is the same by another name
 pub closed_as : (was held : Held) {c : Config} {opening : Opening} {me : ℕ} {start now : Histories}
@@ -265,13 +136,13 @@ closed_as was held {c} {opening} {me} {start} {now} {before} {after} {asked} {re
 -- the link was served, counted and hung up
 pub link_kept : (c : Config) (role : Role) (me count : ℕ) (wear : Wear) (start now : Histories)
     (before after : LinkTold) (peer : List ℕ) (door hung : DoorTold) (old new : Sum) (held : Held) (asked : Option Asked)
-    (receipt : Receipt) (by : ℕ) (sheet later : History Line) (whole : Bool) → IsNewLink before
+    (receipt : Receipt) (by : ℕ) (sheet later : History Line) → IsNewLink before
     → HasClosed c (opening_of role) me start now before after held asked receipt → IsRefusedBy wear receipt
     → new ≡ tallied old receipt → HasHungUp after door hung
-    → ArePut whole by (link_lines c (number_of me count) role peer asked held receipt) sheet later
-    → LinkKept c role me count wear start now before peer door hung old new by sheet later whole
+    → HasTold by (link_lines c (number_of me count) role peer asked held receipt) sheet later
+    → LinkKept c role me count wear start now before peer door hung old new by sheet later
 unfolding link_counted record_goes
-link_kept c role me count wear start now before after peer door hung old new held asked receipt by sheet later whole fresh
+link_kept c role me count wear start now before after peer door hung old new held asked receipt by sheet later fresh
     closed refused counts hangs put = record {
       link = after;
       same = closed.served.link.given;
@@ -350,34 +221,12 @@ links-snoc (first ∷ turns) turn =
 
 -- the role is the same by another name
 pub in_role : (role now : Role) {c : Config} {me count : ℕ} {wear : Wear} {start later : Histories} {given : LinkTold}
-    {peer : List ℕ} {before after : DoorTold} {old new : Sum} {by : ℕ} {sheet next : History Line} {whole : Bool}
-    → now ≡ role → LinkKept c now me count wear start later given peer before after old new by sheet next whole
-    → LinkKept c role me count wear start later given peer before after old new by sheet next whole
+    {peer : List ℕ} {before after : DoorTold} {old new : Sum} {by : ℕ} {sheet next : History Line}
+    → now ≡ role → LinkKept c now me count wear start later given peer before after old new by sheet next
+    → LinkKept c role me count wear start later given peer before after old new by sheet next
 in_role role now {c} {me} {count} {wear} {start} {later} {given} {peer} {before} {after} {old} {new} {by} {sheet} {next}
-    {whole} same kept =
-    subst (λ (r : Role). LinkKept c r me count wear start later given peer before after old new by sheet next whole)
-    same kept
-
--- all lines were put, or not
-pub when_ok : {T E : Type 0} (r : Result T E) (x : T) {c : Config} {role : Role} {me count : ℕ} {wear : Wear}
-    {start later : Histories} {given : LinkTold} {peer : List ℕ} {before after : DoorTold} {old new : Sum} {by : ℕ}
-    {sheet next : History Line} → r ≡ Ok x
-    → LinkKept c role me count wear start later given peer before after old new by sheet next (is_ok r)
-    → LinkKept c role me count wear start later given peer before after old new by sheet next true
-when_ok r x {c} {role} {me} {count} {wear} {start} {later} {given} {peer} {before} {after} {old} {new} {by} {sheet}
-    {next} is kept =
-    subst (λ (b : Bool). LinkKept c role me count wear start later given peer before after old new by sheet next b)
-    (ap is_ok is) kept
-
-pub when_err : {T E : Type 0} (r : Result T E) (e : E) {c : Config} {role : Role} {me count : ℕ} {wear : Wear}
-    {start later : Histories} {given : LinkTold} {peer : List ℕ} {before after : DoorTold} {old new : Sum} {by : ℕ}
-    {sheet next : History Line} → r ≡ Err e
-    → LinkKept c role me count wear start later given peer before after old new by sheet next (is_ok r)
-    → LinkKept c role me count wear start later given peer before after old new by sheet next false
-when_err r e {c} {role} {me} {count} {wear} {start} {later} {given} {peer} {before} {after} {old} {new} {by} {sheet}
-    {next} is kept =
-    subst (λ (b : Bool). LinkKept c role me count wear start later given peer before after old new by sheet next b)
-    (ap is_ok is) kept
+    same kept =
+    subst (λ (r : Role). LinkKept c r me count wear start later given peer before after old new by sheet next) same kept
 
 -- ---- between two turns
 
@@ -446,13 +295,13 @@ module _ {G : Type 0} (told : G → DoorTold) (over : G → Bool) (peer : G → 
         put = keeping.put;
       }
 
-  -- a turn that gave a link which was kept, whether all of its lines were put or not
+  -- a turn that gave a link which was kept
   a_link : {L : Type 0} (link_told : L → LinkTold) (link : L) (c : Config) (role : Role) (me count : ℕ) (wear : Wear)
       (between now : Histories) (at asked opened left : G) (sum new : Sum) (by : ℕ) (mid later : History Line)
-      (whole : Bool) → told asked ≡ told at → over asked ≡ false
+      → told asked ≡ told at → over asked ≡ false
       → HasAccepted link_told (told asked) (told opened) (arrived.Link link)
       → (one : LinkKept c role me count wear between now (link_told link) (peer opened) (told opened) (told left) sum
-      new by mid later whole)
+      new by mid later)
       → IsTurn told over peer at (record {
         asked = asked;
         opened = opened;
@@ -464,8 +313,8 @@ module _ {G : Type 0} (told : G → DoorTold) (over : G → Bool) (peer : G → 
         });
         left = left;
       })
-  a_link link_told link c role me count wear between now at asked opened left sum new by mid later whole same lasts came
-      one = record {
+  a_link link_told link c role me count wear between now at asked opened left sum new by mid later same lasts came one =
+      record {
         same = same;
         not_over = lasts;
         given = (link_told link, link_come link_told link (told asked) (told opened) came, refl, one.same, one.hung_up);
@@ -497,7 +346,7 @@ module _ {G : Type 0} (told : G → DoorTold) (over : G → Bool) (peer : G → 
       → told asked ≡ told at → over asked ≡ false
       → HasAccepted link_told (told asked) (told opened) (arrived.Link link)
       → LinkKept c role me next worn between now (link_told link) (peer opened) (told opened) (told left) sum new
-      by mid later true
+      by mid later
       → Keeping c role me worn start now before left old new by sheet later next
   keeping_more link_told link c role me count next wear worn start between now before at asked opened left old sum new by
       sheet mid later on one_more keeping same lasts came one =
@@ -507,8 +356,8 @@ module _ {G : Type 0} (told : G → DoorTold) (over : G → Bool) (peer : G → 
       let number : next ≡ 1 + length keeping.links = omega (arith, one_more, keeping.counted) in record {
         turns = keeping.turns ++ turn ∷ [];
         went = went-snoc keeping.turns turn before at keeping.went
-            (a_link link_told link c role me next worn between now at asked opened left sum new by mid later true
-            same lasts came one);
+            (a_link link_told link c role me next worn between now at asked opened left sum new by mid later same lasts
+            came one);
         links = keeping.links ++ kept ∷ [];
         links_are = links-snoc keeping.turns turn ∙ ap (λ (l : List Kept). l ++ kept ∷ []) keeping.links_are;
         followed = followed-snoc c role me wear worn keeping.links kept start between now on keeping.followed
@@ -528,18 +377,16 @@ module _ {G : Type 0} (told : G → DoorTold) (over : G → Bool) (peer : G → 
 
   -- what a keeper did, with the lines that it put
   abbrev pub HasKeptOn : Config → Role → ℕ → Wear → Histories → Histories → G → G → Sum → Sum → ℕ → History Line
-      → History Line → ℕ → Stop → Type 0
-  HasKeptOn c role me wear start now before after old new by sheet later worn stop = (links : List Kept)
+      → History Line → Stop → Type 0
+  HasKeptOn c role me wear start now before after old new by sheet later stop = (links : List Kept)
       × (texts : List (List ℕ)) × HasTold by texts sheet later
-      × KeptOn told over peer c role me wear start now before after old new links texts worn stop
+      × KeptOn told over peer c role me wear start now before after old new links texts stop
 
   kept_whole : (stop : Stop) (c : Config) (role : Role) (me : ℕ) (wear : Wear) (start now : Histories)
-      (before at after : G) (old new : Sum) (by : ℕ) (sheet later : History Line) (count worn : ℕ)
-      → (keeping : Keeping c role me wear start now before at old new by sheet later count)
-      → AreItsLines stop c me role keeping.links (lines_from c me role 1 keeping.links)
-      → IsWhy told over peer stop at after (length keeping.links) worn
-      → HasKeptOn c role me wear start now before after old new by sheet later worn stop
-  kept_whole stop c role me wear start now before at after old new by sheet later count worn keeping lines why = (
+      (before at after : G) (old new : Sum) (by : ℕ) (sheet later : History Line) (count : ℕ)
+      → Keeping c role me wear start now before at old new by sheet later count → IsWhy told over peer stop at after
+      → HasKeptOn c role me wear start now before after old new by sheet later stop
+  kept_whole stop c role me wear start now before at after old new by sheet later count keeping why = (
     keeping.links,
     lines_from c me role 1 keeping.links,
     keeping.put,
@@ -551,87 +398,30 @@ module _ {G : Type 0} (told : G → DoorTold) (over : G → Bool) (peer : G → 
       followed = keeping.followed;
       tally = keeping.tally;
       leaves = keeping.leaves;
-      lines = lines;
+      lines = refl;
       why = why;
     },
   )
 
   pub kept_over : (c : Config) (role : Role) (me : ℕ) (wear : Wear) (start now : Histories) (before at after : G)
-      (old new : Sum) (by : ℕ) (sheet later : History Line) (count worn : ℕ)
+      (old new : Sum) (by : ℕ) (sheet later : History Line) (count : ℕ)
       → Keeping c role me wear start now before at old new by sheet later count
       → told after ≡ told at → IsTrue (over after)
-      → HasKeptOn c role me wear start now before after old new by sheet later worn stops.Over
-  kept_over c role me wear start now before at after old new by sheet later count worn keeping same is =
-      kept_whole stops.Over c role me wear start now before at after old new by sheet later count worn keeping refl
-      (same, is)
-
-  pub kept_full : (c : Config) (role : Role) (me : ℕ) (wear : Wear) (start now : Histories) (before at after : G)
-      (old new : Sum) (by : ℕ) (sheet later : History Line) (count worn : ℕ)
-      → Keeping c role me wear start now before at old new by sheet later count
-      → told after ≡ told at → count ≡ 2 ^ 62
-      → HasKeptOn c role me wear start now before after old new by sheet later worn stops.Full
-  kept_full c role me wear start now before at after old new by sheet later count worn keeping same full =
-      kept_whole stops.Full c role me wear start now before at after old new by sheet later count worn keeping refl
-      (same, keeping.counted ∙ full)
+      → HasKeptOn c role me wear start now before after old new by sheet later stops.Over
+  kept_over c role me wear start now before at after old new by sheet later count keeping same is =
+      kept_whole stops.Over c role me wear start now before at after old new by sheet later count keeping (same, is)
 
   pub kept_failed : {L : Type 0} (link_told : L → LinkTold) (c : Config) (role : Role) (me : ℕ) (wear : Wear)
       (start now : Histories) (before at asked after : G) (old new : Sum) (by : ℕ) (sheet later : History Line)
-      (count worn : ℕ) → Keeping c role me wear start now before at old new by sheet later count
+      (count : ℕ) → Keeping c role me wear start now before at old new by sheet later count
       → told asked ≡ told at → over asked ≡ false
       → HasAccepted link_told (told asked) (told after) arrived.Failed
-      → HasKeptOn c role me wear start now before after old new by sheet later worn stops.Failed
-  kept_failed link_told c role me wear start now before at asked after old new by sheet later count worn keeping same
-      lasts came =
-      kept_whole stops.Failed c role me wear start now before at after old new by sheet later count worn keeping refl
-      (record {
+      → HasKeptOn c role me wear start now before after old new by sheet later stops.Failed
+  kept_failed link_told c role me wear start now before at asked after old new by sheet later count keeping same lasts
+      came =
+      kept_whole stops.Failed c role me wear start now before at after old new by sheet later count keeping (record {
         asked = asked;
         same = same;
         not_over = lasts;
         failed = fault_come link_told (told asked) (told after) came;
       })
-
-  -- a line of the last link could not be put
-  pub kept_worn : {L : Type 0} (link_told : L → LinkTold) (link : L) (c : Config) (role : Role) (me count next : ℕ)
-      (wear worse : Wear) (start between now : Histories) (before at asked opened left : G) (old sum new : Sum)
-      (by : ℕ) (sheet mid later : History Line) (worn : ℕ) → WearsOn wear worse → next ≡ count + 1
-      → Keeping c role me wear start between before at old sum by sheet mid count
-      → told asked ≡ told at → over asked ≡ false
-      → HasAccepted link_told (told asked) (told opened) (arrived.Link link)
-      → LinkKept c role me next worse between now (link_told link) (peer opened) (told opened) (told left) sum
-      new by mid later false → 2 ^ 62 ≤ worn
-      → HasKeptOn c role me worse start now before left old new by sheet later worn stops.Worn
-  kept_worn link_told link c role me count next wear worse start between now before at asked opened left old sum new by sheet
-      mid later worn on one_more keeping same lasts came one wears =
-      let entry : Record = record { link = one.link; receipt = one.served.receipt } in
-      let kept : Kept = record { entry = entry; asked = one.asked; held = one.held; peer = peer opened } in
-      let turn : Turn G = record { asked = asked; opened = opened; kept = Some kept; left = left } in
-      let links = keeping.links ++ kept ∷ [] in
-      let long : length links ≡ length keeping.links + 1 = length-append keeping.links (kept ∷ []) in
-      let number : length links ≡ next = omega (arith, one_more, keeping.counted, long) in (
-        links,
-        lines_from c me role 1 keeping.links ++ one.put.done,
-        told_then by (lines_from c me role 1 keeping.links) one.put.done sheet mid later keeping.put one.put.put,
-        record {
-          turns = keeping.turns ++ turn ∷ [];
-          at = left;
-          went = went-snoc keeping.turns turn before at keeping.went
-              (a_link link_told link c role me next worse between now at asked opened left sum new by mid later
-              false same lasts came one);
-          links_are = links-snoc keeping.turns turn ∙ ap (λ (l : List Kept). l ++ kept ∷ []) keeping.links_are;
-          followed = followed-snoc c role me wear worse keeping.links kept start between now on keeping.followed
-              (record { goes = one.served.goes; held_is = one.held_is; asked_is = one.asked_is });
-          tally = tally-snoc old sum new keeping.links kept keeping.tally one.served.tally;
-          leaves = leaves_both me start.book between.book now.book old sum new keeping.leaves one.served.leaves;
-          lines = record {
-            before = keeping.links;
-            last = kept;
-            all = refl;
-            done = one.put.done;
-            next = one.put.next;
-            rest = one.put.rest;
-            part = ap (λ (n : ℕ). lines_of c me role n kept) number ∙ one.put.all;
-            texts_are = refl;
-          };
-          why = (refl, wears);
-        },
-      )

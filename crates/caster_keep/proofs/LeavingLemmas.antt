@@ -1,5 +1,5 @@
 -- All keepers worked at the locks and at the press, and left both.
-use Rattle.std.proofs.Common.{◌≡◌, ◌∙◌, ◌+◌, ◌<◌, ◌≤◌, ◌++◌, ℕ, Bool, List, [], ◌∷◌, length, map, refl, sym, ap, subst, arith}
+use Rattle.std.proofs.Common.{◌≡◌, ◌∙◌, ◌+◌, ◌<◌, ◌++◌, ℕ, Bool, List, [], ◌∷◌, length, map, refl, sym, ap, subst, arith}
 use Rattle.std.specs.List.{All}
 use Rattle.std.proofs.lemmas.List.{length-map}
 use Rattle.std.proofs.lemmas.List.Elements.{All-nil, All-cons}
@@ -61,12 +61,12 @@ module _ {G : Type 0} (told : G → DoorTold) (over : G → Bool) (peer : G → 
 
   pub have_kept : {C : Type 0} (heard : C → ConsoleTold) (shared : Shared) (table : List ℕ) (start : OutputStart)
       (torn : Bool) (notes : NotesTold) (keepers after : List (Keeper G)) (olds hands : List (SeatedTold (Keeper G)))
-      (posts : List (PostTold G)) (whole : History Line) (before now : BoothTold C) (met count : ℕ) (old new : PassPiles)
+      (posts : List (PostTold G)) (whole : History Line) (before now : BoothTold C) (count : ℕ) (old new : PassPiles)
       → IsReady shared → All IsNewKeeper keepers → All (λ (keeper : Keeper G). IsNewDoor (told keeper.gate)) keepers
       → map role_at keepers ≡ roles_of shared.config.now → AreSeated shared 0 keepers olds
       → AllWorked told over peer whole 0 (map (posted shared.config.now table) olds) posts
-      → hands ≡ map hand_at posts → met ≤ length whole → length posts ≡ count
-      → HasWaitedOn heard before now (own (0 + count) whole) met
+      → hands ≡ map hand_at posts → length posts ≡ count
+      → HasWaitedOn heard before now (own (0 + count) whole)
       → All (λ (entry : ℕ × Line). entry.0 < count + 1) whole
       → IsWritten torn start notes.taken notes.faults (text_in whole) → after ≡ works_of hands → HaveLeft hands old new
       → ((mounts : List ℕ) (book : ℕ) → AreWornWithin mounts book new
@@ -74,8 +74,8 @@ module _ {G : Type 0} (told : G → DoorTold) (over : G → Bool) (peer : G → 
       → AreLegal hands → ArePiles [] old shared.rings.items shared.book → old.book.items ≡ []
       → length new.book.items ≡ length old.book.items + length hands
       → HaveKept told over peer heard shared start torn notes (map gate_at keepers) after before now new
-  have_kept {C} heard shared table start torn notes keepers after olds hands posts whole before now met count old new ready
-      fresh unused roles_are seated worked hands_are few many_posts waited nobody text after_is left worn legal empty
+  have_kept {C} heard shared table start torn notes keepers after olds hands posts whole before now count old new ready
+      fresh unused roles_are seated worked hands_are many_posts waited nobody text after_is left worn legal empty
       no_pass passes =
       let c = shared.config.now in
       let all : Collected told over peer shared whole 0 keepers posts =
@@ -99,9 +99,7 @@ module _ {G : Type 0} (told : G → DoorTold) (over : G → Bool) (peer : G → 
         kept = λ mounts book within. all.kept (mounts ++ book ∷ [])
             (subst (AreBelow (mounts ++ book ∷ [])) hands_are (worn mounts book within).1);
         owns = λ k keeper at. ap (λ (i : ℕ). own i whole) (from_zero k) ∙ all.owns k keeper at;
-        met = met;
-        few = few;
-        waited = subst (λ (i : ℕ). HasWaitedOn heard before now (own i whole) met)
+        waited = subst (λ (i : ℕ). HasWaitedOn heard before now (own i whole))
             (let e : 0 + count ≡ length all.tolds = omega (arith, as_many) in e) waited;
         nobody_else = subst (λ (n : ℕ). All (λ (entry : ℕ × Line). entry.0 < n + 1) whole) (sym as_many) nobody;
         text = text;

@@ -130,7 +130,7 @@ module _ {G : Type 0} where
     worked_at shared table whole n (keeper ∷ keepers) [] posts seated worked = absurd seated
     worked_at shared table whole n (keeper ∷ keepers) (old ∷ olds) [] seated worked = absurd worked
     worked_at shared table whole n (keeper ∷ keepers) (old ∷ olds) (post ∷ posts) seated worked = (
-      subst (λ (known : Known). AreAt n known shared.rings.items shared.book) (sym worked.0.does.known) seated.0.at,
+      subst (λ (known : Known). AreAt n known shared.rings.items shared.book) (sym worked.0.known) seated.0.at,
       worked_at shared table whole (n + 1) keepers olds posts seated.1 worked.1,
     )
 
@@ -229,13 +229,13 @@ module _ {G C A B : Type 0} (told : G → DoorTold) (over : G → Bool) (peer : 
       (one_popped all.last now [] (sym (console_left all.left all.last ended all.are) ∙ one)).0 in
       have_kept told over peer heard shared shared.table.items start torn
       (record { taken = taken; faults = faults }) keepers after olds hands (map at_gate all.left) written.whole
-      (at_console console) (at_console now) all.met (length gates) old new ready fresh unused roles_are seated
+      (at_console console) (at_console now) (length gates) old new ready fresh unused roles_are seated
       (subst (λ l. AllWorked told over peer written.whole 0 l (map at_gate all.left)) posts all.worked)
-      (hands_are ∙ ap (λ (l : List A). map hand_at (map at_gate l)) at_gates) all.few
+      (hands_are ∙ ap (λ (l : List A). map hand_at (map at_gate l)) at_gates)
       (as_many_worked told over peer heard at_gate at_console written.whole 0 (map at_gate gates)
       (map at_gate all.left) all.worked ∙ length-map gates at_gate)
-      (subst (λ (b : B). HasWaitedOn heard (at_console console) (at_console b) (own (0 + length gates) written.whole)
-      all.met) (sym now_is) all.waited)
+      (subst (λ (b : B). HasWaitedOn heard (at_console console) (at_console b) (own (0 + length gates) written.whole))
+      (sym now_is) all.waited)
       (subst (λ (n : ℕ). All (λ (entry : ℕ × Line). entry.0 < n) written.whole)
       (written.count ∙ ap length are ∙ length_all gates console) written.nobody_else)
       written.text after_is left worn legal empty no_pass passes

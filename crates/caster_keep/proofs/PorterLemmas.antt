@@ -1,5 +1,5 @@
 -- The porter leaves behind the keepers.
-use Rattle.std.proofs.Common.{◌≡◌, ◌∙◌, ◌+◌, ◌++◌, ◌≤◌, ℕ, Bool, false, List, [], ◌∷◌, length, map, refl, sym, ap, subst, arith}
+use Rattle.std.proofs.Common.{◌≡◌, ◌∙◌, ◌+◌, ◌++◌, ℕ, Bool, false, List, [], ◌∷◌, length, map, refl, sym, ap, subst, arith}
 use Rattle.std.proofs.lemmas.List.{length-map}
 use Rattle.std.proofs.lemmas.List.Elements.{All-append, All-cons, All-nil}
 use base.Stored.{Gv}
@@ -25,7 +25,6 @@ use Rattle.caster_seats.specs.declared.shared.Shared.{Shared}
 use Rattle.caster_seats.specs.SeatedCallers.{SeatedTold}
 use Rattle.caster_seats.specs.Seated.{IsSeated}
 use Rattle.caster_seats.specs.Sharing.{IsReady}
-use Rattle.keep_porter.specs.declared.end.WaitEnd.{WaitEnd}
 use Rattle.keep_porter.specs.Porters.{Answer, HasAnswered}
 use Rattle.keep_porter.proofs.SayLemmas.{all_answers_on}
 use Rattle.caster_keep.specs.declared.keeper.Keeper.{Keeper}
@@ -59,22 +58,23 @@ sat_down {C} shared number work booth c hand is same seated = (
 
 -- the same with places that are worn further, from its first call on
 answered_on : (c : Config) (me number : ℕ) (lacks : Bool) (worn later : List ℕ) (start none now : Histories)
-    (before first after : ConsoleTold) (given : List Answer) (texts : List (List ℕ)) (met : ℕ) (end : WaitEnd)
+    (before first after : ConsoleTold) (given : List Answer) (texts : List (List ℕ))
     → me ≡ number → lacks ≡ false → AllLater worn later → start ≡ none → before ≡ first
-    → HasAnswered c me lacks worn start now before after given texts met end
-    → HasAnswered c number false later none now first after given texts met end
-answered_on c me number lacks worn later start none now before first after given texts met end same_me full rise
+    → HasAnswered c me lacks worn start now before after given texts
+    → HasAnswered c number false later none now first after given texts
+answered_on c me number lacks worn later start none now before first after given texts same_me full rise
     same_start same_first answered =
-    subst (λ (k : ℕ). HasAnswered c k false later none now first after given texts met end) same_me
-    (subst (λ (h : Histories). HasAnswered c me false later h now first after given texts met end) same_start
-    (subst (λ (t : ConsoleTold). HasAnswered c me false later start now t after given texts met end) same_first
+    subst (λ (k : ℕ). HasAnswered c k false later none now first after given texts) same_me
+    (subst (λ (h : Histories). HasAnswered c me false later h now first after given texts) same_start
+    (subst (λ (t : ConsoleTold). HasAnswered c me false later start now t after given texts) same_first
     (record {
       told = answered.told;
       went = answered.went;
       book = answered.book;
       found = all_answers_on lacks false worn later given (sym full) rise answered.found;
+      whole = answered.whole;
       said = answered.said;
-      why = answered.why;
+      over = answered.over;
     })))
 
 -- it has a place at each of the rings as it leaves
@@ -89,35 +89,32 @@ still_there {C} home places shared number work hand before now mounts are same s
 
 module _ {G C : Type 0} (told : G → DoorTold) (over : G → Bool) (peer : G → List ℕ) (heard : C → ConsoleTold) where
   -- what is told of the porter, which was seated so, and is at its booth now
-  abbrev told_of : (first : C) (before now : BoothTold C) (lines : List Line) (met : ℕ)
-      → HasWaitedOn heard before now lines met → PorterTold
-  told_of first before now lines met waited = record {
+  abbrev told_of : (first : C) (before now : BoothTold C) (lines : List Line)
+      → HasWaitedOn heard before now lines → PorterTold
+  told_of first before now lines waited = record {
     first = heard first;
     seen = now.hand.seen;
     given = waited.given;
     console = heard now.hand.work.console;
-    end = waited.end;
     lines = lines;
   }
 
-  is_porter : (shared : Shared) (number most met : ℕ) (first : C) (before now : BoothTold C) (lines : List Line)
+  is_porter : (shared : Shared) (number : ℕ) (first : C) (before now : BoothTold C) (lines : List Line)
       (worn : List ℕ) → IsNewConsole (heard first) → before.config ≡ shared.config.now
-      → IsSeated shared number (new_porter first) before.hand → met ≤ most → AllLater now.hand.worn worn
-      → (waited : HasWaitedOn heard before now lines met)
-      → IsPorter shared.config.now worn most number (told_of first before now lines met waited)
-  is_porter shared number most met first before now lines worn unused same seated few later waited = record {
+      → IsSeated shared number (new_porter first) before.hand → AllLater now.hand.worn worn
+      → (waited : HasWaitedOn heard before now lines)
+      → IsPorter shared.config.now worn number (told_of first before now lines waited)
+  is_porter shared number first before now lines worn unused same seated later waited = record {
     unused = unused;
-    met = met;
-    few = few;
     answered =
         answered_on shared.config.now before.hand.number number (lacks_in now.hand.known) now.hand.worn worn
         before.hand.seen (nothing_called shared.config.now) now.hand.seen (heard before.hand.work.console) (heard first)
-        (heard now.hand.work.console) waited.given (map text_of lines) met waited.end seated.numbered
+        (heard now.hand.work.console) waited.given (map text_of lines) seated.numbered
         (ap lacks_in waited.known ∙ seated.full) later seated.uncalled
         (ap (λ (p : Porter C). heard p.console) seated.work_is)
         (subst (λ (c : Config). HasAnswered c before.hand.number (lacks_in now.hand.known) now.hand.worn
         before.hand.seen now.hand.seen (heard before.hand.work.console) (heard now.hand.work.console) waited.given
-        (map text_of lines) met waited.end) same waited.answered);
+        (map text_of lines)) same waited.answered);
   }
 
   -- all have left
@@ -146,21 +143,18 @@ module _ {G C : Type 0} (told : G → DoorTold) (over : G → Bool) (peer : G �
       let rows = map seen_by kept.tolds in
       let lines = own (length kept.tolds) kept.lines in record {
         tolds = kept.tolds;
-        porter_told = told_of first before now lines kept.met kept.waited;
+        porter_told = told_of first before now lines kept.waited;
         lines = kept.lines;
         told = kept.told;
-        told_porter = record {
-          console = ap (λ (p : Porter C). heard p.console) work;
-          end = ap (λ (p : Porter C). p.end) work ∙ kept.waited.end_is;
-        };
+        told_porter = record { console = ap (λ (p : Porter C). heard p.console) work };
         roles_are = kept.roles_are;
         firsts_are = kept.firsts_are;
         first_is = refl;
         kept = λ mounts book within.
             let both = worn mounts book within in (
               kept.kept mounts book both.0,
-              is_porter shared (length kept.tolds) (length kept.lines) kept.met first before now lines
-                  (mounts ++ book ∷ []) unused same here kept.few both.1 kept.waited,
+              is_porter shared (length kept.tolds) first before now lines (mounts ++ book ∷ []) unused same here both.1
+                  kept.waited,
             );
         owns = kept.owns;
         porter_owns = refl;

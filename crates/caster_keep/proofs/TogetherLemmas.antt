@@ -1,5 +1,5 @@
 -- All keepers at the locks and at the press: what each did, from its first call on.
-use Rattle.std.proofs.Common.{◌≡◌, ◌∙◌, ◌+◌, ◌≤◌, ℕ, zero, suc, Bool, List, [], ◌∷◌, length, map, refl, sym, ap, subst, arith}
+use Rattle.std.proofs.Common.{◌≡◌, ◌∙◌, ◌+◌, ℕ, zero, suc, Bool, List, [], ◌∷◌, map, refl, sym, ap, subst, arith}
 use Rattle.std.specs.Prelude.{⊤}
 use Rattle.std.specs.List.{All}
 use Rattle.std.proofs.lemmas.List.Elements.{All-head, All-tail}
@@ -49,10 +49,10 @@ module _ {G : Type 0} (told : G → DoorTold) (over : G → Bool) (peer : G → 
 
   -- the same with places that are worn further
   worn_on : (c : Config) (role : Role) (me : ℕ) (wear later : Wear) (start now : Histories) (before after : G)
-      (old new : Sum) (links : List Kept) (texts : List (List ℕ)) (met : ℕ) (stop : Stop) → WearsOn wear later
-      → KeptOn told over peer c role me wear start now before after old new links texts met stop
-      → KeptOn told over peer c role me later start now before after old new links texts met stop
-  worn_on c role me wear later start now before after old new links texts met stop on kept = record {
+      (old new : Sum) (links : List Kept) (texts : List (List ℕ)) (stop : Stop) → WearsOn wear later
+      → KeptOn told over peer c role me wear start now before after old new links texts stop
+      → KeptOn told over peer c role me later start now before after old new links texts stop
+  worn_on c role me wear later start now before after old new links texts stop on kept = record {
     turns = kept.turns;
     at = kept.at;
     went = kept.went;
@@ -66,25 +66,25 @@ module _ {G : Type 0} (told : G → DoorTold) (over : G → Bool) (peer : G → 
 
   -- from a seat, with what it was before its first call
   from_first : (c : Config) (role first_role : Role) (me number : ℕ) (wear : Wear) (start none now : Histories)
-      (before gate after : G) (old none_yet new : Sum) (links : List Kept) (texts : List (List ℕ)) (met : ℕ) (stop : Stop)
+      (before gate after : G) (old none_yet new : Sum) (links : List Kept) (texts : List (List ℕ)) (stop : Stop)
       → role ≡ first_role → me ≡ number → start ≡ none → before ≡ gate → old ≡ none_yet
-      → KeptOn told over peer c role me wear start now before after old new links texts met stop
-      → KeptOn told over peer c first_role number wear none now gate after none_yet new links texts met stop
-  from_first c role first_role me number wear start none now before gate after old none_yet new links texts met stop
+      → KeptOn told over peer c role me wear start now before after old new links texts stop
+      → KeptOn told over peer c first_role number wear none now gate after none_yet new links texts stop
+  from_first c role first_role me number wear start none now before gate after old none_yet new links texts stop
       same_role same_me same_start same_gate same_sum kept =
-      subst (λ (r : Role). KeptOn told over peer c r number wear none now gate after none_yet new links texts met stop)
+      subst (λ (r : Role). KeptOn told over peer c r number wear none now gate after none_yet new links texts stop)
       same_role
-      (subst (λ (k : ℕ). KeptOn told over peer c role k wear none now gate after none_yet new links texts met stop) same_me
-      (subst (λ (h : Histories). KeptOn told over peer c role me wear h now gate after none_yet new links texts met stop)
+      (subst (λ (k : ℕ). KeptOn told over peer c role k wear none now gate after none_yet new links texts stop) same_me
+      (subst (λ (h : Histories). KeptOn told over peer c role me wear h now gate after none_yet new links texts stop)
       same_start
-      (subst (λ (g : G). KeptOn told over peer c role me wear start now g after none_yet new links texts met stop) same_gate
-      (subst (λ (s : Sum). KeptOn told over peer c role me wear start now before after s new links texts met stop)
+      (subst (λ (g : G). KeptOn told over peer c role me wear start now g after none_yet new links texts stop) same_gate
+      (subst (λ (s : Sum). KeptOn told over peer c role me wear start now before after s new links texts stop)
       same_sum kept))))
 
   -- what is told of a keeper that had served nothing, at its post
   abbrev told_at : (keeper : Keeper G) (old : SeatedTold (Keeper G)) (c : Config) (table : List ℕ) (post : PostTold G)
-      (lines : List Line) (met : ℕ) → HasWorkedOn told over peer (posted c table old) post lines met → KeeperTold G
-  told_at keeper old c table post lines met worked = record {
+      (lines : List Line) → HasWorkedOn told over peer (posted c table old) post lines → KeeperTold G
+  told_at keeper old c table post lines worked = record {
     role = keeper.role;
     first = keeper.gate;
     seen = post.hand.seen;
@@ -95,25 +95,23 @@ module _ {G : Type 0} (told : G → DoorTold) (over : G → Bool) (peer : G → 
     lines = lines;
   }
 
-  is_keeper : (shared : Shared) (table : List ℕ) (most n met : ℕ) (keeper : Keeper G) (old : SeatedTold (Keeper G))
+  is_keeper : (shared : Shared) (table : List ℕ) (n : ℕ) (keeper : Keeper G) (old : SeatedTold (Keeper G))
       (post : PostTold G) (lines : List Line) (worn : List ℕ) → IsNewKeeper keeper → IsNewDoor (told keeper.gate)
-      → IsSeated shared n keeper old → met ≤ most → AllLater post.hand.worn worn
-      → (worked : HasWorkedOn told over peer (posted shared.config.now table old) post lines met)
-      → IsKeeper told over peer shared.config.now worn most n
-      (told_at keeper old shared.config.now table post lines met worked)
-  is_keeper shared table most n met keeper old post lines worn new unused seated few later worked =
+      → IsSeated shared n keeper old → AllLater post.hand.worn worn
+      → (worked : HasWorkedOn told over peer (posted shared.config.now table old) post lines)
+      → IsKeeper told over peer shared.config.now worn n
+      (told_at keeper old shared.config.now table post lines worked)
+  is_keeper shared table n keeper old post lines worn new unused seated later worked =
       let c = shared.config.now in
       let wear = wear_of post.hand.known post.hand.worn in
       let on : WearsOn wear (only_worn worn) =
       record { same = sym (ap lacks_in worked.known ∙ seated.full); later = later } in record {
         unused = unused;
-        met = met;
-        few = few;
         kept = worn_on c keeper.role n wear (only_worn worn) (nothing_called c) post.hand.seen keeper.gate
-            post.hand.work.gate nothing post.hand.work.tally worked.links (map text_of lines) met worked.stop on
+            post.hand.work.gate nothing post.hand.work.tally worked.links (map text_of lines) worked.stop on
             (from_first c old.work.role keeper.role old.number n wear old.seen (nothing_called c) post.hand.seen
             old.work.gate keeper.gate post.hand.work.gate old.work.tally nothing post.hand.work.tally worked.links
-            (map text_of lines) met worked.stop
+            (map text_of lines) worked.stop
             (ap (λ (k : Keeper G). k.role) seated.work_is) seated.numbered seated.uncalled
             (ap (λ (k : Keeper G). k.gate) seated.work_is)
             (ap (λ (k : Keeper G). k.tally) (seated.work_is ∙ new)) worked.kept);
@@ -121,19 +119,14 @@ module _ {G : Type 0} (told : G → DoorTold) (over : G → Bool) (peer : G → 
 
   -- ---- all of them
 
-  -- The keeper of this number did what keepers do: it put its own lines of this history, at a place
-  -- that met the press worn by at most so many turns as there are lines.
-  pub record Worked (whole : History Line) (n : ℕ) (old new : PostTold G) : Type 0 where
-    pub met : ℕ
-    pub few : met ≤ length whole
-    pub does : HasWorkedOn told over peer old new (own n whole) met
-
-  -- so did these, numbered from this number on
+  -- Keepers that are numbered from this number on did what keepers do: each put its own lines of this
+  -- history.
   abbrev pub AllWorked : History Line → ℕ → List (PostTold G) → List (PostTold G) → Type 0
   AllWorked whole n [] [] = ⊤
   AllWorked whole n [] (new ∷ news) = ⊥
   AllWorked whole n (old ∷ olds) [] = ⊥
-  AllWorked whole n (old ∷ olds) (new ∷ news) = Worked whole n old new × AllWorked whole (n + 1) olds news
+  AllWorked whole n (old ∷ olds) (new ∷ news) =
+      HasWorkedOn told over peer old new (own n whole) × AllWorked whole (n + 1) olds news
 
   -- the own lines of each keeper, who are numbered from this number on, are those that are told of
   -- it
@@ -161,7 +154,7 @@ module _ {G : Type 0} (told : G → DoorTold) (over : G → Bool) (peer : G → 
     pub seen : map seen_by tolds ≡ seen_at_posts posts
     pub owns : Own whole n tolds
     pub kept : (worn : List ℕ) → AreBelow worn (map hand_at posts)
-        → AreKeepers told over peer shared.config.now worn (length whole) n tolds
+        → AreKeepers told over peer shared.config.now worn n tolds
     pub at : AreAllAt n (map hand_at posts) shared.rings.items shared.book
 
   pub collected : (shared : Shared) (table : List ℕ) (whole : History Line) (n : ℕ) (keepers : List (Keeper G))
@@ -188,11 +181,9 @@ module _ {G : Type 0} (told : G → DoorTold) (over : G → Bool) (peer : G → 
       let new : IsNewKeeper keeper = All-head IsNewKeeper keeper keepers fresh in
       let is_new : IsNewDoor (told keeper.gate) =
       All-head (λ (k : Keeper G). IsNewDoor (told k.gate)) keeper keepers unused in
-      let met = worked.0.met in
       let lines = own n whole in
-      let did : HasWorkedOn told over peer (posted c table old) post lines met =
-      worked.0.does in
-      let one = told_at keeper old c table post lines met did in
+      let did : HasWorkedOn told over peer (posted c table old) post lines = worked.0 in
+      let one = told_at keeper old c table post lines did in
       let rest = collected shared table whole (n + 1) keepers olds posts (All-tail IsNewKeeper keeper keepers fresh)
       (All-tail (λ (k : Keeper G). IsNewDoor (told k.gate)) keeper keepers unused) seated.1 worked.1 in record {
         tolds = one ∷ rest.tolds;
@@ -210,8 +201,7 @@ module _ {G : Type 0} (told : G → DoorTold) (over : G → Bool) (peer : G → 
         seen = ap (λ l. post.hand.seen ∷ l) rest.seen;
         owns = own_more whole n one rest.tolds refl rest.owns;
         kept = λ worn below. (
-          is_keeper shared table (length whole) n met keeper old post lines worn new is_new seated.0 worked.0.few below.0
-              did,
+          is_keeper shared table n keeper old post lines worn new is_new seated.0 below.0 did,
           rest.kept worn below.1,
         );
         at = (

@@ -16,9 +16,7 @@ use Rattle.caster_places.specs.Rows.{left_by}
 use Rattle.caster_serve.specs.Works.{tallied}
 use Rattle.caster_serve.proofs.StreetLemmas.{sum_of}
 use Rattle.session_model.specs.Run.{Histories}
-use Rattle.caster_keep.specs.declared.stop.Stop.{Stop}
-use Rattle.caster_keep.specs.declared.stop.Stop.TheVariants as ways
-use Rattle.caster_keep.specs.Keeping.{AreKeepers, IsPorter, KeeperTold, PorterTold, first_stop, receipts_by, seen_by, seen_by_all}
+use Rattle.caster_keep.specs.Keeping.{AreKeepers, IsPorter, KeeperTold, PorterTold, receipts_by, seen_by, seen_by_all}
 
 abbrev plus : Sum → Sum → Sum
 plus a b = sum_of (a.sessions + b.sessions) (a.sent + b.sent) (a.overrun + b.overrun)
@@ -48,63 +46,41 @@ fold_plus a b (receipt ∷ receipts) =
 abbrev tally_of : {G : Type 0} → KeeperTold G → Sum
 tally_of keeper = keeper.tally
 
--- ---- why they stopped
-
--- where all of these were over, the next one tells why
-pub when_over : (stops : List Stop) (last : Stop) → first_stop stops ≡ ways.Over → first_stop (stops ++ last ∷ []) ≡ last
-when_over [] ways.Over is = refl
-when_over [] ways.Failed is = refl
-when_over [] ways.Worn is = refl
-when_over [] ways.Full is = refl
-when_over (ways.Over ∷ stops) last is = when_over stops last is
-when_over (ways.Failed ∷ stops) last is = absurd (let clash : ways.Failed ≡ ways.Over = is in cc)
-when_over (ways.Worn ∷ stops) last is = absurd (let clash : ways.Worn ≡ ways.Over = is in cc)
-when_over (ways.Full ∷ stops) last is = absurd (let clash : ways.Full ≡ ways.Over = is in cc)
-
--- else these do
-pub unless_over : (stops more : List Stop) (stop : Stop) → first_stop stops ≡ stop → (stop ≡ ways.Over → ⊥)
-    → first_stop (stops ++ more) ≡ stop
-unless_over [] more stop is other = absurd (other (sym is))
-unless_over (ways.Over ∷ stops) more stop is other = unless_over stops more stop is other
-unless_over (ways.Failed ∷ stops) more stop is other = is
-unless_over (ways.Worn ∷ stops) more stop is other = is
-unless_over (ways.Full ∷ stops) more stop is other = is
-
 module _ {G : Type 0} (told : G → DoorTold) (over : G → Bool) (peer : G → List ℕ) where
   -- a sum with what the keepers counted is the sum with all their receipts
-  sums_added : (c : Config) (worn : List ℕ) (most n : ℕ) (sum : Sum) (keepers : List (KeeperTold G))
-      → AreKeepers told over peer c worn most n keepers
+  sums_added : (c : Config) (worn : List ℕ) (n : ℕ) (sum : Sum) (keepers : List (KeeperTold G))
+      → AreKeepers told over peer c worn n keepers
       → added sum (map tally_of keepers) ≡ fold tallied sum (flat_map receipts_by keepers)
-  sums_added c worn most n sum [] are = refl
-  sums_added c worn most n sum (keeper ∷ keepers) are =
+  sums_added c worn n sum [] are = refl
+  sums_added c worn n sum (keeper ∷ keepers) are =
       let receipts = receipts_by keeper in
       let from_nothing : plus sum (fold tallied nothing receipts) ≡ fold tallied sum receipts =
       sym (fold_plus sum nothing receipts)
       ∙ ap (λ (s : Sum). fold tallied s receipts) (same_sum (sum.sessions + 0) (sum.sent + 0)
       (sum.overrun + 0) sum.sessions sum.sent sum.overrun (omega arith) (omega arith) (omega arith)) in
-      sums_added c worn most (n + 1) (plus sum keeper.tally) keepers are.1
+      sums_added c worn (n + 1) (plus sum keeper.tally) keepers are.1
       ∙ ap (λ (s : Sum). fold tallied s (flat_map receipts_by keepers))
       (ap (plus sum) are.0.kept.tally ∙ from_nothing)
       ∙ sym (fold-append tallied sum receipts (flat_map receipts_by keepers))
 
   -- the sessions that each keeper ended in the book are those that it counted
-  tallies_are : (c : Config) (worn : List ℕ) (most n : ℕ) (keepers : List (KeeperTold G))
-      → AreKeepers told over peer c worn most n keepers
+  tallies_are : (c : Config) (worn : List ℕ) (n : ℕ) (keepers : List (KeeperTold G))
+      → AreKeepers told over peer c worn n keepers
       → left_by n (map seen_by keepers) ≡ map tally_of keepers
-  tallies_are c worn most n [] are = refl
-  tallies_are c worn most n (keeper ∷ keepers) are =
+  tallies_are c worn n [] are = refl
+  tallies_are c worn n (keeper ∷ keepers) are =
       let leaves = are.0.kept.leaves in
       let next : n + 1 ≡ suc n = omega arith in
       ap (λ (s : Sum). s ∷ left_by (suc n) (map seen_by keepers))
       (ap (λ h. left_in nothing (own n h)) leaves.on ∙ sym leaves.sums)
       ∙ ap (λ l. keeper.tally ∷ l)
-      (tallies_are c worn most (suc n) keepers
-      (subst (λ (k : ℕ). AreKeepers told over peer c worn most k keepers) next are.1))
+      (tallies_are c worn (suc n) keepers
+      (subst (λ (k : ℕ). AreKeepers told over peer c worn k keepers) next are.1))
 
   -- the porter ended none
-  none_left : (c : Config) (worn : List ℕ) (most me : ℕ) (porter : PorterTold) → IsPorter c worn most me porter
+  none_left : (c : Config) (worn : List ℕ) (me : ℕ) (porter : PorterTold) → IsPorter c worn me porter
       → left_in nothing (own me porter.seen.book) ≡ nothing
-  none_left c worn most me porter is = ap (λ h. left_in nothing (own me h)) is.answered.book
+  none_left c worn me porter is = ap (λ h. left_in nothing (own me h)) is.answered.book
 
   left-append : (n : ℕ) (rows : List Histories) (row : Histories)
       → left_by n (rows ++ row ∷ []) ≡ left_by n rows ++ left_in nothing (own (n + length rows) row.book) ∷ []
@@ -124,19 +100,19 @@ module _ {G : Type 0} (told : G → DoorTold) (over : G → Bool) (peer : G → 
       (omega arith) (omega arith)
   added_none sum (first ∷ sums) = added_none (plus sum first) sums
 
-  pub total_is : (c : Config) (worn : List ℕ) (most : ℕ) (total : Sum) (keepers : List (KeeperTold G))
-      (porter : PorterTold) → AreKeepers told over peer c worn most 0 keepers
-      → IsPorter c worn most (length keepers) porter
+  pub total_is : (c : Config) (worn : List ℕ) (total : Sum) (keepers : List (KeeperTold G))
+      (porter : PorterTold) → AreKeepers told over peer c worn 0 keepers
+      → IsPorter c worn (length keepers) porter
       → total ≡ added nothing (left_by 0 (seen_by_all keepers porter))
       → total ≡ fold tallied nothing (flat_map receipts_by keepers)
-  total_is c worn most total keepers porter are porter_is is =
+  total_is c worn total keepers porter are porter_is is =
       is
       ∙ ap (added nothing)
       (left-append 0 (map seen_by keepers) porter.seen
       ∙ ap (λ (k : ℕ). left_by 0 (map seen_by keepers) ++ left_in nothing (own k porter.seen.book) ∷ [])
       (let e : 0 + length (map seen_by keepers) ≡ length keepers = omega (arith, length-map keepers seen_by) in e)
       ∙ ap (λ (s : Sum). left_by 0 (map seen_by keepers) ++ s ∷ [])
-      (none_left c worn most (length keepers) porter porter_is))
+      (none_left c worn (length keepers) porter porter_is))
       ∙ added_none nothing (left_by 0 (map seen_by keepers))
-      ∙ ap (added nothing) (tallies_are c worn most 0 keepers are)
-      ∙ sums_added c worn most 0 nothing keepers are
+      ∙ ap (added nothing) (tallies_are c worn 0 keepers are)
+      ∙ sums_added c worn 0 nothing keepers are

@@ -16,9 +16,8 @@ use Rattle.cast_config.specs.Kept.{KeepsRules}
 use Rattle.cast_console.specs.Consoles.{ConsoleTold}
 use Rattle.session_model.specs.Setting.{shapes}
 use Rattle.session_core.proofs.AdmittedLemmas.{knows_filter}
-use Rattle.keep_porter.specs.declared.end.WaitEnd.{WaitEnd}
 use Rattle.keep_porter.specs.declared.found.Found.{Found}
-use Rattle.keep_porter.specs.Porters.{Answer, AreAllSaid, AreFound, HasAnswered, IsFound, IsItsEnd, MayShut, any_lacks, busy_of, steps_of}
+use Rattle.keep_porter.specs.Porters.{Answer, AreFound, HasAnswered, IsFound, IsOfAll, MayShut, answer_lines, any_lacks, busy_of, steps_of}
 
 -- ---- refusals, at the places with that at the book
 
@@ -65,18 +64,18 @@ first_known shape cap c places kept are some =
 
 -- ---- all answers
 
-pub answered : {P : Type 0} (ring : AtRing P) (book_lacks : Bool) (book_worn : ℕ) (c : Config) (me met : ℕ)
+pub answered : {P : Type 0} (ring : AtRing P) (book_lacks : Bool) (book_worn : ℕ) (c : Config) (me : ℕ)
     (old now : List P) (book : History BookCall) (before after : ConsoleTold) (given : List Answer)
-    (texts : List (List ℕ)) (end : WaitEnd) → map ring.shape old ≡ shapes c
+    → map ring.shape old ≡ shapes c
     → after.busy ≡ before.busy ++ map busy_of given
     → Went (map ring.shape old) (all_alone ring.alone old) (map ring.seen old) (map ring.seen now) me
     (flat_map steps_of given)
     → All (AreFound (any_lacks (map ring.may_lack now)) (map ring.worn now)) given
-    → AreAllSaid end c given texts → IsItsEnd end after met
+    → All (IsOfAll c) given → after.over ≡ true
     → HasAnswered c me (any_lacks (map ring.may_lack now) || book_lacks) (map ring.worn now ++ book_worn ∷ [])
     (record { rings = map ring.seen old; book = book }) (record { rings = map ring.seen now; book = book }) before after
-    given texts met end
-answered ring book_lacks book_worn c me met old now book before after given texts end are told went found said why = record {
+    given (flat_map (answer_lines c) given)
+answered ring book_lacks book_worn c me old now book before after given are told went found whole over = record {
   told = told;
   went = went_less (shapes c) (all_alone ring.alone old) false (map ring.seen old) (map ring.seen now) me
       (flat_map steps_of given) (λ never. absurd (let clash : false ≡ true = never in cc))
@@ -84,6 +83,7 @@ answered ring book_lacks book_worn c me met old now book before after given text
       (map ring.seen now) me (flat_map steps_of given) are refl went);
   book = refl;
   found = answers_wider (any_lacks (map ring.may_lack now)) book_lacks (map ring.worn now) book_worn given found;
-  said = said;
-  why = why;
+  whole = whole;
+  said = refl;
+  over = over;
 }

@@ -1,7 +1,8 @@
 -- A whole caster that kept serving, from what it asked to its totals.
-use Rattle.std.proofs.Common.{◌≡◌, ◌∙◌, ◌+◌, ◌≤◌, ◌++◌, ℕ, zero, suc, Bool, List, [], ◌∷◌, length, take, map, refl, sym, ap, subst, arith, append-nil}
-use Rattle.std.specs.Prelude.{Option, unwrap_or, Result, Ok, Err, IfOk, OnErr}
-use Rattle.std.specs.List.{All}
+use Rattle.std.proofs.Common.{◌≡◌, ◌∙◌, ◌⊎◌, ◌+◌, ◌≤◌, ◌++◌, ℕ, zero, suc, Bool, true, false, IsTrue, List, [], ◌∷◌, length, take, map, inl, inr, refl, sym, ap, subst, arith, append-nil}
+use Rattle.std.specs.Prelude.{◌||◌, Option, unwrap_or, Result, Ok, Err, IfOk, OnErr}
+use Rattle.std.specs.List.{All, list_any}
+use Rattle.std.proofs.lemmas.Bool.{lt-ltb}
 use Rattle.std.proofs.lemmas.List.{length-map, take_all}
 use Rattle.std.proofs.lemmas.List.Elements.{All-nil, All-cons, All-head, All-tail}
 use lib.Seq.{take-append-add}
@@ -36,12 +37,12 @@ use Rattle.caster_keep.specs.declared.stop.Stop.TheVariants as stops
 use Rattle.caster_keep.specs.declared.whole.KeepFault.{KeepFault}
 use Rattle.caster_keep.specs.declared.whole.KeepFault.TheVariants as faults
 use Rattle.caster_keep.specs.declared.whole.Outcome.{Outcome}
-use Rattle.caster_keep.specs.Gates.{HasAsked, HasTakenBack, asked_of, gate_told, gates_asked, gates_of, made_of, roles_of}
+use Rattle.caster_keep.specs.Gates.{HasAsked, HasTakenBack, asked_of, gate_failed, gate_told, gates_asked, gates_of, made_of, roles_of}
 use Rattle.cast_console.specs.Consoles.{ConsoleTold, IsNewConsole}
-use Rattle.keep_porter.specs.declared.end.WaitEnd.{WaitEnd}
 use Rattle.caster_keep.specs.declared.porter.Porter.{Porter}
-use Rattle.caster_keep.specs.Keeping.{Answered, AreUnused, HasEnded, HasGivenBack, HasKept, KeeperTold, Refused, Went, first_of, first_stop, notes_told, role_of, seen_by_all, start_of, stop_of}
-use Rattle.caster_keep.specs.Together.{HaveWorked, IsToldBy, fault_of, gate_at, porter_stop_at, role_at, stop_at, stop_of_wait}
+use Rattle.caster_keep.specs.Keepers.{HasFailed, IsWhy}
+use Rattle.caster_keep.specs.Keeping.{Answered, AreKeepers, AreUnused, HasEnded, HasGivenBack, HasKept, KeeperTold, Refused, Went, first_of, first_stop, notes_told, role_of, seen_by_all, start_of, stop_of}
+use Rattle.caster_keep.specs.Together.{HaveWorked, IsToldBy, fault_of, gate_at, role_at, stop_at}
 use Rattle.caster_keep.proofs.GateLemmas.{made_for, none_back}
 use Rattle.caster_keep.proofs.TotalLemmas.{total_is}
 use Rattle.caster_serve.proofs.WholeLemmas.{Closes}
@@ -88,6 +89,44 @@ module _ {G : Type 0} (told : G → DoorTold) (over : G → Bool) where
       (gates_of told over keepers)
       (All-head (λ (k : Keeper G). IsNewDoor (told k.gate)) keeper keepers unused)
       (unused_gates keepers (All-tail (λ (k : Keeper G). IsNewDoor (told k.gate)) keeper keepers unused))
+
+-- ---- where a gate failed
+
+-- the first of these is that a gate failed, or that is the first of the others
+first_failed : (stop : Stop) (more : List Stop) → first_stop (stop ∷ more) ≡ stops.Failed
+    → (stop ≡ stops.Failed) ⊎ (first_stop more ≡ stops.Failed)
+first_failed stops.Over more is = inr is
+first_failed stops.Failed more is = inl refl
+
+or_more : (a b : Bool) → IsTrue b → IsTrue (a || b)
+or_more true b is = refl
+or_more false b is = is
+
+or_here : (a b : Bool) → IsTrue a → IsTrue (a || b)
+or_here true b is = refl
+or_here false b is = absurd (let clash : false ≡ true = is in cc)
+
+module _ {G : Type 0} (told : G → DoorTold) (over : G → Bool) (peer : G → List ℕ) where
+  -- a gate that failed counted that
+  gate_counted : (at now : G) → HasFailed told over peer at now → IsTrue (gate_failed (gate_told told over now))
+  gate_counted at now is =
+      let rose : Rose (told is.asked).faults (told now).faults = is.failed.failed refl in
+      lt-ltb 0 (told now).faults (omega (arith, rose))
+
+  one_failed : (c : Config) (worn : List ℕ) (n : ℕ) (keepers : List (KeeperTold G))
+      → AreKeepers told over peer c worn n keepers → first_stop (map stop_of keepers) ≡ stops.Failed
+      → IsTrue (list_any gate_failed (map (λ (keeper : KeeperTold G). gate_told told over keeper.gate) keepers))
+  one_failed c worn n [] are is = absurd (let clash : stops.Over ≡ stops.Failed = is in cc)
+  one_failed c worn n (keeper ∷ keepers) are is =
+      let here = gate_failed (gate_told told over keeper.gate) in
+      let rest =
+      list_any gate_failed (map (λ (k : KeeperTold G). gate_told told over k.gate) keepers) in
+      elim (first_failed keeper.stop (map stop_of keepers) is) [
+        | inl failed ↦
+            or_here here rest (gate_counted are.0.kept.at keeper.gate
+            (subst (λ (s : Stop). IsWhy told over peer s are.0.kept.at keeper.gate) failed are.0.kept.why))
+        | inr more ↦ or_more here rest (one_failed c worn (n + 1) keepers are.1 more)
+      ]
 
 -- the first of some are the first of these and more
 pub take_front : {X : Type 0} (n : ℕ) (xs ys : List X) → (m : ℕ) × (take m (xs ++ ys) ≡ take n xs)
@@ -198,7 +237,7 @@ module _ {G O : Type 0} (told : G → DoorTold) (over : G → Bool) (peer : G �
       → IsWritten torn start (taken notes) (faults_of notes) (lines ++ closed_text shared.config.now closed))
       → HasTakenNotes (notes_told taken faults_of notes) back new
       → back_now ≡ back_before ++ heard porter.console ∷ []
-      → stop ≡ first_stop (map stop_at keepers ++ porter_stop_at porter ∷ [])
+      → stop ≡ first_stop (map stop_at keepers)
       → HasEnded told over peer origin taken faults_of back_before back_now shared.config.now (made_for origin before) old new
       (record { closed = closed; stop = stop; is_torn = torn })
   has_ended heard console porter shared first notes pressed was torn before keepers piles closed stop old back new untaken
@@ -233,14 +272,15 @@ module _ {G O : Type 0} (told : G → DoorTold) (over : G → Bool) (peer : G �
         };
         console_back = console_back ∙ ap (λ (t : ConsoleTold). back_before ++ t ∷ []) worked.told_porter.console;
         closed_is = is.2;
-        total = total_is told over peer shared.config.now _ _ closed.total worked.tolds worked.porter_told are both.1 is.3;
+        total = total_is told over peer shared.config.now _ closed.total worked.tolds worked.porter_told are both.1 is.3;
         text = behind (start_of taken faults_of first) (text_in worked.lines) worked.text;
-        stop_is =
-            stop_is
-            ∙ ap (λ (l : List Stop). first_stop (l ++ porter_stop_at porter ∷ []))
-            (stops_are told over worked.tolds keepers worked.told)
-            ∙ ap (λ (e : Option WaitEnd). first_stop (map stop_of worked.tolds ++ stop_of_wait e ∷ []))
-            worked.told_porter.end;
+        stop_is = stop_is ∙ ap first_stop (stops_are told over worked.tolds keepers worked.told);
+        failed = λ failed.
+            let rose = gates.rose (subst (λ (l : List GateTold). IsTrue (list_any gate_failed l))
+            (sym (gates_are told over worked.tolds keepers worked.told))
+            (one_failed told over peer shared.config.now _ 0 worked.tolds are
+            (sym (ap first_stop (stops_are told over worked.tolds keepers worked.told)) ∙ sym stop_is ∙ failed))) in
+            subst (Rose old.faults) (sym notes_back.faults) rose;
       }
 
   ended_since : {made wanted : List YardAsked} (c : Config) (old mid new : YardTold) (outcome : Outcome)
@@ -261,6 +301,7 @@ module _ {G O : Type 0} (told : G → DoorTold) (over : G → Bool) (peer : G �
     total = ended.total;
     text = ended.text;
     stop_is = ended.stop_is;
+    failed = λ failed. omega (arith, first.later, ended.failed failed);
   }
 
   -- what was asked before was asked too
@@ -292,7 +333,7 @@ module _ {G O : Type 0} (told : G → DoorTold) (over : G → Bool) (peer : G �
       → IsWritten torn start (taken notes) (faults_of notes) (lines ++ closed_text config closed))
       → HasTakenNotes (notes_told taken faults_of notes) back new
       → back_now ≡ back_before ++ heard porter.console ∷ []
-      → stop ≡ first_stop (map stop_at keepers ++ porter_stop_at porter ∷ [])
+      → stop ≡ first_stop (map stop_at keepers)
       → Went told over peer origin taken faults_of back_before back_now shared.config.now (made_for origin before) [] old new
       (record { closed = closed; stop = stop; is_torn = torn })
   went_ready heard console porter shared config first notes pressed was torn before keepers piles closed stop old back new

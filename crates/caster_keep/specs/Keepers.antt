@@ -1,6 +1,6 @@
 -- A keeper: a caller that serves the links of its gate until the gate is over, in one role, and
 -- puts the lines of each.
-use Rattle.std.specs.Prelude.{◌≡◌, ℕ, ◌^◌, ◌≤◌, Bool, IsTrue, false, List, [], ◌∷◌, ◌++◌, fold, length, Option, None, Some}
+use Rattle.std.specs.Prelude.{◌≡◌, ℕ, Bool, IsTrue, false, List, [], ◌∷◌, ◌++◌, fold, Option, None, Some}
 use Rattle.cast_io.specs.declared.door.Arrived.TheVariants as arrived
 use Rattle.cast_io.specs.Told.{LinkTold, DoorTold}
 use Rattle.cast_io.specs.Doors.{HasHungUp}
@@ -14,7 +14,7 @@ use Rattle.caster_serve.specs.Visits.{HasCome}
 use Rattle.caster_serve.specs.Works.{tallied, receipts_of}
 use Rattle.caster_keep.specs.declared.stop.Stop.{Stop}
 use Rattle.caster_keep.specs.declared.stop.Stop.TheVariants as stops
-use Rattle.caster_keep.specs.Links.{Kept, Follow, lines_from, lines_of, records_of}
+use Rattle.caster_keep.specs.Links.{Kept, Follow, lines_from, records_of}
 
 -- ---- at its gate
 
@@ -69,44 +69,21 @@ module _ {G : Type 0} (told : G → DoorTold) (over : G → Bool) (peer : G → 
     pub not_over : over asked ≡ false
     pub failed : HasCome arrived.Failed (told asked) (told now)
 
-  -- Why a keeper stopped behind so many links: its gate was over, or failed; a line could not be
-  -- put, since the press was worn by so many lines; or 2^62 links were served.
-  abbrev pub IsWhy : Stop → G → G → ℕ → ℕ → Type 0
-  IsWhy stops.Over at now count worn = IsOver at now
-  IsWhy stops.Failed at now count worn = HasFailed at now
-  IsWhy stops.Worn at now count worn = (now ≡ at) × (2 ^ 62 ≤ worn)
-  IsWhy stops.Full at now count worn = (told now ≡ told at) × (count ≡ 2 ^ 62)
-
--- ---- its lines
-
--- of the last of these links some first lines, and not all, and all lines of the links before it
-pub record LastIsTorn (c : Config) (me : ℕ) (role : Role) (links : List Kept)
-    (texts : List (List ℕ)) : Type 0 where
-  pub before : List Kept
-  pub last : Kept
-  pub all : links ≡ before ++ last ∷ []
-  pub done : List (List ℕ)
-  pub next : List ℕ
-  pub rest : List (List ℕ)
-  pub part : lines_of c me role (length links) last ≡ done ++ next ∷ rest
-  pub texts_are : texts ≡ lines_from c me role 1 before ++ done
-
--- the lines of a keeper that stopped so: all lines of all of its links, unless a line could not be
--- put
-abbrev pub AreItsLines : Stop → Config → ℕ → Role → List Kept → List (List ℕ) → Type 0
-AreItsLines stops.Worn c me role links texts = LastIsTorn c me role links texts
-AreItsLines _ c me role links texts = texts ≡ lines_from c me role 1 links
+  -- why a keeper stopped: its gate was over, or failed
+  abbrev pub IsWhy : Stop → G → G → Type 0
+  IsWhy stops.Over at now = IsOver at now
+  IsWhy stops.Failed at now = HasFailed at now
 
 -- ---- all of it
 
 -- The keeper of this number, which had served nothing, went from turn to turn at its gate and
 -- stopped so. The links that the gate gave are these, in order, and each was kept: its connection
 -- was served from the histories that the one before it left, and what it held before it was closed
--- is what it came to. The tally counts all their receipts, and the keeper put these lines.
+-- is what it came to. The tally counts all their receipts, and the texts are all lines of all of
+-- these links, in order.
 pub record KeptOn {G : Type 0} (told : G → DoorTold) (over : G → Bool) (peer : G → List ℕ)
     (c : Config) (role : Role) (me : ℕ) (wear : Wear) (start now : Histories) (before after : G)
-    (old new : Sum) (links : List Kept) (texts : List (List ℕ)) (worn : ℕ) (stop : Stop)
-    : Type 0 where
+    (old new : Sum) (links : List Kept) (texts : List (List ℕ)) (stop : Stop) : Type 0 where
   pub turns : List (Turn G)
   pub at : G
   pub went : Went told over peer turns before at
@@ -115,5 +92,5 @@ pub record KeptOn {G : Type 0} (told : G → DoorTold) (over : G → Bool) (peer
   pub tally : new ≡ fold tallied old (receipts_of (records_of links))
   -- these are the sessions that it ended in the book
   pub leaves : Leaves me start.book now.book old new
-  pub lines : AreItsLines stop c me role links texts
-  pub why : IsWhy told over peer stop at after (length links) worn
+  pub lines : texts ≡ lines_from c me role 1 links
+  pub why : IsWhy told over peer stop at after

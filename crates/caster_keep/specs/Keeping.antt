@@ -35,8 +35,6 @@ use Rattle.caster_keep.specs.declared.whole.KeepFault.{KeepFault}
 use Rattle.caster_keep.specs.declared.whole.KeepFault.TheVariants as faults
 use Rattle.caster_keep.specs.Links.{Kept, records_of}
 use Rattle.caster_keep.specs.Keepers.{KeptOn}
-use Rattle.keep_porter.specs.declared.end.WaitEnd.{WaitEnd}
-use Rattle.keep_porter.specs.declared.end.WaitEnd.TheVariants as ends
 use Rattle.keep_porter.specs.Porters.{Answer, HasAnswered}
 use Rattle.caster_keep.specs.Gates.{asked_of, gate_told, made_of, roles_of}
 
@@ -74,42 +72,29 @@ receipts_by keeper = receipts_of (records_of keeper.links)
 -- ---- the porter
 
 -- what the porter came to: its console as it was given, what it has seen, its answers, its console
--- as it is now, why it waits no more, and the lines that it put
+-- as it is now, and the lines that it put
 pub record PorterTold : Type 0 where
   pub first : ConsoleTold
   pub seen : Histories
   pub given : List Answer
   pub console : ConsoleTold
-  pub end : WaitEnd
   pub lines : List Line
 
 -- what all callers have seen, in the order of their numbers: the keepers, and then the porter
 abbrev pub seen_by_all : {G : Type 0} → List (KeeperTold G) → PorterTold → List Histories
 seen_by_all keepers porter = map seen_by keepers ++ porter.seen ∷ []
 
--- why a porter stopped, as the callers are told of
-abbrev pub stop_of_end : WaitEnd → Stop
-stop_of_end ends.Over = stops.Over
-stop_of_end ends.Worn = stops.Worn
-
--- why they stopped
-abbrev pub stops_of : {G : Type 0} → List (KeeperTold G) → PorterTold → List Stop
-stops_of keepers porter = map stop_of keepers ++ stop_of_end porter.end ∷ []
-
 -- The porter of this number waited from its first call on, at a console at which nothing was wanted
--- before. Its places at the locks never lacked memory, and were worn by no more turns than these;
--- that at the press, by no more than so many.
-pub record IsPorter (c : Config) (worn : List ℕ) (most : ℕ) (me : ℕ) (porter : PorterTold)
-    : Type 0 where
+-- before, until nothing was wanted there any more. Its places at the locks never lacked memory, and
+-- were worn by no more turns than these.
+pub record IsPorter (c : Config) (worn : List ℕ) (me : ℕ) (porter : PorterTold) : Type 0 where
   pub unused : IsNewConsole porter.first
-  pub met : ℕ
-  pub few : met ≤ most
   pub answered : HasAnswered c me false worn (nothing_called c) porter.seen porter.first
-      porter.console porter.given (map text_of porter.lines) met porter.end
+      porter.console porter.given (map text_of porter.lines)
 
 -- ---- why they stopped
 
--- the first of these that is not that a gate was over, or that nothing was wanted any more
+-- the first of these that is not that a gate was over: where there is one, a gate failed
 abbrev pub first_stop : List Stop → Stop
 first_stop [] = stops.Over
 first_stop (stops.Over ∷ more) = first_stop more
@@ -148,22 +133,19 @@ pub record Refused (wanted : List YardAsked) (old new : YardTold) : Type 0 where
 
 module _ {G : Type 0} (told : G → DoorTold) (over : G → Bool) (peer : G → List ℕ) where
   -- The keeper of this number kept serving from its first call on, at a gate that nobody had used.
-  -- Its places at the locks never lacked memory, and were worn by no more turns than these; that at
-  -- the press, by no more than so many.
-  pub record IsKeeper (c : Config) (worn : List ℕ) (most : ℕ) (me : ℕ) (keeper : KeeperTold G)
+  -- Its places at the locks never lacked memory, and were worn by no more turns than these.
+  pub record IsKeeper (c : Config) (worn : List ℕ) (me : ℕ) (keeper : KeeperTold G)
       : Type 0 where
     pub unused : IsNewDoor (told keeper.first)
-    pub met : ℕ
-    pub few : met ≤ most
     pub kept : KeptOn told over peer c keeper.role me (only_worn worn) (nothing_called c)
         keeper.seen keeper.first keeper.gate nothing keeper.tally keeper.links
-        (map text_of keeper.lines) met keeper.stop
+        (map text_of keeper.lines) keeper.stop
 
   -- these keepers kept serving so, numbered from this number on
-  abbrev pub AreKeepers : Config → List ℕ → ℕ → ℕ → List (KeeperTold G) → Type 0
-  AreKeepers c worn most n [] = ⊤
-  AreKeepers c worn most n (keeper ∷ keepers) =
-      IsKeeper c worn most n keeper × AreKeepers c worn most (n + 1) keepers
+  abbrev pub AreKeepers : Config → List ℕ → ℕ → List (KeeperTold G) → Type 0
+  AreKeepers c worn n [] = ⊤
+  AreKeepers c worn n (keeper ∷ keepers) =
+      IsKeeper c worn n keeper × AreKeepers c worn (n + 1) keepers
 
 -- and what it was made for
 module _ {G : Type 0} (told : G → DoorTold) (over : G → Bool) (peer : G → List ℕ)
@@ -177,8 +159,8 @@ module _ {G : Type 0} (told : G → DoorTold) (over : G → Bool) (peer : G → 
       (porter : PorterTold) (histories : Histories) (lines : History Line) : Type 0 where
     pub roles_are : map role_of keepers ≡ roles_of c
     pub gates_are : map (λ (keeper : KeeperTold G). origin keeper.first) keepers ≡ made
-    pub keepers_are : AreKeepers told over peer c (calls_in histories) (length lines) 0 keepers
-    pub porter_is : IsPorter c (calls_in histories) (length lines) (length keepers) porter
+    pub keepers_are : AreKeepers told over peer c (calls_in histories) 0 keepers
+    pub porter_is : IsPorter c (calls_in histories) (length keepers) porter
     pub whole : AreWhole (seen_by_all keepers porter) histories (length c.mount)
     -- each of them made calls in the book that fitted there
     pub legal : All (λ (row : Histories). IsLegal (fits (caps c)) row.book)
@@ -202,7 +184,8 @@ module _ {G O : Type 0} (told : G → DoorTold) (over : G → Bool) (peer : G �
   -- All kept serving, and all that the yard and the lodge had given came back. The caster came to
   -- what its histories say, and all accounts together are the sum of the receipts of all links. The
   -- notes had taken nothing; then they took the text of the history of lines, and behind it the
-  -- totals; or the text is torn, and they took some first bytes of it.
+  -- totals; or the text is torn, and they took some first bytes of it. Where a keeper stopped since
+  -- its gate failed, the yard's count of faults rose.
   pub record HasEnded (c : Config) (made : List YardAsked) (old new : YardTold) (outcome : Outcome)
       : Type 0 where
     pub keepers : List (KeeperTold G)
@@ -221,7 +204,8 @@ module _ {G O : Type 0} (told : G → DoorTold) (over : G → Bool) (peer : G �
     pub total : outcome.closed.total ≡ fold tallied nothing (flat_map receipts_by keepers)
     pub text : IsWritten outcome.is_torn (start_of taken faults_of first) (taken notes)
         (faults_of notes) (text_in lines ++ closed_text c outcome.closed)
-    pub stop_is : outcome.stop ≡ first_stop (stops_of keepers porter)
+    pub stop_is : outcome.stop ≡ first_stop (map stop_of keepers)
+    pub failed : outcome.stop ≡ stops.Failed → Rose old.faults new.faults
 
   -- The yard was asked for all of these, in order, and then it went so.
   pub record Went (c : Config) (made wanted : List YardAsked) (old new : YardTold)

@@ -1,5 +1,5 @@
 -- One link of a caster that keeps serving: the lines that tell of it, by what it came to.
-use Rattle.std.specs.Prelude.{◌≡◌, ℕ, ◌+◌, List, [], ◌∷◌, ◌++◌, codes, map, slice_get, Option, None, Some, Bool}
+use Rattle.std.specs.Prelude.{◌≡◌, ℕ, ◌+◌, List, [], ◌∷◌, ◌++◌, codes, map, slice_get, Option, None, Some}
 use Rattle.turn_log.specs.History.{History}
 use Rattle.cast_io.specs.Told.{LinkTold, DoorTold}
 use Rattle.cast_io.specs.Doors.{HasHungUp}
@@ -28,12 +28,12 @@ use Rattle.keep_lines.specs.declared.told.Who.{Who}
 use Rattle.keep_lines.specs.declared.told.Who.TheVariants as whos
 use Rattle.keep_lines.specs.Words.{dash, shown}
 use Rattle.keep_lines.specs.Lines.{entered_line, line_with, receipt_lines, user_shown, version_word}
+use Rattle.keep_lines.specs.Puts.{HasTold}
 use Rattle.caster_link.specs.declared.role.Role.{Role}
 use Rattle.caster_link.specs.declared.role.Role.TheVariants as roles
 use Rattle.caster_link.specs.Links.{opening_of}
 use Rattle.caster_link.specs.Wear.{Wear}
 use Rattle.caster_serve.specs.Works.{Record, RecordGoes, LinkCounted}
-use Rattle.keep_porter.specs.Porters.{ArePut}
 
 -- ---- its lines
 
@@ -167,20 +167,12 @@ Follow c role me wear (kept ∷ links) start now = (between : Histories)
 
 -- ---- one link is kept
 
--- Behind a first line, whichever it is, the caller put all of these: where it put all or not all of
--- what came first, it put all or not all of the whole.
-abbrev pub ArePutBehind : (begun : Bool) → (whole : Bool) → ℕ → List (List ℕ) → History Line
-    → History Line → Type 0
-ArePutBehind begun whole by texts old new = (first : List ℕ) (sheet : History Line)
-    → ArePut begun by (first ∷ []) sheet old → ArePut whole by (first ∷ texts) sheet new
-
 -- A link that its gate had given came back to it behind its connection, which was served to its
 -- receipt, asked what is told of it, and held this before it was closed; the tally counts the
--- receipt. The link is the one of this number, its peer was told so, and all of its lines were put,
--- or some first ones of them and not all.
+-- receipt. The link is the one of this number, its peer was told so, and all of its lines were put.
 pub record LinkKept (c : Config) (role : Role) (me count : ℕ) (wear : Wear) (start now : Histories)
     (given : LinkTold) (peer : List ℕ) (before after : DoorTold) (old new : Sum)
-    (by : ℕ) (sheet later : History Line) (whole : Bool) : Type 0 where
+    (by : ℕ) (sheet later : History Line) : Type 0 where
   pub link : LinkTold
   pub same : link.given ≡ given.given
   pub hung_up : HasHungUp link before after
@@ -190,5 +182,5 @@ pub record LinkKept (c : Config) (role : Role) (me count : ℕ) (wear : Wear) (s
       (came_to served.goes.goes.j (steps_of served.goes.goes.events)) held
   pub asked : Option Asked
   pub asked_is : AsksAs role served.goes.goes.events served.goes.goes.ended asked
-  pub put : ArePut whole by
+  pub put : HasTold by
       (link_lines c (number_of me count) role peer asked held served.receipt) sheet later

@@ -21,7 +21,6 @@ use Rattle.caster_keep.specs.declared.duty.Duty.{Duty}
 use Rattle.caster_keep.specs.declared.duty.Duty.TheVariants as duties
 use Rattle.caster_keep.specs.declared.porter.Porter.{Porter}
 use Rattle.caster_keep.specs.Keepers.{KeptOn}
-use Rattle.keep_porter.specs.declared.end.WaitEnd.{WaitEnd}
 use Rattle.keep_porter.specs.Porters.{Answer, HasAnswered}
 
 -- a keeper in this role at this gate, which has served nothing
@@ -53,10 +52,9 @@ pub record MayKeep {G : Type 0} (post : PostTold G) : Type 0 where
   pub role : IsRoleOf post.config post.hand.work.role
   pub fresh : post.hand.work ≡ new_keeper post.hand.work.role post.hand.work.gate
 
--- It kept serving until it stopped, and put exactly these lines, which are those of its links. Its
--- place at the press met the lock worn by so many turns of 2^62 or more, or 0.
+-- it kept serving until it stopped, and put exactly these lines, which are those of its links
 pub record HasWorkedOn {G : Type 0} (told : G → DoorTold) (over : G → Bool) (peer : G → List ℕ)
-    (old new : PostTold G) (lines : List Line) (worn : ℕ) : Type 0 where
+    (old new : PostTold G) (lines : List Line) : Type 0 where
   pub config : new.config ≡ old.config
   pub number : new.hand.number ≡ old.hand.number
   pub known : new.hand.known ≡ old.hand.known
@@ -66,13 +64,13 @@ pub record HasWorkedOn {G : Type 0} (told : G → DoorTold) (over : G → Bool) 
   pub links : List Kept
   pub kept : KeptOn told over peer old.config old.hand.work.role old.hand.number
       (wear_of new.hand.known new.hand.worn) old.hand.seen new.hand.seen old.hand.work.gate
-      new.hand.work.gate old.hand.work.tally new.hand.work.tally links (map text_of lines) worn stop
+      new.hand.work.gate old.hand.work.tally new.hand.work.tally links (map text_of lines) stop
 
 -- ---- the porter
 
 -- a porter at this console, which has said nothing
 abbrev pub new_porter : {C : Type 0} → C → Porter C
-new_porter console = record { console = console; end = None }
+new_porter console = record { console = console }
 
 -- the configuration, and the porter at its seats
 pub record BoothTold (C : Type 0) : Type 0 where
@@ -87,19 +85,17 @@ pub record MayWait {C : Type 0} (booth : BoothTold C) : Type 0 where
   pub kept : (cap : ℕ) × KeepsRules cap booth.config
   pub fit : Fit booth.config booth.hand.number booth.hand.known
 
--- It waited until its end, and put exactly these lines, which are those of its answers. Its place
--- at the press met the lock worn by so many turns of 2^62 or more, or 0.
+-- it waited until nothing was wanted any more, and put exactly these lines, which are those of its
+-- answers
 pub record HasWaitedOn {C : Type 0} (told : C → ConsoleTold) (old new : BoothTold C)
-    (lines : List Line) (worn : ℕ) : Type 0 where
+    (lines : List Line) : Type 0 where
   pub config : new.config ≡ old.config
   pub number : new.hand.number ≡ old.hand.number
   pub known : new.hand.known ≡ old.hand.known
-  pub end : WaitEnd
-  pub end_is : new.hand.work.end ≡ Some end
   pub given : List Answer
   pub answered : HasAnswered old.config old.hand.number (lacks_in new.hand.known) new.hand.worn
       old.hand.seen new.hand.seen (told old.hand.work.console) (told new.hand.work.console)
-      given (map text_of lines) worn end
+      given (map text_of lines)
 
 -- ---- either of them
 
@@ -122,11 +118,10 @@ MayBegin at_gate at_console (duties.Console work) = at_console work
 
 -- A work at a gate did what such works do, and one at a console what those do. Which of them it is
 -- stays.
-abbrev pub HasDone : {A B : Type 0} → (A → A → List Line → ℕ → Type 0)
-    → (B → B → List Line → ℕ → Type 0) → Duty A B → Duty A B → List Line → ℕ → Type 0
-HasDone at_gate at_console (duties.Gate old) (duties.Gate new) lines worn =
-    at_gate old new lines worn
-HasDone at_gate at_console (duties.Gate old) (duties.Console new) lines worn = ⊥
-HasDone at_gate at_console (duties.Console old) (duties.Gate new) lines worn = ⊥
-HasDone at_gate at_console (duties.Console old) (duties.Console new) lines worn =
-    at_console old new lines worn
+abbrev pub HasDone : {A B : Type 0} → (A → A → List Line → Type 0)
+    → (B → B → List Line → Type 0) → Duty A B → Duty A B → List Line → Type 0
+HasDone at_gate at_console (duties.Gate old) (duties.Gate new) lines = at_gate old new lines
+HasDone at_gate at_console (duties.Gate old) (duties.Console new) lines = ⊥
+HasDone at_gate at_console (duties.Console old) (duties.Gate new) lines = ⊥
+HasDone at_gate at_console (duties.Console old) (duties.Console new) lines =
+    at_console old new lines

@@ -1,6 +1,6 @@
 -- All callers of a caster at its locks, the keepers and behind them the porter, before they begin
 -- and once they have left.
-use Rattle.std.specs.Prelude.{◌≡◌, ℕ, ◌+◌, ◌<◌, ◌≤◌, Bool, List, [], ◌∷◌, ◌++◌, length, map, unwrap_or, Option, None, Some, vec_capacity}
+use Rattle.std.specs.Prelude.{◌≡◌, ℕ, ◌+◌, ◌<◌, ◌≤◌, Bool, List, [], ◌∷◌, ◌++◌, length, map, unwrap_or, Some, vec_capacity}
 use Rattle.std.specs.List.{All}
 use mathlib.Core.Option.{some}
 use lib.ListN.{get_elem?}
@@ -33,8 +33,7 @@ use Rattle.caster_keep.specs.declared.whole.Ready.{Ready}
 use Rattle.caster_keep.specs.Gates.{roles_of}
 use Rattle.cast_console.specs.Consoles.{ConsoleTold}
 use Rattle.caster_keep.specs.declared.porter.Porter.{Porter}
-use Rattle.keep_porter.specs.declared.end.WaitEnd.{WaitEnd}
-use Rattle.caster_keep.specs.Keeping.{AreKeepers, IsPorter, KeeperTold, PorterTold, first_of, role_of, seen_by, seen_by_all, stop_of_end}
+use Rattle.caster_keep.specs.Keeping.{AreKeepers, IsPorter, KeeperTold, PorterTold, first_of, role_of, seen_by, seen_by_all}
 use Rattle.caster_keep.specs.Stations.{BoothTold, HasWaitedOn, new_keeper}
 
 -- ---- before
@@ -52,14 +51,6 @@ gate_at keeper = keeper.gate
 -- why it stopped; one that has not stopped had no gate that failed
 abbrev pub stop_at : {G : Type 0} → Keeper G → Stop
 stop_at keeper = unwrap_or keeper.stop stops.Over
-
--- why a porter stopped that has this end; one that has none met no press that was worn
-abbrev pub stop_of_wait : Option WaitEnd → Stop
-stop_of_wait None = stops.Over
-stop_of_wait (Some end) = stop_of_end end
-
-abbrev pub porter_stop_at : {C : Type 0} → Porter C → Stop
-porter_stop_at porter = stop_of_wait porter.end
 
 -- The locks are open with new passes for so many callers, and there is room for what comes back and
 -- for the text of the totals.
@@ -94,7 +85,6 @@ pub record IsToldBy {G : Type 0} (told : KeeperTold G) (keeper : Keeper G) : Typ
 pub record IsPorterToldBy {C : Type 0} (heard : C → ConsoleTold) (told : PorterTold)
     (porter : Porter C) : Type 0 where
   pub console : heard porter.console ≡ told.console
-  pub end : porter.end ≡ Some told.end
 
 -- All keepers kept serving from these gates on, and left the locks, with the passes of all in the
 -- piles of their locks. Their lines are those of one history, which was written from this start on,
@@ -111,12 +101,10 @@ pub record HaveKept {G C : Type 0} (door : G → DoorTold) (over : G → Bool) (
   pub roles_are : map role_of tolds ≡ roles_of shared.config.now
   pub firsts_are : map first_of tolds ≡ firsts
   pub kept : (mounts : List ℕ) (book : ℕ) → AreWornWithin mounts book piles
-      → AreKeepers door over peer shared.config.now (mounts ++ book ∷ []) (length lines) 0 tolds
+      → AreKeepers door over peer shared.config.now (mounts ++ book ∷ []) 0 tolds
   pub owns : (k : ℕ) (keeper : KeeperTold G) → get_elem? tolds k ≡ some keeper
       → own k lines ≡ keeper.lines
-  pub met : ℕ
-  pub few : met ≤ length lines
-  pub waited : HasWaitedOn heard before now (own (length tolds) lines) met
+  pub waited : HasWaitedOn heard before now (own (length tolds) lines)
   pub nobody_else : All (λ (entry : ℕ × Line). entry.0 < length tolds + 1) lines
   pub text : IsWritten torn start notes.taken notes.faults (text_in lines)
   pub piles_are : ArePiles (map seen_by tolds) piles shared.rings.items shared.book
@@ -139,8 +127,8 @@ pub record HaveWorked {G C : Type 0} (door : G → DoorTold) (over : G → Bool)
   pub firsts_are : map first_of tolds ≡ firsts
   pub first_is : porter_told.first ≡ heard first
   pub kept : (mounts : List ℕ) (book : ℕ) → AreWornWithin mounts book piles
-      → AreKeepers door over peer shared.config.now (mounts ++ book ∷ []) (length lines) 0 tolds
-      × IsPorter shared.config.now (mounts ++ book ∷ []) (length lines) (length tolds) porter_told
+      → AreKeepers door over peer shared.config.now (mounts ++ book ∷ []) 0 tolds
+      × IsPorter shared.config.now (mounts ++ book ∷ []) (length tolds) porter_told
   pub owns : (k : ℕ) (keeper : KeeperTold G) → get_elem? tolds k ≡ some keeper
       → own k lines ≡ keeper.lines
   pub porter_owns : own (length tolds) lines ≡ porter_told.lines

@@ -13,7 +13,6 @@ use std::sync::Wait;
 
 /// The porter at the seats of the locks.
 pub(crate) struct Booth<'a, C, R: Wait + Sync> {
-    rt: &'a R,
     config: &'a Config,
     hand: SeatedCaller<'a, Porter<C>, R>,
 }
@@ -35,15 +34,11 @@ impl<'a, C, R: Wait + Sync> AtBooth<C> for Booth<'a, C, R> {
 
 impl<'a, C, R: Wait + Sync> Booth<'a, C, R> {
     /// The booth of this hand.
-    pub(crate) fn new(
-        rt: &'a R,
-        config: &'a Config,
-        hand: SeatedCaller<'a, Porter<C>, R>,
-    ) -> Booth<'a, C, R>
+    pub(crate) fn new(config: &'a Config, hand: SeatedCaller<'a, Porter<C>, R>) -> Booth<'a, C, R>
         ensures { ⟦<Booth<'a, C, R> as AtBooth<C>>⟧.told result ≡ booth_of config.now
             (⟦<SeatedCaller<'a, Porter<C>, R> as AtPlaces<Porter<C>>>⟧.told hand.entry) }
     {
-        Booth { rt, config, hand }
+        Booth { config, hand }
     }
 
     /// Its hand.
@@ -51,11 +46,7 @@ impl<'a, C, R: Wait + Sync> Booth<'a, C, R> {
         ensures { ⟦<SeatedCaller<'a, Porter<C>, R> as AtPlaces<Porter<C>>>⟧.told result
             ≡ (⟦<Booth<'a, C, R> as AtBooth<C>>⟧.told self.entry).hand }
     {
-        let Booth {
-            rt: _,
-            config: _,
-            hand,
-        } = self;
+        let Booth { config: _, hand } = self;
         hand
     }
 }
@@ -65,15 +56,15 @@ impl<'a, C: Console + Send, R: Wait + Sync> Writer for Booth<'a, C, R> {
 
     ghost ready = { λ booth. MayWait (⟦<Booth<'a, C, R> as AtBooth<C>>⟧.told booth) };
 
-    ghost wrote = { λ old new lines worn. HasWaitedOn C.told
+    ghost wrote = { λ old new lines. HasWaitedOn C.told
         (⟦<Booth<'a, C, R> as AtBooth<C>>⟧.told old) (⟦<Booth<'a, C, R> as AtBooth<C>>⟧.told new)
-        lines worn };
+        lines };
 
-    fn write<P: AtPress>(&mut self, place: &mut P, me: u32) {
+    fn write<P: AtPress, Q: Wait>(&mut self, rt: &Q, place: &mut P, me: u32) {
         let hand = &mut self.hand;
         let number = hand.number;
-        let end = wait(
-            self.rt,
+        wait(
+            rt,
             self.config,
             &mut hand.places,
             number,
@@ -81,6 +72,5 @@ impl<'a, C: Console + Send, R: Wait + Sync> Writer for Booth<'a, C, R> {
             place,
             me,
         );
-        hand.work.end = Some(end);
     }
 }

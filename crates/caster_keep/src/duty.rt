@@ -1,6 +1,7 @@
 //! What a caller does at a press: it serves at a gate, or it waits at the console.
 
 use caster_press::{AtPress, Writer};
+use std::sync::Wait;
 
 /// The work of a caller: one at a gate, or one at the console.
 pub(crate) enum Duty<A, B> {
@@ -13,12 +14,12 @@ impl<A: Writer, B: Writer> Writer for Duty<A, B> {
 
     ghost ready = { λ duty. MayBegin A.ready B.ready duty };
 
-    ghost wrote = { λ old new lines worn. HasDone A.wrote B.wrote old new lines worn };
+    ghost wrote = { λ old new lines. HasDone A.wrote B.wrote old new lines };
 
-    fn write<P: AtPress>(&mut self, place: &mut P, me: u32) {
+    fn write<P: AtPress, R: Wait>(&mut self, rt: &R, place: &mut P, me: u32) {
         match self {
-            Duty::Gate(work) => work.write(place, me),
-            Duty::Console(work) => work.write(place, me),
+            Duty::Gate(work) => work.write(rt, place, me),
+            Duty::Console(work) => work.write(rt, place, me),
         }
     }
 }

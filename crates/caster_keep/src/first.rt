@@ -1,7 +1,7 @@
 //! What is told of a link: who is at its other end, what its head asks, as what it was let in, and
 //! whose its receipt is.
 
-ghost use Rattle.std.specs.Prelude.{◌≡◌, ◌∷◌, ◌++◌, ◌≤◌, ◌^◌, ℕ, List, Option, IsTrue, OnErr, is_ok, is_some};
+ghost use Rattle.std.specs.Prelude.{◌≡◌, ◌++◌, ℕ, List, Option, IsTrue, is_some};
 ghost use Rattle.std.specs.Option.{option_copied};
 ghost use Rattle.cast_config.specs.declared.config.Config.{Config as ConfigValue};
 ghost use Rattle.turn_log.specs.History.{History};
@@ -14,7 +14,7 @@ ghost use Rattle.caster_press.specs.declared.line.Line.{Line as LineValue};
 ghost use Rattle.caster_press.specs.Lines.{text_of};
 ghost use Rattle.caster_press.specs.Places.{IsSamePlace};
 ghost use Rattle.keep_lines.specs.Lines.{user_shown};
-ghost use Rattle.keep_porter.specs.Porters.{ArePut};
+ghost use Rattle.keep_lines.specs.Puts.{HasTold};
 ghost use Rattle.caster_keep.specs.Links.{asked_line, entered_lines, entered_of, first_line, named_user, told_lines, who_of, whose};
 ghost use Rattle.caster_keep.specs.Stations.{IsRoleOf};
 
@@ -22,7 +22,7 @@ use cast_config::Config;
 use cast_io::PeerAddr;
 use cast_text::Text;
 use caster_link::Role;
-use caster_press::{AtPress, Line, Worn};
+use caster_press::{AtPress, Line, WaitsAtEnd};
 use keep_lines::{Asks, Entered, LinkNumber, Peer, Wants, Who, asks_line, entered_line, link_line};
 use session_core::{Asked, Held, Session};
 
@@ -89,39 +89,32 @@ fn asked_line(number: LinkNumber, asked: &Asked) -> Line
 }
 
 /// Puts the line of what the head of a link asks, where it was read by this step and asks
-/// something: this is told of it now. Where a line of the link could not be put so far, none is.
-///
-/// # Errors
-/// Where a line of the link could not be put, this one or one before it.
-fn tell_asked<P: AtPress>(
+/// something: this is told of it now.
+fn tell_asked<P: AtPress, R: WaitsAtEnd>(
+    rt: &R,
     place: &mut P,
     teller: Teller,
     was_told: bool,
     asked: Option<&Asked>,
-    so_far: Result<(), Worn>,
-) -> Result<(), Worn>
+)
     requires { IsTrue ((P.told place.old).speaks teller.by) }
     ensures same { IsSamePlace (P.told place.old) (P.told place.new) }
-    ensures worn { OnErr so_far (2 ^ 62 ≤ (P.told place.old).worn)
-        → OnErr result (2 ^ 62 ≤ (P.told place.new).worn) }
-    ensures put { (c : ConfigValue) (before : Option AskedValue) (held : HeldValue) (first : List ℕ)
+    ensures put { (c : ConfigValue) (before : Option AskedValue) (held : HeldValue)
         (sheet : History LineValue)
         → was_told ≡ is_some before → AsksOn before (option_copied asked.entry)
         → (IsHolding held → option_copied asked.entry ≡ before)
-        → ArePut (is_ok so_far) teller.by (first ∷ told_lines c teller.number before held)
+        → HasTold teller.by (told_lines c teller.number before held)
         sheet (P.told place.old).seen
-        → ArePut (is_ok result) teller.by
-        (first ∷ told_lines c teller.number (option_copied asked.entry) held)
+        → HasTold teller.by (told_lines c teller.number (option_copied asked.entry) held)
         sheet (P.told place.new).seen }
 {
-    so_far?;
     if was_told {
-        return Ok(());
+        return;
     }
     let Some(asked) = asked else {
-        return Ok(());
+        return;
     };
-    place.put(teller.by, &asked_line(teller.number, asked))
+    place.put(rt, teller.by, &asked_line(teller.number, asked));
 }
 
 /// As what a link was let in that holds this, if it was let in.
@@ -144,50 +137,43 @@ fn entered_of(held: Held) -> Option<Entered>
 }
 
 /// Puts the line of what a link was let in as, where it was by this step: it holds this now, and
-/// held that before. Where a line of the link could not be put so far, none is.
-///
-/// # Errors
-/// Where a line of the link could not be put, this one or one before it.
-fn tell_entered<P: AtPress>(
+/// held that before.
+fn tell_entered<P: AtPress, R: WaitsAtEnd>(
+    rt: &R,
     place: &mut P,
     config: &Config,
     teller: Teller,
     before: Held,
     now: Held,
-    so_far: Result<(), Worn>,
-) -> Result<(), Worn>
+)
     requires { IsTrue ((P.told place.old).speaks teller.by) }
     ensures same { IsSamePlace (P.told place.old) (P.told place.new) }
-    ensures worn { OnErr so_far (2 ^ 62 ≤ (P.told place.old).worn)
-        → OnErr result (2 ^ 62 ≤ (P.told place.new).worn) }
     ensures put { (texts : List (List ℕ)) (sheet : History LineValue) → HoldsOn before now
-        → ArePut (is_ok so_far) teller.by
-        (texts ++ entered_lines config.now teller.number before) sheet (P.told place.old).seen
-        → ArePut (is_ok result) teller.by (texts ++ entered_lines config.now teller.number now)
+        → HasTold teller.by (texts ++ entered_lines config.now teller.number before)
+        sheet (P.told place.old).seen
+        → HasTold teller.by (texts ++ entered_lines config.now teller.number now)
         sheet (P.told place.new).seen }
 {
-    so_far?;
     if entered_of(before).is_some() {
-        return Ok(());
+        return;
     }
     let Some(entered) = entered_of(now) else {
-        return Ok(());
+        return;
     };
-    place.put(teller.by, &entered_line(config, teller.number, entered))
+    place.put(rt, teller.by, &entered_line(config, teller.number, entered));
 }
 
-/// What was told of a connection: whether what its head asks, what it held then, and whether all
-/// lines of its link were put so far.
+/// What was told of a connection: whether what its head asks, and what it held then.
 #[derive(Drop)]
 pub(crate) struct ToldSoFar {
     pub is_asked: bool,
     pub held: Held,
-    pub so_far: Result<(), Worn>,
 }
 
 /// Puts what is known of a connection now and was not told before: what its head asks, and as what
-/// it was let in. Where a line of the link could not be put so far, none is.
-pub(crate) fn tell_session<P: AtPress>(
+/// it was let in.
+pub(crate) fn tell_session<P: AtPress, R: WaitsAtEnd>(
+    rt: &R,
     place: &mut P,
     config: &Config,
     teller: Teller,
@@ -196,28 +182,24 @@ pub(crate) fn tell_session<P: AtPress>(
 ) -> ToldSoFar
     requires { IsTrue ((P.told place.old).speaks teller.by) }
     ensures same { IsSamePlace (P.told place.old) (P.told place.new) }
-    ensures worn { OnErr told.so_far (2 ^ 62 ≤ (P.told place.old).worn)
-        → OnErr result.so_far (2 ^ 62 ≤ (P.told place.new).worn) }
     ensures asked { result.is_asked ≡ is_some session.now.asked }
     ensures held { result.held ≡ session_holding session.now }
-    ensures put { (before : Option AskedValue) (first : List ℕ) (sheet : History LineValue)
+    ensures put { (before : Option AskedValue) (sheet : History LineValue)
         → told.is_asked ≡ is_some before → AsksOn before session.now.asked
         → HoldsOn told.held (session_holding session.now)
         → (IsHolding told.held → session.now.asked ≡ before)
-        → ArePut (is_ok told.so_far) teller.by
-        (first ∷ told_lines config.now teller.number before told.held)
+        → HasTold teller.by (told_lines config.now teller.number before told.held)
         sheet (P.told place.old).seen
-        → ArePut (is_ok result.so_far) teller.by
-        (first ∷ told_lines config.now teller.number session.now.asked result.held)
+        → HasTold teller.by (told_lines config.now teller.number session.now.asked result.held)
         sheet (P.told place.new).seen }
 {
     let asked = session.asks();
-    let so_far = tell_asked(place, teller, told.is_asked, asked, told.so_far);
+    tell_asked(rt, place, teller, told.is_asked, asked);
     let held = session.holds();
+    tell_entered(rt, place, config, teller, told.held, held);
     ToldSoFar {
         is_asked: asked.is_some(),
         held,
-        so_far: tell_entered(place, config, teller, told.held, held, so_far),
     }
 }
 

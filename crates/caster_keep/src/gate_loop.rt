@@ -23,12 +23,9 @@ use session_core::{Places, Setup};
 use std::sync::Wait;
 use turn_log::Turns;
 
-/// How many links a keeper serves at most: their counts are held in a `u64`.
-const MAX_LINKS: u64 = 1 << 62;
-
-/// Keeps the links that the gate gives, one after the other, until the gate is over or fails, a
-/// line could not be put, or 2^62 links were served. The gate is asked whether it is over before
-/// each accept, and where it is, no accept follows. The lines are put as the caller `by`.
+/// Keeps the links that the gate gives, one after the other, until the gate is over or fails. The
+/// gate is asked whether it is over before each accept, and where it is, no accept follows. The
+/// lines are put as the caller `by`.
 pub(crate) fn keep_gate<T: Turns<Ring>, B: Turns<Book>, G: Gate, P: AtPress, R: Wait>(
     rt: &R,
     setup: &Setup,
@@ -57,21 +54,14 @@ pub(crate) fn keep_gate<T: Turns<Ring>, B: Turns<Book>, G: Gate, P: AtPress, R: 
         (⟦<Places<T, B> as AllPlaces>⟧.worn places.new))
         (⟦<Places<T, B> as AllPlaces>⟧.seen places.old)
         (⟦<Places<T, B> as AllPlaces>⟧.seen places.new) keeper.old.gate keeper.new.gate
-        keeper.old.tally keeper.new.tally links texts (P.told place.new).worn result }
+        keeper.old.tally keeper.new.tally links texts result }
 {
     for _ in rt.forever() {
         if keeper.gate.is_over() {
             return Stop::Over;
         }
-        if keeper.count >= MAX_LINKS {
-            return Stop::Full;
-        }
         match keeper.gate.accept() {
-            Arrived::Link(link) => {
-                let Ok(()) = keep_link(rt, setup, places, keeper, link, place, by) else {
-                    return Stop::Worn;
-                };
-            }
+            Arrived::Link(link) => keep_link(rt, setup, places, keeper, link, place, by),
             Arrived::Idle => keeper.gate.rest(),
             Arrived::Failed => return Stop::Failed,
         }

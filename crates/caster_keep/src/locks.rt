@@ -87,7 +87,6 @@ fn keep_at_seats<
         return (Err(AllocError), booth);
     };
     take_posts(
-        rt,
         alloc,
         shared.config(),
         shared.table(),
@@ -159,7 +158,7 @@ pub(crate) fn keep_at_locks<
         places,
         work: porter,
     };
-    let booth = Booth::new(rt, shared.config(), hand);
+    let booth = Booth::new(shared.config(), hand);
     let (written, booth) = keep_at_seats(rt, alloc, shared, passes, keepers, booth, piles, notes);
     let SeatedCaller {
         number: _,

@@ -3,16 +3,12 @@
 ghost use Rattle.std.specs.Prelude.{◌≡◌};
 ghost use Rattle.caster_keep.specs.Stations.{new_porter};
 
-use keep_porter::WaitEnd;
-
 /// What the porter does: it waits at this console until nothing is wanted any more, and says how
 /// things stand each time that this is wanted.
 #[derive(Drop)]
 pub struct Porter<C> {
     /// Its console.
     pub console: C,
-    /// Why it waits no more, once it does not.
-    pub end: Option<WaitEnd>,
 }
 
 impl<C> Porter<C> {
@@ -20,6 +16,6 @@ impl<C> Porter<C> {
     pub fn new(console: C) -> Porter<C>
         ensures { result ≡ new_porter console }
     {
-        Porter { console, end: None }
+        Porter { console }
     }
 }

@@ -15,7 +15,6 @@ use std::sync::Wait;
 
 /// A keeper at the seats of the locks, with all that it needs to serve there.
 pub(crate) struct Post<'a, G: Gate, R: Wait + Sync> {
-    rt: &'a R,
     alloc: Global,
     config: &'a Config,
     table: &'a [u8],
@@ -40,7 +39,6 @@ impl<'a, G: Gate, R: Wait + Sync> AtPost<G> for Post<'a, G, R> {
 impl<'a, G: Gate, R: Wait + Sync> Post<'a, G, R> {
     /// The post of this hand.
     pub(crate) fn new(
-        rt: &'a R,
         alloc: Global,
         config: &'a Config,
         table: &'a [u8],
@@ -50,7 +48,6 @@ impl<'a, G: Gate, R: Wait + Sync> Post<'a, G, R> {
             (⟦<SeatedCaller<'a, Keeper<G>, R> as AtPlaces<Keeper<G>>>⟧.told hand.entry) }
     {
         Post {
-            rt,
             alloc,
             config,
             table,
@@ -64,7 +61,6 @@ impl<'a, G: Gate, R: Wait + Sync> Post<'a, G, R> {
             ≡ (⟦<Post<'a, G, R> as AtPost<G>>⟧.told self.entry).hand }
     {
         let Post {
-            rt: _,
             alloc: _,
             config: _,
             table: _,
@@ -79,11 +75,11 @@ impl<'a, L: Link + Send, G: Gate<Link = L> + Send, R: Wait + Sync> Writer for Po
 
     ghost ready = { λ post. MayKeep (⟦<Post<'a, G, R> as AtPost<G>>⟧.told post) };
 
-    ghost wrote = { λ old new lines worn. HasWorkedOn G.told G.over G.peer
+    ghost wrote = { λ old new lines. HasWorkedOn G.told G.over G.peer
         (⟦<Post<'a, G, R> as AtPost<G>>⟧.told old) (⟦<Post<'a, G, R> as AtPost<G>>⟧.told new)
-        lines worn };
+        lines };
 
-    fn write<P: AtPress>(&mut self, place: &mut P, me: u32) {
+    fn write<P: AtPress, Q: Wait>(&mut self, rt: &Q, place: &mut P, me: u32) {
         let setup = Setup {
             alloc: self.alloc,
             config: self.config,
@@ -91,7 +87,7 @@ impl<'a, L: Link + Send, G: Gate<Link = L> + Send, R: Wait + Sync> Writer for Po
             me: self.hand.number,
         };
         let hand = &mut self.hand;
-        let stop = keep_gate(self.rt, &setup, &mut hand.places, &mut hand.work, place, me);
+        let stop = keep_gate(rt, &setup, &mut hand.places, &mut hand.work, place, me);
         hand.work.stop = Some(stop);
     }
 }

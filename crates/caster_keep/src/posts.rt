@@ -35,7 +35,6 @@ pub(crate) fn room_for_posts<A, B>(
 
 /// Puts each of these callers at its post, behind those that were put before.
 pub(crate) fn take_posts<'a, G: Gate, B, R: Wait + Sync>(
-    rt: &'a R,
     alloc: Global,
     config: &'a Config,
     table: &'a [u8],
@@ -56,8 +55,8 @@ pub(crate) fn take_posts<'a, G: Gate, B, R: Wait + Sync>(
     let Some(hand) = hands.pop() else {
         return;
     };
-    take_posts(rt, alloc, config, table, hands, posts);
-    posts.push_reserved(Duty::Gate(Post::new(rt, alloc, config, table, hand)));
+    take_posts(alloc, config, table, hands, posts);
+    posts.push_reserved(Duty::Gate(Post::new(alloc, config, table, hand)));
 }
 
 /// Takes each of these from its post: the callers at gates come to the one list, and those at

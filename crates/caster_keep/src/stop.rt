@@ -7,8 +7,4 @@ pub enum Stop {
     Over,
     /// Its gate failed.
     Failed,
-    /// A line could not be put: the press was worn by 2^62 lines or more.
-    Worn,
-    /// It served 2^62 links.
-    Full,
 }

@@ -1,20 +1,18 @@
 //! What is told once all keepers have stopped.
 
-ghost use Rattle.std.specs.Prelude.{◌≡◌, ◌≤◌, ℕ, List, [], ◌∷◌, ◌++◌, length, map, vec_capacity};
+ghost use Rattle.std.specs.Prelude.{◌≡◌, ◌≤◌, ℕ, List, [], ◌++◌, length, map, vec_capacity};
 ghost use Rattle.session_model.specs.Text.{closed_text};
 ghost use Rattle.session_text.specs.Room.{closed_room};
 ghost use Rattle.caster_press.specs.declared.press.OutputStart.{OutputStart};
 ghost use Rattle.caster_press.specs.Written.{IsWritten};
 ghost use Rattle.caster_keep.specs.Keeping.{first_stop};
-ghost use Rattle.caster_keep.specs.Together.{porter_stop_at, stop_at, stop_of_wait};
+ghost use Rattle.caster_keep.specs.Together.{stop_at};
 
 use crate::keeper::Keeper;
-use crate::porter::Porter;
 use crate::stop::Stop;
 use cast_config::Config;
 use cast_io::Sink;
 use caster_press::Closed as Pressed;
-use keep_porter::WaitEnd;
 use session_core::Closed;
 use session_text::closed_text;
 
@@ -30,26 +28,6 @@ pub(crate) fn first_stop<G>(keepers: &[Keeper<G>]) -> Stop
         }
     }
     Stop::Over
-}
-
-/// The same of these keepers, or else the stop of the porter.
-pub(crate) fn first_stop_of_all<G, C>(keepers: &[Keeper<G>], porter: &Porter<C>) -> Stop
-    ensures { result ≡ first_stop (map stop_at keepers.now ++ porter_stop_at porter.now ∷ []) }
-{
-    match first_stop(keepers) {
-        Stop::Over => porter_stop(porter.end),
-        stop => stop,
-    }
-}
-
-/// Why a porter stopped with this end; one that has none met no press that was worn.
-fn porter_stop(end: Option<WaitEnd>) -> Stop
-    ensures { result ≡ stop_of_wait end }
-{
-    match end {
-        None | Some(WaitEnd::Over) => Stop::Over,
-        Some(WaitEnd::Worn) => Stop::Worn,
-    }
 }
 
 /// Writes the totals behind the lines, unless a write failed before. Gives the output back, and

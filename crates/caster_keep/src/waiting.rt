@@ -13,15 +13,15 @@ use cast_console::Console;
 use caster_accounts::Book;
 use caster_places::AllPlaces;
 use caster_press::AtPress;
-use keep_porter::{WaitEnd, wait_at};
+use keep_porter::wait_at;
 use mount_ring::Ring;
 use session_core::Places;
 use std::sync::Wait;
 use turn_log::Turns;
 
-/// Waits at the console until nothing is wanted there any more or a line could not be put, and says
-/// how things stand each time that this is wanted: as the caller `me` at the places, of which that
-/// at the book is not used, and as the caller `by` at the press.
+/// Waits at the console until nothing is wanted there any more, and says how things stand each time
+/// that this is wanted: as the caller `me` at the places, of which that at the book is not used, and
+/// as the caller `by` at the press.
 pub(crate) fn wait<T: Turns<Ring>, B: Turns<Book>, C: Console, P: AtPress, R: Wait>(
     rt: &R,
     config: &Config,
@@ -30,7 +30,7 @@ pub(crate) fn wait<T: Turns<Ring>, B: Turns<Book>, C: Console, P: AtPress, R: Wa
     console: &mut C,
     place: &mut P,
     by: u32,
-) -> WaitEnd
+)
     requires kept { (cap : ℕ) × KeepsRules cap config.now }
     requires fit { Fit config.now me (⟦<Places<T, B> as AllPlaces>⟧.known places.old) }
     requires speaks { IsTrue ((P.told place.old).speaks by) }
@@ -43,8 +43,8 @@ pub(crate) fn wait<T: Turns<Ring>, B: Turns<Book>, C: Console, P: AtPress, R: Wa
         (⟦<Places<T, B> as AllPlaces>⟧.worn places.new)
         (⟦<Places<T, B> as AllPlaces>⟧.seen places.old)
         (⟦<Places<T, B> as AllPlaces>⟧.seen places.new)
-        (C.told console.old) (C.told console.new) given texts (P.told place.new).worn result }
+        (C.told console.old) (C.told console.new) given texts }
 {
     let rings = places.rings.as_mut_slice();
-    wait_at(rt, config, rings, me, console, place, by)
+    wait_at(rt, config, rings, me, console, place, by);
 }

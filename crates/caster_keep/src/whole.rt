@@ -15,7 +15,7 @@ use crate::keeper::Keeper;
 use crate::locks::keep_at_locks;
 use crate::porter::Porter;
 use crate::stop::Stop;
-use crate::totals::{first_stop_of_all, write_totals};
+use crate::totals::{first_stop, write_totals};
 use cast_config::Config;
 use cast_console::{Console, Lodge};
 use cast_io::{Door, Gate, Sink, Street, StreetFault, Yard};
@@ -143,9 +143,9 @@ where
         &mut piles,
         notes,
     );
-    let stop = first_stop_of_all(&keepers, &porter);
+    let stop = first_stop(&keepers);
     give_back(yard, keepers);
-    let Porter { console, end: _ } = porter;
+    let Porter { console } = porter;
     lodge.take_console(console);
     let Ok(pressed) = written else {
         drop(shared);
@@ -207,12 +207,14 @@ where
 
 /// Keeps serving: opens a gate for each worker at this address, makes one to the peer of each relay
 /// and a place for lines, in this order; then all callers serve side by side, each the links of its
-/// gate until the gate is over, it fails, a line could not be put, or 2^62 links came. The lines of
-/// each link go to the one place for lines as they become known. Beside them a porter waits at a
-/// console of the lodge until nothing is wanted there any more, and puts lines that say how things
-/// stand each time that this is wanted. Then the gates are shut, the console is given back, the
-/// locks are closed, the totals are written behind the lines, and the place for lines is given
-/// back.
+/// gate until the gate is over or fails. The lines of each link go to the one place for lines as
+/// they become known. Beside them a porter waits at a console of the lodge until nothing is wanted
+/// there any more, and puts lines that say how things stand each time that this is wanted. Then the
+/// gates are shut, the console is given back, the locks are closed, the totals are written behind
+/// the lines, and the place for lines is given back.
+///
+/// A caller that served 2^62 links waits for ever, and so does each that puts a line where 2^62 were
+/// put.
 ///
 /// `quiet` is the number of seconds after which a link is to be cut that gave no byte and took
 /// none, 0 for never: the yard is asked for that.

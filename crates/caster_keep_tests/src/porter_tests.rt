@@ -9,7 +9,7 @@ use cast_config::{Config, read_config};
 use cast_console::{MemConsole, Wanted};
 use cast_io::MemSink;
 use caster_press::{AtPress, Writer, write_at_once};
-use keep_porter::{WaitEnd, wait_at};
+use keep_porter::wait_at;
 use mount_ring::Ring;
 use rtcm_frame::Cutter;
 use source_session::SourceSession;
@@ -64,28 +64,25 @@ now end
 
 /// A porter at this console and at these desks, one for the ring of each mountpoint.
 #[derive(Drop)]
-struct Waiting<'a, R: Wait + Sync> {
-    rt: &'a R,
+struct Waiting<'a> {
     config: &'a Config,
     rings: Vec<Desk<Ring>>,
     console: MemConsole,
-    end: Option<WaitEnd>,
 }
 
-impl<'a, R: Wait + Sync> Writer for Waiting<'a, R> {
-    ghost use Rattle.std.specs.Prelude.{map};
+impl<'a> Writer for Waiting<'a> {
+    ghost use Rattle.std.specs.Prelude.{◌≡◌, map, true};
     ghost use Rattle.turn_log.specs.Desks.{desk_shape};
     ghost use Rattle.cast_console.specs.Fakes.{console_told};
-    ghost use Rattle.caster_keep_tests.specs.LonePorters.{HasEnded, MayWait};
+    ghost use Rattle.caster_keep_tests.specs.LonePorters.{MayWait};
 
     ghost ready = { λ waiting. MayWait waiting.config.now (map desk_shape waiting.rings.items) };
 
-    ghost wrote = { λ old new lines worn. HasEnded new.end (console_told new.console) worn };
+    ghost wrote = { λ old new lines. (console_told new.console).over ≡ true };
 
-    fn write<P: AtPress>(&mut self, place: &mut P, me: u32) {
+    fn write<P: AtPress, R: Wait>(&mut self, rt: &R, place: &mut P, me: u32) {
         let rings = self.rings.as_mut_slice();
-        let end = wait_at(self.rt, self.config, rings, 0, &mut self.console, place, me);
-        self.end = Some(end);
+        wait_at(rt, self.config, rings, 0, &mut self.console, place, me);
     }
 }
 
@@ -131,70 +128,53 @@ fn desks_of(alloc: Global, config: &Config) -> Result<Vec<Desk<Ring>>, Fail>
 }
 
 /// A porter at whose console these are wanted.
-fn porter_of<'a, R: Wait + Sync>(
-    rt: &'a R,
-    alloc: Global,
-    config: &'a Config,
-    wanted: &[Wanted],
-) -> Result<Waiting<'a, R>, Fail>
-    ensures { IfOk result ⟦<Waiting<'a, R> as Writer>⟧.ready }
+fn porter_of<'a>(alloc: Global, config: &'a Config, wanted: &[Wanted]) -> Result<Waiting<'a>, Fail>
+    ensures { IfOk result ⟦<Waiting<'a> as Writer>⟧.ready }
 {
     Ok(Waiting {
-        rt,
         config,
         rings: desks_of(alloc, config)?,
         console: MemConsole::new(wanted.to_vec(alloc)?),
-        end: None,
     })
 }
 
 /// The work of that porter alone.
-fn works_of<'a, R: Wait + Sync>(
-    rt: &'a R,
+fn works_of<'a>(
     alloc: Global,
     config: &'a Config,
     wanted: &[Wanted],
-) -> Result<Vec<Waiting<'a, R>>, Fail>
+) -> Result<Vec<Waiting<'a>>, Fail>
     ensures one { IfOk result (λ works. length works.items ≡ 1) }
-    ensures ready { IfOk result (λ works. All ⟦<Waiting<'a, R> as Writer>⟧.ready works.items) }
+    ensures ready { IfOk result (λ works. All ⟦<Waiting<'a> as Writer>⟧.ready works.items) }
 {
-    let porter = porter_of(rt, alloc, config, wanted)?;
+    let porter = porter_of(alloc, config, wanted)?;
     Ok(Vec::from_array(alloc, [porter])?)
 }
 
 /// What this output takes of these works, and whether it is torn.
 fn text_of<'a, R: Threads + Wait + Sync>(
-    rt: &'a R,
+    rt: &R,
     alloc: Global,
     sink: MemSink,
-    works: &mut Vec<Waiting<'a, R>>,
+    works: &mut Vec<Waiting<'a>>,
 ) -> Result<(Vec<u8>, bool), Fail>
     requires one { length works.old.items ≡ 1 }
-    requires ready { All ⟦<Waiting<'a, R> as Writer>⟧.ready works.old.items }
+    requires ready { All ⟦<Waiting<'a> as Writer>⟧.ready works.old.items }
 {
     let closed = write_at_once(rt, alloc, sink, works)?;
     Ok((closed.sink.bytes().to_vec(alloc)?, closed.is_torn))
 }
 
-/// Why the porter waits no more that did the first of these works, if it does not.
-fn end_of<R: Wait + Sync>(works: &[Waiting<R>]) -> Option<WaitEnd> {
-    works.first()?.end
-}
-
-/// Why a porter waits no more, what its output took, and whether that is torn.
-type Waited = (Option<WaitEnd>, Vec<u8>, bool);
-
-/// What came of a porter with this output, at whose console these are wanted.
+/// What the output takes of a porter at whose console these are wanted, and whether it is torn.
 fn wait_with<R: Threads + Wait + Sync>(
     rt: &R,
     alloc: Global,
     config: &Config,
     wanted: &[Wanted],
     sink: MemSink,
-) -> Result<Waited, Fail> {
-    let mut works = works_of(rt, alloc, config, wanted)?;
-    let (text, is_torn) = text_of(rt, alloc, sink, &mut works)?;
-    Ok((end_of(&works), text, is_torn))
+) -> Result<(Vec<u8>, bool), Fail> {
+    let mut works = works_of(alloc, config, wanted)?;
+    text_of(rt, alloc, sink, &mut works)
 }
 
 /// The same of the configuration that is tried.
@@ -203,7 +183,7 @@ fn wait_alone<R: Threads + Wait + Sync>(
     alloc: Global,
     wanted: &[Wanted],
     sink: MemSink,
-) -> Result<Waited, Fail> {
+) -> Result<(Vec<u8>, bool), Fail> {
     let config = read_config(alloc, FILE)?;
     wait_with(rt, alloc, &config, wanted, sink)
 }
@@ -219,8 +199,8 @@ fn is_said<R: Threads + Wait + Sync>(
     torn: bool,
 ) -> Result<bool, Fail> {
     let sink = MemSink::torn(alloc, [fails].to_vec(alloc)?);
-    let (end, text, is_torn) = wait_alone(rt, alloc, wanted, sink)?;
-    Ok(end == Some(WaitEnd::Over) && text.as_slice() == said && is_torn == torn)
+    let (text, is_torn) = wait_alone(rt, alloc, wanted, sink)?;
+    Ok(text.as_slice() == said && is_torn == torn)
 }
 
 #[test]

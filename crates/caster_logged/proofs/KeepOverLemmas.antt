@@ -126,10 +126,6 @@ zero_end true stop old new first now status end zero = absurd (omega (arith, end
 zero_end false stops.Over old new first now status end zero = (refl, refl, end.1.0)
 zero_end false stops.Failed old new first now status end zero =
     absurd (lost_not_zero old new first now status end zero)
-zero_end false stops.Worn old new first now status end zero =
-    absurd (lost_not_zero old new first now status end zero)
-zero_end false stops.Full old new first now status end zero =
-    absurd (lost_not_zero old new first now status end zero)
 
 pub kept_whole : {files : Files} {config addr : List ℕ} {quiet : ℕ} {old new : YardList}
     {back_before back_now : List ConsoleTold} {written now_written : List ℕ} {first now status : ℕ} → status ≡ 0

@@ -1,8 +1,8 @@
 -- Keepers whose gates are told are those of logs, where the gates log themselves.
-use Rattle.std.proofs.Common.{◌≤◌, ◌≡◌, ◌∙◌, ℕ, suc, ◌+◌, ◌<◌, Bool, true, false, List, [], ◌∷◌, ◌++◌, length, map, fold, Option, Some, Ok, refl, ap, sym, subst}
+use Rattle.std.proofs.Common.{◌≡◌, ◌∙◌, ℕ, suc, ◌+◌, ◌<◌, Bool, true, false, List, [], ◌∷◌, ◌++◌, length, map, fold, Option, Some, Ok, refl, ap, sym, subst}
 use Rattle.std.specs.Prelude.{take, drop, ◌-◌}
 use Rattle.std.specs.List.{All, flat_map}
-use Rattle.std.proofs.lemmas.List.{length-map, take-append-drop}
+use Rattle.std.proofs.lemmas.List.{take-append-drop}
 use Rattle.cast_io.specs.declared.steps.Step.{Step}
 use Rattle.cast_io.specs.declared.yard_asked.YardAsked.{YardAsked}
 use Rattle.cast_io.specs.Causes.{Rose}
@@ -29,14 +29,13 @@ use Rattle.caster_link.specs.declared.role.Role.{Role}
 use Rattle.caster_link.specs.Links.{opening_of}
 use Rattle.caster_serve.specs.Callers.{calls_in}
 use Rattle.caster_serve.specs.Works.{links_of, receipts_of, tallied}
-use Rattle.keep_porter.specs.Porters.{AreAllSaid}
 use Rattle.caster_keep.specs.declared.stop.Stop.{Stop}
 use Rattle.caster_keep.specs.declared.stop.Stop.TheVariants as stops
 use Rattle.caster_keep.specs.declared.whole.Outcome.{Outcome}
-use Rattle.caster_keep.specs.Links.{Kept, records_of}
-use Rattle.caster_keep.specs.Keepers.{AreItsLines, IsWhy as ToldWhy}
+use Rattle.caster_keep.specs.Links.{Kept, lines_from, records_of}
+use Rattle.caster_keep.specs.Keepers.{IsWhy as ToldWhy}
 use Rattle.caster_keep.specs.Gates.{gate_told}
-use Rattle.caster_keep.specs.Keeping.{AreKeepers, IsKeeper, HasKept, IsPorter, KeeperTold, first_stop, receipts_by as told_receipts, role_of, stop_of, stop_of_end}
+use Rattle.caster_keep.specs.Keeping.{AreKeepers, IsKeeper, HasKept, IsPorter, KeeperTold, first_stop, receipts_by as told_receipts, role_of, stop_of}
 use Rattle.serve_promise.specs.Accounts.{Bill, IsBilled, sums_by}
 use Rattle.serve_promise.specs.Links.{IsLinkKept}
 use Rattle.keep_promise.specs.Links.{IsAsked, IsKept as ToldKept, bill_of as told_bill}
@@ -125,17 +124,14 @@ bills_are (kept ∷ own) = ap (λ (l : List Bill). bill_of kept ∷ l) (bills_ar
 module _ {G : Type 0} (told : G → DoorTold) (over : G → Bool) (peer : G → List ℕ) (door : G → DoorLog)
     (logs : (gate : G) → told gate ≡ door_logged (door gate)) where
   -- why it stopped, by the log of its gate
-  why_logged : (stop : Stop) (at now : G) (log : KeeperLog) (met most : ℕ) → log.over ≡ over now
-      → log.door ≡ door now → met ≤ most → ToldWhy told over peer stop at now (length log.links) met
-      → IsWhy stop log most
-  why_logged stops.Over at now log met most same logged few is = same ∙ is.1
-  why_logged stops.Failed at now log met most same logged few is = (
+  why_logged : (stop : Stop) (at now : G) (log : KeeperLog) → log.over ≡ over now → log.door ≡ door now
+      → ToldWhy told over peer stop at now → IsWhy stop log
+  why_logged stops.Over at now log same logged is = same ∙ is.1
+  why_logged stops.Failed at now log same logged is = (
     (told is.asked).faults,
     subst (Rose (told is.asked).faults)
         (ap (λ (d : DoorTold). d.faults) (logs now) ∙ ap (λ (d : DoorLog). d.faults) (sym logged)) (is.failed.failed refl),
   )
-  why_logged stops.Worn at now log met most same logged few is = (met, few, is.1)
-  why_logged stops.Full at now log met most same logged few is = is.1
 
   -- the keeper as it is logged
   record Logged (c : Config) (histories : Histories) (lines : History Line) (me : ℕ) (keeper : KeeperTold G) : Type 0
@@ -150,7 +146,7 @@ module _ {G : Type 0} (told : G → DoorTold) (over : G → Bool) (peer : G → 
 
   logged : (c : Config) (histories : Histories) (lines : History Line) (me : ℕ) (keeper : KeeperTold G)
       → ToldKeeper told c histories lines me keeper
-      → IsKeeper told over peer c (calls_in histories) (length lines) me keeper → Logged c histories lines me keeper
+      → IsKeeper told over peer c (calls_in histories) me keeper → Logged c histories lines me keeper
   logged c histories lines me keeper is of =
       let back : map link_logged (door keeper.gate).back ≡ links_of (records_of keeper.links) =
       is.back (map link_logged (door keeper.gate).back) (ap (λ (d : DoorTold). d.back) (logs keeper.gate)) in
@@ -178,8 +174,7 @@ module _ {G : Type 0} (told : G → DoorTold) (over : G → Bool) (peer : G → 
           nothing_else = is.nothing_else;
           nothing_booked = is.nothing_booked;
           sound_throughout = is.sound_throughout;
-          lines_are = subst (λ (l : List Kept). AreItsLines keeper.stop c me keeper.role l (map text_of (own me lines)))
-              all.1 is.lines_are;
+          lines_are = is.lines_are ∙ ap (lines_from c me keeper.role 1) all.1;
           why = why_logged keeper.stop of.kept.at keeper.gate (record {
             role = keeper.role;
             door = door keeper.gate;
@@ -187,9 +182,7 @@ module _ {G : Type 0} (told : G → DoorTold) (over : G → Bool) (peer : G → 
             links = all.0;
             seen = keeper.seen;
             stop = keeper.stop;
-          }) of.met (length lines) refl refl of.few
-              (subst (λ (n : ℕ). ToldWhy told over peer keeper.stop of.kept.at keeper.gate n of.met)
-              (ap length all.1 ∙ length-map all.0 kept_logged) of.kept.why);
+          }) refl refl of.kept.why;
         };
       }
     where
@@ -211,7 +204,7 @@ module _ {G : Type 0} (told : G → DoorTold) (over : G → Bool) (peer : G → 
 
   all_logged : (c : Config) (histories : Histories) (lines : History Line) (n : ℕ) (keepers : List (KeeperTold G))
       → ToldKeepers told c histories lines n keepers
-      → AreKeepers told over peer c (calls_in histories) (length lines) n keepers
+      → AreKeepers told over peer c (calls_in histories) n keepers
       → AllLogged c histories lines n keepers
   all_logged c histories lines n [] is of = record {
     list = [];
@@ -296,14 +289,12 @@ module _ {G O : Type 0} (told : G → DoorTold) (over : G → Bool) (peer : G �
         one_each = is.one_each;
         frames = is.frames;
         kept = all.kept;
-        porter_is = subst (λ (n : ℕ). IsPorter c (calls_in ended.histories) (length ended.lines) n ended.porter)
+        porter_is = subst (λ (n : ℕ). IsPorter c (calls_in ended.histories) n ended.porter)
             (sym all.count) ended.all.porter_is;
         porter_else = subst (λ (n : ℕ). (mount : ℕ) → GoesOn n (history_at ended.porter.seen.rings mount)
             (history_at ended.histories.rings mount)) (sym all.count) is.porter_else;
-        porter_lines = subst (λ (n : ℕ). AreAllSaid ended.porter.end c ended.porter.given
-            (map text_of (own n ended.lines))) (sym all.count)
-            (subst (λ (l : List Line). AreAllSaid ended.porter.end c ended.porter.given (map text_of l))
-            (sym ended.all.porter_owns) ended.all.porter_is.answered.said);
+        porter_lines = ap (λ (n : ℕ). map text_of (own n ended.lines)) all.count
+            ∙ ap (map text_of) ended.all.porter_owns ∙ ended.all.porter_is.answered.said;
         nothing_else = subst (λ (n : ℕ). (mount : ℕ) → All (λ (entry : ℕ × RingCall). entry.0 < n + 1)
             (history_at ended.histories.rings mount)) (sym all.count) is.nothing_else;
         shown = subst (λ (n : ℕ). AllShown n ended.histories.rings ended.porter.given) (sym all.count) is.shown;
@@ -323,8 +314,7 @@ module _ {G O : Type 0} (told : G → DoorTold) (over : G → Bool) (peer : G �
             (faults_of ended.notes) text) (notes_log ended.first) ended.text));
         closed_is = ended.closed_is;
         total = ended.total ∙ ap (fold tallied nothing) (sym all.receipts);
-        stop_is = ended.stop_is
-            ∙ ap (λ (l : List Stop). first_stop (l ++ stop_of_end ended.porter.end ∷ [])) (sym all.stops);
+        stop_is = ended.stop_is ∙ ap first_stop (sym all.stops);
       }
     where
       notes_of : Option (List ℕ) → ℕ → NotesTold

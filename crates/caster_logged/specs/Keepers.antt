@@ -1,7 +1,7 @@
 -- What is promised of a caster that kept serving until it ended, by the logs of its gates and of
 -- its links, by the bytes that its place for lines took, and by one history for each mountpoint,
 -- one of the book of accounts and one of lines.
-use Rattle.std.specs.Prelude.{◌≡◌, ◌≢◌, ◌⊎◌, ℕ, ◌+◌, ◌<◌, ⊤, Bool, true, false, List, [], ◌∷◌, ◌++◌, length, map, fold, Option, Some, ◌^◌, ◌≤◌, IsTrue}
+use Rattle.std.specs.Prelude.{◌≡◌, ◌≢◌, ◌⊎◌, ℕ, ◌+◌, ◌<◌, ⊤, Bool, true, false, List, [], ◌∷◌, ◌++◌, length, map, fold, Option, Some, IsTrue}
 use Rattle.std.specs.List.{All, flat_map}
 use Rattle.cast_io.specs.declared.yard_asked.YardAsked.{YardAsked}
 use Rattle.cast_io.specs.Causes.{Rose}
@@ -30,14 +30,13 @@ use Rattle.caster_link.specs.Links.{IsCausedBy, opening_of}
 use Rattle.caster_link.specs.Wear.{only_worn, IsRefusedBy}
 use Rattle.caster_serve.specs.Callers.{calls_in}
 use Rattle.caster_serve.specs.Works.{tallied}
-use Rattle.keep_porter.specs.Porters.{AreAllSaid}
+use Rattle.keep_porter.specs.Porters.{answer_lines}
 use Rattle.caster_keep.specs.declared.stop.Stop.{Stop}
 use Rattle.caster_keep.specs.declared.stop.Stop.TheVariants as stops
 use Rattle.caster_keep.specs.declared.whole.Outcome.{Outcome}
 use Rattle.caster_keep.specs.Gates.{asked_of, roles_of}
-use Rattle.caster_keep.specs.Links.{Kept}
-use Rattle.caster_keep.specs.Keepers.{AreItsLines}
-use Rattle.caster_keep.specs.Keeping.{IsPorter, PorterTold, first_stop, stop_of_end}
+use Rattle.caster_keep.specs.Links.{Kept, lines_from}
+use Rattle.caster_keep.specs.Keeping.{IsPorter, PorterTold, first_stop}
 use Rattle.serve_promise.specs.Accounts.{AreCapped, Bill, IsBilled, sums_by}
 use Rattle.serve_promise.specs.Links.{AllFrames, IsLinkKept}
 use Rattle.keep_promise.specs.Links.{IsAsked, IsItsClaim}
@@ -115,17 +114,14 @@ receipts_by keeper = map (λ (kept : KeptLog). kept.receipt) keeper.links
 abbrev pub bills_by : KeeperLog → List Bill
 bills_by keeper = map bill_of keeper.links
 
--- Why it stopped, behind so many lines of all: its gate was over; its gate counted a fault; the
--- press was worn by 2^62 lines or more; or it had served 2^62 links.
-abbrev pub IsWhy : Stop → KeeperLog → ℕ → Type 0
-IsWhy stops.Over keeper most = IsTrue keeper.over
-IsWhy stops.Failed keeper most = (before : ℕ) × Rose before keeper.door.faults
-IsWhy stops.Worn keeper most = (met : ℕ) × (met ≤ most) × (2 ^ 62 ≤ met)
-IsWhy stops.Full keeper most = length keeper.links ≡ 2 ^ 62
+-- why it stopped: its gate was over, or its gate counted a fault
+abbrev pub IsWhy : Stop → KeeperLog → Type 0
+IsWhy stops.Over keeper = IsTrue keeper.over
+IsWhy stops.Failed keeper = (before : ℕ) × Rose before keeper.door.faults
 
 -- The keeper of this number served these links, all that came back to its gate, in order, from the
 -- first call on, and called nothing else. Of the history of lines its own are exactly the lines of
--- these links; or the first of these, where it stopped since a line could not be put.
+-- these links.
 pub record IsKeeperKept (c : Config) (histories : Histories) (lines : History Line) (me : ℕ)
     (keeper : KeeperLog) : Type 0 where
   pub back : keeper.door.back ≡ map (λ (kept : KeptLog). kept.link) keeper.links
@@ -135,9 +131,9 @@ pub record IsKeeperKept (c : Config) (histories : Histories) (lines : History Li
   pub nothing_booked : GoesOn me keeper.seen.book histories.book
   pub sound_throughout : (mount : ℕ)
       → AreSoundThroughout c mount me (history_at histories.rings mount)
-  pub lines_are : AreItsLines keeper.stop c me keeper.role (map kept_logged keeper.links)
-      (map text_of (own me lines))
-  pub why : IsWhy keeper.stop keeper (length lines)
+  pub lines_are : map text_of (own me lines)
+      ≡ lines_from c me keeper.role 1 (map kept_logged keeper.links)
+  pub why : IsWhy keeper.stop keeper
 
 -- these keepers served so, numbered from this number on
 abbrev pub AreKeepersKept : Config → Histories → History Line → ℕ → List KeeperLog → Type 0
@@ -193,10 +189,11 @@ pub record HasKeptAll (c : Config) (addr : List ℕ) (quiet : ℕ) (old new : Ya
   pub one_each : length histories.rings ≡ length c.mount
   pub frames : AllFrames histories.rings
   pub kept : AreKeepersKept c histories lines 0 keepers
-  pub porter_is : IsPorter c (calls_in histories) (length lines) (length keepers) porter
+  pub porter_is : IsPorter c (calls_in histories) (length keepers) porter
   pub porter_else : (mount : ℕ) → GoesOn (length keepers) (history_at porter.seen.rings mount)
       (history_at histories.rings mount)
-  pub porter_lines : AreAllSaid porter.end c porter.given (map text_of (own (length keepers) lines))
+  pub porter_lines : map text_of (own (length keepers) lines)
+      ≡ flat_map (answer_lines c) porter.given
   pub nothing_else : (mount : ℕ) → All (λ (entry : ℕ × RingCall). entry.0 < length keepers + 1)
       (history_at histories.rings mount)
   pub shown : AllShown (length keepers) histories.rings porter.given
@@ -207,15 +204,13 @@ pub record HasKeptAll (c : Config) (addr : List ℕ) (quiet : ℕ) (old new : Ya
   pub closed_is : outcome.closed ≡ closed_of c histories
   pub accounts : outcome.closed.accounts ≡ sums_by 1 (flat_map bills_by keepers) c.account
   pub total : outcome.closed.total ≡ fold tallied nothing (flat_map receipts_by keepers)
-  pub stop_is : outcome.stop
-      ≡ first_stop (map (λ (keeper : KeeperLog). keeper.stop) keepers
-      ++ stop_of_end porter.end ∷ [])
+  pub stop_is : outcome.stop ≡ first_stop (map (λ (keeper : KeeperLog). keeper.stop) keepers)
 
 -- ---- how the program ended
 
 -- There was a caster over the configuration in the file of this path; it kept serving until it
 -- ended, and with this status the program said how: 0 where all gates were over and all of its text
--- was taken, 5 where that is torn, and else the line of a network that failed.
+-- was taken, 5 where that is torn, and the line of a network that failed where a gate failed.
 pub record WasKeptAll (files : Files) (config addr : List ℕ) (quiet : ℕ) (old new : YardList)
     (back_before back_now : List ConsoleTold) (written now_written : List ℕ)
     (faults now status : ℕ) : Type 0 where

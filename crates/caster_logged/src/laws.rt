@@ -71,8 +71,7 @@ pub fn kept_links_are_logged<N: Yard>()
 /// A caster that keeps serving is complete, where gates are logs and places for lines tell what
 /// they took. Let whatever comes from its file be a configuration. Let no count of faults rise, of
 /// its files, of its yard and of its output, and no gate and no place for lines come back that
-/// counted one. Then it ends with 0, or with 7 for want of memory; with 6 only where 2^62 lines
-/// were put.
+/// counted one. Then it ends with 0, or with 7 for want of memory.
 pub fn keeping_is_complete<N: Yard>()
     ensures { (door : N.Gate → DoorLog) (text : N.Notes → List ℕ)
         → ((gate : N.Gate) → N.Gate.told gate ≡ door_logged (door gate))
@@ -86,7 +85,7 @@ pub fn keeping_is_complete<N: Yard>()
         (Rose read_before read_now) (Some written) (Some now_written) first now status
         → GivesConfig (FileCame files opened closed) config → CameBackWhole old new
         → ¬ Rose read_before read_now → ¬ Rose f h → ¬ Rose first now
-        → EndsAsItShould addr quiet old new back_before back_now status }
+        → EndsAsItShould status }
 {}
 
 /// A session that was recorded is one over the links that the door's log has.

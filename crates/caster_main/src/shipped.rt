@@ -109,8 +109,8 @@ pub fn caster_over<R: Threads + Wait + Sync>(
     // A caster that keeps serving, at every status. Either it served: by the steps and bytes that
     // gates and links logged each link kept what is promised. With 0 standard output took exactly
     // the lines of these links and of the answers to `status`, and the totals. With 6 it took these
-    // and the line of a network that failed, for a gate failed, or 2^62 lines or links were told.
-    // With 5 a write failed, and it took a first part. Or nobody served, and the status is not 0.
+    // and the line of a network that failed, for a gate failed. With 5 a write failed, and it took a
+    // first part. Or nobody served, and the status is not 0.
     ensures kept { (config addr : List ℕ) (quiet : ℕ) → AreKeep (texts words.now) config addr quiet
         → HasEndedAll (HasReadFile store.old.log store.new.log) config addr quiet
         (yard_list street.old.yard) (yard_list street.new.yard)
@@ -144,9 +144,13 @@ pub fn caster_over<R: Threads + Wait + Sync>(
         (yard_logged street.old.yard) (yard_logged street.new.yard)
         out.old.taken out.new.taken }
 
+    // With 6 the network failed: the count of faults of its gates rose.
+    ensures kept_network_fault { result ≡ 6 → (config addr : List ℕ) (quiet : ℕ)
+        → AreKeep (texts words.now) config addr quiet
+        → Rose street.old.yard.faults street.new.yard.faults }
+
     // It is complete: where whatever came from the file is a configuration, and neither files,
-    // gates nor standard output counted a fault, it ends with 0, or with 7 for want of memory. With
-    // 6 it ends then only where it put 2^62 lines.
+    // gates nor standard output counted a fault, it ends with 0, or with 7 for want of memory.
     ensures keep_complete { (config addr : List ℕ) (quiet : ℕ)
         → AreKeep (texts words.now) config addr quiet
         → GivesConfig (FileCame None (Some store.old.log) (Some store.new.log)) config
@@ -154,9 +158,7 @@ pub fn caster_over<R: Threads + Wait + Sync>(
         → ¬ Rose store.old.faults store.new.faults
         → ¬ Rose street.old.yard.faults street.new.yard.faults
         → ¬ Rose out.old.faults out.new.faults
-        → EndsAsItShould addr quiet (yard_list street.old.yard) (yard_list street.new.yard)
-        (⟦<InputLodge<'static> as Lodge>⟧.back lodge.old)
-        (⟦<InputLodge<'static> as Lodge>⟧.back lodge.new) result }
+        → EndsAsItShould result }
 
     // What is not touched.
     ensures kept_input { LeavesInputLog (texts words.now) input.old input.new }
@@ -208,6 +210,9 @@ fn run_logged<R: Threads + Wait + Sync>(
         (FileGave None (Some store.old.log) (Some store.new.log)) config addr quiet
         (yard_logged street.old.yard) (yard_logged street.new.yard)
         out.old.taken out.new.taken }
+    ensures kept_network_fault { result ≡ 6 → (config addr : List ℕ) (quiet : ℕ)
+        → AreKeep (texts words.now) config addr quiet
+        → Rose street.old.yard.faults street.new.yard.faults }
     ensures kept_input { LeavesInputLog (texts words.now) input.old input.new }
     ensures kept_store { LeavesFiles (texts words.now) store.old store.new }
     ensures kept_street { LeavesNet (texts words.now) result street.old street.new }

@@ -14,7 +14,7 @@ use Rattle.caster_press.specs.declared.line.Line.{Line}
 use Rattle.caster_press.specs.declared.press.OutputStart.{OutputStart}
 use Rattle.caster_press.specs.Callers.{AreCallers, AreNewCallers, CallerTold, HasCalled, HaveCalled, HaveLeft, HaveWritten, IsCaller, MayCall, Wrote, lines_put, rows_of}
 use Rattle.caster_press.specs.Lines.{text_in}
-use Rattle.caster_press.specs.Piles.{IsPile, IsWhole, Row, row_of}
+use Rattle.caster_press.specs.Piles.{IsPile, IsWhole}
 use Rattle.caster_press.specs.Places.{IsAt, LockTold}
 use Rattle.caster_press.specs.Written.{IsWritten}
 use Rattle.turn_log.proofs.LockLists.{as_it_is}
@@ -180,14 +180,14 @@ callers_split told all front last lock is callers =
     let split = callers-last 0 (map told front) (told last) lock
     (subst (λ l. AreCallers 0 l lock) (ap (map told) is ∙ map-append told front (last ∷ [])) callers) in
     let long : 0 + length (map told front) ≡ length (rows_of (map told front)) =
-    omega (arith, length-map (map told front) (λ (c : CallerTold). row_of c.place)) in
+    omega (arith, length-map (map told front) (λ (c : CallerTold). c.place.seen)) in
     (split.0, subst (λ (k : ℕ). IsAt k (told last).place lock) long split.1.at)
 
 pub rows-last : {X : Type 0} (told : X → CallerTold) (all front : List X) (last : X) → all ≡ front ++ last ∷ []
-    → rows_of (map told all) ≡ rows_of (map told front) ++ row_of (told last).place ∷ []
+    → rows_of (map told all) ≡ rows_of (map told front) ++ (told last).place.seen ∷ []
 rows-last told all front last is =
     ap rows_of (ap (map told) is ∙ map-append told front (last ∷ []))
-    ∙ map-append (λ (c : CallerTold). row_of c.place) (map told front) (told last ∷ [])
+    ∙ map-append (λ (c : CallerTold). c.place.seen) (map told front) (told last ∷ [])
 
 -- the last work came to the list behind the others
 pub works_more : {X W : Type 0} (work : X → W) (all front : List X) (last : X) (old mid new : List W)
@@ -214,7 +214,7 @@ unmapped_at f (x ∷ xs) (suc k) y at = unmapped_at f xs k y at
 caller_at : (n : ℕ) (callers : List CallerTold) (lock : LockTold) (k : ℕ) → AreCallers n callers lock
     → k < length callers
     → (caller : CallerTold) × (get_elem? callers k ≡ some caller)
-    × (get_elem? (rows_of callers) k ≡ some (row_of caller.place)) × (caller.number ≡ n + k)
+    × (get_elem? (rows_of callers) k ≡ some caller.place.seen) × (caller.number ≡ n + k)
 caller_at n [] lock k all below = absurd (omega (arith, below))
 caller_at n (c ∷ callers) lock zero all below = (c, refl, refl, omega (arith, all.0.numbered))
 caller_at n (c ∷ callers) lock (suc k) all below =
@@ -233,7 +233,7 @@ module _ {V A R W : Type 0} {g : Ghosts V Line A R OutputStart} where
       → AreCallers 0 (map told afters) lock → olds ≡ map work befores → mid ≡ []
       → news ≡ mid ++ map work afters → IsPile (rows_of (map told afters)) passes lock
       → ((k : ℕ) (old new : X) → get_elem? befores k ≡ some old → get_elem? afters k ≡ some new
-      → wrote (work old) (work new) (lines_put (told new)) (told new).place.worn)
+      → wrote (work old) (work new) (lines_put (told new)))
       → length afters ≡ length befores → HaveLeft wrote lock olds news passes
   have_left told work wrote befores afters lock olds mid news passes here were none are pile each as_many =
       let now : news ≡ map work afters = are ∙ ap (λ l. l ++ map work afters) none in record {
@@ -254,9 +254,9 @@ module _ {V A R W : Type 0} {g : Ghosts V Line A R OutputStart} where
             let o = unmapped_at work befores k old (sym (ap (λ l. get_elem? l k) were) ∙ was) in
             let n = some-injective (work c.0) new
             (sym (mapped_at work afters k c.0 c.1) ∙ sym (ap (λ l. get_elem? l k) now) ∙ is) in
-            subst (λ w. wrote w new (lines_put caller) caller.place.worn) o.2
-            (subst (λ w. wrote (work o.0) w (lines_put caller) caller.place.worn) n
-            (subst (λ (t : CallerTold). wrote (work o.0) (work c.0) (lines_put t) t.place.worn) c.2
+            subst (λ w. wrote w new (lines_put caller)) o.2
+            (subst (λ w. wrote (work o.0) w (lines_put caller)) n
+            (subst (λ (t : CallerTold). wrote (work o.0) (work c.0) (lines_put t)) c.2
             (each k o.0 c.0 o.1 c.1)));
       }
 
@@ -264,7 +264,7 @@ module _ {V A R W : Type 0} {g : Ghosts V Line A R OutputStart} where
   pub have_written : (wrote : Wrote W) (lock : LockTold) (olds news : List W)
       (passes : List (Pass V Line A R OutputStart g)) (torn : Bool) (start : OutputStart) (taken : Option (List ℕ)) (faults : ℕ)
       → HaveLeft wrote lock olds news passes
-      → ((rows : List Row) → IsPile rows passes lock
+      → ((rows : List (History Line)) → IsPile rows passes lock
       → (whole : History Line) × IsWhole rows whole × IsWritten torn start taken faults (text_in whole))
       → HaveWritten wrote start torn taken faults olds news
   have_written wrote lock olds news passes torn start taken faults left closed =
@@ -276,22 +276,19 @@ module _ {V A R W : Type 0} {g : Ghosts V Line A R OutputStart} where
         each = λ k old new was now.
             let c = found k new now in
             let same : lines_put c.0 ≡ own k all.0 =
-            ap (λ (i : ℕ). own i c.0.place.seen) c.3 ∙ sym (all.1.owns k _ c.2) in (
-              c.0.place.worn,
-              all.1.worn k _ c.2,
-              subst (λ l. wrote old new l c.0.place.worn) same (left.each k c.0 old new c.1 was now),
-            );
+            ap (λ (i : ℕ). own i c.0.place.seen) c.3 ∙ sym (all.1.owns k _ c.2) in
+            subst (wrote old new) same (left.each k c.0 old new c.1 was now);
       } where
         found : (k : ℕ) (work : W) → get_elem? news k ≡ some work
             → (caller : CallerTold) × (get_elem? left.callers k ≡ some caller)
-            × (get_elem? (rows_of left.callers) k ≡ some (row_of caller.place)) × (caller.number ≡ k)
+            × (get_elem? (rows_of left.callers) k ≡ some caller.place.seen) × (caller.number ≡ k)
         found k work at =
             let c = caller_at 0 left.callers lock k left.here
             (omega (arith, place_below news k work at, left.as_many)) in
             (c.0, c.1, c.2, omega (arith, c.3))
 
         long : length (rows_of left.callers) ≡ length news
-        long = omega (arith, left.as_many, length-map left.callers (λ (c : CallerTold). row_of c.place))
+        long = omega (arith, left.as_many, length-map left.callers (λ (c : CallerTold). c.place.seen))
 
 -- the same start by another name
 pub from_start : {W : Type 0} (wrote : Wrote W) (start from : OutputStart) (torn : Bool) (taken : Option (List ℕ))

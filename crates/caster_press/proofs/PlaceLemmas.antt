@@ -1,5 +1,5 @@
 -- Lines that one caller put.
-use Rattle.std.proofs.Common.{◌≡◌, ◌∙◌, ◌==◌, ℕ, ◌<◌, ◌+◌, List, [], ◌∷◌, ◌++◌, length, take, get_or, refl, sym, ap, subst, arith, append_assoc, append-nil, cond}
+use Rattle.std.proofs.Common.{◌≡◌, ◌∙◌, ◌==◌, ℕ, ◌<◌, ◌+◌, List, [], ◌∷◌, ◌++◌, length, take, get_or, refl, sym, ap, subst, append_assoc, append-nil, cond}
 use Rattle.std.proofs.lemmas.Bool.{eqb-true, eq-eqb}
 use Rattle.std.proofs.lemmas.List.{take_more}
 use Rattle.turn_log.specs.History.{History, own}
@@ -65,8 +65,7 @@ same_then a b c first second = record {
   speaks = second.speaks ∙ first.speaks;
   home = second.home ∙ first.home;
   start = second.start ∙ first.start;
-  worn = omega (arith, first.worn, second.worn);
 }
 
 pub same_as_it_is : (a : PlaceTold) → IsSamePlace a a
-same_as_it_is a = record { speaks = refl; home = refl; start = refl; worn = omega arith }
+same_as_it_is a = record { speaks = refl; home = refl; start = refl }

@@ -1,5 +1,5 @@
 -- Callers at a press, each with its work, and what they put there.
-use Rattle.std.specs.Prelude.{◌≡◌, ℕ, suc, ◌<◌, ◌≤◌, IsTrue, ⊤, Bool, List, [], ◌∷◌, length, map, Option}
+use Rattle.std.specs.Prelude.{◌≡◌, ℕ, suc, ◌<◌, IsTrue, ⊤, Bool, List, [], ◌∷◌, length, map, Option}
 use Rattle.std.specs.List.{All}
 use mathlib.Core.Option.{some}
 use lib.ListN.{get_elem?}
@@ -11,7 +11,7 @@ use Rattle.turn_log.specs.Lock.{pass_number, pass_seen, IsPassOf}
 use Rattle.caster_press.specs.declared.line.Line.{Line}
 use Rattle.caster_press.specs.declared.press.OutputStart.{OutputStart}
 use Rattle.caster_press.specs.Lines.{text_in}
-use Rattle.caster_press.specs.Piles.{Row, IsPile, row_of}
+use Rattle.caster_press.specs.Piles.{IsPile}
 use Rattle.caster_press.specs.Places.{PlaceTold, IsSamePlace, IsAt, LockTold}
 use Rattle.caster_press.specs.Written.{IsWritten}
 
@@ -27,10 +27,9 @@ caller_told number place = record { number = number; place = place }
 abbrev pub lines_put : CallerTold → List Line
 lines_put caller = own caller.number caller.place.seen
 
--- What one work does, from before to after, that put these lines at a place that met the lock worn
--- by so many turns.
+-- what one work does, from before to after, that put these lines
 abbrev pub Wrote : Type 0 → Type 1
-Wrote W = W → W → List Line → ℕ → Type 0
+Wrote W = W → W → List Line → Type 0
 
 -- its place speaks for it, and it has put nothing yet
 abbrev pub MayCall : CallerTold → Type 0
@@ -72,9 +71,9 @@ AreNewCallers n [] lock = ⊤
 AreNewCallers n (caller ∷ callers) lock =
     (IsCaller n caller lock × (lines_put caller ≡ [])) × AreNewCallers (suc n) callers lock
 
--- what they have seen and met
-abbrev pub rows_of : List CallerTold → List Row
-rows_of callers = map (λ (caller : CallerTold). row_of caller.place) callers
+-- what they have seen
+abbrev pub rows_of : List CallerTold → List (History Line)
+rows_of callers = map (λ (caller : CallerTold). caller.place.seen) callers
 
 module _ {V A R W : Type 0} {g : Ghosts V Line A R OutputStart} where
   -- Callers numbered from 0, each with the work at the same place of the first list, did their
@@ -89,13 +88,11 @@ module _ {V A R W : Type 0} {g : Ghosts V Line A R OutputStart} where
     pub pile : IsPile (rows_of callers) passes lock
     pub each : (k : ℕ) (caller : CallerTold) (old new : W) → get_elem? callers k ≡ some caller
         → get_elem? olds k ≡ some old → get_elem? news k ≡ some new
-        → wrote old new (lines_put caller) caller.place.worn
+        → wrote old new (lines_put caller)
 
 -- Works of callers numbered from 0 wrote on an output that was so at the start. The text is that of
 -- one whole history, of which each caller's own lines are exactly those that its work put, in its
 -- order, and nobody else put any. It was written whole; or a write failed, and some first part was.
--- Each work did what it does at a place that met the lock worn by at most so many turns as there
--- are lines.
 pub record HaveWritten {W : Type 0} (wrote : Wrote W) (start : OutputStart) (torn : Bool)
     (taken : Option (List ℕ)) (faults : ℕ) (olds news : List W) : Type 0 where
   pub count : length news ≡ length olds
@@ -103,4 +100,4 @@ pub record HaveWritten {W : Type 0} (wrote : Wrote W) (start : OutputStart) (tor
   pub text : IsWritten torn start taken faults (text_in whole)
   pub nobody_else : All (λ (entry : ℕ × Line). entry.0 < length news) whole
   pub each : (k : ℕ) (old new : W) → get_elem? olds k ≡ some old → get_elem? news k ≡ some new
-      → (worn : ℕ) × (worn ≤ length whole) × wrote old new (own k whole) worn
+      → wrote old new (own k whole)

@@ -1,5 +1,5 @@
 -- A caller's place at a press, and what it put there.
-use Rattle.std.specs.Prelude.{◌≡◌, ℕ, ◌==◌, ◌≤◌, Bool, List, ◌++◌}
+use Rattle.std.specs.Prelude.{◌≡◌, ℕ, ◌==◌, Bool, List, ◌++◌}
 use base.Stored.{Gv}
 use Rattle.turn_log.specs.declared.lock.parts.Turn.{Turn}
 use Rattle.turn_log.specs.History.{History, own}
@@ -8,21 +8,18 @@ use Rattle.caster_press.specs.declared.line.Line.{Line}
 use Rattle.caster_press.specs.declared.press.OutputStart.{OutputStart}
 
 -- A place: the callers that it speaks for, which lock it is at, what the output told before the
--- first line, the lines that were put so far as the place has seen them, and the last count of
--- turns of 2 ^ 62 or more that it met, or 0.
+-- first line, and the lines that were put so far as the place has seen them.
 pub record PlaceTold : Type 0 where
   pub speaks : ℕ → Bool
   pub home : Gv
   pub start : OutputStart
   pub seen : History Line
-  pub worn : ℕ
 
--- the place is what it was, but for what it has seen, and may have met a lock worn further
+-- the place is what it was, but for what it has seen
 pub record IsSamePlace (old new : PlaceTold) : Type 0 where
   pub speaks : new.speaks ≡ old.speaks
   pub home : new.home ≡ old.home
   pub start : new.start ≡ old.start
-  pub worn : old.worn ≤ new.worn
 
 -- The history went on: this caller put exactly these lines, in this order. Others may have put
 -- lines before, between and behind them.

@@ -17,25 +17,24 @@ use turn_log::{Pass, Played, Seat, Turn};
 
 /// The work of a caller at a press: it puts lines.
 pub trait Writer: Send {
-    ghost use Rattle.std.specs.Prelude.{ℕ, IsTrue, List};
+    ghost use Rattle.std.specs.Prelude.{IsTrue, List};
     ghost use Rattle.caster_press.specs.declared.line.Line.{Line as LineValue};
     ghost use Rattle.caster_press.specs.Places.{HasPut, IsSamePlace};
 
     /// It may begin.
     ghost ready: { Self → Type 0 };
 
-    /// What it does, from before to after, by the lines that it puts, in order, and at a place that
-    /// met so many turns of 2^62 or more, or 0.
-    ghost wrote: { Self → Self → List LineValue → ℕ → Type 0 };
+    /// What it does, from before to after, by the lines that it puts, in order.
+    ghost wrote: { Self → Self → List LineValue → Type 0 };
 
     /// Puts lines at this place, as the caller `me`.
-    fn write<P: AtPress>(&mut self, place: &mut P, me: u32)
+    fn write<P: AtPress, R: Wait>(&mut self, rt: &R, place: &mut P, me: u32)
         requires speaks { IsTrue ((P.told place.old).speaks me) }
         requires ready { ready self.old }
         ensures same { IsSamePlace (P.told place.old) (P.told place.new) }
         ensures wrote { (lines : List LineValue)
             × HasPut me lines (P.told place.old).seen (P.told place.new).seen
-            × wrote self.old self.new lines (P.told place.new).worn };
+            × wrote self.old self.new lines };
 }
 
 /// A caller at a press: its number, its place, and its work.
@@ -59,7 +58,7 @@ pub(crate) trait Calls: Send {
     ghost wrote: { Self → Self → Type 0 };
 
     /// Does its work.
-    fn call(&mut self)
+    fn call<R: Wait>(&mut self, rt: &R)
         requires may { MayCall (told self.old) }
         requires ready { ready self.old }
         ensures called { HasCalled (told self.old) (told self.new) }
@@ -74,16 +73,16 @@ impl<P: AtPress + Send, W: Writer> Calls for Caller<P, W> {
     ghost ready = { λ caller. W.ready caller.work };
 
     ghost wrote = { λ old new. W.wrote old.work new.work
-        (lines_put (caller_told new.number (P.told new.place))) (P.told new.place).worn };
+        (lines_put (caller_told new.number (P.told new.place))) };
 
-    fn call(&mut self) {
+    fn call<R: Wait>(&mut self, rt: &R) {
         let me = self.number;
-        self.work.write(&mut self.place, me);
+        self.work.write(rt, &mut self.place, me);
     }
 }
 
 /// Each of these does its work, in a thread of its own where one can be made.
-fn call_each<H: Calls, R: Threads + Sync>(rt: &R, callers: &mut [H])
+fn call_each<H: Calls, R: Threads + Wait + Sync>(rt: &R, callers: &mut [H])
     requires some { 0 < length callers.old }
     requires fit { All (λ caller. MayCall (H.told caller) × H.ready caller) callers.old }
     ensures size { length callers.new ≡ length callers.old }
@@ -100,7 +99,7 @@ fn call_each<H: Calls, R: Threads + Sync>(rt: &R, callers: &mut [H])
         count,
         &|_, caller: &mut H|
             requires { MayCall (H.told caller.now) × H.ready caller.now }
-        { caller.call() },
+        { caller.call(rt) },
     );
 }
 

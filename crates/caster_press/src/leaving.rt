@@ -1,10 +1,10 @@
 //! Callers sit down at a press and leave it, and it is closed with the passes of all of them.
 ghost use Rattle.std.specs.Prelude.{◌≡◌, ◌≤◌, ◌+◌, ◌<◌, ◌++◌, ◌∷◌, [], List, length, vec_len, vec_capacity};
 ghost use Rattle.turn_log.specs.History.{History};
-ghost use Rattle.turn_log.specs.Lock.{IsPassOf, pass_number, pass_seen, pass_worn, turn_passes, turn_value};
+ghost use Rattle.turn_log.specs.Lock.{IsPassOf, pass_number, pass_seen, turn_passes, turn_value};
 ghost use Rattle.caster_press.specs.declared.line.Line.{Line as LineValue};
 ghost use Rattle.caster_press.specs.Lines.{text_in};
-ghost use Rattle.caster_press.specs.Piles.{IsPile, IsWhole, Row, row_of};
+ghost use Rattle.caster_press.specs.Piles.{IsPile, IsWhole};
 ghost use Rattle.caster_press.specs.Places.{IsAt, LockTold, lock_told};
 ghost use Rattle.caster_press.specs.Written.{IsWritten};
 
@@ -24,7 +24,6 @@ pub fn sit<'a, O: Sink + Drop + Send, R: Wait + Sync>(
     ensures at { IsAt (pass_number pass) (⟦<Seat<'a, Press<O>, R> as AtPress>⟧.told result)
         (lock_told ⟦<Press<O> as Played>⟧.shape press.now) }
     ensures seen { (⟦<Seat<'a, Press<O>, R> as AtPress>⟧.told result).seen ≡ pass_seen pass }
-    ensures worn { (⟦<Seat<'a, Press<O>, R> as AtPress>⟧.told result).worn ≡ pass_worn pass }
 {
     press.seat(rt, pass)
 }
@@ -35,10 +34,10 @@ pub fn leave<'a, O: Sink + Drop + Send, R: Wait + Sync>(
     pile: &mut Vec<Pass<Press<O>>>,
 )
     requires { vec_len pile.old < vec_capacity pile.old }
-    ensures left { (rows : List Row) (lock : LockTold)
+    ensures left { (rows : List (History LineValue)) (lock : LockTold)
         → IsAt (length rows) (⟦<Seat<'a, Press<O>, R> as AtPress>⟧.told place.entry) lock
         → IsPile rows pile.old.items lock
-        → IsPile (rows ++ row_of (⟦<Seat<'a, Press<O>, R> as AtPress>⟧.told place.entry) ∷ [])
+        → IsPile (rows ++ (⟦<Seat<'a, Press<O>, R> as AtPress>⟧.told place.entry).seen ∷ [])
         pile.new.items lock }
     ensures count { vec_len pile.new ≡ vec_len pile.old + 1 }
     ensures space { vec_capacity pile.old ≤ vec_capacity pile.new }
@@ -63,9 +62,9 @@ pub struct Closed<O> {
 /// output took some first part of it.
 pub fn close<O: Sink + Drop + Send>(press: Turn<Press<O>>, pile: Vec<Pass<Press<O>>>) -> Closed<O>
     requires all { length pile.items ≡ turn_passes press }
-    requires pile { (rows : List Row)
+    requires pile { (rows : List (History LineValue))
         × IsPile rows pile.items (lock_told ⟦<Press<O> as Played>⟧.shape press) }
-    ensures { (rows : List Row)
+    ensures { (rows : List (History LineValue))
         → IsPile rows pile.items (lock_told ⟦<Press<O> as Played>⟧.shape press)
         → (whole : History LineValue) × IsWhole rows whole
         × IsWritten result.is_torn (⟦<Press<O> as Played>⟧.shape (turn_value press))

@@ -17,6 +17,6 @@ pub use callers::Writer;
 pub use draft::{Draft, LineFault};
 pub use leaving::{Closed, close, leave, sit};
 pub use line::{Line, MAX_LINE_BYTES};
-pub use place::{AtPress, Worn, put_all};
+pub use place::{AtPress, WaitsAtEnd, put_all};
 pub use press::{OutputStart, Press};
 pub use whole::write_at_once;

@@ -1,5 +1,5 @@
 -- A caller that puts lines of a list.
-use Rattle.std.specs.Prelude.{◌≡◌, ℕ, ◌^◌, ◌<◌, ◌≤◌, List, ◌++◌, length, take}
+use Rattle.std.specs.Prelude.{◌≡◌, ◌≤◌, List, ◌++◌, length, take}
 use Rattle.caster_press.specs.declared.line.Line.{Line}
 use Rattle.caster_press_tests.specs.declared.script.Script.{Script}
 
@@ -8,8 +8,8 @@ abbrev pub lines_put : Script → List Line
 lines_put script = take script.put script.lines.items
 
 -- the list is what it was, and these are the next lines of it: they were put behind those that had
--- been put before, and so all of it was put, or the lock was worn by so many turns
-pub record HasWritten (old new : Script) (lines : List Line) (worn : ℕ) : Type 0 where
+-- been put before, and so all of it was put
+pub record HasWritten (old new : Script) (lines : List Line) : Type 0 where
   pub same : new.lines.items ≡ old.lines.items
   pub next : lines_put new ≡ lines_put old ++ lines
-  pub all : new.put < length new.lines.items → 2 ^ 62 ≤ worn
+  pub all : length new.lines.items ≤ new.put

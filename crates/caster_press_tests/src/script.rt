@@ -3,6 +3,7 @@ ghost use Rattle.std.specs.Prelude.{◌≡◌, [], take};
 ghost use Rattle.caster_press_tests.specs.Scripts.{lines_put};
 
 use caster_press::{AtPress, Line, Writer};
+use std::sync::Wait;
 
 /// The work of putting the lines of a list, in order.
 #[derive(Drop)]
@@ -35,11 +36,9 @@ impl Writer for Script {
 
     ghost wrote = { HasWritten };
 
-    fn write<P: AtPress>(&mut self, place: &mut P, me: u32) {
+    fn write<P: AtPress, R: Wait>(&mut self, rt: &R, place: &mut P, me: u32) {
         while self.put < self.lines.len() {
-            let Ok(()) = place.put(me, &self.lines[self.put]) else {
-                return;
-            };
+            place.put(rt, me, &self.lines[self.put]);
             self.put += 1;
         }
     }

@@ -120,8 +120,6 @@ outcome_is : (torn : Bool) (stop : Stop) (old new : Option (List ℕ)) (first no
 outcome_is true stop old new first now status end = inr (inl end.0)
 outcome_is false stops.Over old new first now status end = inl end.0
 outcome_is false stops.Failed old new first now status end = network_is old new first now status end
-outcome_is false stops.Worn old new first now status end = network_is old new first now status end
-outcome_is false stops.Full old new first now status end = network_is old new first now status end
 
 kept_is : (came_to : Result Outcome KeepFault) (old new : Option (List ℕ)) (first now status : ℕ)
     → EndOfKeeping came_to old new first now status → IsKeptStatus status
@@ -185,10 +183,6 @@ ended_follows words input files true stop old new first now status both end five
 ended_follows words input files false stops.Over old new first now status both end five =
     (whole_exit [], both.0, (end.0, unwritten old new end.1.0))
 ended_follows words input files false stops.Failed old new first now status both end five =
-    written_follows words input files network_exit old new first now status both.1 end five
-ended_follows words input files false stops.Worn old new first now status both end five =
-    written_follows words input files network_exit old new first now status both.1 end five
-ended_follows words input files false stops.Full old new first now status both end five =
     written_follows words input files network_exit old new first now status both.1 end five
 
 came_follows : (words : List (List ℕ)) (input : Input) (files : Files) (came_to : Result Outcome KeepFault)

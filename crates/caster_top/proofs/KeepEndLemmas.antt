@@ -1,7 +1,9 @@
--- What the end of a caster that keeps serving says of what was written: with 7, with 5 and with 0.
+-- What the end of a caster that keeps serving says of what was written: with 7, with 5 and with 0;
+-- and with 6 of its network.
 use Rattle.std.proofs.Common.{◌≡◌, ℕ, ◌+◌, ◌≤◌, Bool, true, false, List, [], ◌∷◌, ◌++◌, length, map, Option, Some, Result, Ok, Err, inl, inr, refl, ap, sym, subst, ◌∙◌, arith}
 use Rattle.std.proofs.lemmas.Bool.{cases_lt}
 use Rattle.std.specs.Io.KnownBytes.{Appends}
+use Rattle.cast_io.specs.Causes.{Rose}
 use Rattle.cast_io.specs.declared.yard_asked.YardAsked.{YardAsked}
 use Rattle.cast_io.specs.Pieces.{AppendsPrefix}
 use Rattle.cast_io.specs.Told.{DoorTold}
@@ -10,19 +12,16 @@ use Rattle.cast_config.specs.declared.config.Config.{Config}
 use Rattle.cast_config.specs.declared.fault.ConfigFault.{ConfigFault}
 use Rattle.cast_config.specs.declared.fault.ConfigFault.TheVariants as configs
 use Rattle.session_model.specs.Text.{closed_text}
-use Rattle.caster_press.specs.Lines.{text_in, text_of}
+use Rattle.caster_press.specs.Lines.{text_in}
 use Rattle.caster_press.specs.Written.{IsWritten}
 use Rattle.caster_keep.specs.declared.stop.Stop.{Stop}
 use Rattle.caster_keep.specs.declared.stop.Stop.TheVariants as stops
 use Rattle.caster_keep.specs.declared.whole.Outcome.{Outcome}
 use Rattle.caster_keep.specs.declared.whole.KeepFault.{KeepFault}
 use Rattle.caster_keep.specs.declared.whole.KeepFault.TheVariants as faults
-use Rattle.caster_keep.specs.Keepers.{IsWhy, AreItsLines}
+use Rattle.caster_keep.specs.Keepers.{IsWhy}
 use Rattle.cast_console.specs.Consoles.{ConsoleTold}
-use Rattle.keep_porter.specs.declared.end.WaitEnd.{WaitEnd}
-use Rattle.keep_porter.specs.declared.end.WaitEnd.TheVariants as waits
-use Rattle.keep_porter.specs.Porters.{AreAllSaid, IsItsEnd}
-use Rattle.caster_keep.specs.Keeping.{AreKeepers, HasKept, IsKeeper, IsPorter, KeeperTold, PorterTold, first_stop, start_of, stop_of, stop_of_end}
+use Rattle.caster_keep.specs.Keeping.{AreKeepers, HasKept, IsKeeper, IsPorter, KeeperTold, PorterTold, first_stop, start_of, stop_of}
 use Rattle.caster_top.specs.Command.{keeping, AreKeep}
 use Rattle.caster_top.specs.Reading.{config_in}
 use Rattle.caster_top.specs.Outcome.{ExitRule, EndsSo, Exit, ending_of_keeping, ending_of_read, exactly, long_exit, memory_exit, network_exit, usage_exit, whole_exit}
@@ -92,10 +91,6 @@ ended_not_seven true stop old new first now status end seven = absurd (omega (ar
 ended_not_seven false stops.Over old new first now status end seven = absurd (omega (arith, end.0, seven))
 ended_not_seven false stops.Failed old new first now status end seven =
     lost_not old new first now status 7 end seven (λ e. omega (arith, e)) (λ e. omega (arith, e))
-ended_not_seven false stops.Worn old new first now status end seven =
-    lost_not old new first now status 7 end seven (λ e. omega (arith, e)) (λ e. omega (arith, e))
-ended_not_seven false stops.Full old new first now status end seven =
-    lost_not old new first now status 7 end seven (λ e. omega (arith, e)) (λ e. omega (arith, e))
 
 came_seven : (came_to : Result Outcome KeepFault) (old new : Option (List ℕ)) (first now status : ℕ)
     → EndOfKeeping came_to old new first now status → status ≡ 7 → Appends old new memory_exit.text
@@ -142,10 +137,6 @@ ended_part words input files of_input of_store true stop old new first now statu
 ended_part words input files of_input of_store false stops.Over old new first now status both end five =
     absurd (omega (arith, end.0, five))
 ended_part words input files of_input of_store false stops.Failed old new first now status both end five =
-    lost_part words input files of_input of_store old new first now status both.1 end five
-ended_part words input files of_input of_store false stops.Worn old new first now status both end five =
-    lost_part words input files of_input of_store old new first now status both.1 end five
-ended_part words input files of_input of_store false stops.Full old new first now status both end five =
     lost_part words input files of_input of_store old new first now status both.1 end five
 
 came_part : (words : List (List ℕ)) (input : Input) (files : Files) (of_input of_store : Type 0)
@@ -215,10 +206,21 @@ ended_zero true stop old new first now status end zero = absurd (omega (arith, e
 ended_zero false stops.Over old new first now status end zero = (refl, refl, end.1.0)
 ended_zero false stops.Failed old new first now status end zero =
     lost_not old new first now status 0 end zero (λ e. omega (arith, e)) (λ e. omega (arith, e))
-ended_zero false stops.Worn old new first now status end zero =
-    lost_not old new first now status 0 end zero (λ e. omega (arith, e)) (λ e. omega (arith, e))
-ended_zero false stops.Full old new first now status end zero =
-    lost_not old new first now status 0 end zero (λ e. omega (arith, e)) (λ e. omega (arith, e))
+
+-- a gate failed where it ends with 6
+ended_lost : (torn : Bool) (stop : Stop) (old new : Option (List ℕ)) (first now status : ℕ)
+    → KeptEnd torn stop old new first now status → status ≡ 6 → stop ≡ stops.Failed
+ended_lost true stop old new first now status end six = absurd (omega (arith, end.0, six))
+ended_lost false stops.Over old new first now status end six = absurd (omega (arith, end.0, six))
+ended_lost false stops.Failed old new first now status end six = refl
+
+refused_not_six : (config : List ℕ) (files : Files) (fault : Type 0) (end : Exit) → RefusedEnd config files fault end
+    → end.status ≡ 6 → ⊥
+refused_not_six config files fault end refused six = elim (refused_cases config files fault end refused) [
+  | inl seven ↦ omega (arith, seven, six)
+  | inr (inl counted) ↦ let four = ap status_at counted.1 in omega (arith, four, six)
+  | inr (inr (is, status)) ↦ omega arith
+]
 
 refused_not_zero : (config : List ℕ) (files : Files) (fault : Type 0) (end : Exit) → RefusedEnd config files fault end
     → end.status ≡ 0 → ⊥
@@ -233,48 +235,33 @@ first_over : (stop : Stop) (more : List Stop) → first_stop (stop ∷ more) ≡
     → (stop ≡ stops.Over) × (first_stop more ≡ stops.Over)
 first_over stops.Over more is = (refl, is)
 first_over stops.Failed more is = absurd (let clash : stops.Failed ≡ stops.Over = is in cc)
-first_over stops.Worn more is = absurd (let clash : stops.Worn ≡ stops.Over = is in cc)
-first_over stops.Full more is = absurd (let clash : stops.Full ≡ stops.Over = is in cc)
 
 module _ {G : Type 0} (told : G → DoorTold) (over : G → Bool) (peer : G → List ℕ) where
-  keeper_done : (c : Config) (worn : List ℕ) (most me : ℕ) (keeper : KeeperTold G)
-      → IsKeeper told over peer c worn most me keeper → keeper.stop ≡ stops.Over → IsDone over c me keeper
-  keeper_done c worn most me keeper is stopped = record {
-    gate_over =
-        (subst (λ (s : Stop). IsWhy told over peer s is.kept.at keeper.gate (length keeper.links) is.met) stopped
-        is.kept.why).1;
-    all_lines =
-        subst (λ (s : Stop). AreItsLines s c me keeper.role keeper.links (map text_of keeper.lines)) stopped
-        is.kept.lines;
+  keeper_done : (c : Config) (worn : List ℕ) (me : ℕ) (keeper : KeeperTold G)
+      → IsKeeper told over peer c worn me keeper → keeper.stop ≡ stops.Over → IsDone over c me keeper
+  keeper_done c worn me keeper is stopped = record {
+    gate_over = (subst (λ (s : Stop). IsWhy told over peer s is.kept.at keeper.gate) stopped is.kept.why).1;
+    all_lines = is.kept.lines;
   }
 
-  keepers_done : (c : Config) (worn : List ℕ) (most n : ℕ) (keepers : List (KeeperTold G))
-      → AreKeepers told over peer c worn most n keepers → first_stop (map stop_of keepers) ≡ stops.Over
+  keepers_done : (c : Config) (worn : List ℕ) (n : ℕ) (keepers : List (KeeperTold G))
+      → AreKeepers told over peer c worn n keepers → first_stop (map stop_of keepers) ≡ stops.Over
       → AreDone over c n keepers
-  keepers_done c worn most n [] are stopped = tt
-  keepers_done c worn most n (keeper ∷ keepers) are stopped =
+  keepers_done c worn n [] are stopped = tt
+  keepers_done c worn n (keeper ∷ keepers) are stopped =
       let both = first_over keeper.stop (map stop_of keepers) stopped in (
-        keeper_done c worn most n keeper are.0 both.0,
-        keepers_done c worn most (n + 1) keepers are.1 both.1,
+        keeper_done c worn n keeper are.0 both.0,
+        keepers_done c worn (n + 1) keepers are.1 both.1,
       )
 
 -- the porter's console was over, and all of its lines were put
-porter_done : (c : Config) (worn : List ℕ) (most me : ℕ) (porter : PorterTold) → IsPorter c worn most me porter
-    → stop_of_end porter.end ≡ stops.Over → PorterIsDone c porter
-porter_done c worn most me porter is stopped = by_end porter.end is.answered.said is.answered.why stopped where
-  by_end : (end : WaitEnd) → AreAllSaid end c porter.given (map text_of porter.lines)
-      → IsItsEnd end porter.console is.met → stop_of_end end ≡ stops.Over → PorterIsDone c porter
-  by_end waits.Over said why over = record { console_over = why; of_all = said.0; all_lines = said.1 }
-  by_end waits.Worn said why over = absurd (let clash : stops.Worn ≡ stops.Over = over in cc)
-
--- the first of these and of one more
-over_both : (list : List Stop) (last : Stop) → first_stop (list ++ last ∷ []) ≡ stops.Over
-    → (first_stop list ≡ stops.Over) × (last ≡ stops.Over)
-over_both [] last is = (refl, (first_over last [] is).0)
-over_both (stops.Over ∷ list) last is = over_both list last is
-over_both (stops.Failed ∷ list) last is = absurd (let clash : stops.Failed ≡ stops.Over = is in cc)
-over_both (stops.Worn ∷ list) last is = absurd (let clash : stops.Worn ≡ stops.Over = is in cc)
-over_both (stops.Full ∷ list) last is = absurd (let clash : stops.Full ≡ stops.Over = is in cc)
+porter_done : (c : Config) (worn : List ℕ) (me : ℕ) (porter : PorterTold) → IsPorter c worn me porter
+    → PorterIsDone c porter
+porter_done c worn me porter is = record {
+  console_over = is.answered.over;
+  of_all = is.answered.whole;
+  all_lines = is.answered.said;
+}
 
 module _ {G O : Type 0} {told : G → DoorTold} {over : G → Bool} {peer : G → List ℕ} {origin : G → YardAsked}
     {taken : O → Option (List ℕ)} {faults_of : O → ℕ} {back_before back_now : List ConsoleTold} where
@@ -294,12 +281,9 @@ module _ {G O : Type 0} {told : G → DoorTold} {over : G → Bool} {peer : G �
         config_is = is;
         outcome = outcome;
         went = went;
-        done = keepers_done told over peer c _ _ 0 went.ended.keepers went.ended.all.keepers_are
-            (over_both (map stop_of went.ended.keepers) (stop_of_end went.ended.porter.end)
-            (sym went.ended.stop_is ∙ whole.1)).0;
-        porter_done = porter_done c _ _ (length went.ended.keepers) went.ended.porter went.ended.all.porter_is
-            (over_both (map stop_of went.ended.keepers) (stop_of_end went.ended.porter.end)
-            (sym went.ended.stop_is ∙ whole.1)).1;
+        done = keepers_done told over peer c _ 0 went.ended.keepers went.ended.all.keepers_are
+            (sym went.ended.stop_is ∙ whole.1);
+        porter_done = porter_done c _ (length went.ended.keepers) went.ended.porter went.ended.all.porter_is;
         written = text.0;
         unharmed = text.1;
         nothing_more = whole.2;
@@ -327,4 +311,31 @@ module _ {G O : Type 0} {told : G → DoorTold} {over : G → Bool} {peer : G �
       (inl un) zero = elim un.written [
         | inr torn ↦ absurd (omega (arith, torn.0, zero))
         | inl written ↦ absurd (refused_not_zero config files fault un.end un.refused (sym written.0 ∙ zero))
+      ]
+
+  -- ---- with 6
+
+  came_lost : (c : Config) (addr : List ℕ) (quiet : ℕ) (before after : YardTold) (old new : Option (List ℕ))
+      (first now status : ℕ) (came_to : Result Outcome KeepFault)
+      → HasKept told over peer origin taken faults_of back_before back_now c addr quiet before after came_to
+      → EndOfKeeping came_to old new first now status → status ≡ 6 → Rose before.faults after.faults
+  came_lost c addr quiet before after old new first now status (Ok outcome) did end six =
+      did.answered.ended.failed (ended_lost outcome.is_torn outcome.stop old new first now status end six)
+  came_lost c addr quiet before after old new first now status (Err faults.Network) did end six = did.answered.2
+  came_lost c addr quiet before after old new first now status (Err faults.Memory) did (inl written) six =
+      absurd (omega (arith, written.0, six))
+  came_lost c addr quiet before after old new first now status (Err faults.Memory) did (inr torn) six =
+      absurd (omega (arith, torn.0, six))
+
+  -- the network failed
+  pub keep_lost : {files : Files} {config addr : List ℕ} {quiet : ℕ} {before after : YardTold} {fault : Type 0}
+      {old new : Option (List ℕ)} {first now status : ℕ}
+      → HasKeeping (HasKept told over peer origin taken faults_of back_before back_now) files config addr quiet before
+      after fault old new first now status → status ≡ 6 → Rose before.faults after.faults
+  keep_lost {files} {config} {addr} {quiet} {before} {after} {fault} {old} {new} {first} {now} {status} (inr has) six =
+      came_lost has.c addr quiet before after old new first now status has.came_to has.did has.ends six
+  keep_lost {files} {config} {addr} {quiet} {before} {after} {fault} {old} {new} {first} {now} {status} (inl un) six =
+      elim un.written [
+        | inr torn ↦ absurd (omega (arith, torn.0, six))
+        | inl written ↦ absurd (refused_not_six config files fault un.end un.refused (sym written.0 ∙ six))
       ]

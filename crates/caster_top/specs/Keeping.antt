@@ -35,12 +35,13 @@ abbrev pub NothingMore : Option (List ℕ) → Option (List ℕ) → ℕ → ℕ
 NothingMore old new first now = (new ≡ old) × (now ≡ first)
 
 -- How it ends that served. A line, or the totals, could not be written: status 5, and nothing more.
--- All is written, and all gates were over: status 0, and nothing more. All is written, but a keeper
--- stopped for another reason: the line of a network that failed.
+-- All is written, and all gates were over: status 0, and nothing more. All is written, but a gate
+-- failed: the line of a network that failed.
 abbrev pub KeptEnd : (torn : Bool) → Stop → Option (List ℕ) → Option (List ℕ) → ℕ → ℕ → ℕ → Type 0
 KeptEnd true stop old new first now status = (status ≡ 5) × NothingMore old new first now
 KeptEnd false stops.Over old new first now status = (status ≡ 0) × NothingMore old new first now
-KeptEnd false stop old new first now status = Writes network_exit old new first now status
+KeptEnd false stops.Failed old new first now status =
+    Writes network_exit old new first now status
 
 -- by what it came to
 abbrev pub EndOfKeeping : Result Outcome KeepFault → Option (List ℕ) → Option (List ℕ) → ℕ → ℕ → ℕ

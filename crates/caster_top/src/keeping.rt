@@ -123,6 +123,6 @@ fn end_of_outcome<O: Sink>(is_torn: bool, stop: Stop, out: &mut O) -> u8
     }
     match stop {
         Stop::Over => WHOLE,
-        Stop::Failed | Stop::Worn | Stop::Full => write_answer(&Answer::NetworkFault, out),
+        Stop::Failed => write_answer(&Answer::NetworkFault, out),
     }
 }

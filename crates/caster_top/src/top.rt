@@ -118,7 +118,7 @@ where
     }) }
 
     // What a caster does that keeps serving: the whole of it, over the configuration that came from
-    // the file, and what that says with 0.
+    // the file, and what that says with 0, and with 6.
     ensures keeping { (config addr : List ℕ) (quiet : ℕ)
         → AreKeep (texts words.now) config addr quiet
         → HasKeeping (HasKept N.Gate.told N.Gate.over N.Gate.peer N.Gate.origin
@@ -134,6 +134,9 @@ where
         N.Notes.taken N.Notes.faults (Z.back lodge.old) (Z.back lodge.new)
         (FileGave (S.store store.old).files (S.log store.old) (S.log store.new)) config addr quiet
         (N.kept street.old) (N.kept street.new) (O.taken out.old) (O.taken out.new) }
+    ensures kept_network_fault { result ≡ 6 → (config addr : List ℕ) (quiet : ℕ)
+        → AreKeep (texts words.now) config addr quiet
+        → Rose (N.kept street.old).faults (N.kept street.new).faults }
 
     // What is not touched.
     ensures kept_input { LeavesInput I.left I.faults I.reads (texts words.now) input.old input.new }

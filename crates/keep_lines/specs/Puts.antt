@@ -1,5 +1,5 @@
 -- Lines that a caller put at a press, by their texts.
-use Rattle.std.specs.Prelude.{◌≡◌, ℕ, List, ◌∷◌, ◌++◌, map}
+use Rattle.std.specs.Prelude.{◌≡◌, ℕ, List, map}
 use Rattle.turn_log.specs.History.{History}
 use Rattle.caster_press.specs.declared.line.Line.{Line}
 use Rattle.caster_press.specs.Lines.{text_of}
@@ -11,11 +11,3 @@ pub record HasTold (me : ℕ) (texts : List (List ℕ)) (old new : History Line)
   pub lines : List Line
   pub texts_are : map text_of lines ≡ texts
   pub put : HasPut me lines old new
-
--- It put some first ones of them, and not all: this one is the next.
-pub record HasBegun (me : ℕ) (texts : List (List ℕ)) (old new : History Line) : Type 0 where
-  pub done : List (List ℕ)
-  pub next : List ℕ
-  pub rest : List (List ℕ)
-  pub all : texts ≡ done ++ next ∷ rest
-  pub put : HasTold me done old new

@@ -1,6 +1,5 @@
 -- What the porter said.
-use Rattle.std.proofs.Common.{◌≡◌, ◌∙◌, ◌^◌, ◌≤◌, ◌+◌, ◌++◌, ℕ, suc, Bool, List, [], ◌∷◌, length, map, refl, sym, ap, subst, arith, append-nil, append_assoc, length-append}
-use Rattle.std.specs.Prelude.{Result, Ok, Err, OnErr, OnOk, is_ok}
+use Rattle.std.proofs.Common.{◌≡◌, ◌∙◌, ◌+◌, ◌++◌, ℕ, suc, Bool, List, [], ◌∷◌, length, map, refl, sym, ap, subst, arith, append-nil, append_assoc, length-append}
 use Rattle.std.specs.List.{All, flat_map}
 use Rattle.std.proofs.lemmas.List.{map-append}
 use Rattle.std.proofs.lemmas.List.Elements.{All-nil, All-cons, All-append, All-head, All-tail}
@@ -17,12 +16,11 @@ use Rattle.cast_console.specs.Consoles.{ConsoleTold}
 use Rattle.caster_press.specs.declared.line.Line.{Line}
 use Rattle.caster_press.specs.Lines.{text_of}
 use Rattle.caster_press.specs.Places.{HasPut}
-use Rattle.keep_lines.specs.Puts.{HasBegun, HasTold}
+use Rattle.keep_lines.specs.Puts.{HasTold}
 use Rattle.keep_lines.specs.Lines.{now_end_line, now_workers_line}
-use Rattle.keep_lines.proofs.PutLemmas.{begun_more, told_as, told_none, told_one, told_then}
-use Rattle.keep_porter.specs.declared.end.WaitEnd.TheVariants as ends
+use Rattle.keep_lines.proofs.PutLemmas.{told_as, told_none, told_one, told_then}
 use Rattle.keep_porter.specs.declared.found.Found.{Found}
-use Rattle.keep_porter.specs.Porters.{Answer, AreAllSaid, AreFound, ArePut, IsFound, IsItsEnd, IsOfAll, answer_lines, any_lacks, busy_of, last_lines, mount_line, mount_lines, steps_at, steps_from, steps_of}
+use Rattle.keep_porter.specs.Porters.{Answer, AreFound, IsFound, IsOfAll, answer_lines, any_lacks, busy_of, last_lines, mount_line, mount_lines, steps_at, steps_from, steps_of}
 use Rattle.keep_porter.proofs.LookLemmas.{all_found_on, went_on_at}
 
 -- ---- one mountpoint more
@@ -76,16 +74,6 @@ SaidAt ring first now me c by n sheet later =
     Said (map ring.shape first) (all_alone ring.alone first) (map ring.seen first) (map ring.seen now) me
     (any_lacks (map ring.may_lack now)) (map ring.worn now) c by n sheet later
 
--- the lines of mountpoints were put: all of them, or some first ones
-abbrev pub HasSaidMounts : {T E P : Type 0} → Result T E → AtRing P → List P → List P → ℕ → Config → ℕ → History Line
-    → History Line → Type 0
-HasSaidMounts result ring first now me c by sheet later = (found : List Found)
-    × Went (map ring.shape first) (all_alone ring.alone first) (map ring.seen first) (map ring.seen now) me
-    (steps_from 0 found)
-    × All (IsFound (any_lacks (map ring.may_lack now)) (map ring.worn now)) found
-    × OnOk result (length found ≡ length c.mount)
-    × ArePut (is_ok result) by (mount_lines c 0 found) sheet later
-
 module _ {P : Type 0} (ring : AtRing P) (first old now : List P) (me : ℕ) (c : Config) (by n : ℕ) (one : Found)
     (line : Line) (sheet mid later : History Line) (from : StayAtRings ring first old) (stay : StayAtRings ring old now)
     (said : SaidAt ring first old me c by n sheet mid)
@@ -131,23 +119,6 @@ module _ {P : Type 0} (ring : AtRing P) (first old now : List P) (me : ℕ) (c :
         (told_then by (mount_lines c 0 said.found) (text_of line ∷ []) sheet mid later said.told
         (told_one by line mid later put));
   }
-
-  -- it could not be put
-  pub said_cut : (T : Type 0) {E : Type 0} (fault : E) → later ≡ mid
-      → HasSaidMounts {T = T} (Err fault) ring first now me c by sheet later
-  said_cut T fault same = (
-    said.found ++ one ∷ [],
-    went_more,
-    all_more,
-    tt,
-    record {
-      done = mount_lines c 0 said.found;
-      next = text_of line;
-      rest = [];
-      all = lines_more;
-      put = subst (λ (h : History Line). HasTold by (mount_lines c 0 said.found) sheet h) (sym same) said.told;
-    },
-  )
 
 -- ---- all answers
 
@@ -236,34 +207,6 @@ module _ {P : Type 0} (ring : AtRing P) (first old now : List P) (me : ℕ) (bef
         (told_then by (flat_map (answer_lines c) given.given) (answer_lines c one) sheet between later given.told told);
   }
 
-  -- a line of it could not be put
-  pub given_cut : (met : ℕ) → 2 ^ 62 ≤ met → HasBegun by (answer_lines c one) between later
-      → (all : List Answer) × (texts : List (List ℕ)) × (after.busy ≡ before.busy ++ map busy_of all)
-      × Went (map ring.shape first) (all_alone ring.alone first) (map ring.seen first) (map ring.seen now) me
-      (flat_map steps_of all)
-      × All (AreFound (any_lacks (map ring.may_lack now)) (map ring.worn now)) all
-      × HasTold by texts sheet later × AreAllSaid ends.Worn c all texts × IsItsEnd ends.Worn after met
-  given_cut met worn begun = (
-    given.given ++ one ∷ [],
-    flat_map (answer_lines c) given.given ++ begun.done,
-    busy_more,
-    calls_more,
-    found_more,
-    told_then by (flat_map (answer_lines c) given.given) begun.done sheet between later given.told begun.put,
-    record {
-      before = given.given;
-      last = one;
-      all = refl;
-      whole = given.whole;
-      done = begun.done;
-      next = begun.next;
-      rest = begun.rest;
-      part = begun.all;
-      texts_are = refl;
-    },
-    worn,
-  )
-
 -- the console told so many as busy, and so does the answer
 pub told_busy : (before after : ConsoleTold) (wanted said : ℕ) → after.busy ≡ before.busy ++ wanted ∷ []
     → said ≡ wanted → after.busy ≡ before.busy ++ said ∷ []
@@ -272,95 +215,15 @@ told_busy before after wanted said told same =
 
 -- ---- one answer
 
--- it was given so: all of its lines were put, and it is of every mountpoint; or some first ones of
--- them
-abbrev pub HasSaid : {T E P : Type 0} → Result T E → AtRing P → List P → List P → ℕ → Config → ℕ → ℕ → History Line
-    → History Line → Type 0
-HasSaid result ring first now me c by busy sheet later = (answer : Answer) × (answer.busy ≡ busy)
-    × Went (map ring.shape first) (all_alone ring.alone first) (map ring.seen first) (map ring.seen now) me
-    (steps_of answer)
-    × AreFound (any_lacks (map ring.may_lack now)) (map ring.worn now) answer
-    × OnOk result (IsOfAll c answer)
-    × ArePut (is_ok result) by (answer_lines c answer) sheet later
-
-module _ {P : Type 0} (ring : AtRing P) (first now : List P) (me : ℕ) (c : Config) (by busy : ℕ) (found : List Found)
-    (went : Went (map ring.shape first) (all_alone ring.alone first) (map ring.seen first) (map ring.seen now) me
-    (steps_from 0 found))
-    (all : All (IsFound (any_lacks (map ring.may_lack now)) (map ring.worn now)) found) where
-  -- a line of a mountpoint could not be put
-  pub mounts_cut : (T : Type 0) {E : Type 0} (fault : E) (sheet later : History Line)
-      → HasBegun by (mount_lines c 0 found) sheet later
-      → HasSaid {T = T} (Err fault) ring first now me c by busy sheet later
-  mounts_cut T fault sheet later begun = (
-    record { busy = busy; found = found },
-    refl,
-    went,
-    all,
-    tt,
-    begun_more by (mount_lines c 0 found) (last_lines c busy) sheet later begun,
-  )
-
-  -- the line of the workers could not
-  pub workers_cut : (T : Type 0) {E : Type 0} (fault : E) (sheet mid later : History Line)
-      → HasTold by (mount_lines c 0 found) sheet mid → later ≡ mid
-      → HasSaid {T = T} (Err fault) ring first now me c by busy sheet later
-  workers_cut T fault sheet mid later told same = (
-    record { busy = busy; found = found },
-    refl,
-    went,
-    all,
-    tt,
-    record {
-      done = mount_lines c 0 found;
-      next = now_workers_line c busy;
-      rest = now_end_line ∷ [];
-      all = refl;
-      put = subst (λ (h : History Line). HasTold by (mount_lines c 0 found) sheet h) (sym same) told;
-    },
-  )
-
-  -- the last line was put, or could not be
-  pub said_end : {T E : Type 0} (result : Result T E) (workers last : Line) (sheet one two later : History Line)
-      → length found ≡ length c.mount → HasTold by (mount_lines c 0 found) sheet one
-      → text_of workers ≡ now_workers_line c busy → HasPut by (workers ∷ []) one two
-      → text_of last ≡ now_end_line → OnOk result (HasPut by (last ∷ []) two later) → OnErr result (later ≡ two)
-      → HasSaid result ring first now me c by busy sheet later
-  said_end {T} {E} result workers last sheet one two later whole told workers_are put last_is ended kept =
-      by_cases result ended kept where
-        so_far : HasTold by (mount_lines c 0 found ++ now_workers_line c busy ∷ []) sheet two
-        so_far =
-            told_then by (mount_lines c 0 found) (now_workers_line c busy ∷ []) sheet one two told
-            (told_as by (text_of workers ∷ []) (now_workers_line c busy ∷ []) one two
-            (ap (λ (t : List ℕ). t ∷ []) workers_are) (told_one by workers one two put))
-
-        by_cases : (r : Result T E) → OnOk r (HasPut by (last ∷ []) two later) → OnErr r (later ≡ two)
-            → HasSaid r ring first now me c by busy sheet later
-        by_cases (Ok value) done none = (
-          record { busy = busy; found = found },
-          refl,
-          went,
-          all,
-          whole,
-          told_as by ((mount_lines c 0 found ++ now_workers_line c busy ∷ []) ++ now_end_line ∷ [])
-              (mount_lines c 0 found ++ last_lines c busy) sheet later
-              (append_assoc (mount_lines c 0 found) (now_workers_line c busy ∷ []) (now_end_line ∷ []))
-              (told_then by (mount_lines c 0 found ++ now_workers_line c busy ∷ []) (now_end_line ∷ []) sheet two later
-              so_far
-              (told_as by (text_of last ∷ []) (now_end_line ∷ []) two later (ap (λ (t : List ℕ). t ∷ []) last_is)
-              (told_one by last two later done))),
-        )
-        by_cases (Err fault) none same = (
-          record { busy = busy; found = found },
-          refl,
-          went,
-          all,
-          tt,
-          record {
-            done = mount_lines c 0 found ++ now_workers_line c busy ∷ [];
-            next = now_end_line;
-            rest = [];
-            all = sym (append_assoc (mount_lines c 0 found) (now_workers_line c busy ∷ []) (now_end_line ∷ []));
-            put = subst (λ (h : History Line). HasTold by (mount_lines c 0 found ++ now_workers_line c busy ∷ []) sheet h)
-                (sym same) so_far;
-          },
-        )
+-- the lines of the mountpoints, that of the workers, and the last are all of its lines
+pub said_end : (by busy : ℕ) (c : Config) (found : List Found) (workers last : Line) (sheet one two later : History Line)
+    → HasTold by (mount_lines c 0 found) sheet one → text_of workers ≡ now_workers_line c busy
+    → HasPut by (workers ∷ []) one two → text_of last ≡ now_end_line → HasPut by (last ∷ []) two later
+    → HasTold by (mount_lines c 0 found ++ last_lines c busy) sheet later
+said_end by busy c found workers last sheet one two later told workers_are put last_is ended =
+    told_then by (mount_lines c 0 found) (last_lines c busy) sheet one later told
+    (told_then by (now_workers_line c busy ∷ []) (now_end_line ∷ []) one two later
+    (told_as by (text_of workers ∷ []) (now_workers_line c busy ∷ []) one two
+    (ap (λ (t : List ℕ). t ∷ []) workers_are) (told_one by workers one two put))
+    (told_as by (text_of last ∷ []) (now_end_line ∷ []) two later (ap (λ (t : List ℕ). t ∷ []) last_is)
+    (told_one by last two later ended)))

@@ -2,7 +2,6 @@
 -- puts lines which say how things stand each time that this is wanted.
 use Rattle.std.specs.Prelude.{◌≡◌, ℕ, ◌+◌, ◌^◌, ◌≤◌, ◌⊎◌, Bool, true, false, IsTrue, List, [], ◌∷◌, ◌++◌, length, map, get_or, Option, None, Some}
 use Rattle.std.specs.List.{All, flat_map, list_any}
-use Rattle.turn_log.specs.History.{History}
 use Rattle.mount_ring.specs.declared.cursor.Cursor.{Cursor}
 use Rattle.mount_ring.specs.declared.call.RingCall.TheVariants as calls
 use Rattle.mount_ring.specs.declared.call.RingAnswer.TheVariants as answers
@@ -11,12 +10,8 @@ use Rattle.session_calls.specs.Rings.{Went}
 use Rattle.cast_config.specs.declared.config.Config.{Config}
 use Rattle.session_model.specs.Run.{Histories}
 use Rattle.session_model.specs.Setting.{shapes}
-use Rattle.caster_press.specs.declared.line.Line.{Line}
-use Rattle.keep_lines.specs.Puts.{HasBegun, HasTold}
 use Rattle.keep_lines.specs.Lines.{now_end_line, now_mount_line, now_workers_line}
 use Rattle.cast_console.specs.Consoles.{ConsoleTold}
-use Rattle.keep_porter.specs.declared.end.WaitEnd.{WaitEnd}
-use Rattle.keep_porter.specs.declared.end.WaitEnd.TheVariants as ends
 use Rattle.keep_porter.specs.declared.found.Found.{Found}
 
 -- ---- at the mountpoints
@@ -102,52 +97,21 @@ IsOfAll c answer = length answer.found ≡ length c.mount
 abbrev pub AreFound : (lacks : Bool) → List ℕ → Answer → Type 0
 AreFound lacks worn answer = All (IsFound lacks worn) answer.found
 
--- the caller put all of these lines; or some first ones of them, and not all
-abbrev pub ArePut : (whole : Bool) → ℕ → List (List ℕ) → History Line → History Line → Type 0
-ArePut true by texts old new = HasTold by texts old new
-ArePut false by texts old new = HasBegun by texts old new
-
--- ---- its lines
-
--- of the last of these answers some first lines, and not all, and all lines of the answers before
--- it, each of which is of every mountpoint
-pub record LastIsCut (c : Config) (given : List Answer) (texts : List (List ℕ)) : Type 0 where
-  pub before : List Answer
-  pub last : Answer
-  pub all : given ≡ before ++ last ∷ []
-  pub whole : All (IsOfAll c) before
-  pub done : List (List ℕ)
-  pub next : List ℕ
-  pub rest : List (List ℕ)
-  pub part : answer_lines c last ≡ done ++ next ∷ rest
-  pub texts_are : texts ≡ flat_map (answer_lines c) before ++ done
-
--- the lines of a porter with this end: all lines of all of its answers, each of which is of every
--- mountpoint, unless a line could not be put
-abbrev pub AreAllSaid : WaitEnd → Config → List Answer → List (List ℕ) → Type 0
-AreAllSaid ends.Over c given texts =
-    All (IsOfAll c) given × (texts ≡ flat_map (answer_lines c) given)
-AreAllSaid ends.Worn c given texts = LastIsCut c given texts
-
--- why: nothing was wanted any more, or the press was worn by so many lines
-abbrev pub IsItsEnd : WaitEnd → ConsoleTold → ℕ → Type 0
-IsItsEnd ends.Over now worn = now.over ≡ true
-IsItsEnd ends.Worn now worn = 2 ^ 62 ≤ worn
-
 -- ---- all of it
 
--- The porter of this number waited at its console until this end. It gave these answers: one each
--- time that the console told that it is wanted how things stand, with the number of busy workers
--- that the console told then. At the mountpoints it made the calls of these answers and no others,
--- each answered at its own point, and refused only where one of its places was worn by so many
--- turns, or may lack memory; in the book it called nothing. It put these lines, at a place at the
--- press that was worn by so many.
+-- The porter of this number waited at its console until nothing was wanted there any more. It gave
+-- these answers, each of every mountpoint: one each time that the console told that it is wanted how
+-- things stand, with the number of busy workers that the console told then. At the mountpoints it
+-- made the calls of these answers and no others, each answered at its own point, and refused only
+-- where one of its places was worn by so many turns, or may lack memory; in the book it called
+-- nothing. The texts are all lines of all of its answers, in order.
 pub record HasAnswered (c : Config) (me : ℕ) (lacks : Bool) (worn : List ℕ)
     (start now : Histories) (before after : ConsoleTold) (given : List Answer)
-    (texts : List (List ℕ)) (met : ℕ) (end : WaitEnd) : Type 0 where
+    (texts : List (List ℕ)) : Type 0 where
   pub told : after.busy ≡ before.busy ++ map busy_of given
   pub went : Went (shapes c) false start.rings now.rings me (flat_map steps_of given)
   pub book : now.book ≡ start.book
   pub found : All (AreFound lacks worn) given
-  pub said : AreAllSaid end c given texts
-  pub why : IsItsEnd end after met
+  pub whole : All (IsOfAll c) given
+  pub said : texts ≡ flat_map (answer_lines c) given
+  pub over : after.over ≡ true

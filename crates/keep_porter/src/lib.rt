@@ -2,11 +2,9 @@
 //! wanted there how things stand it looks at the mountpoints and puts lines that say so.
 #![tactic(auto)]
 
-mod end;
 mod found;
 mod looks;
 mod saying;
 
-pub use end::WaitEnd;
 pub use found::Found;
 pub use saying::wait_at;

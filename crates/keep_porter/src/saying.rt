@@ -1,6 +1,6 @@
 //! The porter says how things stand, each time that this is wanted.
 
-ghost use Rattle.std.specs.Prelude.{◌≡◌, ◌<◌, ◌≤◌, ◌+◌, ◌++◌, ◌^◌, ℕ, IsTrue, List, OnErr, OnOk, is_ok, length, map};
+ghost use Rattle.std.specs.Prelude.{◌≡◌, ◌<◌, ◌++◌, ◌^◌, true, IsTrue, List, length, map};
 ghost use Rattle.std.specs.List.{All, flat_map};
 ghost use Rattle.session_calls.specs.Rings.{AllSpeak, Went, all_alone};
 ghost use Rattle.rover_session.specs.Places.{StayAtRings};
@@ -9,14 +9,13 @@ ghost use Rattle.caster_press.specs.Lines.{text_of};
 ghost use Rattle.caster_press.specs.Places.{IsSamePlace};
 ghost use Rattle.keep_lines.specs.Puts.{HasTold};
 ghost use Rattle.keep_porter.specs.declared.found.Found.{Found as FoundValue};
-ghost use Rattle.keep_porter.specs.Porters.{Answer, AreAllSaid, AreFound, ArePut, IsFound, IsItsEnd, IsOfAll, answer_lines, any_lacks, busy_of, claim_of, mount_line, mount_lines, published_of, steps_from, steps_of};
+ghost use Rattle.keep_porter.specs.Porters.{Answer, AreFound, IsFound, IsOfAll, answer_lines, any_lacks, busy_of, claim_of, mount_line, mount_lines, published_of, steps_from, steps_of};
 
-use crate::end::WaitEnd;
 use crate::found::Found;
 use crate::looks::find;
 use cast_config::Config;
 use cast_console::{Console, Wanted};
-use caster_press::{AtPress, Line, Worn};
+use caster_press::{AtPress, Line, WaitsAtEnd};
 use keep_lines::{now_end_line, now_mount_line, now_workers_line};
 use mount_ring::{Cursor, Ring};
 use std::sync::Wait;
@@ -56,16 +55,14 @@ fn mount_line(config: &Config, mount: u32, found: Found) -> Line
 
 /// Finds how the mountpoints stand and puts the line of each, in order: as the caller `me` there,
 /// and as the caller `by` at the press.
-///
-/// # Errors
-/// Where a line could not be put: then no further one is.
-fn say_mounts<T: Turns<Ring>, P: AtPress>(
+fn say_mounts<T: Turns<Ring>, P: AtPress, R: WaitsAtEnd>(
+    rt: &R,
     config: &Config,
     rings: &mut [T],
     me: u32,
     place: &mut P,
     by: u32,
-) -> Result<(), Worn>
+)
     requires mounts { length rings.old ≡ length config.now.mount }
     requires few { length config.now.mount < 2 ^ 32 }
     requires speaks { AllSpeak T.speaks rings.old me }
@@ -73,34 +70,30 @@ fn say_mounts<T: Turns<Ring>, P: AtPress>(
     requires at_press { IsTrue ((P.told place.old).speaks by) }
     ensures stay { StayAtRings T.Turns rings.old rings.new }
     ensures same { IsSamePlace (P.told place.old) (P.told place.new) }
-    ensures worn { OnErr result (2 ^ 62 ≤ (P.told place.new).worn) }
     ensures said { (found : List FoundValue)
         × Went (map T.shape rings.old) (all_alone T.alone rings.old) (map T.seen rings.old)
         (map T.seen rings.new) me (steps_from 0 found)
         × All (IsFound (any_lacks (map T.may_lack rings.new)) (map T.worn rings.new)) found
-        × OnOk result (length found ≡ length config.now.mount)
-        × ArePut (is_ok result) by (mount_lines config.now 0 found)
+        × (length found ≡ length config.now.mount)
+        × HasTold by (mount_lines config.now 0 found)
         (P.told place.old).seen (P.told place.new).seen }
 {
     for mount in 0..config.mount.as_slice().len() {
         let found = find(rings, me, mount as u32);
-        place.put(by, &mount_line(config, mount as u32, found))?;
+        place.put(rt, by, &mount_line(config, mount as u32, found));
     }
-    Ok(())
 }
 
 /// Says how things stand now, where so many workers are busy.
-///
-/// # Errors
-/// Where a line could not be put: then no further one is.
-fn say<T: Turns<Ring>, P: AtPress>(
+fn say<T: Turns<Ring>, P: AtPress, R: WaitsAtEnd>(
+    rt: &R,
     config: &Config,
     rings: &mut [T],
     me: u32,
     busy: u32,
     place: &mut P,
     by: u32,
-) -> Result<(), Worn>
+)
     requires mounts { length rings.old ≡ length config.now.mount }
     requires few { length config.now.mount < 2 ^ 32 }
     requires speaks { AllSpeak T.speaks rings.old me }
@@ -108,23 +101,21 @@ fn say<T: Turns<Ring>, P: AtPress>(
     requires at_press { IsTrue ((P.told place.old).speaks by) }
     ensures stay { StayAtRings T.Turns rings.old rings.new }
     ensures same { IsSamePlace (P.told place.old) (P.told place.new) }
-    ensures worn { OnErr result (2 ^ 62 ≤ (P.told place.new).worn) }
     ensures said { (answer : Answer) × (answer.busy ≡ busy)
         × Went (map T.shape rings.old) (all_alone T.alone rings.old) (map T.seen rings.old)
         (map T.seen rings.new) me (steps_of answer)
         × AreFound (any_lacks (map T.may_lack rings.new)) (map T.worn rings.new) answer
-        × OnOk result (IsOfAll config.now answer)
-        × ArePut (is_ok result) by (answer_lines config.now answer)
+        × IsOfAll config.now answer
+        × HasTold by (answer_lines config.now answer)
         (P.told place.old).seen (P.told place.new).seen }
 {
-    say_mounts(config, rings, me, place, by)?;
-    place.put(by, &now_workers_line(config, busy))?;
-    place.put(by, &now_end_line())
+    say_mounts(rt, config, rings, me, place, by);
+    place.put(rt, by, &now_workers_line(config, busy));
+    place.put(rt, by, &now_end_line());
 }
 
-/// Waits at the console until nothing is wanted there any more or a line could not be put, and says
-/// how things stand each time that this is wanted: as the caller `me` at the rings, and as the
-/// caller `by` at the press.
+/// Waits at the console until nothing is wanted there any more, and says how things stand each time
+/// that this is wanted: as the caller `me` at the rings, and as the caller `by` at the press.
 pub fn wait_at<T: Turns<Ring>, C: Console, P: AtPress, R: Wait>(
     rt: &R,
     config: &Config,
@@ -133,7 +124,7 @@ pub fn wait_at<T: Turns<Ring>, C: Console, P: AtPress, R: Wait>(
     console: &mut C,
     place: &mut P,
     by: u32,
-) -> WaitEnd
+)
     requires mounts { length rings.old ≡ length config.now.mount }
     requires few { length config.now.mount < 2 ^ 32 }
     requires speaks { AllSpeak T.speaks rings.old me }
@@ -141,24 +132,21 @@ pub fn wait_at<T: Turns<Ring>, C: Console, P: AtPress, R: Wait>(
     requires at_press { IsTrue ((P.told place.old).speaks by) }
     ensures stay { StayAtRings T.Turns rings.old rings.new }
     ensures same { IsSamePlace (P.told place.old) (P.told place.new) }
-    ensures said { (given : List Answer) × (texts : List (List ℕ))
+    ensures over { (C.told console.new).over ≡ true }
+    ensures said { (given : List Answer)
         × ((C.told console.new).busy ≡ (C.told console.old).busy ++ map busy_of given)
         × Went (map T.shape rings.old) (all_alone T.alone rings.old) (map T.seen rings.old)
         (map T.seen rings.new) me (flat_map steps_of given)
         × All (AreFound (any_lacks (map T.may_lack rings.new)) (map T.worn rings.new)) given
-        × HasTold by texts (P.told place.old).seen (P.told place.new).seen
-        × AreAllSaid result config.now given texts
-        × IsItsEnd result (C.told console.new) (P.told place.new).worn }
+        × All (IsOfAll config.now) given
+        × HasTold by (flat_map (answer_lines config.now) given)
+        (P.told place.old).seen (P.told place.new).seen }
 {
     for _ in rt.forever() {
         match console.hear() {
-            Wanted::Status { busy } => {
-                let Ok(()) = say(config, rings, me, busy, place, by) else {
-                    return WaitEnd::Worn;
-                };
-            }
+            Wanted::Status { busy } => say(rt, config, rings, me, busy, place, by),
             Wanted::Nothing => console.rest(),
-            Wanted::Over => return WaitEnd::Over,
+            Wanted::Over => return,
         }
     }
     unreachable!()

@@ -59,18 +59,15 @@ module _ {G : Type 0} (told : G → DoorTold) (over : G → Bool) (peer : G → 
       (went_back turns turn.left now is.1))
 
   -- where it stopped nothing more came back
-  still : (stop : Stop) (at now : G) (count worn : ℕ) → IsWhy told over peer stop at now count worn
-      → (told now).back ≡ (told at).back
-  still stops.Over at now count worn is = ap (λ (d : DoorTold). d.back) is.0
-  still stops.Failed at now count worn is = is.failed.back ∙ ap (λ (d : DoorTold). d.back) is.same
-  still stops.Worn at now count worn is = ap (λ (g : G). (told g).back) is.0
-  still stops.Full at now count worn is = ap (λ (d : DoorTold). d.back) is.0
+  still : (stop : Stop) (at now : G) → IsWhy told over peer stop at now → (told now).back ≡ (told at).back
+  still stops.Over at now is = ap (λ (d : DoorTold). d.back) is.0
+  still stops.Failed at now is = is.failed.back ∙ ap (λ (d : DoorTold). d.back) is.same
 
-  pub all_back : (turns : List (Turn G)) (links : List Kept) (stop : Stop) (first at now : G) (count worn : ℕ)
+  pub all_back : (turns : List (Turn G)) (links : List Kept) (stop : Stop) (first at now : G)
       → IsNewDoor (told first) → Went told over peer turns first at → links_in turns ≡ links
-      → IsWhy told over peer stop at now count worn → IsTold (told now).back (back_of links)
-  all_back turns links stop first at now count worn unused went links_are why list is =
-      let grew = went_back turns first at went list (sym (still stop at now count worn why) ∙ is) in
+      → IsWhy told over peer stop at now → IsTold (told now).back (back_of links)
+  all_back turns links stop first at now unused went links_are why list is =
+      let grew = went_back turns first at went list (sym (still stop at now why) ∙ is) in
       grew.2
       ∙ ap (λ (l : List LinkTold). l ++ back_of (links_in turns)) (unused.back grew.0 grew.1)
       ∙ ap back_of links_are

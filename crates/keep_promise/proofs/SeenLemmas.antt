@@ -78,19 +78,19 @@ AllFit c n [] = ⊤
 AllFit c n (row ∷ rows) = FitsOn n (nothing_called c).rings row.rings × AllFit c (n + 1) rows
 
 module _ {G : Type 0} (told : G → DoorTold) (over : G → Bool) (peer : G → List ℕ) where
-  pub rows_fit : (c : Config) (worn : List ℕ) (most n me : ℕ) (keepers : List (KeeperTold G)) (porter : PorterTold)
-      → me ≡ n + length keepers → AreKeepers told over peer c worn most n keepers → IsPorter c worn most me porter
+  pub rows_fit : (c : Config) (worn : List ℕ) (n me : ℕ) (keepers : List (KeeperTold G)) (porter : PorterTold)
+      → me ≡ n + length keepers → AreKeepers told over peer c worn n keepers → IsPorter c worn me porter
       → AllFit c n (seen_by_all keepers porter)
-  rows_fit c worn most n me [] porter same are is =
+  rows_fit c worn n me [] porter same are is =
       let here : me ≡ n = omega (arith, same) in (
         subst (λ (k : ℕ). FitsOn k (nothing_called c).rings porter.seen.rings) here
             (went_fits c (nothing_called c).rings porter.seen.rings me (flat_map steps_of porter.given)
             is.answered.went (fit_answers porter.given)),
         tt,
       )
-  rows_fit c worn most n me (keeper ∷ keepers) porter same are is = (
+  rows_fit c worn n me (keeper ∷ keepers) porter same are is = (
     follow_fits c keeper.role n (only_worn worn) keeper.links (nothing_called c) keeper.seen are.0.kept.followed,
-    rows_fit c worn most (n + 1) me keepers porter (further n (length keepers) me same) are.1 is,
+    rows_fit c worn (n + 1) me keepers porter (further n (length keepers) me same) are.1 is,
   ) where
     further : (a b k : ℕ) → k ≡ a + suc b → k ≡ (a + 1) + b
     further a b k is = omega (arith, is)

@@ -1,5 +1,5 @@
 -- A caster that kept serving is promised.
-use Rattle.std.proofs.Common.{◌≡◌, ◌∙◌, ◌++◌, ◌+◌, ◌<◌, ℕ, zero, suc, Bool, List, [], ◌∷◌, length, length-append, map, All, Option, refl, sym, ap, subst, arith}
+use Rattle.std.proofs.Common.{◌≡◌, ◌∙◌, ◌++◌, ◌+◌, ◌<◌, ℕ, zero, suc, Bool, List, [], ◌∷◌, length, length-append, map, All, Option, refl, ap, subst, arith}
 use Rattle.std.proofs.lemmas.List.Elements.{All-cons, All-nil, All-head, All-tail}
 use Rattle.std.proofs.lemmas.List.{length-map}
 use mathlib.Core.Option.{some}
@@ -23,7 +23,6 @@ use Rattle.caster_serve.specs.Callers.{calls_in}
 use Rattle.caster_link.specs.declared.role.Role.{Role}
 use Rattle.caster_keep.specs.declared.whole.Outcome.{Outcome}
 use Rattle.caster_keep.specs.Links.{Kept}
-use Rattle.caster_keep.specs.Keepers.{AreItsLines}
 use Rattle.caster_keep.specs.Keeping.{AreKeepers, KeeperTold, PorterTold, HasEnded, seen_by, seen_by_all}
 use Rattle.serve_promise.specs.Links.{AllFrames}
 use Rattle.serve_promise.proofs.AccountLemmas.{AreBilled, AreInBook, account_totals}
@@ -98,14 +97,14 @@ module _ {G : Type 0} (told : G → DoorTold) where
 -- ---- the whole
 
 module _ {G : Type 0} (told : G → DoorTold) (over : G → Bool) (peer : G → List ℕ) where
-  keepers_kept : (c : Config) (histories : Histories) (lines : History Line) (most n : ℕ)
+  keepers_kept : (c : Config) (histories : Histories) (lines : History Line) (n : ℕ)
       (keepers : List (KeeperTold G)) (porter : PorterTold)
-      → AreKeepers told over peer c (calls_in histories) most n keepers
+      → AreKeepers told over peer c (calls_in histories) n keepers
       → ((mount : ℕ) → AreSeen n (seen_by_all keepers porter) mount (history_at histories.rings mount))
       → AreBooked n (seen_by_all keepers porter) histories.book → Own lines n keepers
       → AllFrames histories.rings → AreKeepersKept told c histories lines n keepers
-  keepers_kept c histories lines most n [] porter are seen booked owns frames = tt
-  keepers_kept c histories lines most n (keeper ∷ keepers) porter are seen booked owns frames =
+  keepers_kept c histories lines n [] porter are seen booked owns frames = tt
+  keepers_kept c histories lines n (keeper ∷ keepers) porter are seen booked owns frames =
       let kept = are.0.kept in
       let rows : List Histories = seen_by_all keepers porter in
       let goes : (mount : ℕ) → GoesOn n (history_at keeper.seen.rings mount) (history_at histories.rings mount) =
@@ -115,17 +114,16 @@ module _ {G : Type 0} (told : G → DoorTold) (over : G → Bool) (peer : G → 
       (λ mount. ((goes mount).0, (goes mount).1)) frames in (
         record {
           back = all_back told over peer kept.turns keeper.links keeper.stop keeper.first kept.at keeper.gate
-              (length keeper.links) are.0.met are.0.unused kept.went kept.links_are kept.why;
+              are.0.unused kept.went kept.links_are kept.why;
           in_turn = in_turn;
           nothing_else = goes;
           nothing_booked = booked zero n keeper.seen.book (omega arith) refl;
           sound_throughout = λ mount. sound_throughout c mount n keeper.role histories keeper.seen keeper.links
               (history_at histories.rings mount) in_turn (goes mount);
-          lines_are = subst (λ (l : List Line). AreItsLines keeper.stop c n keeper.role keeper.links (map text_of l))
-              (sym (owns zero n keeper (omega arith) refl)) kept.lines;
+          lines_are = ap (map text_of) (owns zero n keeper (omega arith) refl) ∙ kept.lines;
           tally = kept.tally;
         },
-        keepers_kept c histories lines most (n + 1) keepers porter are.1
+        keepers_kept c histories lines (n + 1) keepers porter are.1
             (λ mount. seen_next n keeper.seen rows mount (history_at histories.rings mount) (seen mount))
             (λ k me row is at. booked (suc k) me row (omega (arith, is)) at)
             (λ k me one is at. owns (suc k) me one (omega (arith, is)) at) frames,
@@ -165,14 +163,14 @@ module _ {G O : Type 0} (told : G → DoorTold) (over : G → Bool) (peer : G �
       let histories = ended.histories in
       let rows : List Histories = seen_by_all keepers ended.porter in
       let fit : AllFit c 0 rows =
-      rows_fit told over peer c (calls_in histories) (length ended.lines) 0 (length keepers) keepers ended.porter
+      rows_fit told over peer c (calls_in histories) 0 (length keepers) keepers ended.porter
       (omega arith) all.keepers_are all.porter_is in
       let at = at_mount c rows histories fit all.whole in
       let booked : AreBooked 0 rows histories.book =
       λ k me seen is here. subst (λ (m : ℕ). GoesOn m seen histories.book)
       (let e : k ≡ me = omega (arith, is) in e) (all.whole.book.each k seen here) in
       let frames : AllFrames histories.rings = all_frames c rows histories fit all.whole in
-      let kept = keepers_kept told over peer c histories ended.lines (length ended.lines) 0 keepers ended.porter
+      let kept = keepers_kept told over peer c histories ended.lines 0 keepers ended.porter
       all.keepers_are (λ mount. (at mount).1) booked
       (λ k me keeper is here. ap (λ (m : ℕ). own m ended.lines) (let e : me ≡ k = omega (arith, is) in e)
       ∙ all.owns k keeper here) frames in

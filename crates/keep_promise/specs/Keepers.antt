@@ -19,8 +19,7 @@ use Rattle.caster_press.specs.Lines.{text_of}
 use Rattle.caster_link.specs.declared.role.Role.{Role}
 use Rattle.caster_serve.specs.Works.{IsTold, links_of, receipts_of, tallied}
 use Rattle.caster_keep.specs.declared.whole.Outcome.{Outcome}
-use Rattle.caster_keep.specs.Links.{Kept, records_of}
-use Rattle.caster_keep.specs.Keepers.{AreItsLines}
+use Rattle.caster_keep.specs.Links.{Kept, lines_from, records_of}
 use Rattle.caster_keep.specs.Keeping.{KeeperTold, HasEnded}
 use Rattle.serve_promise.specs.Accounts.{AreCapped, Bill, sums_by}
 use Rattle.serve_promise.specs.Links.{AllFrames}
@@ -41,8 +40,8 @@ module _ {G : Type 0} (told : G → DoorTold) where
   -- The keeper of this number served these links, from its first call on, and called nothing else;
   -- they are all links that came back to its gate, in order, where it tells them. Its tally counts
   -- their receipts. Of the history of lines its own are exactly the lines of these links, numbered
-  -- from 1; or the first of these where a line could not be put. At each point of a mountpoint's
-  -- history the segments of its rovers, also of one that is open then, are sound by then.
+  -- from 1. At each point of a mountpoint's history the segments of its rovers, also of one that is
+  -- open then, are sound by then.
   pub record IsKeeperKept (c : Config) (histories : Histories) (lines : History Line) (me : ℕ)
       (keeper : KeeperTold G) : Type 0 where
     pub back : IsTold (told keeper.gate).back (links_of (records_of keeper.links))
@@ -52,8 +51,7 @@ module _ {G : Type 0} (told : G → DoorTold) where
     pub nothing_booked : GoesOn me keeper.seen.book histories.book
     pub sound_throughout : (mount : ℕ)
         → AreSoundThroughout c mount me (history_at histories.rings mount)
-    pub lines_are : AreItsLines keeper.stop c me keeper.role keeper.links
-        (map text_of (own me lines))
+    pub lines_are : map text_of (own me lines) ≡ lines_from c me keeper.role 1 keeper.links
     pub tally : keeper.tally ≡ fold tallied nothing (receipts_of (records_of keeper.links))
 
   -- these keepers served so, numbered from this number on

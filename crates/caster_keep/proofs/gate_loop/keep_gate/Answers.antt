@@ -5,19 +5,19 @@ use Rattle.caster_link.proofs.WornLemmas.{stay_both, stay_none}
 use Rattle.caster_press.proofs.PlaceLemmas.{same_then}
 use Rattle.caster_serve.specs.Works.{IsWithin}
 use Rattle.caster_serve.proofs.WorkLemmas.{one_more}
-use Rattle.caster_keep.proofs.KeepLemmas.{in_role, keeping_first, keeping_idle, keeping_more, kept_failed, kept_over, kept_worn, when_err, when_ok}
+use Rattle.caster_keep.proofs.KeepLemmas.{in_role, keeping_first, keeping_idle, keeping_more, kept_failed, kept_over}
 use Rattle.caster_keep.proofs.gate_loop.keep_gate.Goals as goal
 
 pub returns-then-is_over-clause-kept : goal.returns-then-is_over-clause-kept
 returns-then-is_over-clause-kept g c =
     let kept = c.loop.invariant in
-    kept_over g.G.Door.told g.G.Gate.over g.G.Gate.peer _ _ _ _ _ _ _ _ _ _ _ _ _ _ _ _ kept.keeping
+    kept_over g.G.Door.told g.G.Gate.over g.G.Gate.peer _ _ _ _ _ _ _ _ _ _ _ _ _ _ _ kept.keeping
     c.is_over.ensures.same (sym c.is_over.ensures.over ∙ c.if-is_over.true)
 
 pub returns-in-Failed-clause-kept : goal.returns-in-Failed-clause-kept
 returns-in-Failed-clause-kept g c =
     let kept = c.loop.invariant in
-    kept_failed g.G.Door.told g.G.Gate.over g.G.Gate.peer g.G.Link.Link.told _ _ _ _ _ _ _ _ _ _ _ _ _ _ _ _ _
+    kept_failed g.G.Door.told g.G.Gate.over g.G.Gate.peer g.G.Link.Link.told _ _ _ _ _ _ _ _ _ _ _ _ _ _ _ _
     kept.keeping c.is_over.ensures.same (sym c.is_over.ensures.over ∙ c.if-is_over.false) c.in-Failed.ensures.accepted
 
 pub loop-init : goal.loop-init
@@ -26,16 +26,16 @@ loop-init g c = record {
   finite = tt;
   stay = stay_none _ _;
   role = refl;
-  same = record { speaks = refl; home = refl; start = refl; worn = omega arith };
+  same = record { speaks = refl; home = refl; start = refl };
   few = omega (arith, c.requires.none);
   room = omega (arith, ap (λ sum. sum.sessions) c.requires.nothing);
   within = subst IsWithin (sym c.requires.nothing) (omega arith, omega arith);
   keeping = keeping_first g.G.Door.told g.G.Gate.over g.G.Gate.peer _ _ _ _ _ _ _ _ _ _ c.requires.none;
 }
 
--- all lines of the link were put
-pub loop-preserved-in-Ok-1 : goal.loop-preserved-in-Ok-1
-loop-preserved-in-Ok-1 g c =
+-- a link was kept
+pub loop-preserved-in-Link : goal.loop-preserved-in-Link
+loop-preserved-in-Link g c =
     let kept = c.loop.invariant in
     let one = c.keep_link.ensures in
     let stay = one.stay in
@@ -46,13 +46,13 @@ loop-preserved-in-Ok-1 g c =
       stay = stay_both _ _ _ _ _ _ kept.stay stay;
       role = ap (λ keeper. keeper.role) one.one_more ∙ kept.role;
       same = same_then _ _ _ kept.same one.same;
-      few = omega (arith, count, kept.few, c.if-keeper-ge-MAX_LINKS.false);
+      few = one.few;
       room = omega (arith, count, few, kept.room);
       within = one.within;
       keeping = keeping_more g.G.Door.told g.G.Gate.over g.G.Gate.peer g.G.Link.Link.told c.in-Link.link _ _ _ _ _ _ _ _ _ _
           _ _ _ _ _ _ _ _ _ _ _ _ (record { same = ap lacks_in stay.known; later = stay.later }) count kept.keeping
           c.is_over.ensures.same (sym c.is_over.ensures.over ∙ c.if-is_over.false) c.in-Link.ensures.accepted
-          (in_role _ _ kept.role (when_ok c.keep_link.result _ c.in-Ok.is one.kept));
+          (in_role _ _ kept.role one.kept);
     }
 
 -- nothing was there
@@ -71,14 +71,3 @@ loop-preserved g c =
           _ _ kept.keeping c.is_over.ensures.same (sym c.is_over.ensures.over ∙ c.if-is_over.false)
           c.in-Idle.ensures.accepted c.rest.ensures;
     }
-
--- a line of the link could not be put
-pub returns-in_default-clause-kept : goal.returns-in_default-clause-kept
-returns-in_default-clause-kept g c =
-    let kept = c.loop.invariant in
-    let one = c.keep_link.ensures in
-    let stay = one.stay in
-    kept_worn g.G.Door.told g.G.Gate.over g.G.Gate.peer g.G.Link.Link.told c.in-Link.link _ _ _ _ _ _ _ _ _ _ _ _ _ _ _ _ _
-    _ _ _ _ _ _ (record { same = ap lacks_in stay.known; later = stay.later })
-    (ap (λ keeper. keeper.count) one.one_more) kept.keeping c.is_over.ensures.same (sym c.is_over.ensures.over ∙ c.if-is_over.false) c.in-Link.ensures.accepted
-    (in_role _ _ kept.role (when_err c.keep_link.result _ c.in_default.is one.kept)) c.in_default.ensures.worn

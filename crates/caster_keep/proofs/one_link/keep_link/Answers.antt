@@ -1,8 +1,8 @@
--- The link was served, counted and hung up, and its lines were put, or some first ones of them.
+-- The link was served, counted and hung up, and its lines were put.
 use Rattle.std.proofs.Common.{◌≡◌, ◌∙◌, ◌+◌, ap}
 use Rattle.caster_press.specs.Lines.{text_of}
 use Rattle.caster_keep.specs.Links.{first_line, number_of}
-use Rattle.caster_keep.proofs.KeepLemmas.{link_kept, put_first}
+use Rattle.caster_keep.proofs.KeepLemmas.{link_kept, link_put}
 use Rattle.caster_keep.proofs.one_link.keep_link.Goals as goal
 
 pub returns-clause-kept : goal.returns-clause-kept
@@ -15,9 +15,8 @@ returns-clause-kept g c =
     let served = c.serve_steps-served in
     let text : text_of first.result ≡ first_line config number role peer =
     first.ensures ∙ ap (first_line config number role) c.peer.ensures in
-    let so_far = served.ensures.closed.2 (text_of first.result) _
-    (put_first c.put-begun.result c.args.by first.result _ _ c.put-begun.ensures.put c.put-begun.ensures.kept) in
-    link_kept _ _ _ _ _ _ _ _ _ _ _ _ _ _ _ _ _ _ _ _ _ c.requires.fresh served.ensures.closed.1
+    link_kept _ _ _ _ _ _ _ _ _ _ _ _ _ _ _ _ _ _ _ _ c.requires.fresh served.ensures.closed.1
     (record { ending = served.ensures.worn; unsettled = served.ensures.unsettled }) c.count_receipt.ensures.counted
     c.hang_up.ensures.left
-    (c.tell_receipt.ensures.put peer served.ensures.closed.0 first.result _ text so_far)
+    (link_put config number role peer served.ensures.closed.0 served.result.told.held served.result.receipt c.args.by
+    first.result _ _ _ _ text c.put.ensures.put served.ensures.closed.2 c.tell_receipt.ensures.put)

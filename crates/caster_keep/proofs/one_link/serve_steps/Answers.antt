@@ -1,6 +1,6 @@
 -- A connection is opened, goes step by step, and is closed; what it holds is told.
-use Rattle.std.proofs.Common.{◌≡◌, ◌∙◌, ◌∷◌, Option, None, true, false, refl, sym, ap, subst}
-use Rattle.std.specs.Prelude.{is_ok, is_some}
+use Rattle.std.proofs.Common.{◌≡◌, ◌∙◌, Option, None, true, false, refl, sym, ap, subst}
+use Rattle.std.specs.Prelude.{is_some}
 use Rattle.session_core.specs.declared.asked.Asked.{Asked}
 use Rattle.session_core.specs.declared.held.Held.{Held}
 use Rattle.session_core.specs.declared.session.Session.{Session}
@@ -15,10 +15,11 @@ use Rattle.caster_link.specs.Wear.{IsWornBy}
 use Rattle.caster_link.proofs.PlaceLemmas.{fit_kept}
 use Rattle.caster_link.proofs.WornLemmas.{not_ended, stay_both, stay_none}
 use Rattle.caster_press.proofs.PlaceLemmas.{same_as_it_is, same_then}
+use Rattle.keep_lines.specs.Puts.{HasTold}
+use Rattle.keep_lines.proofs.PutLemmas.{told_none}
 use Rattle.caster_keep.specs.Links.{told_lines}
 use Rattle.caster_keep.proofs.KeepLemmas.{closed_as}
 use Rattle.caster_keep.proofs.one_link.serve_steps.Goals as goal
-use Rattle.keep_porter.specs.Porters.{ArePut}
 
 pub returns-in-Err-clause-stay : goal.returns-in-Err-clause-stay
 returns-in-Err-clause-stay g c = stay_none _ _
@@ -29,7 +30,7 @@ returns-in-Err-clause-closed g c =
       None,
       c.in-Err.ensures.unopened.closed (seen_at t.seen b.seen c.args.places.now.rings.items c.args.places.now.book)
           (g.L.Link.told c.args.link.now),
-      λ first sheet told. told,
+      told_none c.args.teller.by _ _ refl,
     )
 
 pub returns-in-Err-clause-worn : goal.returns-in-Err-clause-worn
@@ -53,13 +54,12 @@ loop-init g c =
       served = c.in-Ok.ensures.opened.served
           (seen_at t.seen b.seen c.args.places.now.rings.items c.args.places.now.book) (g.L.Link.told c.args.link.now);
       same = same_as_it_is _;
-      refused = c.requires.begun;
       holds = tt;
       asked = None;
       is_asked = refl;
       asks = tt;
       still = λ holding. absurd holding;
-      put = λ first sheet told. told;
+      put = told_none c.args.teller.by _ _ refl;
     }
 
 pub step-requires-clause-fit : goal.step-requires-clause-fit
@@ -95,21 +95,19 @@ loop-preserved g c =
       cause = c.step.ensures.cause;
       served = goes_on.served (opening_of c.args.role) c.args.setup.now.me start told kept.served;
       same = same_then _ _ _ kept.same tells.same;
-      refused = tells.worn kept.refused;
       holds = subst (λ (held : Held). HoldsOn held (session_holding c.step.new.self.session)) (sym same) goes_on.holds;
       asked = c.loop.service.session.asked;
       is_asked = tells.asked ∙ ap (λ (s : Session). is_some s.asked) it;
       asks = goes_on.asks (opening_of c.args.role) c.args.setup.now.me start told kept.served;
       still = λ holding. goes_on.asks_still (subst IsHolding same holding);
-      put = λ first sheet begun.
-          subst (λ (asked : Option Asked). ArePut (is_ok c.tell_session-told.result.so_far) c.args.teller.by
-          (first ∷ told_lines c.args.setup.now.config.now c.args.teller.number asked c.tell_session-told.result.held) sheet
-          (g.P.AtPress.told c.tell_session-told.new.place).seen)
+      put = subst (λ (asked : Option Asked). HasTold c.args.teller.by
+          (told_lines c.args.setup.now.config.now c.args.teller.number asked c.tell_session-told.result.held)
+          (g.P.AtPress.told c.args.place.now).seen (g.P.AtPress.told c.tell_session-told.new.place).seen)
           (ap (λ (s : Session). s.asked) it)
-          (tells.put kept.asked first sheet kept.is_asked
+          (tells.put kept.asked _ kept.is_asked
           (subst (λ (s : Session). AsksOn kept.asked s.asked) (sym it) kept.asks)
           (subst (λ (s : Session). HoldsOn c.loop.told.held (session_holding s)) (sym it) kept.holds)
-          (λ holding. ap (λ (s : Session). s.asked) it ∙ kept.still holding) (kept.put first sheet begun));
+          (λ holding. ap (λ (s : Session). s.asked) it ∙ kept.still holding) kept.put);
     }
 
 pub close-receipt-requires-clause-came : goal.close-receipt-requires-clause-came
@@ -150,13 +148,12 @@ returns-in-Some-step-clause-closed g c =
           (c.close-receipt.ensures.served c.args.setup.now.config.now (opening_of c.args.role) c.args.setup.now.me start told
           (g.L.Link.told c.step.new.link) (fit_kept _ _ _ _ _ refl stay.known c.requires.fit)
           (closes.came (opening_of c.args.role) c.args.setup.now.me start told kept.served)),
-      λ first sheet begun.
-          subst (λ (asked : Option Asked). ArePut (is_ok c.tell_session-told.result.so_far) c.args.teller.by
-          (first ∷ told_lines c.args.setup.now.config.now c.args.teller.number asked c.tell_session-told.result.held) sheet
-          (g.P.AtPress.told c.tell_session-told.new.place).seen)
+      subst (λ (asked : Option Asked). HasTold c.args.teller.by
+          (told_lines c.args.setup.now.config.now c.args.teller.number asked c.tell_session-told.result.held)
+          (g.P.AtPress.told c.args.place.now).seen (g.P.AtPress.told c.tell_session-told.new.place).seen)
           (ap (λ (s : Session). s.asked) (it ∙ sym closes.still))
-          (tells.put kept.asked first sheet kept.is_asked
+          (tells.put kept.asked _ kept.is_asked
           (subst (λ (s : Session). AsksOn kept.asked s.asked) (sym it) kept.asks)
           (subst (λ (s : Session). HoldsOn c.loop.told.held (session_holding s)) (sym it) kept.holds)
-          (λ holding. ap (λ (s : Session). s.asked) it ∙ kept.still holding) (kept.put first sheet begun)),
+          (λ holding. ap (λ (s : Session). s.asked) it ∙ kept.still holding) kept.put),
     )

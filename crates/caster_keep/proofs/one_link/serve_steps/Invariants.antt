@@ -1,6 +1,6 @@
 -- The connection was served so far, at places that stayed themselves; what it asked and held before
 -- its last step is told, and what it asked is what it asks still, if it asked or held something.
-use Rattle.std.specs.Prelude.{◌≡◌, ◌^◌, ◌≤◌, Option, IfSome, OnErr, is_ok, is_some}
+use Rattle.std.specs.Prelude.{◌≡◌, Option, IfSome, is_some}
 use Rattle.session_core.specs.declared.asked.Asked.{Asked}
 use Rattle.session_core.specs.Asking.{AsksOn}
 use Rattle.session_core.specs.Holding.{HoldsOn, IsHolding}
@@ -11,7 +11,8 @@ use Rattle.caster_places.specs.Known.{StayKnown, known_at}
 use Rattle.caster_link.specs.Links.{opening_of}
 use Rattle.caster_link.specs.Stepped.{IsServed}
 use Rattle.caster_press.specs.Places.{IsSamePlace}
-use Rattle.caster_keep.specs.Links.{ArePutBehind, told_lines}
+use Rattle.keep_lines.specs.Puts.{HasTold}
+use Rattle.caster_keep.specs.Links.{told_lines}
 use Rattle.caster_keep.proofs.one_link.serve_steps.Given as goal
 
 abbrev pub invariant-loop : goal.invariant-loop
@@ -29,13 +30,11 @@ invariant-loop g l = let t = g.T.Turns in let b = g.B.Turns in record {
       (seen_at t.seen b.seen l.places.rings.items l.places.book) (g.L.Link.told l.fn.link) (g.L.Link.told l.link)
       l.service;
   same : IsSamePlace (g.P.AtPress.told l.fn.place) (g.P.AtPress.told l.place);
-  refused : OnErr l.told.so_far (2 ^ 62 ≤ (g.P.AtPress.told l.place).worn);
   holds : HoldsOn l.told.held (session_holding l.service.session);
   asked : Option Asked;
   is_asked : l.told.is_asked ≡ is_some asked;
   asks : AsksOn asked l.service.session.asked;
   still : IsHolding l.told.held → l.service.session.asked ≡ asked;
-  put : ArePutBehind (is_ok l.fn.begun) (is_ok l.told.so_far) l.fn.teller.by
-      (told_lines l.setup.config.now l.fn.teller.number asked l.told.held) (g.P.AtPress.told l.fn.place).seen
-      (g.P.AtPress.told l.place).seen;
+  put : HasTold l.fn.teller.by (told_lines l.setup.config.now l.fn.teller.number asked l.told.held)
+      (g.P.AtPress.told l.fn.place).seen (g.P.AtPress.told l.place).seen;
 }

@@ -1,16 +1,14 @@
--- Its receipt was put behind its other lines, or one of those could not be put.
-use Rattle.caster_keep.proofs.KeepLemmas.{link_put, link_torn}
+-- The lines of the receipt were put.
+use Rattle.std.proofs.Common.{subst}
+use Rattle.keep_lines.specs.declared.told.Who.{Who}
+use Rattle.keep_lines.specs.Lines.{receipt_lines}
+use Rattle.keep_lines.specs.Puts.{HasTold}
 use Rattle.caster_keep.proofs.one_link.tell_receipt.Goals as goal
 
-pub returns-in_err-served-clause-put : goal.returns-in_err-served-clause-put
-returns-in_err-served-clause-put g c = λ peer asked first sheet text so_far.
-    let served = c.args.served.now in
-    link_torn served.told.so_far _ c.from_residual.result c.args.config.now c.args.number c.args.role peer asked
-    served.told.held served.receipt c.args.by first sheet _ c.in_err-served.was c.from_residual.ensures.0 text so_far
-
 pub returns-clause-put : goal.returns-clause-put
-returns-clause-put g c = λ peer asked first sheet text so_far.
-    let served = c.args.served.now in
-    link_put served.told.so_far _ c.put_receipt.result c.args.config.now c.args.number c.args.role peer asked
-    served.told.held served.receipt c.args.by first c.whose-who.result sheet _ _ c.in_ok-served.was text
-    c.whose-who.ensures so_far c.put_receipt.ensures.put c.put_receipt.ensures.part
+returns-clause-put g c =
+    let told = g.P.AtPress.told in
+    subst (λ (who : Who). HasTold c.args.by
+    (receipt_lines c.args.config.now c.args.number who c.args.served.now.receipt)
+    (told c.args.place.now).seen (told c.put_receipt.new.place).seen) c.whose-who.ensures
+    c.put_receipt.ensures.put

@@ -6,7 +6,7 @@ use Rattle.session_calls.specs.Rings.{AllSpeak, SamePlaces, Went, all_alone}
 use Rattle.session_core.proofs.HeldLemmas.{length_shapes}
 use Rattle.rover_session.specs.Standing.{KnowsFilter}
 use Rattle.caster_link.proofs.PlaceLemmas.{known_same, speak_by}
-use Rattle.keep_porter.specs.Porters.{HasAnswered, any_lacks, steps_of}
+use Rattle.keep_porter.specs.Porters.{HasAnswered, answer_lines, any_lacks, steps_of}
 use Rattle.session_calls.proofs.PlaceLemmas.{length_same}
 use Rattle.session_model.specs.Called.{seen_at}
 use Rattle.session_core.specs.Beginnings.{worn_at}
@@ -66,16 +66,16 @@ returns-clause-waited g c =
     c.wait_at.ensures.stay.same in
     let long : length new ≡ length items = length_same t.shape items new same.0 in (
       said.0,
-      said.1,
+      flat_map (answer_lines c.args.config.now) said.0,
       said.5,
       subst (λ (l : List _). HasAnswered c.args.config.now c.args.me
           (any_lacks (map t.may_lack l) || b.may_lack book) (worn_at t.worn b.worn l book)
           (seen_at t.seen b.seen items book) (seen_at t.seen b.seen l book)
-          (g.C.Console.told c.args.console.now) (g.C.Console.told c.wait_at.new.console) said.0 said.1
-          (g.P.AtPress.told c.wait_at.new.place).worn c.wait_at.result)
+          (g.C.Console.told c.args.console.now) (g.C.Console.told c.wait_at.new.console) said.0
+          (flat_map (answer_lines c.args.config.now) said.0))
           (sym (back_whole new items c.args.places.now.rings.len long (omega (arith, c.args.places.now.rings.ok))))
-          (answered t (b.may_lack book) (b.worn book) c.args.config.now c.args.me _ items new (b.seen book) _ _ said.0
-          said.1 c.wait_at.result c.requires.fit.shapes_fit said.2
+          (answered t (b.may_lack book) (b.worn book) c.args.config.now c.args.me items new (b.seen book) _ _ said.0
+          c.requires.fit.shapes_fit said.1
           (subst (λ (l : List _). Went (map t.shape l) (all_alone t.alone l) (map t.seen l) (map t.seen new) c.args.me
-          (flat_map steps_of said.0)) there said.3) said.4 said.6 said.7),
+          (flat_map steps_of said.0)) there said.2) said.3 said.4 c.wait_at.ensures.over),
     )

@@ -4,7 +4,7 @@ use Rattle.caster_seats.specs.Sharing.{AreOpenFor}
 use Rattle.cast_io.proofs.ToldLemmas.{grew_none}
 use Rattle.caster_keep.specs.declared.porter.Porter.{Porter}
 use Rattle.caster_keep.specs.Keeping.{first_stop}
-use Rattle.caster_keep.specs.Together.{porter_stop_at, stop_at}
+use Rattle.caster_keep.specs.Together.{stop_at}
 use Rattle.caster_keep.proofs.WholeLemmas.{nobody_served, one_unused, passes_are, sizes_are, went_ready, when_err, when_ok}
 use Rattle.caster_keep.proofs.whole.keep_ready.Goals as goal
 
@@ -53,7 +53,6 @@ returns-clause-answered g c =
     g.Y.Notes.Sink.faults (g.Z.Lodge.back c.args.lodge.now) (g.Z.Lodge.back c.take_console.new.self)
     g.Z.Console.Console.told c.console.result c.keep_at_locks-written.result.1 c.args.ready.shared
     c.config-config.result.now c.args.notes _ _ _ _ c.args.keepers.items _ _ c.close-closed.result
-    c.first_stop_of_all-stop.result _ _ _ (ap (λ config. config.now) c.config-config.ensures) c.requires.untaken worked
+    c.first_stop-stop.result _ _ _ (ap (λ config. config.now) c.config-config.ensures) c.requires.untaken worked
     c.give_back.ensures.back c.close-closed.ensures c.write_totals-notes.ensures c.take_notes.ensures.taken back
-    (c.first_stop_of_all-stop.ensures
-    ∙ ap (λ l. first_stop (map stop_at l ++ porter_stop_at c.keep_at_locks-written.result.1 ∷ [])) c.deref.ensures.value)
+    (c.first_stop-stop.ensures ∙ ap (λ l. first_stop (map stop_at l)) c.deref.ensures.value)

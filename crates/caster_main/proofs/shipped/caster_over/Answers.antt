@@ -70,6 +70,9 @@ returns-clause-keep_complete g c config addr quiet are gives whole store yard ou
     c.args.out.now.faults c.run_logged.new.out.faults _ (c.run_logged.ensures.keeping config addr quiet are)
     gives whole store yard output
 
+pub returns-clause-kept_network_fault : goal.returns-clause-kept_network_fault
+returns-clause-kept_network_fault g c = c.run_logged.ensures.kept_network_fault
+
 pub returns-clause-kept_input : goal.returns-clause-kept_input
 returns-clause-kept_input g c = c.run_logged.ensures.kept_input
 

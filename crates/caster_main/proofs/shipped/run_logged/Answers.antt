@@ -26,6 +26,9 @@ returns-clause-keeping g c = c.caster.ensures.keeping
 pub returns-clause-kept_to_its_end : goal.returns-clause-kept_to_its_end
 returns-clause-kept_to_its_end g c = c.caster.ensures.kept_to_its_end
 
+pub returns-clause-kept_network_fault : goal.returns-clause-kept_network_fault
+returns-clause-kept_network_fault g c = c.caster.ensures.kept_network_fault
+
 pub returns-clause-kept_input : goal.returns-clause-kept_input
 returns-clause-kept_input g c = c.caster.ensures.kept_input
 

@@ -11,7 +11,7 @@ pub returns : goal.returns
 returns g c = λ rows pile.
     let w = c.close.ensures.whole in (
       w.0,
-      whole_of rows _ _ _ w.0 pile c.requires.all w.2 w.3 w.4,
+      whole_of rows _ _ _ w.0 pile c.requires.all w.2 w.3,
       written_from c.into_parts-sink.result.1 _ _ (g.O.Sink.taken c.into_parts-sink.result.0)
           (g.O.Sink.faults c.into_parts-sink.result.0) (text_in w.0) c.close.ensures.shape
           (c.into_parts-sink.ensures w.0 w.1),

@@ -5,5 +5,5 @@ use Rattle.caster_press.proofs.leaving.leave.Goals as goal
 pub returns-clause-left : goal.returns-clause-left
 returns-clause-left g c = λ rows lock at pile.
     let left = c.leave.ensures in
-    pile_more rows _ _ _ _ lock c.push_reserved.ensures.items left.number left.seen left.worn left.home left.shape at
+    pile_more rows _ _ _ _ lock c.push_reserved.ensures.items left.number left.seen left.home left.shape at
     pile

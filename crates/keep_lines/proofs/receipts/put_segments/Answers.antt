@@ -2,25 +2,16 @@
 use Rattle.std.proofs.Common.{arith}
 use Rattle.caster_press.proofs.PlaceLemmas.{same_then}
 use Rattle.keep_lines.specs.Lines.{segment_lines}
-use Rattle.keep_lines.proofs.PutLemmas.{begun_next, of_err, told_all, told_next}
+use Rattle.keep_lines.proofs.PutLemmas.{told_all, told_next}
 use Rattle.keep_lines.proofs.receipts.put_segments.Goals as goal
 
 pub loop-segment-preserved : goal.loop-segment-preserved
 loop-segment-preserved g c = record {
   same = same_then _ _ _ c.loop-segment.invariant.same c.put_segment.ensures.same;
   put = told_next c.args.me (segment_lines c.args.config.now c.args.link) c.args.segments.now c.loop-segment.segment-index _ c.segment-item.result c.loop-segment-test.true c.segment-item.is _ _ _
-      c.loop-segment.invariant.put c.in_ok-put_segment.ensures.put;
+      c.loop-segment.invariant.put c.put_segment.ensures.put;
 }
 
 pub returns-clause-put : goal.returns-clause-put
 returns-clause-put g c =
     told_all c.args.me (segment_lines c.args.config.now c.args.link) c.args.segments.now c.loop-segment.segment-index (omega (arith, c.loop-segment-test.false)) _ _ c.loop-segment.invariant.put
-
-pub returns-in_err-put_segment-clause-same : goal.returns-in_err-put_segment-clause-same
-returns-in_err-put_segment-clause-same g c = same_then _ _ _ c.loop-segment.invariant.same c.put_segment.ensures.same
-
-pub returns-in_err-put_segment-clause-part : goal.returns-in_err-put_segment-clause-part
-returns-in_err-put_segment-clause-part g c =
-    of_err c.from_residual.result
-    (begun_next c.args.me (segment_lines c.args.config.now c.args.link) c.args.segments.now c.loop-segment.segment-index _ c.segment-item.result c.loop-segment-test.true c.segment-item.is _ _ _
-    c.loop-segment.invariant.put c.in_err-put_segment.ensures.part)

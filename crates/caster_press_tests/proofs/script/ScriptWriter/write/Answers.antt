@@ -9,6 +9,5 @@ loop-self-preserved g c =
     omega (arith, c.loop-self-test.true, c.len.ensures) in
     record {
       same = c.loop-self.invariant.same;
-      on = on_more _ _ _ _ _ _ _ _ c.index.result.now below c.index.ensures c.loop-self.invariant.on c.put.ensures.same
-          c.in-Ok.ensures.put;
+      on = on_more _ _ _ _ _ _ _ _ c.index.result.now below c.index.ensures c.loop-self.invariant.on c.put.ensures.same c.put.ensures.put;
     }
