@@ -29,6 +29,8 @@ pub trait AtPress {
 /// Who can wait for ever, but only where the lock of a press is worn. Code that has no more than this
 /// of its host puts each line, or can show that no more lines are taken.
 pub trait WaitsAtEnd {
+    ghost use Rattle.std.specs.Prelude.{◌^◌, ◌≤◌};
+
     /// Waits for ever at a lock of a press that gave 2^62 turns.
     fn wait_at_end<'a, O: Sink + Drop + Send, R: Wait + Sync>(&self, place: &Seat<'a, Press<O>, R>)
         requires worn { 2 ^ 62 ≤ ⟦<Seat<'a, Press<O>, R> as Turns<Press<O>>>⟧.worn place.now }
