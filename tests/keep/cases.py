@@ -444,10 +444,10 @@ def many_links():
 
 
 # Those that wait for seconds run beside the others, each in a process of its own.
-SLOW = [stop_while_a_write_waits, slow_rovers_are_lapped, stop_while_a_link_has_no_room, end_of_a_link_without_room,
-        upstream_that_comes_back, many_links, killed_at_any_time, bases_that_vanish, one_byte_a_second, cut_in_time,
-        frames_come_at_once, those_who_wait_rest, peer_that_refuses, peer_that_does_not_answer,
-        descriptors_that_run_out]
+SLOW = [stop_while_a_write_waits, slow_rovers_are_lapped, idle_rover_has_its_buffer, stop_while_a_link_has_no_room,
+        end_of_a_link_without_room, upstream_that_comes_back, many_links, killed_at_any_time, bases_that_vanish,
+        one_byte_a_second, cut_in_time, frames_come_at_once, those_who_wait_rest, peer_that_refuses,
+        peer_that_does_not_answer, descriptors_that_run_out]
 CASES = [stop_with_all_open, stop_of_250_rovers, lapped_and_near, other_words, status_while_all_are_busy,
          status_with_a_relay, options_of_links, listener_that_is_gone, full_pipe, closed_output,
          outputs_that_take_nothing, no_further_thread, caster_run_by_signals, caster_run_early_and_often,

@@ -93,6 +93,21 @@ def slow_rovers_are_lapped():
         holds('it lost no frame', ends[rover.guest.peer].overrun > 0)
 
 
+def idle_rover_has_its_buffer():
+    """A rover has all, and nothing comes for two seconds. For each try if there is room at the least size its buffer is
+    small for a moment, and then 16 KB again, which the system counts twice. So a burst finds room."""
+    keeper = keep(2)
+    base, rover = Base(keeper, 'CHARLIE', claim=1), Rover(keeper, 'CHARLIE', 'rover1')
+    base.publish(1)
+    rover.wait_for('CHARLIE', 0)
+    kept = []
+    for _ in range(40):
+        time.sleep(0.05)
+        kept.append(option_of(keeper, rover, socket.SOL_SOCKET, socket.SO_SNDBUF))
+    holds('its buffer had %s bytes' % sorted(set(kept)), kept.count(2 * 16384) >= 38)
+    checked_at_a_stop(keeper, [base, rover])
+
+
 def stop_while_a_write_waits():
     """One that asks for a table of 64 KB reads none of it, and the system takes no more of it: at the stop all others
     see their end at once, and the program ends when that write was given up, ten seconds behind. Of a table no receipt

@@ -146,7 +146,7 @@ impl<'a> Heed<'a> {
         match &mut self.room {
             Some(room) => {
                 room.tune(self.rt, fd);
-                room.wait(fd, 0)
+                room.look(fd)
             }
             None => true,
         }

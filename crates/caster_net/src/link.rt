@@ -248,13 +248,12 @@ impl Link for TcpLink<'_> {
     }
 
     // While the bell is rung for nothing, the pause before a rest grows: so links that have nothing
-    // to send are not woken by each frame of others.
+    // to send are not woken by each frame of others. Whether the peer is caught up is tried at the
+    // end, so what the others are sent does not wait for that.
     fn rest(&mut self)
         ensures same { self.new ≡ record self.old { room = self.new.room } }
         ensures tried { IsTried self.old.room self.new.room }
     {
-        let fd = self.wire.fd();
-        self.heed.catch_up(fd);
         if self.pause > 0 {
             thread::sleep(self.heed.rt, Duration::from_millis(self.pause));
         }
@@ -264,6 +263,8 @@ impl Link for TcpLink<'_> {
             Woken::Bell => self.pause = self.pause.saturating_mul(2).clamp(1, MAX_PAUSE),
             Woken::Late => self.pause = self.pause.min(1),
         }
+        let fd = self.wire.fd();
+        self.heed.catch_up(fd);
     }
 
     fn set_mount(&mut self, mount: u32)

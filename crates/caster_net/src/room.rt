@@ -1,5 +1,5 @@
 //! The room that a socket has for what its peer is sent.
-ghost use Rattle.std.specs.Prelude.{◌≡◌, ℕ, Bool, Some, IfOk, IfSome};
+ghost use Rattle.std.specs.Prelude.{◌≡◌, ℕ, Bool, Some, IfOk, IfSome, IsTrue};
 ghost use Rattle.send_room.specs.Flows.{IsStuck, new_flow, with_taken, with_try};
 ghost use Rattle.caster_net.specs.Rooms.{IsShut, found, tuned};
 
@@ -77,6 +77,19 @@ impl Room {
         has_room
     }
 
+    /// Whether a look finds room, or the connection has failed or ended. Where the peer is idle there
+    /// is room, and the system is not asked.
+    pub(crate) fn look(&mut self, fd: RawFd) -> bool
+        ensures found { self.new ≡ found result self.old }
+        ensures idle { IsTrue self.old.is_idle → IsTrue result }
+    {
+        if self.flow.is_idle() {
+            self.flow.find_room();
+            return true;
+        }
+        self.wait(fd, 0)
+    }
+
     /// There was no room at a look. What shows that it is so for 90 seconds, if it is.
     pub(crate) fn find_none(&mut self, rt: &HostRuntime) -> Option<Stuck>
         ensures stuck { IfSome result IsStuck }
@@ -96,7 +109,8 @@ impl Room {
         let now = self.now(rt);
         if let Some(size) = self.flow.begin_try(now) {
             set_buffer(fd, size);
-            self.flow.end_try(now, has_room(fd, 0));
+            let size = self.flow.end_try(now, has_room(fd, 0));
+            set_buffer(fd, size);
         }
     }
 

@@ -24,10 +24,10 @@ fn a_record_adds_nothing_to_a_reader_a_writer_and_a_stream(rt: HostRuntime) {
 }
 
 // The numbers were measured of these types with their records taken out. Of a link 40 bytes show
-// for how long it was quiet, where a read found it so, and 112 how its peer takes what it is sent.
+// for how long it was quiet, where a read found it so, and 120 how its peer takes what it is sent.
 #[test]
 fn a_record_adds_nothing_to_links_doors_streets_and_stores(rt: HostRuntime) {
-    assert_eq!(rt; size_of::<TcpLink<'_>>(), 384);
+    assert_eq!(rt; size_of::<TcpLink<'_>>(), 392);
     assert_eq!(rt; size_of::<TcpDoor<'_>>(), 224);
     assert_eq!(rt; size_of::<TcpStreet<'_>>(), 56);
     assert_eq!(rt; size_of::<FileStore<'_>>(), 32);

@@ -1,6 +1,6 @@
 -- How a peer takes what it is sent, and what follows of that. Times are milliseconds since the
 -- connection began, sizes are bytes.
-use Rattle.std.specs.Prelude.{ℕ, ◌+◌, ◌-◌, ◌*◌, ◌/◌, ◌≤◌, ◌||◌, ◌&&◌, ◌==◌, ◌^◌, nat_lt, nat_le, min, max, sum, Bool, if◌then◌else◌, List, ◌++◌, replicate, take, slice_index, slice_set, Option, None, Some, unwrap_or}
+use Rattle.std.specs.Prelude.{ℕ, ◌+◌, ◌-◌, ◌*◌, ◌/◌, ◌≤◌, ◌||◌, ◌&&◌, ◌==◌, ◌^◌, not, true, false, nat_lt, nat_le, min, max, sum, Bool, if◌then◌else◌, List, ◌++◌, replicate, take, slice_index, slice_set, Option, None, Some, unwrap_or}
 use Rattle.send_room.specs.declared.flow.Flow.{Flow}
 use Rattle.send_room.specs.declared.haste.Haste.{Haste}
 use Rattle.send_room.specs.declared.stuck.Stuck.{Stuck}
@@ -15,6 +15,7 @@ new_flow = record {
   closed = None;
   caught = 0;
   tried = 0;
+  is_idle = false;
 }
 
 -- what was taken in each of the last eight half seconds, the latest first, so many half seconds
@@ -36,6 +37,7 @@ with_taken now count flow = record flow {
   taken = with_more count (lately now flow);
   half = max flow.half (now / 500);
   closed = None;
+  is_idle = false;
 }
 
 -- the peer was caught up less than two seconds before this time
@@ -91,13 +93,18 @@ IsStuck stuck = stuck.since + 90000 ≤ stuck.now
 abbrev pub is_try_due : ℕ → Flow → Bool
 is_try_due now flow = nat_le 250 (now - flow.tried)
 
+-- whether the system is asked then: not where nothing was taken since a try that found room, for
+-- there is as much room as there was
+abbrev pub is_asked : ℕ → Flow → Bool
+is_asked now flow = is_try_due now flow && not flow.is_idle
+
 -- It was tried at this time, with nothing left to send, where that was due: where there is room at
--- the least size, the peer is caught up.
+-- the least size, or nothing was taken since there was, the peer is caught up.
 abbrev pub with_try : ℕ → Bool → Flow → Flow
 with_try now has_room flow = record flow {
-  size = if is_try_due now flow then 4096 else flow.size;
-  caught = if is_try_due now flow && has_room then now else flow.caught;
+  caught = if is_try_due now flow && (flow.is_idle || has_room) then now else flow.caught;
   tried = if is_try_due now flow then now else flow.tried;
+  is_idle = if is_asked now flow then has_room else flow.is_idle;
 }
 
 -- a write that does not hurry

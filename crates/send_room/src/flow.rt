@@ -1,6 +1,6 @@
 //! How a peer takes what it is sent.
-ghost use Rattle.std.specs.Prelude.{◌≡◌, ◌-◌, ◌≤◌, ◌↔◌, Some, IsSome, IfSome, if◌then◌else◌, is_some, sum, take, unwrap_or};
-ghost use Rattle.send_room.specs.Flows.{IsStuck, closed_since, is_caught_up, is_try_due, lately, later, new_flow, second_at, size_to_set, timeout_at, timeout_to_set, wanted_at, with_taken};
+ghost use Rattle.std.specs.Prelude.{◌≡◌, ◌-◌, ◌≤◌, ◌↔◌, ◌&&◌, Some, IsSome, IfSome, if◌then◌else◌, is_some, sum, take, unwrap_or};
+ghost use Rattle.send_room.specs.Flows.{IsStuck, closed_since, is_asked, is_caught_up, is_try_due, lately, later, new_flow, second_at, size_to_set, timeout_at, timeout_to_set, wanted_at, with_taken};
 
 use crate::stuck::Stuck;
 
@@ -39,7 +39,7 @@ pub struct Flow {
     taken: [u32; HALVES],
     // Which half second the latest of them is.
     half: u64,
-    // The size that is set.
+    // The size that is set, but during a try.
     size: u32,
     // The system's wait for an acknowledgement that is set; 0 is for ever, and stays.
     timeout: u32,
@@ -49,6 +49,8 @@ pub struct Flow {
     caught: u64,
     // When it was tried last if there is room at the least size.
     tried: u64,
+    // Whether nothing was taken since a try that found room.
+    is_idle: bool,
 }
 
 impl Flow {
@@ -65,6 +67,7 @@ impl Flow {
             closed: None,
             caught: 0,
             tried: 0,
+            is_idle: false,
         }
     }
 
@@ -84,6 +87,7 @@ impl Flow {
         self.taken[0] = u32::try_from(latest).unwrap_or(u32::MAX);
         self.half = self.half.max(now / HALF);
         self.closed = None;
+        self.is_idle = false;
     }
 
     /// The size that the buffer is to have.
@@ -146,33 +150,49 @@ impl Flow {
         Stuck::since(since, now)
     }
 
-    /// Whether it is tried now if there is room at the least size. If so, that is the size to set,
-    /// and `end_try` is to follow.
+    /// Whether nothing was taken since a try found room: then there is room at any size.
+    pub fn is_idle(&self) -> bool
+        ensures { result ≡ self.now.is_idle }
+    {
+        self.is_idle
+    }
+
+    /// Whether the system is asked now if there is room at the least size. If so, that is the size
+    /// for as long, and `end_try` is to follow. Where nothing was taken since there was room, the
+    /// peer is caught up still, and the system is not asked.
     pub fn begin_try(&mut self, now: u64) -> Option<u32>
-        ensures due { is_some result ≡ is_try_due now self.old }
+        ensures due { is_some result ≡ is_asked now self.old }
         ensures least { IfSome result (λ size. size ≡ 4096) }
-        ensures set { self.new ≡ (if is_try_due now self.old
-            then record self.old { tried = now; size = 4096 } else self.old) }
+        ensures set { self.new ≡ record self.old {
+          caught = if is_try_due now self.old && self.old.is_idle then now else self.old.caught;
+          tried = if is_try_due now self.old then now else self.old.tried;
+        } }
     {
         if now.saturating_sub(self.tried) < TRY_EVERY {
             return None;
         }
         self.tried = now;
-        self.size = LEAST;
+        if self.is_idle {
+            self.caught = now;
+            return None;
+        }
         Some(LEAST)
     }
 
     /// A try ends that found room or did not, with nothing left to send: where there is room at the
-    /// least size, the peer is caught up.
-    pub fn end_try(&mut self, now: u64, has_room: bool)
-        requires least { self.old.size ≡ 4096 }
-        ensures { self.new ≡ record self.old {
+    /// least size, the peer is caught up. The size that is to be set again.
+    pub fn end_try(&mut self, now: u64, has_room: bool) -> u32
+        ensures again { result ≡ self.old.size }
+        ensures caught { self.new ≡ record self.old {
           caught = if has_room then now else self.old.caught;
+          is_idle = has_room;
         } }
     {
+        self.is_idle = has_room;
         if has_room {
             self.caught = now;
         }
+        self.size
     }
 
     // Whether the peer was caught up less than two seconds ago.
